@@ -1,0 +1,117 @@
+-- A graph of inodes, what an effect makes of it, and what a node costs.
+use Rattle.std.specs.Prelude.{◌≡◌, ℕ, ◌+◌, ◌/◌, ◌==◌, Bool, true, List, [], ◌∷◌, length, Option, Some, None, if◌then◌else◌, option_map}
+use Rattle.std.specs.List.{list_any, flat_map}
+use Rattle.std.specs.FinMap as fin
+use Rattle.std.specs.Ordering.{nat_cmp}
+use Rattle.posix_calls.specs.Content.{Entries, written}
+use Rattle.file_graph.specs.declared.limits.TheConstants.{ROOT}
+use Rattle.file_graph.specs.declared.effect.Kind.{Kind}
+use Rattle.file_graph.specs.declared.effect.Kind.TheVariants as kind
+use Rattle.file_graph.specs.declared.effect.Effect.{Effect}
+use Rattle.file_graph.specs.declared.effect.Effect.TheVariants as effect
+
+-- a file has bytes, a directory has an inode and its kind under each name
+pub data Body : Type 0 where
+  FileBody : (bytes : List ℕ) → Body
+  DirBody : (entries : Entries (ℕ × Kind)) → Body
+
+-- how many names a node has, and what is in it
+pub record Node : Type 0 where
+  pub names : ℕ
+  pub body : Body
+
+-- the node at each inode; nothing more is asked of a graph
+abbrev pub Graph : Type 0
+Graph = ℕ → Option Node
+
+-- a graph with one node changed
+abbrev pub set_node : Graph → ℕ → Option Node → Graph
+set_node g i node j = if j == i then node else g j
+
+-- an empty directory at the root, and nothing else
+abbrev pub fresh : Graph
+fresh = set_node (λ i. None) ROOT (Some (record { names = 1; body = DirBody fin.empty }))
+
+-- what a new node of a kind has
+abbrev pub empty_body : Kind → Body
+empty_body kind.File = FileBody []
+empty_body kind.Directory = DirBody fin.empty
+
+-- a file's bytes changed; a directory stays
+abbrev pub in_file : (List ℕ → List ℕ) → Body → Body
+in_file f (FileBody bytes) = FileBody (f bytes)
+in_file f (DirBody entries) = DirBody entries
+
+-- a directory's entries changed; a file stays
+abbrev pub in_directory : (Entries (ℕ × Kind) → Entries (ℕ × Kind)) → Body → Body
+in_directory f (FileBody bytes) = FileBody bytes
+in_directory f (DirBody entries) = DirBody (f entries)
+
+-- a node with a changed body
+abbrev pub with_body : (Body → Body) → Node → Node
+with_body f n = record { names = n.names; body = f n.body }
+
+-- the inodes that an effect reads and writes; an entered child is none of them
+abbrev pub subjects : Effect → List ℕ
+subjects (effect.Make i k) = i ∷ []
+subjects (effect.Enter d i k name) = d ∷ []
+subjects (effect.Names i n) = i ∷ []
+subjects (effect.Bytes i at new) = i ∷ []
+
+-- whether an inode is among these
+abbrev pub is_among : ℕ → List ℕ → Bool
+is_among i is = list_any (λ j. j == i) is
+
+-- what an effect makes of a subject: on no node, or one of another kind, all but Make do nothing
+abbrev pub acted : Effect → Option Node → Option Node
+acted (effect.Make i k) old = Some (record { names = 0; body = empty_body k })
+acted (effect.Enter d i k name) old = option_map (with_body (in_directory (λ es. fin.insert es name (i, k)))) old
+acted (effect.Names i n) old = option_map (λ x. record { names = n; body = x.body }) old
+acted (effect.Bytes i at new) old = option_map (with_body (in_file (written at new))) old
+
+-- the graph after an effect
+abbrev pub after_effect : Graph → Effect → Graph
+after_effect g e i = if is_among i (subjects e) then acted e (g i) else g i
+
+-- the graph after effects, one after the other
+abbrev pub after_effects : Graph → List Effect → Graph
+after_effects g [] = g
+after_effects g (e ∷ es) = after_effects (after_effect g e) es
+
+-- the inodes that effects read and write
+abbrev pub touches : List Effect → List ℕ
+touches es = flat_map subjects es
+
+-- no inode is among both
+abbrev pub AreApart : List ℕ → List ℕ → Type 0
+AreApart is js = (i : ℕ) → is_among i is ≡ true → is_among i js ≡ true → ⊥
+
+-- units of a body: one, and one for each 4,096 bytes or 56 entries begun
+abbrev pub body_cost : Body → ℕ
+body_cost (FileBody bytes) = 1 + (length bytes + 4095) / 4096
+body_cost (DirBody entries) = 1 + (fin.len entries + 55) / 56
+
+-- units of what stands at an inode
+abbrev pub cost : Option Node → ℕ
+cost None = 0
+cost (Some n) = body_cost n.body
+
+-- ---- graphs with nodes at finitely many inodes
+
+-- such a graph as a map
+abbrev pub Nodes : Type 0
+Nodes = fin.FinMap nat_cmp Node
+
+-- the node that the map has at each inode
+abbrev pub graph_of : Nodes → Graph
+graph_of m i = fin.get m i
+
+-- the bytes of what stands at an inode, if that is a file
+abbrev pub file_bytes : Option Node → Option (List ℕ)
+file_bytes None = None
+file_bytes (Some n) = elim (n.body) [ FileBody bytes ↦ Some bytes | DirBody entries ↦ None ]
+
+-- the entries of what stands at an inode, if that is a directory, in the order of their names
+abbrev pub directory_entries : Option Node → Option (List (List ℕ × (ℕ × Kind)))
+directory_entries None = None
+directory_entries (Some n) = elim (n.body) [ FileBody bytes ↦ None | DirBody entries ↦ Some (fin.entries entries) ]

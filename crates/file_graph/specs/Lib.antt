@@ -1,0 +1,4 @@
+pub mod Bodies
+pub mod Codes
+pub mod Graph
+pub mod Plain

@@ -1,0 +1,152 @@
+ghost use Rattle.std.specs.Prelude.{◌≡◌, ◌≤◌, ◌+◌, ◌++◌, length, take, drop, Some, OnOk, OnErr, option_map};
+ghost use Rattle.std.specs.FinMap as fin;
+ghost use Rattle.posix_calls.specs.Content.{written};
+ghost use Rattle.file_graph.specs.Graph.{acted, empty_body, in_file, in_directory, file_bytes, directory_entries};
+ghost use Rattle.file_graph.specs.Plain.{pairs};
+ghost use Rattle.file_graph.specs.Bodies.{body_of};
+
+use crate::effect::{Effect, Kind};
+use crate::entries::{PlainEntries, PlainEntry};
+use posix_calls::Name;
+use std::alloc::{AllocError, Global};
+use std::marker::Model;
+
+/// A node with its bytes or its entries. Contracts see it as a node of a graph.
+#[derive(Debug, Drop)]
+pub struct PlainNode {
+    names: u32,
+    body: PlainBody,
+}
+
+/// What is in a node.
+#[derive(Debug, Drop)]
+pub enum PlainBody {
+    File(Vec<u8>),
+    Directory(PlainEntries),
+}
+
+impl Model for PlainNode {
+    ghost use Rattle.file_graph.specs.Graph.{Node};
+    ghost use Rattle.file_graph.specs.Codes.{node_code};
+
+    ghost Value = { Node };
+
+    ghost coded = { node_code };
+
+    ghost use Rattle.file_graph.specs.Bodies.{body_of};
+
+    ghost view = { λ n. record { names = n.names; body = body_of n.body } };
+}
+
+impl PlainNode {
+    /// An empty node.
+    pub fn new(alloc: Global, kind: Kind, names: u32) -> Self
+        ensures { result ≡ record { names = names; body = empty_body kind } }
+    {
+        let body = match kind {
+            Kind::File => PlainBody::File(Vec::new(alloc)),
+            Kind::Directory => PlainBody::Directory(PlainEntries::new(alloc)),
+        };
+        PlainNode { names, body }
+    }
+
+    /// Does what an effect does to a node. Where there is no memory for it, the node stays as it was.
+    pub fn act(&mut self, alloc: Global, effect: &Effect) -> Result<(), AllocError>
+        ensures ok { OnOk result (Some self.new ≡ acted effect.now (Some self.old)) }
+        ensures err { OnErr result (self.new ≡ self.old) }
+    {
+        match effect {
+            Effect::Make { kind, .. } => {
+                *self = PlainNode::new(alloc, *kind, 0);
+                Ok(())
+            }
+            Effect::Enter {
+                inode,
+                kind,
+                name,
+                ..
+            } => put_entry(alloc, &mut self.body, name, *inode, *kind),
+            Effect::Names { names, .. } => {
+                self.names = *names;
+                Ok(())
+            }
+            Effect::Bytes { at, bytes, .. } => put_bytes(&mut self.body, *at, bytes.as_slice()),
+        }
+    }
+
+    /// How many names it has.
+    pub fn names(&self) -> u32
+        ensures { result ≡ self.now.names }
+    {
+        self.names
+    }
+
+    /// The bytes of a file.
+    pub fn file(&self) -> Option<&[u8]>
+        ensures { option_map (λ s. s.now) result ≡ file_bytes (Some self.now) }
+    {
+        match &self.body {
+            PlainBody::File(bytes) => Some(bytes),
+            PlainBody::Directory(_) => None,
+        }
+    }
+
+    /// The entries of a directory.
+    pub fn entries(&self) -> Option<&[PlainEntry]>
+        ensures { option_map (λ s. pairs s.now) result ≡ directory_entries (Some self.now) }
+    {
+        match &self.body {
+            PlainBody::File(_) => None,
+            PlainBody::Directory(entries) => Some(entries.as_slice()),
+        }
+    }
+}
+
+fn put_entry(
+    alloc: Global,
+    body: &mut PlainBody,
+    name: &Name,
+    inode: u32,
+    kind: Kind,
+) -> Result<(), AllocError>
+    ensures ok { OnOk result (body_of body.new ≡ in_directory (λ es. fin.insert es name.now (inode, kind)) (body_of body.old)) }
+    ensures err { OnErr result (body_of body.new ≡ body_of body.old) }
+{
+    match body {
+        PlainBody::File(_) => Ok(()),
+        PlainBody::Directory(entries) => entries.put(alloc, name, inode, kind),
+    }
+}
+
+fn put_bytes(body: &mut PlainBody, at: u64, bytes: &[u8]) -> Result<(), AllocError>
+    ensures ok { OnOk result (body_of body.new ≡ in_file (written at bytes.now) (body_of body.old)) }
+    ensures err { OnErr result (body_of body.new ≡ body_of body.old) }
+{
+    match body {
+        PlainBody::File(file) => write_at(file, at, bytes),
+        PlainBody::Directory(_) => Ok(()),
+    }
+}
+
+// A file that would pass the end of all numbers finds no memory.
+fn write_at(file: &mut Vec<u8>, at: u64, bytes: &[u8]) -> Result<(), AllocError>
+    ensures ok { OnOk result (file.new.items ≡ written at bytes.now file.old.items) }
+    ensures err { OnErr result (file.new.items ≡ file.old.items) }
+{
+    let start = at as usize;
+    let Some(end) = start.checked_add(bytes.len()) else {
+        return Err(AllocError);
+    };
+    if file.len() < end {
+        file.resize(end, 0)?;
+    }
+    overwrite(file, start, bytes);
+    Ok(())
+}
+
+fn overwrite(file: &mut [u8], start: usize, bytes: &[u8])
+    requires { start + length bytes.now ≤ length file.old }
+    ensures { file.new ≡ take start file.old ++ bytes.now ++ drop (start + length bytes.now) file.old }
+{
+    file[start..start + bytes.len()].copy_from_slice(bytes);
+}

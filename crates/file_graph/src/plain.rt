@@ -1,0 +1,117 @@
+ghost use Rattle.std.specs.Prelude.{◌≡◌, [], ◌∷◌, OnOk, OnErr, IfOk, option_map};
+ghost use Rattle.file_graph.specs.Graph.{fresh, subjects, after_effect, graph_of, file_bytes, directory_entries};
+ghost use Rattle.std.specs.Ordering.{nat_cmp};
+ghost use Rattle.std.specs.BTreeMap.{get};
+ghost use Rattle.file_graph.specs.Plain.{pairs};
+
+use crate::effect::{Effect, Kind};
+use crate::entries::PlainEntry;
+use crate::limits::ROOT;
+use crate::node::PlainNode;
+use std::alloc::{AllocError, Global};
+use std::collections::BTreeMap;
+use std::marker::Model;
+
+/// A graph that runs, for programs and tests. Contracts see it as the map from inodes to nodes.
+#[derive(Drop)]
+pub struct PlainGraph {
+    alloc: Global,
+    nodes: BTreeMap<u32, PlainNode>,
+}
+
+impl Model for PlainGraph {
+    ghost use Rattle.file_graph.specs.Graph.{Nodes};
+    ghost use Rattle.file_graph.specs.Codes.{nodes_code};
+    ghost use Rattle.std.specs.FinMap as fin;
+
+    ghost Value = { Nodes };
+
+    ghost coded = { nodes_code };
+
+    ghost view = { λ g. fin.from_entries g.nodes.entries };
+}
+
+impl PlainGraph {
+    /// A graph with the root alone, an empty directory with one name.
+    pub fn with_root(alloc: Global) -> Result<Self, AllocError>
+        ensures { IfOk result (λ g. graph_of g ≡ fresh) }
+    {
+        let nodes = root_alone(alloc)?;
+        Ok(PlainGraph { alloc, nodes })
+    }
+
+    /// Does an effect. Where there is no memory for it, the graph stays as it was.
+    pub fn apply(&mut self, effect: &Effect) -> Result<(), AllocError>
+        ensures ok { OnOk result (graph_of self.new ≡ after_effect (graph_of self.old) effect.now) }
+        ensures err { OnErr result (self.new ≡ self.old) }
+    {
+        apply(self.alloc, &mut self.nodes, effect)
+    }
+
+    /// How many names the node at an inode has, if there is one.
+    pub fn names(&self, inode: u32) -> Option<u32>
+        ensures { result ≡ option_map (λ n. n.names) (graph_of self.now inode) }
+    {
+        match self.nodes.get(&inode) {
+            Some(node) => Some(node.names()),
+            None => None,
+        }
+    }
+
+    /// The bytes of the file at an inode, if there is one.
+    pub fn file(&self, inode: u32) -> Option<&[u8]>
+        ensures { option_map (λ s. s.now) result ≡ file_bytes (graph_of self.now inode) }
+    {
+        match self.nodes.get(&inode) {
+            Some(node) => node.file(),
+            None => None,
+        }
+    }
+
+    /// The entries of the directory at an inode, if there is one, in the order of their names' bytes.
+    pub fn entries(&self, inode: u32) -> Option<&[PlainEntry]>
+        ensures { option_map (λ s. pairs s.now) result ≡ directory_entries (graph_of self.now inode) }
+    {
+        match self.nodes.get(&inode) {
+            Some(node) => node.entries(),
+            None => None,
+        }
+    }
+}
+
+fn root_alone(alloc: Global) -> Result<BTreeMap<u32, PlainNode>, AllocError>
+    ensures { IfOk result (λ nodes. get nat_cmp nodes ≡ fresh) }
+{
+    let mut nodes = BTreeMap::new(alloc);
+    nodes.insert(ROOT, PlainNode::new(alloc, Kind::Directory, 1))?;
+    Ok(nodes)
+}
+
+fn apply(
+    alloc: Global,
+    nodes: &mut BTreeMap<u32, PlainNode>,
+    effect: &Effect,
+) -> Result<(), AllocError>
+    ensures ok { OnOk result (get nat_cmp nodes.new ≡ after_effect (get nat_cmp nodes.old) effect.now) }
+    ensures err { OnErr result (get nat_cmp nodes.new ≡ get nat_cmp nodes.old) }
+{
+    if let Some(node) = nodes.get_mut(&subject(effect)) {
+        return node.act(alloc, effect);
+    }
+    if let Effect::Make { inode, kind } = effect {
+        nodes.insert(*inode, PlainNode::new(alloc, *kind, 0))?;
+    }
+    Ok(())
+}
+
+// The inode of the node that an effect changes.
+fn subject(effect: &Effect) -> u32
+    ensures { subjects effect.now ≡ result ∷ [] }
+{
+    match effect {
+        Effect::Make { inode, .. } => *inode,
+        Effect::Enter { directory, .. } => *directory,
+        Effect::Names { inode, .. } => *inode,
+        Effect::Bytes { inode, .. } => *inode,
+    }
+}

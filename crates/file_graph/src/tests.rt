@@ -1,0 +1,83 @@
+use crate::{Effect, Effects, Kind, PlainGraph, ROOT};
+use posix_calls::{Bytes, Name};
+use std::alloc::Global;
+use std::test::Fail;
+
+fn name_of(alloc: Global, bytes: &[u8]) -> Result<Name, Fail> {
+    let name = Name::from_vec(bytes.to_vec(alloc)?);
+    Ok(name.ok().ok_or("a name")?)
+}
+
+fn entered(alloc: Global, inode: u32, name: &[u8]) -> Result<Effect, Fail> {
+    let name = name_of(alloc, name)?;
+    Ok(Effect::Enter {
+        directory: ROOT,
+        inode,
+        kind: Kind::File,
+        name,
+    })
+}
+
+fn written(alloc: Global, at: u64, bytes: &[u8]) -> Result<Effect, Fail> {
+    let bytes = Bytes::copy_of(alloc, bytes)?;
+    Ok(Effect::Bytes {
+        inode: 2,
+        at,
+        bytes,
+    })
+}
+
+#[test]
+fn a_file_is_made_entered_and_written(rt: HostRuntime) -> Result<(), Fail> {
+    let alloc = rt.alloc();
+    let mut graph = PlainGraph::with_root(alloc)?;
+    assert_eq!(rt; graph.names(ROOT), Some(1));
+    assert_eq!(rt; graph.names(2), None);
+    graph.apply(&Effect::Make {
+        inode: 2,
+        kind: Kind::File,
+    })?;
+    graph.apply(&Effect::Names { inode: 2, names: 3 })?;
+    graph.apply(&written(alloc, 2, b"cd")?)?;
+    graph.apply(&written(alloc, 3, b"efg")?)?;
+    assert_eq!(rt; graph.names(2), Some(3));
+    assert_eq!(rt; graph.file(2).ok_or("a file")?, b"\0\0cefg".as_slice());
+    assert_eq!(rt; graph.file(ROOT).is_some(), false);
+    assert_eq!(rt; graph.entries(2).is_some(), false);
+    Ok(())
+}
+
+#[test]
+fn entries_stand_in_order_and_are_replaced(rt: HostRuntime) -> Result<(), Fail> {
+    let alloc = rt.alloc();
+    let mut graph = PlainGraph::with_root(alloc)?;
+    graph.apply(&entered(alloc, 2, b"b")?)?;
+    graph.apply(&entered(alloc, 3, b"ab")?)?;
+    graph.apply(&entered(alloc, 4, b"a")?)?;
+    graph.apply(&entered(alloc, 5, b"b")?)?;
+    let mut names = Vec::new(alloc);
+    let mut inodes = Vec::new(alloc);
+    for entry in graph.entries(ROOT).ok_or("a directory")? {
+        names.extend_from_slice(entry.name.as_slice())?;
+        names.push(b' ')?;
+        inodes.push(entry.inode)?;
+    }
+    assert_eq!(rt; names.as_slice(), b"a ab b ".as_slice());
+    assert_eq!(rt; inodes.as_slice(), [4, 3, 5].as_slice());
+    Ok(())
+}
+
+#[test]
+fn effects_are_counted(rt: HostRuntime) -> Result<(), Fail> {
+    let alloc = rt.alloc();
+    let none = Effects::from_vec(Vec::new(alloc));
+    assert!(rt; none.is_empty());
+    let mut effects = Vec::new(alloc);
+    effects.push(Effect::Names { inode: 7, names: 2 })?;
+    let effects = Effects::from_vec(effects);
+    assert_eq!(rt; effects.len(), 1);
+    for effect in effects.as_slice() {
+        assert!(rt; matches!(effect, Effect::Names { inode: 7, names: 2 }));
+    }
+    Ok(())
+}

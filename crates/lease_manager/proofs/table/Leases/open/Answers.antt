@@ -1,0 +1,34 @@
+use Rattle.std.proofs.Common.{rules, ◌≡◌, ◌+◌, ℕ, List, [], ◌∷◌, ◌++◌, map, take, arith, sym, ap, ◌∙◌}
+use mathlib.Core.List.{map-append}
+use Rattle.atomic_table.specs.Seated.{TableId}
+use Rattle.lease_manager.specs.Law.{SeatState}
+use Rattle.lease_manager.specs.Parts.{first_part, other_parts}
+use Rattle.lease_manager.specs.Passes.{PassView, places, fresh}
+use Rattle.lease_manager.proofs.Opens.{next_blank, next_place}
+use Rattle.lease_manager.proofs.Seats.{splits_first}
+use Rattle.lease_manager.proofs.table.Leases.open.Goals as goal
+
+pub split_seat-others-requires : goal.split_seat-others-requires
+split_seat-others-requires c = let w = c.in_ok-table.ensures.0 in (c.loop-place.invariant.0, omega arith, splits_first _ _)
+
+pub new-requires : goal.new-requires
+new-requires c =
+    let rest = c.loop-place.invariant.1 in
+    let at = next_blank c.loop-place.place (search rules) in
+    let v = ap (λ (m : SeatState). m.0) rest ∙ at in
+    (c.split_seat-others.ensures.2 ∙ (λ k. (first_part (v k), (rest k).1)), search rules)
+
+pub loop-place-preserved : goal.loop-place-preserved
+loop-place-preserved c =
+    let i = c.loop-place.invariant in
+    let at = next_blank c.loop-place.place (search rules) in
+    let v = ap (λ (m : SeatState). m.0) i.1 ∙ at in
+    let e = c.split_seat-others.ensures in
+    let z : TableId = c.in_ok-table.table.shared.table_id in
+    let now : ℕ = c.loop-place.place in
+    let longer : map (fresh z) (take now places) ++ fresh z now ∷ [] ≡ map (fresh z) (take (now + 1) places) = sym (ap (map (fresh z)) (next_place now (search rules)) ∙ map-append (fresh z) (take now places) (now ∷ [])) in
+    let one = c.in_ok-new.ensures ∙ ap (λ (y : TableId). fresh y now) (e.0 ∙ i.0) in (
+      e.3 ∙ i.0,
+      e.4 ∙ (λ k. (other_parts (v k), [])),
+      ◌∙◌ {A = List PassView} c.in_ok-push.ensures.items (◌∙◌ {A = List PassView} (λ k. i.2 k ++ one k ∷ []) longer),
+    )

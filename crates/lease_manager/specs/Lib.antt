@@ -1,0 +1,7 @@
+pub mod Words
+pub mod Book
+pub mod Marks
+pub mod Parts
+pub mod Law
+pub mod Plays
+pub mod Passes

@@ -1,0 +1,51 @@
+-- One client's part of what seats carry.
+use Rattle.std.specs.Prelude.{◌≢◌, ℕ, ◌<◌, List, [], ◌∷◌, ◌++◌, slice_index_or, slice_set, replicate}
+use Rattle.lease_manager.specs.declared.view.LeaseMode.{LeaseMode}
+use Rattle.lease_manager.specs.declared.view.LeaseMode.TheVariants.{Free, Trying}
+use Rattle.lease_manager.specs.declared.view.Event.{Event}
+use Rattle.lease_manager.specs.declared.view.Part.{Part}
+use Rattle.lease_manager.specs.Marks.{MayMeet}
+
+abbrev pub place_of : Part → ℕ
+place_of p = p.place
+
+-- how the client stands to the inode of the word i
+abbrev pub mode_at : Part → ℕ → LeaseMode
+mode_at p i = slice_index_or p.modes i Free
+
+-- the part with that mode at the word i
+abbrev pub put_mode : Part → ℕ → LeaseMode → Part
+put_mode p i mode = record p { modes = slice_set p.modes i mode }
+
+-- the part with one event more
+abbrev pub put_event : Part → Event → Part
+put_event p e = record p { events = p.events ++ e ∷ [] }
+
+-- the part of the client at place k that holds nothing and has met with nothing
+abbrev pub blank : ℕ → Part
+blank k = record { place = k; modes = replicate 1024 Free; events = [] }
+
+-- no failed try is being taken out
+abbrev pub IsSettled : Part → Type 0
+IsSettled p = (i : ℕ) → mode_at p i ≢ Trying
+
+-- the part of a seat's own client stands first
+abbrev pub own_part : List Part → Part
+own_part [] = blank 0
+own_part (p ∷ ps) = p
+
+abbrev pub first_part : List Part → List Part
+first_part [] = []
+first_part (p ∷ ps) = p ∷ []
+
+abbrev pub other_parts : List Part → List Part
+other_parts [] = []
+other_parts (p ∷ ps) = ps
+
+-- all clients, with nothing held
+abbrev pub blanks : List Part
+blanks = blank 0 ∷ blank 1 ∷ blank 2 ∷ blank 3 ∷ blank 4 ∷ blank 5 ∷ blank 6 ∷ blank 7 ∷ []
+
+-- these are two clients, and of each inode one writes and the other holds nothing, or neither writes
+abbrev pub AreCompatible : Part → Part → Type 0
+AreCompatible p q = (p.place ≢ q.place) × ((i : ℕ) → i < 1024 → MayMeet (mode_at p i) (mode_at q i))

@@ -1,0 +1,37 @@
+// A client asks another to give an inode back.
+ghost use Rattle.std.specs.Prelude.{◌≡◌, ◌+◌, ◌-◌, ◌/◌, ◌<◌};
+ghost use Rattle.lease_manager.specs.declared.view.Event.TheVariants.{Asked, Heard};
+ghost use Rattle.lease_manager.specs.Words.{IsInode, IsClient, asked_word, asked_bit};
+ghost use Rattle.lease_manager.specs.Passes.{with_event, client_of};
+
+use crate::layout::{INODES, ROWS, bit_of_asking, word_of_asking};
+use crate::pass::Pass;
+use crate::rule::{Asks, Hears};
+use crate::table::Leases;
+
+impl Leases {
+    /// Asks a client to give an inode back. It is a hint: nothing is promised of what that client does.
+    pub fn ask_back(&self, pass: &mut Pass, ino: u32, client: u32)
+        requires table { pass.old.table ≡ self.now }
+        requires inode { IsInode ino }
+        requires client { IsClient client }
+        ensures { pass.new ≡ with_event pass.old (Asked (asked_word client ((ino - 1) / 64)) (asked_bit ino)) }
+    {
+        let word = word_of_asking(client, ino);
+        let bit = bit_of_asking(ino);
+        self.table
+            .shared
+            .fetch_or::<Asks>(&mut pass.seat, word, bit);
+    }
+
+    /// What this client was asked for since the last such call, in one row of 64 inodes, 0 to 15: bit b of row r is
+    /// inode 64 r + b + 1. The row is emptied.
+    pub fn asked_back(&self, pass: &mut Pass, row: u32) -> u64
+        requires table { pass.old.table ≡ self.now }
+        requires row { row < 16 }
+        ensures { pass.new ≡ with_event pass.old (Heard (asked_word (client_of pass.old) row) result) }
+    {
+        let word = (INODES + ROWS * pass.place + row) as usize;
+        self.table.shared.swap::<Hears>(&mut pass.seat, word, 0)
+    }
+}

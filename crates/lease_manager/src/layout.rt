@@ -1,0 +1,59 @@
+// Where each client and inode stands in the words.
+ghost use Rattle.std.specs.Prelude.{◌≡◌, ◌+◌, ◌-◌, ◌*◌, ◌/◌, ◌^◌, ◌<◌};
+ghost use Rattle.lease_manager.specs.Words.{IsInode, IsClient, asked_word, asked_bit, both_marks};
+
+/// Inodes are numbered from 1 to this.
+pub const INODES: u32 = 1024;
+
+/// Clients are numbered from 1 to this.
+pub const CLIENTS: u32 = 8;
+
+/// A client is asked by rows of 64 inodes, from 0 on.
+pub const ROWS: u32 = 16;
+
+/// A lease word for each inode, and then the asked words, a row of 16 for each client.
+pub const WORDS: usize = 1152;
+
+// Below this number a lease word shows no write mark.
+pub(crate) const LOWEST_WRITE_MARK: u64 = 256;
+
+// A number with one bit.
+pub(crate) fn bit(at: u32) -> u64
+    requires { at < 64 }
+    ensures { result ≡ 2 ^ at }
+{
+    1 << at
+}
+
+// Both marks of a client in a lease word.
+pub(crate) fn marks(place: u32) -> u64
+    requires { place < 8 }
+    ensures { result ≡ both_marks place }
+{
+    bit(place) | bit(8 + place)
+}
+
+// The place of an inode's lease word.
+pub(crate) fn lease_word(ino: u32) -> usize
+    requires { IsInode ino }
+    ensures { result ≡ ino - 1 }
+{
+    (ino - 1) as usize
+}
+
+// The place of the word in which a client is asked for an inode.
+pub(crate) fn word_of_asking(client: u32, ino: u32) -> usize
+    requires client { IsClient client }
+    requires inode { IsInode ino }
+    ensures { result ≡ asked_word client ((ino - 1) / 64) }
+{
+    (INODES + ROWS * (client - 1) + (ino - 1) / 64) as usize
+}
+
+// The bit of an inode in that word.
+pub(crate) fn bit_of_asking(ino: u32) -> u64
+    requires { IsInode ino }
+    ensures { result ≡ asked_bit ino }
+{
+    bit((ino - 1) % 64)
+}

@@ -1,0 +1,36 @@
+// What a seat of the table carries. It exists in proofs alone: no value of a `Part` or an `Event` is made.
+use std::collections::LinkedList;
+
+/// How one client stands to one inode.
+#[derive(Debug, Drop, Clone, Copy, PartialEq, Eq)]
+pub enum LeaseMode {
+    Free,
+    Reading,
+    Writing,
+    /// A read try that met a writer and is being taken out. Between calls no pass stands so.
+    Trying,
+}
+
+/// What a step of a client found or asked, with the place of the word. Some steps take a lease, and those are in the modes.
+pub enum Event {
+    /// A take or a raise was refused, at this number.
+    Refused(u64, u64),
+    /// A lease word was read, and had this number.
+    Looked(u64, u64),
+    /// These bits were put into an asked word.
+    Asked(u64, u64),
+    /// An asked word was emptied, and had this number.
+    Heard(u64, u64),
+}
+
+/// One client's part: how it stands to each inode, and what its steps have met with so far.
+pub struct Part {
+    /// The client's number less 1.
+    pub place: u64,
+    /// Inode i stands at i - 1.
+    pub modes: LinkedList<LeaseMode>,
+    pub events: LinkedList<Event>,
+}
+
+/// A seat carries parts, mostly one. Its client's own part stands first.
+pub type View = LinkedList<Part>;

@@ -1,0 +1,4 @@
+pub mod Fields
+pub mod Effects
+pub mod Records
+pub mod Loops

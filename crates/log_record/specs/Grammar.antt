@@ -1,0 +1,193 @@
+-- Records, the bytes that spell each, and the record that bytes spell.
+use Rattle.std.specs.Prelude.{◌≡◌, ℕ, zero, suc, ◌+◌, ◌^◌, ◌<◌, ◌≤◌, ◌==◌, Bool, true, ◌&&◌, nat_le, List, [], ◌∷◌, ◌++◌, length, take, drop, slice_index, Option, Some, None, if◌then◌else◌}
+use Rattle.std.specs.List.{flat_map, AllByRecursion}
+use Rattle.byteorder.specs.Endian.{little_bytes, little_number}
+use Rattle.posix_calls.specs.Name.{is_name}
+use Rattle.posix_calls.specs.declared.limits.TheConstants.{MAX_TRANSFER}
+use Rattle.file_graph.specs.declared.limits.TheConstants.{MAX_INODE, MAX_NAMES, MAX_FILE}
+use Rattle.file_graph.specs.declared.effect.Kind.{Kind}
+use Rattle.file_graph.specs.declared.effect.Kind.TheVariants as kind
+use Rattle.file_graph.specs.declared.effect.Effect.{Effect}
+use Rattle.file_graph.specs.declared.effect.Effect.TheVariants as effect
+use Rattle.log_record.specs.declared.format.Record.{Record}
+use Rattle.log_record.specs.declared.format.TheConstants.{MAX_EFFECTS, MAKE, ENTER, NAMES, BYTES, FILE, DIRECTORY}
+
+-- ---- what has a spelling
+
+-- an inode number from 1 on, up to the highest
+abbrev pub IsInode : ℕ → Type 0
+IsInode i = (1 ≤ i) × (i ≤ MAX_INODE)
+
+-- what keeps the limits: inodes and names as they may be, and a write of some bytes within the greatest file
+abbrev pub Fits : Effect → Type 0
+Fits (effect.Make i k) = IsInode i
+Fits (effect.Enter d i k name) = IsInode d × IsInode i × (is_name name ≡ true)
+Fits (effect.Names i n) = IsInode i × (n ≤ MAX_NAMES)
+Fits (effect.Bytes i at new) = IsInode i × (1 ≤ length new) × (length new ≤ MAX_TRANSFER) × (at + length new ≤ MAX_FILE)
+
+-- a record that has a spelling: a u32 of units, and 1 to 8 effects that keep the limits
+pub record IsRecord (r : Record) : Type 0 where
+  pub units : r.units < 2 ^ 32
+  pub some : 1 ≤ length r.effects
+  pub few : length r.effects ≤ MAX_EFFECTS
+  pub fit : AllByRecursion Fits r.effects
+
+-- ---- the spelling
+
+-- four bytes, the lowest first
+unfoldable pub u32 : ℕ → List ℕ
+u32 n = little_bytes 4 n
+
+-- eight bytes, the lowest first
+unfoldable pub u64 : ℕ → List ℕ
+u64 n = little_bytes 8 n
+
+-- 1 is a file, 2 a directory
+abbrev pub kind_byte : Kind → ℕ
+kind_byte kind.File = FILE
+kind_byte kind.Directory = DIRECTORY
+
+-- a tag, and the fields in their order; a name and bytes stand behind their length
+abbrev pub effect_bytes : Effect → List ℕ
+effect_bytes (effect.Make i k) = MAKE ∷ (u32 i ++ kind_byte k ∷ [])
+effect_bytes (effect.Enter d i k name) = ENTER ∷ (u32 d ++ (u32 i ++ kind_byte k ∷ length name ∷ name))
+effect_bytes (effect.Names i n) = NAMES ∷ (u32 i ++ u32 n)
+effect_bytes (effect.Bytes i at new) = BYTES ∷ (u32 i ++ (u64 at ++ (u32 (length new) ++ new)))
+
+-- the units, the count of the effects, and each of them
+abbrev pub spelling : Record → List ℕ
+spelling r = u32 r.units ++ (length r.effects ∷ flat_map effect_bytes r.effects)
+
+-- ---- the reading
+
+-- a step, and another on its value; none where either is none
+infixl 10 ◌>>=◌
+abbrev pub ◌>>=◌ : {A B : Type 0} → Option A → (A → Option B) → Option B
+(Some x) >>= f = f x
+None >>= f = None
+
+-- a field is a value and the bytes behind it
+abbrev pub Field : Type 0 → Type 0
+Field A = List ℕ → Option (A × List ℕ)
+
+-- one byte
+abbrev pub byte_at : Field ℕ
+byte_at [] = None
+byte_at (b ∷ rest) = Some (b, rest)
+
+-- so many bytes
+abbrev pub run_at : ℕ → Field (List ℕ)
+run_at n bytes = if nat_le n (length bytes) then Some (take n bytes, drop n bytes) else None
+
+-- a number of so many bytes, the lowest first
+abbrev pub number_at : ℕ → Field ℕ
+number_at n bytes = if nat_le n (length bytes) then Some (little_number n (take n bytes), drop n bytes) else None
+
+-- a kind
+abbrev pub kind_at : Field Kind
+kind_at [] = None
+kind_at (b ∷ rest) = if b == FILE then Some (kind.File, rest) else (if b == DIRECTORY then Some (kind.Directory, rest) else None)
+
+-- the fields of a Make: the inode and the kind
+unfoldable pub make_at : Field Effect
+make_at bytes = do
+  i ← number_at 4 bytes
+  k ← kind_at i.1
+  Some (effect.Make i.0 k.0, k.1)
+
+-- the fields of an Enter: the directory, the inode, the kind, and the name behind its length
+unfoldable pub enter_at : Field Effect
+enter_at bytes = do
+  d ← number_at 4 bytes
+  i ← number_at 4 d.1
+  k ← kind_at i.1
+  n ← byte_at k.1
+  name ← run_at n.0 n.1
+  Some (effect.Enter d.0 i.0 k.0 name.0, name.1)
+
+-- the fields of a Names: the inode and the count
+unfoldable pub names_at : Field Effect
+names_at bytes = do
+  i ← number_at 4 bytes
+  n ← number_at 4 i.1
+  Some (effect.Names i.0 n.0, n.1)
+
+-- the fields of a Bytes: the inode, the offset, and the bytes behind their count
+unfoldable pub bytes_at : Field Effect
+bytes_at bytes = do
+  i ← number_at 4 bytes
+  at ← number_at 8 i.1
+  n ← number_at 4 at.1
+  new ← run_at n.0 n.1
+  Some (effect.Bytes i.0 at.0 new.0, new.1)
+
+-- a tag, and the fields of its effect; another tag is none
+unfoldable pub fields_at : Field Effect
+fields_at bytes = do
+  tag ← byte_at bytes
+  if tag.0 == MAKE then make_at tag.1 else (if tag.0 == ENTER then enter_at tag.1 else (if tag.0 == NAMES then names_at tag.1 else (if tag.0 == BYTES then bytes_at tag.1 else None)))
+
+-- whether a number is an inode's
+abbrev pub is_inode : ℕ → Bool
+is_inode i = nat_le 1 i && nat_le i MAX_INODE
+
+-- whether n bytes from an offset on are a write within the greatest file
+abbrev pub is_extent : ℕ → ℕ → Bool
+is_extent at n = nat_le 1 n && nat_le n MAX_TRANSFER && nat_le (at + n) MAX_FILE
+
+-- whether an effect keeps the limits
+abbrev pub fits : Effect → Bool
+fits (effect.Make i k) = is_inode i
+fits (effect.Enter d i k name) = is_inode d && is_inode i && is_name name
+fits (effect.Names i n) = is_inode i && nat_le n MAX_NAMES
+fits (effect.Bytes i at new) = is_inode i && is_extent at (length new)
+
+-- an effect that keeps the limits
+unfoldable pub effect_at : Field Effect
+effect_at bytes = do
+  e ← fields_at bytes
+  if fits e.0 then Some e else None
+
+-- so many effects
+unfoldable pub effects_at : ℕ → Field (List Effect)
+effects_at zero bytes = Some ([], bytes)
+effects_at (suc n) bytes = do
+  first ← effect_at bytes
+  others ← effects_at n first.1
+  Some (first.0 ∷ others.0, others.1)
+
+-- the units and the count of the effects, 1 to 8
+unfoldable pub header_at : Field (ℕ × ℕ)
+header_at bytes = do
+  units ← number_at 4 bytes
+  count ← byte_at units.1
+  if nat_le 1 count.0 && nat_le count.0 MAX_EFFECTS then Some ((units.0, count.0), count.1) else None
+
+-- the record at the front of the bytes
+unfoldable pub record_at : Field Record
+record_at bytes = do
+  h ← header_at bytes
+  es ← effects_at h.0.1 h.1
+  Some (record { units = h.0.0; effects = es.0 }, es.1)
+
+-- the record that exactly these bytes spell
+unfoldable pub record_of : List ℕ → Option Record
+record_of bytes = do
+  r ← record_at bytes
+  if length r.1 == 0 then Some r.0 else None
+
+-- ---- bytes that begin with a record
+
+-- numbers that are bytes
+abbrev pub AreBytes : List ℕ → Type 0
+AreBytes bytes = (i : ℕ) → slice_index bytes i < 256
+
+-- the first n bytes are the spelling of this record
+pub record Begins (bytes : List ℕ) (r : Record) (n : ℕ) : Type 0 where
+  pub is : IsRecord r
+  pub front : bytes ≡ spelling r ++ drop n bytes
+  pub count : n ≡ length (spelling r)
+
+-- no beginning of the bytes is a spelling
+abbrev pub NoneBegins : List ℕ → Type 0
+NoneBegins bytes = (r : Record) (rest : List ℕ) → IsRecord r → bytes ≡ spelling r ++ rest → ⊥

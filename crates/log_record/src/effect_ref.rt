@@ -1,0 +1,127 @@
+ghost use Rattle.std.specs.Prelude.{◌≡◌, if◌then◌else◌};
+ghost use Rattle.log_record.specs.Outcome.{Gives, owned};
+ghost use Rattle.log_record.specs.Grammar.{fits, is_inode, is_extent};
+
+use crate::format::RecordError;
+use file_graph::{Effect, Kind, MAX_FILE, MAX_INODE, MAX_NAMES};
+use posix_calls::{Bytes, MAX_TRANSFER, Name};
+use std::alloc::Global;
+
+/// An effect whose name or bytes lie elsewhere.
+#[derive(Clone, Copy)]
+pub enum EffectRef<'a> {
+    Make {
+        inode: u32,
+        kind: Kind,
+    },
+    Enter {
+        directory: u32,
+        inode: u32,
+        kind: Kind,
+        name: &'a [u8],
+    },
+    Names {
+        inode: u32,
+        names: u32,
+    },
+    Bytes {
+        inode: u32,
+        at: u64,
+        bytes: &'a [u8],
+    },
+}
+
+impl EffectRef<'_> {
+    /// Whether it keeps the limits of the format.
+    pub fn fits(&self) -> bool
+        ensures { result ≡ fits (owned self.now) }
+    {
+        match *self {
+            EffectRef::Make { inode, .. } => is_inode(inode),
+            EffectRef::Enter {
+                directory,
+                inode,
+                name,
+                ..
+            } => is_inode(directory) && is_inode(inode) && Name::is_valid(name),
+            EffectRef::Names { inode, names } => is_inode(inode) && names <= MAX_NAMES,
+            EffectRef::Bytes { inode, at, bytes } => is_inode(inode) && is_extent(at, bytes.len()),
+        }
+    }
+
+    /// The effect with a copy of its name or bytes, where it keeps the limits.
+    pub fn to_effect(&self, alloc: Global) -> Result<Effect, RecordError>
+        ensures { Gives (λ e. e) result (if fits (owned self.now) then Some (owned self.now) else None) }
+    {
+        if !self.fits() {
+            return Err(RecordError::NoRecord);
+        }
+        match *self {
+            EffectRef::Make { inode, kind } => Ok(Effect::Make { inode, kind }),
+            EffectRef::Enter {
+                directory,
+                inode,
+                kind,
+                name,
+            } => match Name::from_vec(name.to_vec(alloc)?) {
+                Ok(name) => Ok(Effect::Enter {
+                    directory,
+                    inode,
+                    kind,
+                    name,
+                }),
+                Err(_) => Err(RecordError::NoRecord),
+            },
+            EffectRef::Names { inode, names } => Ok(Effect::Names { inode, names }),
+            EffectRef::Bytes { inode, at, bytes } => {
+                let bytes = Bytes::copy_of(alloc, bytes)?;
+                Ok(Effect::Bytes { inode, at, bytes })
+            }
+        }
+    }
+}
+
+/// The effect, lent.
+pub fn lend(effect: &Effect) -> EffectRef<'_>
+    ensures { owned result ≡ effect.now }
+{
+    match effect {
+        Effect::Make { inode, kind } => EffectRef::Make {
+            inode: *inode,
+            kind: *kind,
+        },
+        Effect::Enter {
+            directory,
+            inode,
+            kind,
+            name,
+        } => EffectRef::Enter {
+            directory: *directory,
+            inode: *inode,
+            kind: *kind,
+            name: name.as_slice(),
+        },
+        Effect::Names { inode, names } => EffectRef::Names {
+            inode: *inode,
+            names: *names,
+        },
+        Effect::Bytes { inode, at, bytes } => EffectRef::Bytes {
+            inode: *inode,
+            at: *at,
+            bytes: bytes.as_slice(),
+        },
+    }
+}
+
+fn is_inode(inode: u32) -> bool
+    ensures { result ≡ is_inode inode }
+{
+    1 <= inode && inode <= MAX_INODE
+}
+
+// A write of some bytes that ends within the greatest file.
+fn is_extent(at: u64, count: usize) -> bool
+    ensures { result ≡ is_extent at count }
+{
+    1 <= count && count <= MAX_TRANSFER && at <= MAX_FILE && at + count as u64 <= MAX_FILE
+}

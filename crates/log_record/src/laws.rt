@@ -1,0 +1,22 @@
+//! What holds of all records and bytes.
+
+ghost use Rattle.std.specs.Prelude.{◌≡◌, List, ℕ, Some, ◌++◌};
+ghost use Rattle.log_record.specs.declared.format.Record.{Record};
+ghost use Rattle.log_record.specs.Grammar.{AreBytes, IsRecord, spelling, record_at, record_of};
+
+/// What is written is read again, whatever follows it.
+pub fn written_is_read()
+    ensures front { (r : Record) (rest : List ℕ) → IsRecord r → record_at (spelling r ++ rest) ≡ Some (r, rest) }
+    ensures whole { (r : Record) → IsRecord r → record_of (spelling r) ≡ Some r }
+{}
+
+/// What is read is spelled so.
+pub fn read_is_spelled()
+    ensures front { (bytes rest : List ℕ) (r : Record) → AreBytes bytes → record_at bytes ≡ Some (r, rest) → IsRecord r × (bytes ≡ spelling r ++ rest) }
+    ensures whole { (bytes : List ℕ) (r : Record) → AreBytes bytes → record_of bytes ≡ Some r → IsRecord r × (bytes ≡ spelling r) }
+{}
+
+/// Two records whose spellings begin the same bytes are one record.
+pub fn no_spelling_begins_another()
+    ensures { (r s : Record) (x y : List ℕ) → IsRecord r → IsRecord s → spelling r ++ x ≡ spelling s ++ y → (r ≡ s) × (x ≡ y) }
+{}

@@ -1,0 +1,20 @@
+//! Records of a client's log as bytes.
+//!
+//! A record has the units that are charged for it and 1 to 8 effects. Each record has one spelling, the payload of its place
+//! in the log; no spelling begins another. What a record is spelled as, and what bytes are read as, are functions of
+//! `specs/Grammar.antt`; the reader and the writer meet them exactly.
+#![tactic(auto)]
+
+mod effect_ref;
+mod format;
+mod laws;
+mod reading;
+mod writing;
+
+pub use format::{MAX_EFFECTS, Record, RecordError};
+pub use laws::{no_spelling_begins_another, read_is_spelled, written_is_read};
+pub use reading::{is_payload, read_payload, read_record};
+pub use writing::write_record;
+
+#[cfg(test)]
+mod tests;

@@ -1,0 +1,233 @@
+ghost use Rattle.std.specs.Prelude.{◌≡◌, IfOk, drop, option_map, is_some};
+ghost use Rattle.log_record.specs.Outcome.{Gives, owned};
+ghost use Rattle.log_record.specs.Grammar.{Begins, NoneBegins, IsRecord, spelling, number_at, run_at, byte_at, kind_at, make_at, enter_at, names_at, bytes_at, fields_at, effect_at, effects_at, header_at, record_at, record_of};
+
+use crate::effect_ref::EffectRef;
+use crate::format::{BYTES, DIRECTORY, ENTER, FILE, MAKE, MAX_EFFECTS, NAMES, Record, RecordError};
+use byteorder::{ByteOrder, LittleEndian};
+use file_graph::{Effect, Effects, Kind};
+use std::alloc::Global;
+
+fn u8_at(bytes: &[u8]) -> Option<(u8, &[u8])>
+    ensures { option_map (λ x. (x.0, x.1.now)) result ≡ byte_at bytes.now }
+{
+    match bytes {
+        [] => None,
+        [byte, rest @ ..] => Some((*byte, rest)),
+    }
+}
+
+fn u32_at(bytes: &[u8]) -> Option<(u32, &[u8])>
+    ensures { option_map (λ x. (x.0, x.1.now)) result ≡ number_at 4 bytes.now }
+{
+    if bytes.len() < 4 {
+        return None;
+    }
+    let (front, rest) = bytes.split_at(4);
+    Some((LittleEndian::read_u32(front), rest))
+}
+
+fn u64_at(bytes: &[u8]) -> Option<(u64, &[u8])>
+    ensures { option_map (λ x. (x.0, x.1.now)) result ≡ number_at 8 bytes.now }
+{
+    if bytes.len() < 8 {
+        return None;
+    }
+    let (front, rest) = bytes.split_at(8);
+    Some((LittleEndian::read_u64(front), rest))
+}
+
+fn bytes_of(count: usize, bytes: &[u8]) -> Option<(&[u8], &[u8])>
+    ensures { option_map (λ x. (x.0.now, x.1.now)) result ≡ run_at count bytes.now }
+{
+    if bytes.len() < count {
+        return None;
+    }
+    Some(bytes.split_at(count))
+}
+
+fn kind_of(bytes: &[u8]) -> Option<(Kind, &[u8])>
+    ensures { option_map (λ x. (x.0, x.1.now)) result ≡ kind_at bytes.now }
+{
+    let (byte, rest) = u8_at(bytes)?;
+    match byte {
+        FILE => Some((Kind::File, rest)),
+        DIRECTORY => Some((Kind::Directory, rest)),
+        _ => None,
+    }
+}
+
+#[tactic(auto, unfolding(crate::specs::Grammar::make_at))]
+fn make_of(bytes: &[u8]) -> Option<(EffectRef<'_>, &[u8])>
+    ensures { option_map (λ x. (owned x.0, x.1.now)) result ≡ make_at bytes.now }
+{
+    let (inode, rest) = u32_at(bytes)?;
+    let (kind, rest) = kind_of(rest)?;
+    Some((EffectRef::Make { inode, kind }, rest))
+}
+
+#[tactic(auto, unfolding(crate::specs::Grammar::enter_at))]
+fn enter_of(bytes: &[u8]) -> Option<(EffectRef<'_>, &[u8])>
+    ensures { option_map (λ x. (owned x.0, x.1.now)) result ≡ enter_at bytes.now }
+{
+    let (directory, rest) = u32_at(bytes)?;
+    let (inode, rest) = u32_at(rest)?;
+    let (kind, rest) = kind_of(rest)?;
+    let (count, rest) = u8_at(rest)?;
+    let (name, rest) = bytes_of(count as usize, rest)?;
+    Some((
+        EffectRef::Enter {
+            directory,
+            inode,
+            kind,
+            name,
+        },
+        rest,
+    ))
+}
+
+#[tactic(auto, unfolding(crate::specs::Grammar::names_at))]
+fn names_of(bytes: &[u8]) -> Option<(EffectRef<'_>, &[u8])>
+    ensures { option_map (λ x. (owned x.0, x.1.now)) result ≡ names_at bytes.now }
+{
+    let (inode, rest) = u32_at(bytes)?;
+    let (names, rest) = u32_at(rest)?;
+    Some((EffectRef::Names { inode, names }, rest))
+}
+
+#[tactic(auto, unfolding(crate::specs::Grammar::bytes_at))]
+fn write_of(bytes: &[u8]) -> Option<(EffectRef<'_>, &[u8])>
+    ensures { option_map (λ x. (owned x.0, x.1.now)) result ≡ bytes_at bytes.now }
+{
+    let (inode, rest) = u32_at(bytes)?;
+    let (at, rest) = u64_at(rest)?;
+    let (count, rest) = u32_at(rest)?;
+    let (bytes, rest) = bytes_of(count as usize, rest)?;
+    Some((EffectRef::Bytes { inode, at, bytes }, rest))
+}
+
+// The tag of an effect and its fields, whether or not they keep the limits.
+#[tactic(auto, unfolding(crate::specs::Grammar::fields_at))]
+fn fields_of(bytes: &[u8]) -> Option<(EffectRef<'_>, &[u8])>
+    ensures { option_map (λ x. (owned x.0, x.1.now)) result ≡ fields_at bytes.now }
+{
+    let (tag, rest) = u8_at(bytes)?;
+    match tag {
+        MAKE => make_of(rest),
+        ENTER => enter_of(rest),
+        NAMES => names_of(rest),
+        BYTES => write_of(rest),
+        _ => None,
+    }
+}
+
+#[tactic(auto, unfolding(crate::specs::Grammar::effect_at))]
+fn effect_of(alloc: Global, bytes: &[u8]) -> Result<(Effect, &[u8]), RecordError>
+    ensures { Gives (λ x. (x.0, x.1.now)) result (effect_at bytes.now) }
+{
+    let Some((effect, rest)) = fields_of(bytes) else {
+        return Err(RecordError::NoRecord);
+    };
+    Ok((effect.to_effect(alloc)?, rest))
+}
+
+#[tactic(auto, unfolding(crate::specs::Grammar::effect_at))]
+fn skip_effect(bytes: &[u8]) -> Option<&[u8]>
+    ensures { option_map (λ x. x.now) result ≡ option_map (λ x. x.1) (effect_at bytes.now) }
+{
+    let (effect, rest) = fields_of(bytes)?;
+    if !effect.fits() {
+        return None;
+    }
+    Some(rest)
+}
+
+fn effects_of(alloc: Global, count: u8, bytes: &[u8]) -> Result<(Vec<Effect>, &[u8]), RecordError>
+    ensures { Gives (λ x. (x.0.items, x.1.now)) result (effects_at count bytes.now) }
+{
+    let mut effects = Vec::with_capacity(alloc, count as usize)?;
+    let mut rest = bytes;
+    for _ in 0..count {
+        let (effect, after) = effect_of(alloc, rest)?;
+        effects.push(effect)?;
+        rest = after;
+    }
+    Ok((effects, rest))
+}
+
+fn skip_effects(count: u8, bytes: &[u8]) -> Option<&[u8]>
+    ensures { option_map (λ x. x.now) result ≡ option_map (λ x. x.1) (effects_at count bytes.now) }
+{
+    let mut rest = bytes;
+    for _ in 0..count {
+        rest = skip_effect(rest)?;
+    }
+    Some(rest)
+}
+
+// The units and the count of the effects.
+#[tactic(auto, unfolding(crate::specs::Grammar::header_at))]
+fn header_of(bytes: &[u8]) -> Option<((u32, u8), &[u8])>
+    ensures { option_map (λ x. (x.0, x.1.now)) result ≡ header_at bytes.now }
+{
+    let (units, rest) = u32_at(bytes)?;
+    let (count, rest) = u8_at(rest)?;
+    if count < 1 || MAX_EFFECTS < count {
+        return None;
+    }
+    Some(((units, count), rest))
+}
+
+#[tactic(auto, unfolding(crate::specs::Grammar::record_at))]
+fn record_front(alloc: Global, bytes: &[u8]) -> Result<(Record, &[u8]), RecordError>
+    ensures { Gives (λ x. (x.0, x.1.now)) result (record_at bytes.now) }
+{
+    let Some(((units, count), rest)) = header_of(bytes) else {
+        return Err(RecordError::NoRecord);
+    };
+    let (effects, rest) = effects_of(alloc, count, rest)?;
+    let effects = Effects::from_vec(effects);
+    Ok((Record { units, effects }, rest))
+}
+
+/// The record that the bytes begin with, and how many of them spell it. `NoRecord` says that no beginning of them is a
+/// spelling; `Memory` says nothing of them.
+pub fn read_record(alloc: Global, bytes: &[u8]) -> Result<(Record, usize), RecordError>
+    ensures found { IfOk result (λ r. Begins bytes.now r.0 r.1) }
+    ensures none { result ≡ Err RecordError.NoRecord → NoneBegins bytes.now }
+    ensures exact { Gives (λ r. (r.0, drop r.1 bytes.now)) result (record_at bytes.now) }
+{
+    let (found, rest) = record_front(alloc, bytes)?;
+    Ok((found, bytes.len() - rest.len()))
+}
+
+/// The record that exactly these bytes spell. `NoRecord` says that they spell none; `Memory` says nothing of them.
+pub fn read_payload(alloc: Global, bytes: &[u8]) -> Result<Record, RecordError>
+    ensures found { IfOk result (λ r. IsRecord r × (bytes.now ≡ spelling r)) }
+    ensures exact { Gives (λ r. r) result (record_of bytes.now) }
+{
+    let (found, rest) = record_front(alloc, bytes)?;
+    if !rest.is_empty() {
+        return Err(RecordError::NoRecord);
+    }
+    Ok(found)
+}
+
+// What is behind the record at the front.
+#[tactic(auto, unfolding(crate::specs::Grammar::record_at))]
+fn skip_record(bytes: &[u8]) -> Option<&[u8]>
+    ensures { option_map (λ x. x.now) result ≡ option_map (λ x. x.1) (record_at bytes.now) }
+{
+    let ((_, count), rest) = header_of(bytes)?;
+    skip_effects(count, rest)
+}
+
+/// Whether exactly these bytes spell a record. It takes no memory.
+pub fn is_payload(bytes: &[u8]) -> bool
+    ensures { result ≡ is_some (record_of bytes.now) }
+{
+    match skip_record(bytes) {
+        Some(rest) => rest.is_empty(),
+        None => false,
+    }
+}

@@ -1,0 +1,59 @@
+//! Times the layers of Strata beside plain work on the same bytes.
+#![tactic(auto)]
+
+mod append;
+mod leases;
+
+use anyhow::{Context, Result};
+use clap::{Arg, ArgAction, Command, value_parser};
+use std::alloc::Global;
+use std::env;
+use std::process::ExitCode;
+
+fn command<'a>(alloc: Global) -> Result<Command<'a>> {
+    let append = Arg::new(alloc, "append")
+        .long("append")
+        .value_name("BYTES")
+        .help("Time appends of records that write so many bytes, 1 to 65536")
+        .action(ArgAction::Set)
+        .value_parser(value_parser!(u64).range(1..65_537));
+    let leases = Arg::new(alloc, "leases")
+        .long("leases")
+        .help("Time leases that are taken and given, alone and in eight threads")
+        .action(ArgAction::SetTrue);
+    Ok(
+        Command::new(alloc, "strata_bench")
+            .about("Times the layers of Strata beside plain work on the same bytes")
+            .arg(append)?
+            .arg(leases)?,
+    )
+}
+
+fn main(rt: HostRuntime) -> Result<ExitCode> {
+    let alloc = rt.alloc();
+    let args = env::args(&rt).context("reading the command line")?;
+    let mut words = Vec::new(alloc);
+    for arg in args {
+        words.push(arg)?;
+    }
+    let matches = match command(alloc)?.try_get_matches_from(&words) {
+        Ok(matches) => matches,
+        Err(error) => {
+            error.print(&rt)?;
+            let status = if error.use_stderr() { 2 } else { 0 };
+            return Ok(ExitCode::from(status));
+        }
+    };
+    let append = matches.get_one::<u64>("append");
+    let leases = matches.get_flag("leases");
+    if let Some(bytes) = append {
+        append::run(&rt, bytes as usize)?;
+    }
+    if leases {
+        leases::run(&rt)?;
+    }
+    if append.is_none() && !leases {
+        println!(rt; "usage: strata_bench [--append BYTES] [--leases]")?;
+    }
+    Ok(ExitCode::SUCCESS)
+}

@@ -1,0 +1,36 @@
+-- What a tier holds after a stop, by what each byte that was written and not fenced then holds.
+use Rattle.std.specs.Prelude.{◌≢◌, ℕ, List, [], ◌∷◌, length, if◌then◌else◌, replicate}
+use Rattle.tier_device.specs.declared.media.Tier.{Tier}
+use Rattle.tier_device.specs.declared.record.DeviceCall.{DeviceCall}
+use Rattle.tier_device.specs.declared.record.DeviceCall.TheVariants.{Write, Fence}
+use Rattle.tier_device.specs.declared.fill.Fill.{Fill}
+use Rattle.tier_device.specs.declared.fill.Fill.TheVariants.{Old, New, Byte}
+use Rattle.tier_device.specs.Media.{overwritten}
+use Rattle.tier_device.specs.Record.{same_tier, hits, shown}
+
+-- what the range of a write holds
+abbrev pub spoiled : Fill → List ℕ → ℕ → List ℕ → List ℕ
+spoiled Old kept at bytes = kept
+spoiled New kept at bytes = overwritten kept at bytes
+spoiled (Byte b) kept at bytes = overwritten kept at (replicate (length bytes) b)
+
+-- the same of one call
+abbrev pub spoilt : Fill → Tier → List ℕ → DeviceCall → List ℕ
+spoilt fill tier kept (Write t at bytes) = if hits tier kept t at bytes then spoiled fill kept at bytes else kept
+spoilt fill tier kept (Fence t) = kept
+
+-- what a fence keeps is what a read gives; a write after it spoils its range
+abbrev pub held : Fill → Tier → List ℕ → List ℕ → List DeviceCall → List ℕ
+held fill tier seen kept [] = kept
+held fill tier seen kept (Write t at bytes ∷ xs) = held fill tier (shown tier seen (Write t at bytes)) (spoilt fill tier kept (Write t at bytes)) xs
+held fill tier seen kept (Fence t ∷ xs) = held fill tier seen (if same_tier t tier then seen else kept) xs
+
+-- several calls with no fence of the tier among them
+abbrev pub spoilt_all : Fill → Tier → List ℕ → List DeviceCall → List ℕ
+spoilt_all fill tier kept [] = kept
+spoilt_all fill tier kept (x ∷ xs) = spoilt_all fill tier (spoilt fill tier kept x) xs
+
+-- none of these calls is a fence of the tier
+abbrev pub NoFence : Tier → List DeviceCall → Type 0
+NoFence tier [] = Unit {0}
+NoFence tier (x ∷ xs) = (x ≢ Fence tier) × NoFence tier xs

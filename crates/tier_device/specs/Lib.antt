@@ -1,0 +1,9 @@
+pub mod Media
+pub mod Rows
+pub mod Record
+pub mod RecordLaws
+pub mod Held
+pub mod Memory
+pub mod MemoryLaws
+pub mod Stop
+pub mod Fault

@@ -1,0 +1,29 @@
+-- A medium in memory, as the device model sees it.
+use Rattle.std.specs.Prelude.{◌≡◌, ℕ, List, length, take}
+use Rattle.tier_device.specs.declared.media.Tier.{Tier}
+use Rattle.tier_device.specs.declared.memory.MemMedia.{MemMedia}
+use Rattle.tier_device.specs.Media.{AtRest}
+use Rattle.tier_device.specs.Rows.{row}
+use Rattle.tier_device.specs.declared.fill.Fill.{Fill}
+use Rattle.tier_device.specs.Held.{held}
+use Rattle.tier_device.specs.Record.{LeftAfter}
+
+-- what a read gives of a tier
+abbrev pub memory_seen : MemMedia → Tier → List ℕ
+memory_seen m = row m.tiers
+
+-- how many calls it has in its record
+abbrev pub memory_moment : MemMedia → ℕ
+memory_moment m = length m.calls.items
+
+-- what a stop may leave of a tier after the first calls of the record
+abbrev pub memory_left : MemMedia → ℕ → Tier → List ℕ → Type 0
+memory_left m moment tier c = LeftAfter tier (row m.first tier) (λ d. d ≡ row m.first tier) (take moment m.calls.items) c
+
+-- what a tier holds after a stop now, by what each byte that was written and not fenced then holds
+abbrev pub memory_held : Fill → MemMedia → Tier → List ℕ
+memory_held fill m tier = held fill tier (row m.first tier) (row m.first tier) m.calls.items
+
+-- a stop now leaves what a read gives, and nothing else
+abbrev pub IsAtRest : MemMedia → Type 0
+IsAtRest m = (t : Tier) → AtRest (memory_seen m) (memory_left m (memory_moment m)) t

@@ -1,0 +1,77 @@
+// Three rows of bytes in memory.
+ghost use Rattle.std.specs.Prelude.{◌≡◌, ◌≤◌, ◌+◌, length, IfOk};
+ghost use Rattle.tier_device.specs.declared.media.Tier.TheVariants.{Fast, Block, Slow};
+ghost use Rattle.tier_device.specs.Media.{overwritten, Puts};
+ghost use Rattle.tier_device.specs.Rows.{row};
+
+use crate::Tier;
+use std::alloc::{AllocError, Global};
+use std::marker::Model;
+
+/// The bytes of three tiers.
+#[derive(Debug, Drop)]
+pub struct Tiers {
+    fast: Vec<u8>,
+    block: Vec<u8>,
+    slow: Vec<u8>,
+}
+
+impl Model for Tiers {
+    ghost use Rattle.tier_device.specs.Rows.{Rows};
+
+    ghost Value = { Rows };
+
+    ghost view = { λ t. record { fast = t.fast.items; block = t.block.items; slow = t.slow.items } };
+}
+
+impl Tiers {
+    /// The tiers that hold these bytes.
+    pub fn new(fast: Vec<u8>, block: Vec<u8>, slow: Vec<u8>) -> Self
+        ensures fast { row result Fast ≡ fast.items }
+        ensures block { row result Block ≡ block.items }
+        ensures slow { row result Slow ≡ slow.items }
+    {
+        Tiers { fast, block, slow }
+    }
+
+    /// A copy of all bytes.
+    pub fn copy(&self, alloc: Global) -> Result<Self, AllocError>
+        ensures { IfOk result (λ copy. copy ≡ self.now) }
+    {
+        Ok(Tiers {
+            fast: self.fast.to_vec(alloc)?,
+            block: self.block.to_vec(alloc)?,
+            slow: self.slow.to_vec(alloc)?,
+        })
+    }
+
+    /// The bytes of one tier.
+    pub fn bytes(&self, tier: Tier) -> &[u8]
+        ensures { result.now ≡ row self.now tier }
+    {
+        match tier {
+            Tier::Fast => &self.fast,
+            Tier::Block => &self.block,
+            Tier::Slow => &self.slow,
+        }
+    }
+
+    /// Puts bytes over those of a tier.
+    pub fn overwrite(&mut self, tier: Tier, at: usize, bytes: &[u8])
+        requires { at + length bytes.now ≤ length (row self.old tier) }
+        ensures { Puts tier (overwritten (row self.old tier) at bytes.now) (row self.old) (row self.new) }
+    {
+        match tier {
+            Tier::Fast => overwrite(&mut self.fast, at, bytes),
+            Tier::Block => overwrite(&mut self.block, at, bytes),
+            Tier::Slow => overwrite(&mut self.slow, at, bytes),
+        }
+    }
+}
+
+pub(crate) fn overwrite(bytes: &mut Vec<u8>, at: usize, new: &[u8])
+    requires { at + length new.now ≤ length bytes.old.items }
+    ensures { bytes.new.items ≡ overwritten bytes.old.items at new.now }
+{
+    bytes[at..at + new.len()].copy_from_slice(new);
+}

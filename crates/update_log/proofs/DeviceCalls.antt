@@ -1,0 +1,101 @@
+-- Each device call of an append, over any medium.
+use Rattle.std.proofs.Common.{◌≡◌, ℕ, ◌+◌, ◌≤◌, List, [], ◌∷◌, length, take, sym, subst, arith}
+use Rattle.std.specs.Prelude.{Result, Ok, Err, OnOk, OnErr}
+use Rattle.tier_device.specs.declared.media.Tier.{Tier}
+use Rattle.tier_device.specs.declared.media.Tier.TheVariants.{Fast}
+use Rattle.tier_device.specs.Media.{overwritten, Tears}
+use Rattle.update_log.specs.declared.stage.Stage.{Stage}
+use Rattle.update_log.specs.declared.stage.Stage.TheVariants as stages
+use Rattle.update_log.specs.Stage.{IsSound, BeforeOrAfter, payload_in}
+use Rattle.update_log.specs.Calls.{HasMoved, HasFailed}
+use Rattle.update_log.proofs.Moves.{either, fails, size1, either1, written, size2, kept, size3, either3, opened, size4, appended}
+
+pub on_err : {T E P : Type 0} (r : Result T E) → P → OnErr r P
+on_err (Ok x) p = tt
+on_err (Err e) p = p
+
+pub on_ok_both : {T E P Q R : Type 0} (r : Result T E) → (P → Q → R) → OnOk r P → OnOk r Q → OnOk r R
+on_ok_both (Ok x) f p q = f p q
+on_ok_both (Err e) f p q = tt
+
+module _ {M : Type 0} (seen : M → Tier → List ℕ) (moment : M → ℕ) (left : M → ℕ → Tier → List ℕ → Type 0) (seen_now : (m : M) (t : Tier) → left m (moment m) t (seen m t)) (sized : (m : M) (k : ℕ) (t : Tier) (c : List ℕ) → k ≤ moment m → left m k t c → length c ≡ length (seen m t)) (end : ℕ) (body : List ℕ) (m m' : M) where
+  abbrev Here : List ℕ → Type 0
+  Here c = left m (moment m) Fast c
+
+  abbrev There : List ℕ → Type 0
+  There c = left m' (moment m') Fast c
+
+  abbrev Each : (List ℕ → Type 0) → Type 0
+  Each Left = (c : List ℕ) → Left c → BeforeOrAfter (take end (seen m Fast)) (payload_in body) c
+
+  -- what is known after a call, and what besides where it succeeds
+  pub record Outcome (stage : Stage) (Succeeds : Type 0) : Type 0 where
+    pub done : Succeeds → HasMoved end stage body (seen m Fast) (seen m' Fast) There
+    pub failed : HasFailed end body (seen m Fast) (seen m' Fast) There
+    pub before : Each Here
+    pub after : Each There
+
+  long : (c : List ℕ) → Here c → length c ≡ length (seen m Fast)
+  long c l = sized m (moment m) Fast c (omega arith) l
+
+  abbrev Fewer : Type 0
+  Fewer = (c : List ℕ) → There c → Here c
+
+  -- a fence succeeds
+  pub record Fenced : Type 0 where
+    pub only : (c : List ℕ) → There c → c ≡ seen m Fast
+    pub same : seen m' Fast ≡ seen m Fast
+
+  pub write_body : (stage : Stage) → stage ≡ stages.Begun → IsSound end stage body (seen m Fast) Here → Tears Fast (end + 1) (length body) (left m (moment m)) (left m' (moment m')) → Outcome stage (seen m' Fast ≡ overwritten (seen m Fast) (end + 1) body)
+  write_body stage is sound tears =
+      let now = seen_now m Fast in
+      let now' = seen_now m' Fast in
+      let s = subst (λ (st : Stage). IsSound end st body (seen m Fast) Here) is sound in
+      let after = either1 end body (seen m Fast) Here long now (seen m' Fast) There now' tears.here s in
+      subst (λ (st : Stage). Outcome st (seen m' Fast ≡ overwritten (seen m Fast) (end + 1) body)) (sym is) (record {
+        done = written end body (seen m Fast) Here long now (seen m' Fast) There now' tears.here s;
+        failed = fails end body (seen m Fast) Here long now (seen m' Fast) There now' stages.Begun s (size1 end body (seen m Fast) Here long now (seen m' Fast) There now' tears.here s) after;
+        before = either end body (seen m Fast) Here stages.Begun tt s;
+        after = after;
+      })
+
+  pub fence_body : (stage : Stage) → stage ≡ stages.Written → IsSound end stage body (seen m Fast) Here → Fewer → Outcome stage Fenced
+  fence_body stage is sound fewer =
+      let now = seen_now m Fast in
+      let now' = seen_now m' Fast in
+      let s = subst (λ (st : Stage). IsSound end st body (seen m Fast) Here) is sound in
+      let before = either end body (seen m Fast) Here stages.Written tt s in
+      let after : Each There = λ c l. before c (fewer c l) in
+      subst (λ (st : Stage). Outcome st Fenced) (sym is) (record {
+        done = λ f. kept end body (seen m Fast) Here long now (seen m' Fast) There now' fewer s f.only;
+        failed = fails end body (seen m Fast) Here long now (seen m' Fast) There now' stages.Written s (size2 end body (seen m Fast) Here long now (seen m' Fast) There now' fewer s) after;
+        before = before;
+        after = after;
+      })
+
+  pub open_gate : (stage : Stage) → stage ≡ stages.Kept → IsSound end stage body (seen m Fast) Here → Tears Fast end 1 (left m (moment m)) (left m' (moment m')) → Outcome stage (seen m' Fast ≡ overwritten (seen m Fast) end (165 ∷ []))
+  open_gate stage is sound tears =
+      let now = seen_now m Fast in
+      let now' = seen_now m' Fast in
+      let s = subst (λ (st : Stage). IsSound end st body (seen m Fast) Here) is sound in
+      let after = either3 end body (seen m Fast) Here long now (seen m' Fast) There now' tears.here s in
+      subst (λ (st : Stage). Outcome st (seen m' Fast ≡ overwritten (seen m Fast) end (165 ∷ []))) (sym is) (record {
+        done = opened end body (seen m Fast) Here long now (seen m' Fast) There now' tears.here s;
+        failed = fails end body (seen m Fast) Here long now (seen m' Fast) There now' stages.Kept s (size3 end body (seen m Fast) Here long now (seen m' Fast) There now' tears.here s) after;
+        before = either end body (seen m Fast) Here stages.Kept tt s;
+        after = after;
+      })
+
+  pub fence_gate : (stage : Stage) → stage ≡ stages.Opened → IsSound end stage body (seen m Fast) Here → Fewer → Outcome stage Fenced
+  fence_gate stage is sound fewer =
+      let now = seen_now m Fast in
+      let now' = seen_now m' Fast in
+      let s = subst (λ (st : Stage). IsSound end st body (seen m Fast) Here) is sound in
+      let before = either end body (seen m Fast) Here stages.Opened tt s in
+      let after : Each There = λ c l. before c (fewer c l) in
+      subst (λ (st : Stage). Outcome st Fenced) (sym is) (record {
+        done = λ f. appended end body (seen m Fast) Here long now (seen m' Fast) There now' fewer s f.only f.same;
+        failed = fails end body (seen m Fast) Here long now (seen m' Fast) There now' stages.Opened s (size4 end body (seen m Fast) Here long now (seen m' Fast) There now' fewer s) after;
+        before = before;
+        after = after;
+      })

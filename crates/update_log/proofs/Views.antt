@@ -1,0 +1,172 @@
+-- From what holds of a region's fields to what its callers see.
+use Rattle.std.proofs.Common.{◌≡◌, ◌≢◌, ◌⊎◌, inl, inr, ℕ, ◌+◌, ◌-◌, ◌≤◌, ◌<◌, List, [], ◌∷◌, ◌++◌, length, take, drop, get_or, Some, None, true, refl, sym, ◌∙◌, ap, subst, arith, take-append-drop, append_assoc}
+use Rattle.std.specs.Prelude.{Option}
+use Rattle.std.specs.List.{cons_option}
+use Rattle.std.proofs.lemmas.List.Elements.{filter_map-append}
+use Rattle.std.proofs.lemmas.List.{append-nil, take_at, drop_at, drop_more, length-take, take-take}
+use Rattle.std.proofs.lemmas.Bool.{cases_eq}
+use Rattle.byteorder.specs.Endian.{little_bytes}
+use Rattle.byteorder.specs.Numbers.{length-bytes_low_first}
+use Rattle.log_record.specs.declared.format.Record.{Record}
+use Rattle.log_record.specs.Grammar.{record_of}
+use Rattle.tier_device.specs.declared.media.Tier.{Tier}
+use Rattle.tier_device.specs.declared.media.Tier.TheVariants.{Fast}
+use Rattle.tier_device.specs.Media.{Keeps, LeftSince}
+use Rattle.update_log.specs.declared.stage.Stage.{Stage}
+use Rattle.update_log.specs.declared.stage.Stage.TheVariants as stages
+use Rattle.update_log.specs.Frames.{payloads, records, header, before_gate, spelled, joined, behind_gate, is_payload}
+use Rattle.update_log.specs.Stage.{IsFront, IsShut, BeforeOrAfter, IsResting, IsSound, AtStage, IsAppending, payload_in, next}
+use Rattle.update_log.specs.View.{begun_in, WithOrWithout}
+use Rattle.update_log.proofs.Reading.{payloads_closed}
+use Rattle.update_log.specs.Calls.{payloads_after}
+use Rattle.update_log.proofs.Moves.{length-body, either, stands_of}
+
+-- At each moment of one call a stop leaves what it may leave at its start or at its end.
+pub since_one : (before now : ℕ) (old new : ℕ → Tier → List ℕ → Type 0) (P : List ℕ → Type 0) → Keeps before now old new → ((c : List ℕ) → old before Fast c → P c) → ((c : List ℕ) → new now Fast c → P c)
+    → (c : List ℕ) → LeftSince new now before Fast c → P c
+since_one before now old new P keeps first last c since = elim (cases_eq since.0 before) [
+  | inl is ↦ first c (subst (λ m. old m Fast c) is (keeps.nothing_else since.0 Fast c (omega (arith, is)) since.3))
+  | inr apart ↦
+      let is : since.0 ≡ now = omega (arith, apart, since.1, since.2, keeps.at_most_one) in last c (subst (λ m. new m Fast c) is since.3)
+]
+
+pub begun_appending : (stage : Stage) (payload : List ℕ) → IsAppending stage → begun_in stage payload ≡ record_of payload
+begun_appending stages.Resting payload h = absurd h
+begun_appending stages.Foreign payload h = absurd h
+begun_appending stages.Begun payload h = refl
+begun_appending stages.Written payload h = refl
+begun_appending stages.Kept payload h = refl
+begun_appending stages.Opened payload h = refl
+begun_appending stages.Failed payload h = absurd h
+
+join_one : (rs : List Record) (o : Option Record) → rs ++ cons_option o [] ≡ joined rs o
+join_one rs None = append-nil rs
+join_one rs (Some r) = refl
+
+pub spelled_more : (ps : List (List ℕ)) (payload : List ℕ) → spelled (ps ++ payload ∷ []) ≡ joined (spelled ps) (record_of payload)
+spelled_more ps payload = filter_map-append record_of ps (payload ∷ []) ∙ join_one (spelled ps) (record_of payload)
+
+pub with_or_without : (front payload c : List ℕ) → IsFront front → BeforeOrAfter front payload c → WithOrWithout (header front) (spelled (before_gate front)) (record_of payload) c
+with_or_without front payload c stands either = record {
+  header_is = sym (ap header (sym (either.front_stands)) ∙ take-take 16 (length front) c stands.long);
+  records_are = elim (either.payloads_are) [
+    | inl same ↦ inl (ap spelled same)
+    | inr more ↦ inr (ap spelled more ∙ spelled_more (before_gate front) payload)
+  ];
+}
+
+-- what a region at rest shows
+pub rest_shown : (front seen c : List ℕ) (left : List ℕ → Type 0) → IsResting front seen left → left c → (c ≡ seen) × (records c ≡ spelled (before_gate front))
+rest_shown front seen c left resting l = let same = resting.rest c l in (same, ap records same ∙ ap spelled (payloads_closed front seen resting.stands resting.shut))
+
+-- what holds of a region holds of one that shows the same and of which a stop leaves no more
+pub sound_kept : (end : ℕ) (stage : Stage) (body seen seen' : List ℕ) (left left' : List ℕ → Type 0) → seen' ≡ seen → ((c : List ℕ) → left' c → left c) → IsSound end stage body seen left → IsSound end stage body seen' left'
+sound_kept end stage body seen seen' left left' same fewer sound =
+    subst (λ (s : List ℕ). IsSound end stage body s left') (sym same) (record {
+      size = sound.size;
+      within = sound.within;
+      at_stage = fewer_at stage sound.at_stage;
+      record_begun = sound.record_begun;
+    })
+  where
+    fewer_at : (st : Stage) → AtStage st (take end seen) body seen left → AtStage st (take end seen) body seen left'
+    fewer_at stages.Resting a = record { stands = a.stands; shut = a.shut; rest = λ c l. a.rest c (fewer c l) }
+    fewer_at stages.Foreign a = record { stands = a.stands; ends = a.ends; rest = λ c l. a.rest c (fewer c l) }
+    fewer_at stages.Begun a = record { stands = a.stands; shut = λ c l. a.shut c (fewer c l) }
+    fewer_at stages.Written a = record { begun = record { stands = a.begun.stands; shut = λ c l. a.begun.shut c (fewer c l) }; staged = a.staged }
+    fewer_at stages.Kept a = record { stands = a.stands; rest = a.rest; staged = λ c l. a.staged c (fewer c l) }
+    fewer_at stages.Opened a = record { kept = record { stands = a.kept.stands; rest = a.kept.rest; staged = λ c l. a.kept.staged c (fewer c l) }; opened = a.opened }
+    fewer_at stages.Failed a = record { stands = a.stands; either = λ c l. a.either c (fewer c l) }
+
+-- after a read a stop leaves what it left before
+pub same_left : (before now : ℕ) (old new : ℕ → Tier → List ℕ → Type 0) → now ≡ before → Keeps before now old new → (c : List ℕ) → new now Fast c → old before Fast c
+same_left before now old new same keeps c l = keeps.nothing_else before Fast c (omega arith) (subst (λ m. new m Fast c) same l)
+
+-- a record is begun in a region at rest
+pub payload_in_behind : (payload : List ℕ) → payload_in (behind_gate payload) ≡ payload
+payload_in_behind payload =
+    let size = little_bytes 4 (length payload) in
+    let four : length size ≡ 4 = length-bytes_low_first 0 4 (length payload) in
+    let split : behind_gate payload ≡ size ++ (payload ++ 0 ∷ []) = append_assoc size payload (0 ∷ []) in
+    ap (take (length (behind_gate payload) - 5)) (ap (drop 4) split ∙ drop_at size (payload ++ 0 ∷ []) 4 four)
+    ∙ take_at payload (0 ∷ []) (length (behind_gate payload) - 5) (omega (arith, length-body payload))
+
+pub begins : (end : ℕ) (body' body seen payload : List ℕ) (left : List ℕ → Type 0) → body ≡ behind_gate payload → is_payload payload ≡ true → end + 5 + length payload + 1 ≤ 262144 → IsSound end stages.Resting body' seen left → IsSound end stages.Begun body seen left
+begins end body' body seen payload left is spelled_is room sound =
+    let same : payload_in body ≡ payload = ap payload_in is ∙ payload_in_behind payload in
+    record {
+      size = sound.size;
+      within = sound.within;
+      at_stage = record { stands = sound.at_stage.stands; shut = λ c l. subst (IsShut (take end seen)) (sym (sound.at_stage.rest c l)) sound.at_stage.shut };
+      record_begun = record {
+        bytes = is ∙ ap behind_gate (sym same);
+        is_spelled = ap is_payload same ∙ spelled_is;
+        room = omega (arith, ap length is, length-body payload, room);
+      };
+    }
+
+-- a region as it stands in a content at rest
+pub reopened : (end : ℕ) (stage : Stage) (body seen : List ℕ) (left : List ℕ → Type 0) → (stage ≡ stages.Resting → get_or seen end 0 ≢ 165) → (stage ≡ stages.Resting) ⊎ (stage ≡ stages.Foreign)
+    → length seen ≡ 262144 → end < length seen → IsFront (take end seen) → payloads seen ≡ before_gate (take end seen) → ((c : List ℕ) → left c → c ≡ seen) → IsSound end stage body seen left
+reopened end stage body seen left shut (inl is) size within stands ends rest =
+    subst (λ st. IsSound end st body seen left) (sym is)
+    (record {
+      size = size;
+      within = omega (arith, within, size);
+      at_stage = record {
+        stands = stands;
+        shut = record {
+          gate = get_or seen end 0;
+          rest = drop (end + 1) seen;
+          shut = shut is;
+          is = sym (take-append-drop end seen) ∙ ap (λ (l : List ℕ). take end seen ++ l) (drop_more seen end 0 within);
+        };
+        rest = rest;
+      };
+      record_begun = tt;
+    })
+reopened end stage body seen left shut (inr is) size within stands ends rest =
+    subst (λ st. IsSound end st body seen left) (sym is)
+    (record { size = size; within = omega (arith, within, size); at_stage = record { stands = stands; ends = ends; rest = rest }; record_begun = tt })
+
+module _ (end : ℕ) (stage : Stage) (body seen : List ℕ) (left : List ℕ → Type 0) (sound : IsSound end stage body seen left) where
+  abbrev Either : List ℕ → Type 0
+  Either c = WithOrWithout (header (take end seen)) (spelled (before_gate (take end seen))) (begun_in stage (payload_in body)) c
+
+  pub shows_either : begun_in stage (payload_in body) ≡ record_of (payload_in body) → (c : List ℕ) → BeforeOrAfter (take end seen) (payload_in body) c → Either c
+  shows_either begun c either =
+      subst (λ (o : Option Record). WithOrWithout (header (take end seen)) (spelled (before_gate (take end seen))) o c) (sym begun)
+      (with_or_without (take end seen) (payload_in body) c (stands_of end stage body seen left sound) either)
+
+  -- what a stop may leave of a region where nothing is begun
+  pub resting_now : stage ≡ stages.Resting → (c : List ℕ) → left c → (c ≡ seen) × (records c ≡ spelled (before_gate (take end seen)))
+  resting_now is c l = rest_shown (take end seen) seen c left (subst (λ (st : Stage). IsSound end st body seen left) is sound).at_stage l
+
+  -- and of one where a record is begun
+  pub begun_now : IsAppending stage ⊎ (stage ≡ stages.Failed) → (c : List ℕ) → left c → Either c
+  begun_now (inl appending) c l = shows_either (begun_appending stage (payload_in body) appending) c (either end body seen left stage appending sound c l)
+  begun_now (inr is) c l =
+      shows_either (ap (λ (st : Stage). begun_in st (payload_in body)) is ∙ ap (λ (st : Stage). record_of (payload_in body)) is) c ((subst (λ (st : Stage). IsSound end st body seen left) is sound).at_stage.either c l)
+
+-- the stages that an append passes through, and its end
+pub next_resting : (stage : Stage) → IsAppending stage → next stage ≡ stages.Resting → stage ≡ stages.Opened
+next_resting stages.Resting h e = absurd h
+next_resting stages.Foreign h e = absurd h
+next_resting stages.Begun h e = cc
+next_resting stages.Written h e = cc
+next_resting stages.Kept h e = cc
+next_resting stages.Opened h e = refl
+next_resting stages.Failed h e = absurd h
+
+pub next_going : (stage : Stage) → IsAppending stage → next stage ≢ stages.Resting → (ps : List (List ℕ)) (payload : List ℕ) → (payloads_after stage ps payload ≡ ps) × (begun_in (next stage) payload ≡ begun_in stage payload)
+next_going stages.Resting h apart ps payload = absurd h
+next_going stages.Foreign h apart ps payload = absurd h
+next_going stages.Begun h apart ps payload = (refl, refl)
+next_going stages.Written h apart ps payload = (refl, refl)
+next_going stages.Kept h apart ps payload = (refl, refl)
+next_going stages.Opened h apart ps payload = absurd (apart refl)
+next_going stages.Failed h apart ps payload = absurd h
+
+-- the header stands in the front
+pub header_front : (end : ℕ) (seen : List ℕ) → IsFront (take end seen) → header (take end seen) ≡ header seen
+header_front end seen stands = take-take 16 end seen (omega (arith, stands.long, length-take end seen))

@@ -1,0 +1,37 @@
+-- What one device call of an append makes of a region.
+use Rattle.std.specs.Prelude.{◌≡◌, ℕ, ◌+◌, List, [], ◌∷◌, ◌++◌, length, take}
+use Rattle.update_log.specs.declared.stage.Stage.{Stage}
+use Rattle.update_log.specs.declared.stage.Stage.TheVariants as stages
+use Rattle.update_log.specs.Frames.{header, before_gate}
+use Rattle.update_log.specs.Stage.{IsSound, next, payload_in}
+
+-- the place of the next gate after the call: the last one goes behind the record
+abbrev pub end_after : Stage → ℕ → List ℕ → ℕ
+end_after stages.Resting end body = end
+end_after stages.Foreign end body = end
+end_after stages.Begun end body = end
+end_after stages.Written end body = end
+end_after stages.Kept end body = end
+end_after stages.Opened end body = end + length body
+end_after stages.Failed end body = end
+
+-- the payloads after the call: the last one adds the record's
+abbrev pub payloads_after : Stage → List (List ℕ) → List ℕ → List (List ℕ)
+payloads_after stages.Resting ps payload = ps
+payloads_after stages.Foreign ps payload = ps
+payloads_after stages.Begun ps payload = ps
+payloads_after stages.Written ps payload = ps
+payloads_after stages.Kept ps payload = ps
+payloads_after stages.Opened ps payload = ps ++ payload ∷ []
+payloads_after stages.Failed ps payload = ps
+
+-- the call succeeded
+pub record HasMoved (end : ℕ) (stage : Stage) (body seen seen' : List ℕ) (left' : List ℕ → Type 0) : Type 0 where
+  pub sound : IsSound (end_after stage end body) (next stage) body seen' left'
+  pub same_header : header (take (end_after stage end body) seen') ≡ header (take end seen)
+  pub payloads_are : before_gate (take (end_after stage end body) seen') ≡ payloads_after stage (before_gate (take end seen)) (payload_in body)
+
+-- the call failed
+pub record HasFailed (end : ℕ) (body seen seen' : List ℕ) (left' : List ℕ → Type 0) : Type 0 where
+  pub sound : IsSound end stages.Failed body seen' left'
+  pub same_front : take end seen' ≡ take end seen

@@ -1,0 +1,5 @@
+pub mod Frames
+pub mod Stage
+pub mod View
+pub mod Calls
+pub mod Scan

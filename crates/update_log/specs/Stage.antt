@@ -1,0 +1,135 @@
+-- How far an append has come, and what a read and a stop give of the region then.
+use Rattle.std.specs.Prelude.{◌≡◌, ◌≢◌, ◌≤◌, ◌<◌, ◌⊎◌, ◌-◌, ℕ, ◌+◌, List, [], ◌∷◌, ◌++◌, length, take, drop, true}
+use Rattle.update_log.specs.declared.format.TheConstants.{HEADER, OPEN, REGION_SIZE}
+use Rattle.update_log.specs.declared.stage.Stage.{Stage}
+use Rattle.update_log.specs.declared.stage.Stage.TheVariants as stages
+use Rattle.update_log.specs.declared.stage.Progress.{Progress}
+use Rattle.update_log.specs.declared.stage.Progress.TheVariants.{Going, Appended}
+use Rattle.update_log.specs.Frames.{payloads, payloads_from, before_gate, is_payload, behind_gate}
+
+-- Records stand in the front of a content, whatever gate and bytes follow.
+pub record IsFront (front : List ℕ) : Type 0 where
+  pub long : HEADER ≤ length front
+  pub ends : (gate : ℕ) (rest : List ℕ) → payloads (front ++ gate ∷ rest) ≡ before_gate front ++ payloads_from 0 (gate ∷ rest)
+
+-- this front, and a gate behind it that is not open
+pub record IsShut (front content : List ℕ) : Type 0 where
+  pub gate : ℕ
+  pub rest : List ℕ
+  pub shut : gate ≢ OPEN
+  pub is : content ≡ front ++ gate ∷ rest
+
+-- this front, a gate that is not open, and the bytes of a begun record behind it
+pub record IsStaged (front body content : List ℕ) : Type 0 where
+  pub gate : ℕ
+  pub rest : List ℕ
+  pub shut : gate ≢ OPEN
+  pub is : content ≡ front ++ gate ∷ (body ++ rest)
+
+-- the front stands, and its payloads are followed by the begun one or by none
+pub record BeforeOrAfter (front payload content : List ℕ) : Type 0 where
+  pub front_stands : take (length front) content ≡ front
+  pub payloads_are : (payloads content ≡ before_gate front) ⊎ (payloads content ≡ before_gate front ++ payload ∷ [])
+
+-- Nothing is begun: the content is at rest, and a closed gate ends it.
+pub record IsResting (front seen : List ℕ) (left : List ℕ → Type 0) : Type 0 where
+  pub stands : IsFront front
+  pub shut : IsShut front seen
+  pub rest : (c : List ℕ) → left c → c ≡ seen
+
+-- Nothing is begun, and nothing may be: an open gate ends it that no record follows.
+pub record IsForeign (front seen : List ℕ) (left : List ℕ → Type 0) : Type 0 where
+  pub stands : IsFront front
+  pub ends : payloads seen ≡ before_gate front
+  pub rest : (c : List ℕ) → left c → c ≡ seen
+
+-- A record is begun: the gate is closed, whatever stands behind it.
+pub record IsBegun (front : List ℕ) (left : List ℕ → Type 0) : Type 0 where
+  pub stands : IsFront front
+  pub shut : (c : List ℕ) → left c → IsShut front c
+
+-- Its bytes are written.
+pub record IsWritten (front body seen : List ℕ) (left : List ℕ → Type 0) : Type 0 where
+  pub begun : IsBegun front left
+  pub staged : IsStaged front body seen
+
+-- Its bytes are kept, behind some gate.
+pub record IsKept (front body : List ℕ) (left : List ℕ → Type 0) : Type 0 where
+  pub stands : IsFront front
+  pub rest : List ℕ
+  pub staged : (c : List ℕ) → left c → (gate : ℕ) × (c ≡ front ++ gate ∷ (body ++ rest))
+
+-- And the gate is opened.
+pub record IsOpened (front body seen : List ℕ) (left : List ℕ → Type 0) : Type 0 where
+  pub kept : IsKept front body left
+  pub opened : seen ≡ front ++ OPEN ∷ (body ++ kept.rest)
+
+-- A device call failed: the record may stand there or not.
+pub record IsFailed (front payload : List ℕ) (left : List ℕ → Type 0) : Type 0 where
+  pub stands : IsFront front
+  pub either : (c : List ℕ) → left c → BeforeOrAfter front payload c
+
+-- the payload in the bytes behind a gate
+abbrev pub payload_in : List ℕ → List ℕ
+payload_in body = take (length body - 5) (drop 4 body)
+
+abbrev pub AtStage : Stage → List ℕ → List ℕ → List ℕ → (List ℕ → Type 0) → Type 0
+AtStage stages.Resting front body seen left = IsResting front seen left
+AtStage stages.Foreign front body seen left = IsForeign front seen left
+AtStage stages.Begun front body seen left = IsBegun front left
+AtStage stages.Written front body seen left = IsWritten front body seen left
+AtStage stages.Kept front body seen left = IsKept front body left
+AtStage stages.Opened front body seen left = IsOpened front body seen left
+AtStage stages.Failed front body seen left = IsFailed front (payload_in body) left
+
+-- a record that is begun, and has its place
+pub record IsWhole (end : ℕ) (body : List ℕ) : Type 0 where
+  pub bytes : body ≡ behind_gate (payload_in body)
+  pub is_spelled : is_payload (payload_in body) ≡ true
+  pub room : end + 1 + length body ≤ REGION_SIZE
+
+abbrev pub HasRecord : Stage → ℕ → List ℕ → Type 0
+HasRecord stages.Resting end body = Unit {0}
+HasRecord stages.Foreign end body = Unit {0}
+HasRecord stages.Begun end body = IsWhole end body
+HasRecord stages.Written end body = IsWhole end body
+HasRecord stages.Kept end body = IsWhole end body
+HasRecord stages.Opened end body = IsWhole end body
+HasRecord stages.Failed end body = Unit {0}
+
+-- What holds of a region: its next gate stands at `end`, and what a read and a stop give fits its stage.
+pub record IsSound (end : ℕ) (stage : Stage) (body seen : List ℕ) (left : List ℕ → Type 0) : Type 0 where
+  pub size : length seen ≡ REGION_SIZE
+  pub within : end < REGION_SIZE
+  pub at_stage : AtStage stage (take end seen) body seen left
+  pub record_begun : HasRecord stage end body
+
+-- the stage after a device call that succeeds
+abbrev pub next : Stage → Stage
+next stages.Resting = stages.Resting
+next stages.Foreign = stages.Foreign
+next stages.Begun = stages.Written
+next stages.Written = stages.Kept
+next stages.Kept = stages.Opened
+next stages.Opened = stages.Resting
+next stages.Failed = stages.Failed
+
+-- what a device call that succeeds has come to: the fourth is the last
+abbrev pub progress : Stage → Progress
+progress stages.Resting = Going
+progress stages.Foreign = Going
+progress stages.Begun = Going
+progress stages.Written = Going
+progress stages.Kept = Going
+progress stages.Opened = Appended
+progress stages.Failed = Going
+
+-- a device call of an append is to be made
+abbrev pub IsAppending : Stage → Type 0
+IsAppending stages.Resting = ⊥
+IsAppending stages.Foreign = ⊥
+IsAppending stages.Begun = Unit {0}
+IsAppending stages.Written = Unit {0}
+IsAppending stages.Kept = Unit {0}
+IsAppending stages.Opened = Unit {0}
+IsAppending stages.Failed = ⊥

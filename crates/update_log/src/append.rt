@@ -1,0 +1,48 @@
+// The device calls of an append.
+ghost use Rattle.std.specs.Prelude.{◌≡◌, ◌+◌, ◌<◌, ◌^◌, List, ℕ, length, take, OnOk, OnErr};
+ghost use Rattle.tier_device.specs.declared.media.Tier.TheVariants.{Fast};
+ghost use Rattle.tier_device.specs.Media.{Keeps, Rose};
+ghost use Rattle.update_log.specs.Stage.{BeforeOrAfter, IsAppending, IsSound, payload_in};
+ghost use Rattle.update_log.specs.Calls.{HasMoved, HasFailed, end_after as next_end};
+
+use crate::format::OPEN;
+use crate::stage::Stage;
+use tier_device::{Media, MediaError, Tier};
+
+/// Makes the device call of a stage. The body goes behind a gate that stays closed, and is fenced; then the gate is opened by
+/// a write of its own, and is fenced: so no stop leaves an open gate before a body that is not whole.
+pub fn device_call<M: Media>(
+    media: &mut M,
+    stage: Stage,
+    end: usize,
+    body: &[u8],
+) -> Result<(), MediaError>
+    requires appending { IsAppending stage }
+    requires sound { IsSound end stage body.now (M.seen media.old Fast) (M.left media.old (M.moment media.old) Fast) }
+    ensures done { OnOk result (HasMoved end stage body.now (M.seen media.old Fast) (M.seen media.new Fast) (M.left media.new (M.moment media.new) Fast)) }
+    ensures failed { OnErr result (HasFailed end body.now (M.seen media.old Fast) (M.seen media.new Fast) (M.left media.new (M.moment media.new) Fast)) }
+    ensures before { (c : List ℕ) → M.left media.old (M.moment media.old) Fast c → BeforeOrAfter (take end (M.seen media.old Fast)) (payload_in body.now) c }
+    ensures after { (c : List ℕ) → M.left media.new (M.moment media.new) Fast c → BeforeOrAfter (take end (M.seen media.old Fast)) (payload_in body.now) c }
+    ensures clock { OnOk result (M.moment media.new ≡ M.moment media.old + 1) }
+    ensures past { Keeps (M.moment media.old) (M.moment media.new) (M.left media.old) (M.left media.new) }
+    ensures fault { OnErr result (Rose (M.faults media.old) (M.faults media.new)) }
+{
+    match stage {
+        Stage::Begun => media.write(Tier::Fast, end + 1, body),
+        Stage::Written => media.fence(Tier::Fast),
+        Stage::Kept => media.write(Tier::Fast, end, &[OPEN]),
+        Stage::Opened => media.fence(Tier::Fast),
+        Stage::Resting | Stage::Foreign | Stage::Failed => unreachable!(),
+    }
+}
+
+/// Where the next gate stands after the device call of a stage: the last one goes behind the record.
+pub fn end_after(stage: Stage, end: usize, body: &[u8]) -> usize
+    requires { end + length body.now < 2 ^ 64 }
+    ensures { result ≡ next_end stage end body.now }
+{
+    match stage {
+        Stage::Opened => end + body.len(),
+        _ => end,
+    }
+}

@@ -1,0 +1,56 @@
+// Reading the first bytes of a region.
+ghost use Rattle.std.specs.Prelude.{◌≡◌, ◌≤◌, ◌<◌, ◌+◌, ◌++◌, ◌∷◌, [], ◌⊎◌, length, take, IfOk, IfErr, IsErrOf};
+ghost use Rattle.tier_device.specs.declared.media.Tier.{Tier};
+ghost use Rattle.tier_device.specs.declared.media.Tier.TheVariants.{Fast};
+ghost use Rattle.tier_device.specs.Media.{Keeps, Rose};
+ghost use Rattle.update_log.specs.declared.format.TheConstants.{CLOSED};
+ghost use Rattle.update_log.specs.declared.error.RegionError.TheVariants.{DeviceFault, Memory};
+
+use crate::error::RegionError;
+use crate::format::CLOSED;
+use std::alloc::Global;
+use tier_device::{Media, Tier};
+
+/// The first bytes of the fast tier.
+pub fn read_front<M: Media>(
+    alloc: Global,
+    media: &mut M,
+    len: usize,
+) -> Result<Vec<u8>, RegionError>
+    requires { len ≤ length (M.seen media.old Fast) }
+    ensures bytes { IfOk result (λ front. front.items ≡ take len (M.seen media.old Fast)) }
+    ensures seen { (t : Tier) → M.seen media.new t ≡ M.seen media.old t }
+    ensures clock { M.moment media.new ≡ M.moment media.old }
+    ensures past { Keeps (M.moment media.old) (M.moment media.new) (M.left media.old) (M.left media.new) }
+    ensures only { IfErr result (λ e. (e ≡ DeviceFault) ⊎ (e ≡ Memory)) }
+    ensures fault { IsErrOf result DeviceFault → Rose (M.faults media.old) (M.faults media.new) }
+{
+    match vec![in alloc; 0u8; len] {
+        Ok(mut front) => match media.read(Tier::Fast, 0, &mut front) {
+            Ok(()) => Ok(front),
+            Err(_) => Err(RegionError::DeviceFault),
+        },
+        Err(_) => Err(RegionError::Memory),
+    }
+}
+
+/// The bytes before a gate, and a closed gate.
+pub fn read_before_gate<M: Media>(
+    alloc: Global,
+    media: &mut M,
+    end: usize,
+) -> Result<Vec<u8>, RegionError>
+    requires { end < length (M.seen media.old Fast) }
+    ensures bytes { IfOk result (λ front. front.items ≡ take end (M.seen media.old Fast) ++ CLOSED ∷ []) }
+    ensures seen { (t : Tier) → M.seen media.new t ≡ M.seen media.old t }
+    ensures clock { M.moment media.new ≡ M.moment media.old }
+    ensures past { Keeps (M.moment media.old) (M.moment media.new) (M.left media.old) (M.left media.new) }
+    ensures only { IfErr result (λ e. (e ≡ DeviceFault) ⊎ (e ≡ Memory)) }
+    ensures fault { IsErrOf result DeviceFault → Rose (M.faults media.old) (M.faults media.new) }
+{
+    let mut front = read_front(alloc, media, end)?;
+    match front.push(CLOSED) {
+        Ok(()) => Ok(front),
+        Err(_) => Err(RegionError::Memory),
+    }
+}

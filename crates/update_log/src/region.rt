@@ -1,0 +1,241 @@
+ghost use Rattle.std.specs.Prelude.{◌≡◌, ◌≢◌, ◌≤◌, ◌<◌, ◌+◌, ◌⊎◌, ℕ, List, length, IfOk, IfErr, IfSome, IfNone, IsErrOf, IsTrue, ◌↔◌, OnOk, OnErr, Some, get_or};
+ghost use Rattle.log_record.specs.Grammar.{IsRecord, spelling, record_of};
+ghost use Rattle.tier_device.specs.declared.media.Tier.{Tier};
+ghost use Rattle.tier_device.specs.declared.media.Tier.TheVariants.{Fast};
+ghost use Rattle.tier_device.specs.Media.{AtRest, LeftSince, Keeps, Rose};
+ghost use Rattle.update_log.specs.declared.error.RegionError.TheVariants.{DeviceFault, RegionFull, Damaged, Memory};
+ghost use Rattle.update_log.specs.declared.format.TheConstants.{REGION_SIZE, OPEN};
+ghost use Rattle.update_log.specs.declared.stage.Stage.TheVariants as stages;
+ghost use Rattle.update_log.specs.declared.stage.Progress.TheVariants.{Appended};
+ghost use Rattle.update_log.specs.Frames.{records, header, joined, behind_gate};
+ghost use Rattle.update_log.specs.Stage.{IsAppending, next, progress};
+
+use crate::append::{device_call, end_after};
+use crate::error::RegionError;
+use crate::format::{CLOSED, REGION_SIZE};
+use crate::front::{read_before_gate, read_front};
+use crate::scan::{end_of, records_in, stage_at};
+use crate::stage::{Progress, Stage};
+use byteorder::{ByteOrder, LittleEndian};
+use log_record::{Record, write_record, written_is_read};
+use std::alloc::{AllocError, Global};
+use std::marker::Model;
+use tier_device::{Media, Tier};
+
+/// A region of a client's log: 262,144 bytes on the fast tier of a medium, which hold a header of 16 bytes and the records
+/// behind it, each behind a gate.
+///
+/// A record is appended by `begin`, which makes no device call, and four times `step`, each of which makes one. Contracts
+/// see a region by its header, the records that are appended, and the one that is begun.
+#[derive(Debug, Drop)]
+pub struct Region<M: Media> {
+    media: M,
+    alloc: Global,
+    end: usize,
+    stage: Stage,
+    body: Vec<u8>,
+}
+
+impl<M: Media> Model for Region<M> {
+    ghost use Rattle.update_log.specs.View.{RegionView};
+    ghost use Rattle.tier_device.specs.declared.media.Tier.TheVariants.{Fast};
+
+    ghost Value = { RegionView M };
+
+    ghost use Rattle.update_log.specs.Stage.{IsSound, payload_in};
+
+    ghost view = { λ r. record { media = r.media; end = r.end; stage = r.stage; payload = payload_in r.body.items } };
+
+    ghost invariant = { λ r. IsSound r.end r.stage r.body.items (M.seen r.media Fast) (M.left r.media (M.moment r.media) Fast) };
+}
+
+impl<M: Media> Region<M> {
+    ghost use Rattle.update_log.specs.View.{HasSize, WithOrWithout, header_of, records_of, begun_of};
+
+    /// The region that a medium holds, with the records that stand in it. Nothing may be pending on the medium.
+    ///
+    /// Refused are a medium of another size (`Damaged`), one that fails, and a want of memory; the medium is then handed back.
+    pub fn reopen(alloc: Global, media: M) -> Result<Self, (RegionError, M)>
+        requires { AtRest (M.seen media) (M.left media (M.moment media)) Fast }
+        ensures size { IfOk result (λ r. HasSize (M.seen media)) }
+        ensures header { IfOk result (λ r. header_of M.seen r ≡ header (M.seen media Fast)) }
+        ensures records { IfOk result (λ r. records_of M.seen r ≡ records (M.seen media Fast)) }
+        ensures stage { IfOk result (λ r. (r.stage ≡ stages.Resting) ⊎ (r.stage ≡ stages.Foreign)) }
+        ensures foreign { IfOk result (λ r. r.stage ≡ stages.Foreign → get_or (M.seen media Fast) r.end 0 ≡ OPEN) }
+        ensures seen { IfOk result (λ r. (t : Tier) → M.seen r.media t ≡ M.seen media t) }
+        ensures clock { IfOk result (λ r. M.moment r.media ≡ M.moment media) }
+        ensures past { IfOk result (λ r. Keeps (M.moment media) (M.moment r.media) (M.left media) (M.left r.media)) }
+
+        ensures damaged { IfErr result (λ e. e.0 ≡ Damaged → HasSize (M.seen media) → ⊥) }
+        ensures fault { IfErr result (λ e. e.0 ≡ DeviceFault → Rose (M.faults media) (M.faults e.1)) }
+        ensures only { IfErr result (λ e. e.0 ≢ RegionFull) }
+        ensures back { IfErr result (λ e. (t : Tier) → M.seen e.1 t ≡ M.seen media t) }
+        ensures back_past { IfErr result (λ e. Keeps (M.moment media) (M.moment e.1) (M.left media) (M.left e.1)) }
+    {
+        if media.size(Tier::Fast) != REGION_SIZE
+            || media.size(Tier::Block) != 0
+            || media.size(Tier::Slow) != 0
+        {
+            return Err((RegionError::Damaged, media));
+        }
+        let mut media = media;
+        let size = media.size(Tier::Fast);
+        match read_front(alloc, &mut media, size) {
+            Ok(content) => {
+                let end = end_of(&content);
+                let stage = stage_at(&content, end);
+                Ok(Region {
+                    media,
+                    alloc,
+                    end,
+                    stage,
+                    body: Vec::new(alloc),
+                })
+            }
+            Err(error) => Err((error, media)),
+        }
+    }
+
+    /// Begins to append a record. It makes no device call.
+    ///
+    /// Refused, with nothing changed, are a record that leaves no place for the gate behind it (`RegionFull`), and a want of
+    /// memory, which may come before that.
+    pub fn begin(&mut self, entry: &Record) -> Result<(), RegionError>
+        requires ready { self.old.stage ≡ stages.Resting }
+        requires fits { IsRecord entry.now }
+        ensures begun { OnOk result (begun_of self.new ≡ Some entry.now) }
+        ensures stage { OnOk result (self.new.stage ≡ stages.Begun) }
+        ensures media { OnOk result (self.new.media ≡ self.old.media) }
+        ensures end { OnOk result (self.new.end ≡ self.old.end) }
+
+        ensures room { OnOk result (self.old.end + 5 + length (spelling entry.now) + 1 ≤ REGION_SIZE) }
+        ensures full { IsErrOf result RegionFull → REGION_SIZE < self.old.end + 5 + length (spelling entry.now) + 1 }
+        ensures only { IfErr result (λ e. (e ≡ RegionFull) ⊎ (e ≡ Memory)) }
+        ensures refused { OnErr result (self.new ≡ self.old) }
+    {
+        let payload = match write_record(self.alloc, entry) {
+            Ok(payload) => payload,
+            Err(_) => return Err(RegionError::Memory),
+        };
+        written_is_read();
+        let left = REGION_SIZE - self.end;
+        if left < 6 || left - 6 < payload.len() {
+            return Err(RegionError::RegionFull);
+        }
+        match bytes_behind_gate(self.alloc, &payload) {
+            Ok(body) => {
+                self.body = body;
+                self.stage = Stage::Begun;
+                Ok(())
+            }
+            Err(_) => Err(RegionError::Memory),
+        }
+    }
+
+    /// Makes one device call of the append that was begun: the body, a fence, the gate, a fence. It takes no memory. The
+    /// fourth call that succeeds ends the append.
+    ///
+    /// Where the device fails, the record may stand in the region or not, and the region stays failed until it is reopened.
+    pub fn step(&mut self) -> Result<Progress, RegionError>
+        requires { IsAppending self.old.stage }
+
+        // At each moment of the call a stop leaves the records from before the append, with the begun one or without.
+        ensures any_moment { (c : List ℕ) → LeftSince (M.left self.new.media) (M.moment self.new.media) (M.moment self.old.media) Fast c
+            → WithOrWithout (header_of M.seen self.old) (records_of M.seen self.old) (begun_of self.old) c }
+
+        ensures progress { IfOk result (λ p. p ≡ progress self.old.stage) }
+        ensures stage { OnOk result (self.new.stage ≡ next self.old.stage) }
+        ensures same_header { header_of M.seen self.new ≡ header_of M.seen self.old }
+
+        // Until the last call the record is begun; then it is appended, and every stop leaves it.
+        ensures going { self.new.stage ≢ stages.Resting → (records_of M.seen self.new ≡ records_of M.seen self.old) × (begun_of self.new ≡ begun_of self.old) }
+        ensures appended { self.new.stage ≡ stages.Resting → records_of M.seen self.new ≡ joined (records_of M.seen self.old) (begun_of self.old) }
+        ensures kept { self.new.stage ≡ stages.Resting → (c : List ℕ) → M.left self.new.media (M.moment self.new.media) Fast c → records c ≡ records_of M.seen self.new }
+
+        ensures one_call { OnOk result (M.moment self.new.media ≡ M.moment self.old.media + 1) }
+        ensures past { Keeps (M.moment self.old.media) (M.moment self.new.media) (M.left self.old.media) (M.left self.new.media) }
+
+        // It fails only where the device does.
+        ensures only { IfErr result (λ e. e ≡ DeviceFault) }
+        ensures failed { OnErr result (self.new.stage ≡ stages.Failed) }
+        ensures fault { OnErr result (Rose (M.faults self.old.media) (M.faults self.new.media)) }
+    {
+        let stage = self.stage;
+        match device_call(&mut self.media, stage, self.end, &self.body) {
+            Ok(()) => {
+                self.end = end_after(stage, self.end, &self.body);
+                self.stage = stage.next();
+                Ok(stage.progress())
+            }
+            Err(_) => {
+                self.stage = Stage::Failed;
+                Err(RegionError::DeviceFault)
+            }
+        }
+    }
+
+    /// The records that are appended, in their order. It reads them from the medium, and changes nothing.
+    pub fn records(&mut self) -> Result<Vec<Record>, RegionError>
+        ensures found { IfOk result (λ found. found.items ≡ records_of M.seen self.old) }
+        ensures same { (self.new.end ≡ self.old.end) × (self.new.stage ≡ self.old.stage) × (self.new.payload ≡ self.old.payload) }
+        ensures seen { (t : Tier) → M.seen self.new.media t ≡ M.seen self.old.media t }
+        ensures clock { M.moment self.new.media ≡ M.moment self.old.media }
+        ensures past { Keeps (M.moment self.old.media) (M.moment self.new.media) (M.left self.old.media) (M.left self.new.media) }
+        ensures only { IfErr result (λ e. (e ≡ DeviceFault) ⊎ (e ≡ Memory)) }
+        ensures fault { IsErrOf result DeviceFault → Rose (M.faults self.old.media) (M.faults self.new.media) }
+    {
+        match read_before_gate(self.alloc, &mut self.media, self.end) {
+            Ok(front) => match records_in(self.alloc, &front) {
+                Ok(found) => Ok(found),
+                Err(_) => Err(RegionError::Memory),
+            },
+            Err(error) => Err(error),
+        }
+    }
+
+    /// What a stop may leave now, between two calls.
+    pub fn left_now(&self)
+        ensures resting { self.now.stage ≡ stages.Resting → (c : List ℕ) → M.left self.now.media (M.moment self.now.media) Fast c
+            → (c ≡ M.seen self.now.media Fast) × (records c ≡ records_of M.seen self.now) }
+        ensures begun { IsAppending self.now.stage ⊎ (self.now.stage ≡ stages.Failed) → (c : List ℕ) → M.left self.now.media (M.moment self.now.media) Fast c
+            → WithOrWithout (header_of M.seen self.now) (records_of M.seen self.now) (begun_of self.now) c }
+    {
+        let _ = &self.end;
+    }
+
+    /// How far it is.
+    pub fn stage(&self) -> Stage
+        ensures { result ≡ self.now.stage }
+    {
+        self.stage
+    }
+
+    /// The length of the longest payload that the next record may have, in bytes; none fits where it is `None`.
+    pub fn room(&self) -> Option<usize>
+        ensures some { IfSome result (λ most. self.now.end + 5 + most + 1 ≡ REGION_SIZE) }
+        ensures none { IfNone result (REGION_SIZE < self.now.end + 5 + 0 + 1) }
+    {
+        (REGION_SIZE - self.end).checked_sub(6)
+    }
+
+    /// The medium beneath.
+    pub fn into_media(self) -> M
+        ensures { result ≡ self.media }
+    {
+        self.media
+    }
+}
+
+// The length of a payload, the payload, and a closed gate.
+fn bytes_behind_gate(alloc: Global, payload: &[u8]) -> Result<Vec<u8>, AllocError>
+    requires { length payload.now < 262144 }
+    ensures { IfOk result (λ body. body.items ≡ behind_gate payload.now) }
+{
+    let mut size = [0; 4];
+    LittleEndian::write_u32(&mut size, payload.len() as u32);
+    let mut body = Vec::with_capacity(alloc, payload.len() + 5)?;
+    body.extend_from_slice(&size)?;
+    body.extend_from_slice(payload)?;
+    body.push(CLOSED)?;
+    Ok(body)
+}

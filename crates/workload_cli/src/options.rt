@@ -1,0 +1,100 @@
+// The words of a program's command line.
+ghost use Rattle.std.specs.Prelude.{◌≤◌, IfSome};
+
+use clap::{Arg, ArgAction, ArgMatches, Command, Error, value_parser};
+use std::alloc::{AllocError, Global};
+
+/// Where each region stops, and what its bytes then hold.
+#[derive(Clone, Copy, Debug, PartialEq, Eq)]
+pub struct Stop {
+    /// The write or fence that is stopped in, from 1 on.
+    pub call: u64,
+    /// What every byte that is written and not fenced holds after the stop.
+    pub fill: u8,
+    ghost counted: { 1 ≤ call },
+}
+
+/// Why words can't be read.
+#[derive(Debug, Drop)]
+pub enum WordsError {
+    /// What `clap` has to say of them: its help, too.
+    Usage(Error),
+    /// The value of an option is not of its form.
+    Value(&'static str),
+    Memory,
+}
+
+impl From<AllocError> for WordsError {
+    fn from(_e: AllocError) -> WordsError {
+        WordsError::Memory
+    }
+}
+
+impl From<Error> for WordsError {
+    fn from(error: Error) -> WordsError {
+        WordsError::Usage(error)
+    }
+}
+
+/// The stop that the words of `strata_first` ask for, if they ask for one. The first word is the program's name.
+pub fn first_options<'a>(alloc: Global, words: &'a [&'a str]) -> Result<Option<Stop>, WordsError> {
+    let command = first_command(alloc)?;
+    let matches = command.try_get_matches_from(words)?;
+    stop_of(&matches)
+}
+
+fn first_command<'a>(alloc: Global) -> Result<Command<'a>, AllocError> {
+    let stop = Arg::new(alloc, "stop")
+        .long("stop")
+        .value_name("K")
+        .help("Stop each region within its K-th write or fence, K from 1 on")
+        .action(ArgAction::Set)
+        .value_parser(value_parser!(u64).range(1..))
+        .requires_arg("fill")?;
+    let fill = Arg::new(alloc, "fill")
+        .long("fill")
+        .value_name("HH")
+        .help(
+            "What each byte that was written and not fenced then holds: two digits of 0 to 9 and a to f",
+        )
+        .action(ArgAction::Set)
+        .requires_arg("stop")?;
+    Command::new(alloc, "strata_first")
+        .about("Two clients log a call each, the run stops, and a recovery shows what was kept")
+        .arg(stop)?
+        .arg(fill)
+}
+
+fn stop_of(matches: &ArgMatches<'_>) -> Result<Option<Stop>, WordsError> {
+    let Some(call) = matches.get_one::<u64>("stop") else {
+        return Ok(None);
+    };
+    let Some(digits) = matches.get_str("fill") else {
+        return Ok(None);
+    };
+    let Some(fill) = hex_byte(digits.as_bytes()) else {
+        return Err(WordsError::Value("--fill takes two digits of 0 to 9 and a to f, as --fill a5"));
+    };
+    if call < 1 {
+        return Err(WordsError::Value("--stop takes a number from 1 on"));
+    }
+    Ok(Some(Stop { call, fill }))
+}
+
+// The byte of two lower case hexadecimal digits.
+fn hex_byte(digits: &[u8]) -> Option<u8> {
+    match digits {
+        [high, low] => Some(16 * hex_digit(*high)? + hex_digit(*low)?),
+        _ => None,
+    }
+}
+
+fn hex_digit(digit: u8) -> Option<u8>
+    ensures { IfSome result (λ d. d ≤ 15) }
+{
+    match digit {
+        b'0'..=b'9' => Some(digit - b'0'),
+        b'a'..=b'f' => Some(digit - b'a' + 10),
+        _ => None,
+    }
+}
