@@ -35,13 +35,26 @@ pub fn write_record(alloc: Global, entry: &Record) -> Result<Vec<u8>, AllocError
     ensures { IfOk result (λ bytes. bytes.items ≡ spelling entry.now) }
 {
     let effects = entry.effects.as_slice();
-    let mut out = Vec::new(alloc);
+    let mut out = Vec::with_capacity(alloc, room_for(effects))?;
     push_u32(&mut out, entry.units)?;
     out.push(effects.len() as u8)?;
     for effect in effects {
         push_effect(&mut out, effect)?;
     }
     Ok(out)
+}
+
+// Room enough for the spelling of most records, so that the bytes are not moved while they are written.
+fn room_for(effects: &[Effect]) -> usize {
+    let mut room = 5usize;
+    for effect in effects {
+        room = room.saturating_add(match effect {
+            Effect::Enter { name, .. } => name.as_slice().len().saturating_add(11),
+            Effect::Bytes { bytes, .. } => bytes.len().saturating_add(17),
+            _ => 9,
+        });
+    }
+    room
 }
 
 fn push_effect(out: &mut Vec<u8>, effect: &Effect) -> Result<(), AllocError>

@@ -1,2 +1,4 @@
 pub mod Name
 pub mod Content
+pub mod Errno
+pub mod Path

@@ -1,5 +1,5 @@
 -- The names that a directory entry may have.
-use Rattle.std.specs.Prelude.{ℕ, List, [], ◌∷◌, length, Bool, true, false, ◌&&◌, ◌||◌, ◌==◌, nat_le, not}
+use Rattle.std.specs.Prelude.{ℕ, List, [], ◌∷◌, length, Bool, false, ◌&&◌, ◌||◌, ◌==◌, nat_le, not}
 use Rattle.std.specs.List.{list_any}
 use Rattle.posix_calls.specs.declared.limits.TheConstants.{MAX_NAME}
 

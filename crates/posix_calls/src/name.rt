@@ -1,7 +1,9 @@
 ghost use Rattle.std.specs.List.{list_any};
-ghost use Rattle.std.specs.Prelude.{◌≡◌, ◌==◌, ◌||◌, List, ℕ, true, false, IfOk, IfErr, IsTrue};
+ghost use Rattle.std.specs.Prelude.{◌≡◌, ◌⊎◌, ◌==◌, ◌||◌, List, ℕ, true, false, None, Some, IfOk, IfErr, IsTrue};
 ghost use Rattle.posix_calls.specs.Name.{is_name, is_dots};
+ghost use Rattle.posix_calls.specs.Path.{has_no_slash, fault};
 
+use crate::errno::Errno;
 use crate::limits::MAX_NAME;
 use std::alloc::{AllocError, Global};
 use std::marker::Model;
@@ -45,6 +47,25 @@ impl Name {
         !has_bad_byte(bytes) && !is_dots(bytes)
     }
 
+    // The name that a component of a path is, or what is wrong with it.
+    pub(crate) fn of_component(alloc: Global, part: &[u8]) -> Result<Self, Errno>
+        requires { has_no_slash part.now ≡ true }
+        ensures name { IfOk result (λ name. name ≡ part.now) }
+        ensures valid { IfOk result (λ name. is_name name ≡ true) }
+        ensures faultless { IfOk result (λ _. fault part.now ≡ None) }
+        ensures refused { IfErr result (λ errno. (errno ≡ Errno.NoMemory) ⊎ (fault part.now ≡ Some errno)) }
+    {
+        if part.is_empty() || is_dots(part) || has_zero(part) {
+            return Err(Errno::Invalid);
+        }
+        if part.len() > MAX_NAME {
+            return Err(Errno::NameTooLong);
+        }
+        Ok(Name {
+            bytes: part.to_vec(alloc)?,
+        })
+    }
+
     /// A copy of it.
     pub fn copy(&self, alloc: Global) -> Result<Self, AllocError>
         ensures { IfOk result (λ copy. copy ≡ self.now) }
@@ -68,6 +89,12 @@ fn has_bad_byte(bytes: &[u8]) -> bool
     ensures { result ≡ list_any (λ b. (b == 0) || (b == 47)) bytes.now }
 {
     bytes.iter().any(|byte| *byte == 0 || *byte == SLASH)
+}
+
+fn has_zero(bytes: &[u8]) -> bool
+    ensures { result ≡ list_any (λ b. b == 0) bytes.now }
+{
+    bytes.iter().any(|byte| *byte == 0)
 }
 
 // `.` and `..`

@@ -1,4 +1,5 @@
-use crate::{Bytes, Name};
+use crate::{Bytes, Call, Errno, Flags, MAX_PATH, Name, Names, Path, Reply};
+use std::alloc::Global;
 use std::test::Fail;
 
 // What the grammar of names says of these, from the profile.
@@ -28,5 +29,164 @@ fn bytes_and_names_are_kept(rt: HostRuntime) -> Result<(), Fail> {
     assert_eq!(rt; copy.as_slice(), bytes.as_slice());
     let back = Name::from_vec(b"..".to_vec(alloc)?).err().ok_or("no name")?;
     assert_eq!(rt; back.as_slice(), b"..".as_slice());
+    Ok(())
+}
+
+// The fault of a path, if it has one.
+fn fault(alloc: Global, path: &[u8]) -> Option<Errno> {
+    Path::read(alloc, path).err()
+}
+
+// So many letters.
+fn letters(alloc: Global, count: usize) -> Result<Vec<u8>, Fail> {
+    Ok(vec![in alloc; b'n'; count]?)
+}
+
+// The texts, one behind the other.
+fn joined(alloc: Global, texts: &[&[u8]]) -> Result<Vec<u8>, Fail> {
+    let mut all = Vec::new(alloc);
+    for text in texts {
+        all.extend_from_slice(text)?;
+    }
+    Ok(all)
+}
+
+#[test]
+fn paths_give_their_names(rt: HostRuntime) -> Result<(), Fail> {
+    let alloc = rt.alloc();
+    let root = Path::read(alloc, b"/").ok().ok_or("the root")?;
+    assert!(rt; root.is_root());
+    assert!(rt; root.names().is_empty());
+    let path = Path::read(alloc, b"/ab/.c/...").ok().ok_or("a path")?;
+    assert!(rt; !path.is_root());
+    assert_eq!(rt; path.names().len(), 3);
+    assert_eq!(rt; path.names()[0].as_slice(), b"ab".as_slice());
+    assert_eq!(rt; path.names()[1].as_slice(), b".c".as_slice());
+    assert_eq!(rt; path.names()[2].as_slice(), b"...".as_slice());
+    Ok(())
+}
+
+#[test]
+fn short_paths_have_these_faults(rt: HostRuntime) -> Result<(), Fail> {
+    let alloc = rt.alloc();
+    for path in ["/", "/a", "/a/b", "/...", "/.a/..b", "/a b"] {
+        assert!(rt; fault(alloc, path.as_bytes()).is_none(), "{path}");
+    }
+    for path in [
+        "", "a", "a/b", "/a/", "//", "//a", "/a//b", "/.", "/./a", "/a/.", "/..", "/../a", "/a\0",
+        "/\0", "/a/\0b",
+    ] {
+        assert_eq!(rt;
+            fault(alloc, path.as_bytes()),
+            Some(Errno::Invalid),
+            "{path}"
+        );
+    }
+    Ok(())
+}
+
+#[test]
+fn long_components_are_told_in_their_turn(rt: HostRuntime) -> Result<(), Fail> {
+    let alloc = rt.alloc();
+    let longest = letters(alloc, 64)?;
+    let longer = letters(alloc, 65)?;
+    assert_eq!(rt; fault(alloc, &joined(alloc, &[b"/", &longest])?), None);
+    assert_eq!(rt;
+        fault(alloc, &joined(alloc, &[b"/", &longer])?),
+        Some(Errno::NameTooLong)
+    );
+    assert_eq!(rt;
+        fault(alloc, &joined(alloc, &[b"/a/", &longer, b"/b"])?),
+        Some(Errno::NameTooLong)
+    );
+
+    // The first bad component decides, on whichever side the long one stands.
+    assert_eq!(rt;
+        fault(alloc, &joined(alloc, &[b"/../", &longer])?),
+        Some(Errno::Invalid)
+    );
+    assert_eq!(rt;
+        fault(alloc, &joined(alloc, &[b"//", &longer])?),
+        Some(Errno::Invalid)
+    );
+    assert_eq!(rt;
+        fault(alloc, &joined(alloc, &[b"/", &longer, b"/.."])?),
+        Some(Errno::NameTooLong)
+    );
+    assert_eq!(rt;
+        fault(alloc, &joined(alloc, &[b"/", &longer, b"/"])?),
+        Some(Errno::NameTooLong)
+    );
+
+    // Within one component a zero byte is told before the length.
+    assert_eq!(rt;
+        fault(alloc, &joined(alloc, &[b"/", &longer, b"\0"])?),
+        Some(Errno::Invalid)
+    );
+    Ok(())
+}
+
+#[test]
+fn long_paths_are_told_first(rt: HostRuntime) -> Result<(), Fail> {
+    let alloc = rt.alloc();
+    let mut path = Vec::new(alloc);
+    for _ in 0..512 {
+        path.extend_from_slice(b"/a")?;
+    }
+    assert_eq!(rt; path.len(), MAX_PATH);
+    let longest = Path::read(alloc, &path)
+        .ok()
+        .ok_or("a path of 1,024 bytes")?;
+    assert_eq!(rt; longest.names().len(), 512);
+    path.push(b'b')?;
+    assert_eq!(rt; fault(alloc, &path), Some(Errno::NameTooLong));
+
+    // 1,024 bytes that begin with no slash, and one more.
+    assert_eq!(rt; fault(alloc, &letters(alloc, 1024)?), Some(Errno::Invalid));
+    assert_eq!(rt;
+        fault(alloc, &letters(alloc, 1025)?),
+        Some(Errno::NameTooLong)
+    );
+    assert_eq!(rt;
+        fault(alloc, &vec![in alloc; b'/'; 1025]?),
+        Some(Errno::NameTooLong)
+    );
+    Ok(())
+}
+
+#[test]
+fn errors_print_their_standard_names(rt: HostRuntime) -> Result<(), Fail> {
+    let alloc = rt.alloc();
+    assert_eq!(rt; format!(in alloc; "{}", Errno::NoEntry)?.as_str(), "ENOENT");
+    assert_eq!(rt;
+        format!(in alloc; "{}", Errno::NotEmpty)?.as_str(),
+        "ENOTEMPTY"
+    );
+    assert_eq!(rt; Errno::TooManyOpen.standard_name(), "EMFILE");
+    Ok(())
+}
+
+#[test]
+fn calls_and_replies_carry_what_they_are_given(rt: HostRuntime) -> Result<(), Fail> {
+    let alloc = rt.alloc();
+    let flags = Flags {
+        read: true,
+        write: false,
+        create: true,
+        exclusive: false,
+        truncate: false,
+    };
+    let call = Call::Open {
+        path: Bytes::copy_of(alloc, b"/f")?,
+        flags,
+    };
+    assert!(rt; matches!(&call, Call::Open { flags, .. } if flags.create && !flags.write));
+    let mut names = Vec::new(alloc);
+    names.push(Name::from_vec(b"f".to_vec(alloc)?).ok().ok_or("a name")?)?;
+    let names = Names::from_vec(names);
+    assert_eq!(rt; names.len(), 1);
+    assert_eq!(rt; names.as_slice()[0].as_slice(), b"f".as_slice());
+    let reply = Reply::Listed { names };
+    assert!(rt; matches!(reply, Reply::Listed { .. }));
     Ok(())
 }

@@ -91,6 +91,7 @@ fn write_reply<O: Write>(
     match reply {
         Reply::Done => writeln!(out, "{client} ok")?,
         Reply::Wrote { count } => writeln!(out, "{client} wrote {count}")?,
+        _ => return Err(Fault::Damaged),
     }
     Ok(())
 }

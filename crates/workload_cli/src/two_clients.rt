@@ -100,6 +100,7 @@ pub fn logged(alloc: Global, call: &Call) -> Result<(Record, Reply), Fault> {
             })?;
             Reply::Done
         }
+        _ => return Err(Fault::Damaged),
     };
     let effects = Effects::from_vec(effects);
     Ok((Record { units: 1, effects }, reply))
