@@ -1,3 +1,6 @@
+pub mod Charges
 pub mod Places
+pub mod Removals
 pub mod Maps
+pub mod Sums
 pub mod Writes

@@ -17,11 +17,11 @@ later n (Ok i) = Ok (n + i)
 later n (Err i) = Err (n + i)
 
 -- the place among the others, where it comes after the first
-found_later : (r : Result ℕ ℕ) (i : ℕ) → one_later r ≡ Ok i → (j : ℕ) × (r ≡ Ok j) × (i ≡ suc j)
+pub found_later : (r : Result ℕ ℕ) (i : ℕ) → one_later r ≡ Ok i → (j : ℕ) × (r ≡ Ok j) × (i ≡ suc j)
 found_later (Ok j) i e = (j, refl, cc)
 found_later (Err j) i e = absurd cc
 
-free_later : (r : Result ℕ ℕ) (i : ℕ) → one_later r ≡ Err i → (j : ℕ) × (r ≡ Err j) × (i ≡ suc j)
+pub free_later : (r : Result ℕ ℕ) (i : ℕ) → one_later r ≡ Err i → (j : ℕ) × (r ≡ Err j) × (i ≡ suc j)
 free_later (Ok j) i e = absurd cc
 free_later (Err j) i e = (j, refl, cc)
 
@@ -61,11 +61,11 @@ put_new new (x ∷ es) i e =
 
 -- ---- as the value of the model
 
-from_T : (b : Bool) → T b → b ≡ true
+pub from_T : (b : Bool) → T b → b ≡ true
 from_T true h = refl
 from_T false h = absurd h
 
-abbrev as_map : List PlainEntry → Entries (ℕ × Kind)
+abbrev pub as_map : List PlainEntry → Entries (ℕ × Kind)
 as_map es = fin.from_sorted (pairs es)
 
 pub entries_are : (es : List PlainEntry) → IsInOrder es → fin.entries (as_map es) ≡ pairs es

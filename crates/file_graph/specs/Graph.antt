@@ -3,8 +3,8 @@ use Rattle.std.specs.Prelude.{◌≡◌, ℕ, ◌+◌, ◌/◌, ◌==◌, Bool, 
 use Rattle.std.specs.List.{list_any, flat_map}
 use Rattle.std.specs.FinMap as fin
 use Rattle.std.specs.Ordering.{nat_cmp}
-use Rattle.posix_calls.specs.Content.{Entries, written}
-use Rattle.file_graph.specs.declared.limits.TheConstants.{ROOT}
+use Rattle.posix_calls.specs.Content.{Entries, resized, written}
+use Rattle.posix_calls.specs.declared.limits.TheConstants.{ROOT}
 use Rattle.file_graph.specs.declared.effect.Kind.{Kind}
 use Rattle.file_graph.specs.declared.effect.Kind.TheVariants as kind
 use Rattle.file_graph.specs.declared.effect.Effect.{Effect}
@@ -55,19 +55,25 @@ with_body f n = record { names = n.names; body = f n.body }
 abbrev pub subjects : Effect → List ℕ
 subjects (effect.Make i k) = i ∷ []
 subjects (effect.Enter d i k name) = d ∷ []
+subjects (effect.Leave d name) = d ∷ []
 subjects (effect.Names i n) = i ∷ []
+subjects (effect.Size i size) = i ∷ []
 subjects (effect.Bytes i at new) = i ∷ []
+subjects (effect.Drop i) = i ∷ []
 
 -- whether an inode is among these
 abbrev pub is_among : ℕ → List ℕ → Bool
 is_among i is = list_any (λ j. j == i) is
 
--- what an effect makes of a subject: on no node, or one of another kind, all but Make do nothing
+-- what an effect makes of a subject: on no node, or one of another kind, all but Make and Drop do nothing
 abbrev pub acted : Effect → Option Node → Option Node
 acted (effect.Make i k) old = Some (record { names = 0; body = empty_body k })
 acted (effect.Enter d i k name) old = option_map (with_body (in_directory (λ es. fin.insert es name (i, k)))) old
+acted (effect.Leave d name) old = option_map (with_body (in_directory (λ es. fin.remove es name))) old
 acted (effect.Names i n) old = option_map (λ x. record { names = n; body = x.body }) old
+acted (effect.Size i size) old = option_map (with_body (in_file (resized size))) old
 acted (effect.Bytes i at new) old = option_map (with_body (in_file (written at new))) old
+acted (effect.Drop i) old = None
 
 -- the graph after an effect
 abbrev pub after_effect : Graph → Effect → Graph

@@ -10,7 +10,7 @@ pub enum Kind {
     Directory,
 }
 
-/// One change of one node. An effect on an inode that is no node, or of another kind, does nothing.
+/// One change of one node. On an inode that is no node, or of another kind, all but a Make and a Drop do nothing.
 #[derive(Debug, Drop)]
 pub enum Effect {
     /// An empty node with no names, in the place of what the inode was.
@@ -25,16 +25,30 @@ pub enum Effect {
         kind: Kind,
         name: Name,
     },
+    /// No entry of that name in a directory. Where there is none, nothing changes.
+    Leave {
+        directory: u32,
+        name: Name,
+    },
     /// How many names a node has.
     Names {
         inode: u32,
         names: u32,
+    },
+    /// A file cut or grown to a size in bytes; what is grown reads as zero.
+    Size {
+        inode: u32,
+        size: u64,
     },
     /// Bytes of a file from an offset on. The file becomes as long as they need; a gap behind its old end reads as zero.
     Bytes {
         inode: u32,
         at: u64,
         bytes: Bytes,
+    },
+    /// No node.
+    Drop {
+        inode: u32,
     },
 }
 

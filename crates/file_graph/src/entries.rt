@@ -3,7 +3,7 @@ ghost use Rattle.std.specs.List.Sorted.{IsSearchInRange};
 ghost use Rattle.std.specs.Ordering.{nat_cmp};
 ghost use Rattle.std.specs.FinMap as fin;
 ghost use Rattle.std.specs.Cmp.Lexicographic.{slice_cmp};
-ghost use Rattle.file_graph.specs.Plain.{place_in, pairs};
+ghost use Rattle.file_graph.specs.Plain.{place_in, pairs, without, IsInOrder};
 
 use crate::effect::Kind;
 use posix_calls::Name;
@@ -67,6 +67,13 @@ impl PlainEntries {
         put_entry(alloc, &mut self.entries, name, inode, kind)
     }
 
+    /// Takes the entry of a name out, if there is one.
+    pub fn remove(&mut self, name: &Name)
+        ensures { self.new ≡ fin.remove self.old name.now }
+    {
+        remove_entry(&mut self.entries, name);
+    }
+
     /// The entries, in the order of their names' bytes.
     pub fn as_slice(&self) -> &[PlainEntry]
         ensures { pairs result.now ≡ fin.entries self.now }
@@ -97,6 +104,15 @@ fn put_entry(
         }
     }
     Ok(())
+}
+
+fn remove_entry(entries: &mut Vec<PlainEntry>, name: &Name)
+    requires { IsInOrder entries.old.items }
+    ensures { pairs entries.new.items ≡ without name.now (pairs entries.old.items) }
+{
+    if let Ok(place) = place_of(entries, name.as_slice()) {
+        entries.remove(place);
+    }
 }
 
 // Where the entry of this name stands, or else where it would.

@@ -1,8 +1,8 @@
-ghost use Rattle.std.specs.Prelude.{◌≡◌, ◌≤◌, ◌+◌, ◌++◌, length, take, drop, Some, OnOk, OnErr, option_map};
+ghost use Rattle.std.specs.Prelude.{◌≡◌, ◌≤◌, ◌<◌, ◌^◌, ◌+◌, ◌++◌, length, take, drop, false, Some, OnOk, OnErr, option_map};
 ghost use Rattle.std.specs.FinMap as fin;
-ghost use Rattle.posix_calls.specs.Content.{written};
-ghost use Rattle.file_graph.specs.Graph.{acted, empty_body, in_file, in_directory, file_bytes, directory_entries};
-ghost use Rattle.file_graph.specs.Plain.{pairs};
+ghost use Rattle.posix_calls.specs.Content.{resized, written};
+ghost use Rattle.file_graph.specs.Graph.{acted, empty_body, in_file, in_directory, file_bytes, directory_entries, cost};
+ghost use Rattle.file_graph.specs.Plain.{pairs, is_drop};
 ghost use Rattle.file_graph.specs.Bodies.{body_of};
 
 use crate::effect::{Effect, Kind};
@@ -50,8 +50,9 @@ impl PlainNode {
         PlainNode { names, body }
     }
 
-    /// Does what an effect does to a node. Where there is no memory for it, the node stays as it was.
+    /// Does what an effect other than a Drop does to a node. Where there is no memory for it, the node stays as it was.
     pub fn act(&mut self, alloc: Global, effect: &Effect) -> Result<(), AllocError>
+        requires { is_drop effect.now ≡ false }
         ensures ok { OnOk result (Some self.new ≡ acted effect.now (Some self.old)) }
         ensures err { OnErr result (self.new ≡ self.old) }
     {
@@ -66,11 +67,28 @@ impl PlainNode {
                 name,
                 ..
             } => put_entry(alloc, &mut self.body, name, *inode, *kind),
+            Effect::Leave { name, .. } => {
+                remove_entry(&mut self.body, name);
+                Ok(())
+            }
             Effect::Names { names, .. } => {
                 self.names = *names;
                 Ok(())
             }
+            Effect::Size { size, .. } => resize(&mut self.body, *size),
             Effect::Bytes { at, bytes, .. } => put_bytes(&mut self.body, *at, bytes.as_slice()),
+            Effect::Drop { .. } => Ok(()),
+        }
+    }
+
+    /// What it costs, in units.
+    pub fn cost(&self) -> u64
+        ensures units { result ≡ cost (Some self.now) }
+        ensures small { result < 2 ^ 53 }
+    {
+        match &self.body {
+            PlainBody::File(bytes) => 1 + (bytes.len() as u64 + 4_095) / 4_096,
+            PlainBody::Directory(entries) => 1 + (entries.as_slice().len() as u64 + 55) / 56,
         }
     }
 
@@ -116,6 +134,33 @@ fn put_entry(
         PlainBody::File(_) => Ok(()),
         PlainBody::Directory(entries) => entries.put(alloc, name, inode, kind),
     }
+}
+
+fn remove_entry(body: &mut PlainBody, name: &Name)
+    ensures { body_of body.new ≡ in_directory (λ es. fin.remove es name.now) (body_of body.old) }
+{
+    match body {
+        PlainBody::File(_) => {}
+        PlainBody::Directory(entries) => entries.remove(name),
+    }
+}
+
+fn resize(body: &mut PlainBody, size: u64) -> Result<(), AllocError>
+    ensures ok { OnOk result (body_of body.new ≡ in_file (resized size) (body_of body.old)) }
+    ensures err { OnErr result (body_of body.new ≡ body_of body.old) }
+{
+    match body {
+        PlainBody::File(file) => set_len(file, size),
+        PlainBody::Directory(_) => Ok(()),
+    }
+}
+
+fn set_len(file: &mut Vec<u8>, size: u64) -> Result<(), AllocError>
+    ensures ok { OnOk result (file.new.items ≡ resized size file.old.items) }
+    ensures err { OnErr result (file.new.items ≡ file.old.items) }
+{
+    file.resize(size as usize, 0)?;
+    Ok(())
 }
 
 fn put_bytes(body: &mut PlainBody, at: u64, bytes: &[u8]) -> Result<(), AllocError>

@@ -1,13 +1,14 @@
-ghost use Rattle.std.specs.Prelude.{◌≡◌, [], ◌∷◌, OnOk, OnErr, IfOk, option_map};
+ghost use Rattle.std.specs.Prelude.{◌≡◌, ◌<◌, ◌^◌, [], ◌∷◌, OnOk, OnErr, IfOk, option_map};
 ghost use Rattle.file_graph.specs.Graph.{fresh, subjects, after_effect, graph_of, file_bytes, directory_entries};
 ghost use Rattle.std.specs.Ordering.{nat_cmp};
 ghost use Rattle.std.specs.BTreeMap.{get};
-ghost use Rattle.file_graph.specs.Plain.{pairs};
+ghost use Rattle.file_graph.specs.Plain.{pairs, is_drop, units_at};
+ghost use Rattle.file_graph.specs.Units.{charge};
 
 use crate::effect::{Effect, Kind};
 use crate::entries::PlainEntry;
-use crate::limits::ROOT;
 use crate::node::PlainNode;
+use posix_calls::{MAX_INODE, ROOT};
 use std::alloc::{AllocError, Global};
 use std::collections::BTreeMap;
 use std::marker::Model;
@@ -46,6 +47,14 @@ impl PlainGraph {
         ensures err { OnErr result (self.new ≡ self.old) }
     {
         apply(self.alloc, &mut self.nodes, effect)
+    }
+
+    /// The units of its nodes at the inodes 1 to `MAX_INODE`: a file costs 1 and 1 for each 4,096 bytes begun, a directory 1 and
+    /// 1 for each 56 entries begun.
+    pub fn charge(&self) -> u64
+        ensures { result ≡ charge (graph_of self.now) }
+    {
+        charge_of(&self.nodes)
     }
 
     /// How many names the node at an inode has, if there is one.
@@ -95,11 +104,16 @@ fn apply(
     ensures ok { OnOk result (get nat_cmp nodes.new ≡ after_effect (get nat_cmp nodes.old) effect.now) }
     ensures err { OnErr result (get nat_cmp nodes.new ≡ get nat_cmp nodes.old) }
 {
-    if let Some(node) = nodes.get_mut(&subject(effect)) {
+    let inode = subject(effect);
+    if is_drop(effect) {
+        nodes.remove(&inode);
+        return Ok(());
+    }
+    if let Some(node) = nodes.get_mut(&inode) {
         return node.act(alloc, effect);
     }
-    if let Effect::Make { inode, kind } = effect {
-        nodes.insert(*inode, PlainNode::new(alloc, *kind, 0))?;
+    if let Effect::Make { kind, .. } = effect {
+        nodes.insert(inode, PlainNode::new(alloc, *kind, 0))?;
     }
     Ok(())
 }
@@ -111,7 +125,37 @@ fn subject(effect: &Effect) -> u32
     match effect {
         Effect::Make { inode, .. } => *inode,
         Effect::Enter { directory, .. } => *directory,
+        Effect::Leave { directory, .. } => *directory,
         Effect::Names { inode, .. } => *inode,
+        Effect::Size { inode, .. } => *inode,
         Effect::Bytes { inode, .. } => *inode,
+        Effect::Drop { inode } => *inode,
     }
+}
+
+fn is_drop(effect: &Effect) -> bool
+    ensures { result ≡ is_drop effect.now }
+{
+    matches!(effect, Effect::Drop { .. })
+}
+
+fn charge_of(nodes: &BTreeMap<u32, PlainNode>) -> u64
+    ensures { result ≡ charge (get nat_cmp nodes.now) }
+{
+    let mut units = 0u64;
+    for (inode, node) in nodes.iter() {
+        units += units_at(*inode, node);
+    }
+    units
+}
+
+// What a node costs, where its number is an inode's.
+fn units_at(inode: u32, node: &PlainNode) -> u64
+    ensures units { result ≡ units_at inode node.now }
+    ensures small { result < 2 ^ 53 }
+{
+    if 1 <= inode && inode <= MAX_INODE {
+        return node.cost();
+    }
+    0
 }

@@ -1,5 +1,5 @@
-use crate::{Effect, Effects, Kind, PlainGraph, ROOT};
-use posix_calls::{Bytes, Name};
+use crate::{Effect, Effects, Kind, PlainGraph};
+use posix_calls::{Bytes, Name, ROOT};
 use std::alloc::Global;
 use std::test::Fail;
 
@@ -16,6 +16,21 @@ fn entered(alloc: Global, inode: u32, name: &[u8]) -> Result<Effect, Fail> {
         kind: Kind::File,
         name,
     })
+}
+
+fn left(alloc: Global, directory: u32, name: &[u8]) -> Result<Effect, Fail> {
+    let name = name_of(alloc, name)?;
+    Ok(Effect::Leave { directory, name })
+}
+
+// The names in the root, each with a blank behind it.
+fn names_of_root(alloc: Global, graph: &PlainGraph) -> Result<Vec<u8>, Fail> {
+    let mut names = Vec::new(alloc);
+    for entry in graph.entries(ROOT).ok_or("a directory")? {
+        names.extend_from_slice(entry.name.as_slice())?;
+        names.push(b' ')?;
+    }
+    Ok(names)
 }
 
 fn written(alloc: Global, at: u64, bytes: &[u8]) -> Result<Effect, Fail> {
@@ -55,15 +70,102 @@ fn entries_stand_in_order_and_are_replaced(rt: HostRuntime) -> Result<(), Fail> 
     graph.apply(&entered(alloc, 3, b"ab")?)?;
     graph.apply(&entered(alloc, 4, b"a")?)?;
     graph.apply(&entered(alloc, 5, b"b")?)?;
-    let mut names = Vec::new(alloc);
     let mut inodes = Vec::new(alloc);
     for entry in graph.entries(ROOT).ok_or("a directory")? {
-        names.extend_from_slice(entry.name.as_slice())?;
-        names.push(b' ')?;
         inodes.push(entry.inode)?;
     }
-    assert_eq!(rt; names.as_slice(), b"a ab b ".as_slice());
+    assert_eq!(rt;
+        names_of_root(alloc, &graph)?.as_slice(),
+        b"a ab b ".as_slice()
+    );
     assert_eq!(rt; inodes.as_slice(), [4, 3, 5].as_slice());
+    Ok(())
+}
+
+#[test]
+fn an_entry_leaves_by_its_name(rt: HostRuntime) -> Result<(), Fail> {
+    let alloc = rt.alloc();
+    let mut graph = PlainGraph::with_root(alloc)?;
+    for name in [b"a".as_slice(), b"b".as_slice(), b"bc".as_slice()] {
+        graph.apply(&entered(alloc, 2, name)?)?;
+    }
+    graph.apply(&left(alloc, ROOT, b"c")?)?;
+    assert_eq!(rt;
+        names_of_root(alloc, &graph)?.as_slice(),
+        b"a b bc ".as_slice()
+    );
+    graph.apply(&left(alloc, ROOT, b"b")?)?;
+    assert_eq!(rt;
+        names_of_root(alloc, &graph)?.as_slice(),
+        b"a bc ".as_slice()
+    );
+    Ok(())
+}
+
+#[test]
+fn a_file_is_cut_grown_and_dropped(rt: HostRuntime) -> Result<(), Fail> {
+    let alloc = rt.alloc();
+    let mut graph = PlainGraph::with_root(alloc)?;
+    graph.apply(&Effect::Make {
+        inode: 2,
+        kind: Kind::File,
+    })?;
+    graph.apply(&written(alloc, 0, b"abcd")?)?;
+    graph.apply(&Effect::Size { inode: 2, size: 2 })?;
+    assert_eq!(rt; graph.file(2).ok_or("a file")?, b"ab".as_slice());
+    graph.apply(&Effect::Size { inode: 2, size: 5 })?;
+    assert_eq!(rt; graph.file(2).ok_or("a file")?, b"ab\0\0\0".as_slice());
+    graph.apply(&Effect::Drop { inode: 3 })?;
+    assert_eq!(rt; graph.names(2), Some(0));
+    graph.apply(&Effect::Drop { inode: 2 })?;
+    assert_eq!(rt; graph.names(2), None);
+    Ok(())
+}
+
+#[test]
+fn effects_on_another_kind_or_on_no_node_do_nothing(rt: HostRuntime) -> Result<(), Fail> {
+    let alloc = rt.alloc();
+    let mut graph = PlainGraph::with_root(alloc)?;
+    graph.apply(&entered(alloc, 2, b"a")?)?;
+    graph.apply(&Effect::Make {
+        inode: 2,
+        kind: Kind::File,
+    })?;
+    graph.apply(&written(alloc, 0, b"xy")?)?;
+    graph.apply(&Effect::Size {
+        inode: ROOT,
+        size: 0,
+    })?;
+    graph.apply(&left(alloc, 2, b"a")?)?;
+    graph.apply(&left(alloc, 3, b"a")?)?;
+    graph.apply(&Effect::Size { inode: 3, size: 1 })?;
+    assert_eq!(rt; names_of_root(alloc, &graph)?.as_slice(), b"a ".as_slice());
+    assert_eq!(rt; graph.file(2).ok_or("a file")?, b"xy".as_slice());
+    assert_eq!(rt; graph.names(3), None);
+    Ok(())
+}
+
+#[test]
+fn units_are_counted_by_begun_blocks(rt: HostRuntime) -> Result<(), Fail> {
+    let alloc = rt.alloc();
+    let mut graph = PlainGraph::with_root(alloc)?;
+    assert_eq!(rt; graph.charge(), 1);
+    graph.apply(&entered(alloc, 2, b"a")?)?;
+    assert_eq!(rt; graph.charge(), 2);
+    graph.apply(&Effect::Make {
+        inode: 2,
+        kind: Kind::File,
+    })?;
+    assert_eq!(rt; graph.charge(), 3);
+    for (size, units) in [(1, 4), (4_096, 4), (8_192, 5), (8_193, 6), (0, 3)] {
+        graph.apply(&Effect::Size { inode: 2, size })?;
+        assert_eq!(rt; graph.charge(), units);
+    }
+    graph.apply(&Effect::Make {
+        inode: 1_025,
+        kind: Kind::File,
+    })?;
+    assert_eq!(rt; graph.charge(), 3);
     Ok(())
 }
 

@@ -6,8 +6,8 @@ use Rattle.file_graph.specs.declared.effect.Kind.TheVariants as kind
 use Rattle.file_graph.specs.declared.effect.Effect.{Effect}
 use Rattle.file_graph.specs.declared.effect.Effect.TheVariants as effect
 use Rattle.posix_calls.specs.Name.{is_name}
-use Rattle.log_record.specs.declared.format.TheConstants.{MAKE, ENTER, NAMES, BYTES}
-use Rattle.log_record.specs.Grammar.{◌>>=◌, AreBytes, IsInode, Fits, is_inode, is_extent, fits, u32, u64, kind_byte, effect_bytes, byte_at, run_at, number_at, kind_at, make_at, enter_at, names_at, bytes_at, fields_at, effect_at}
+use Rattle.log_record.specs.declared.format.TheConstants.{MAKE, ENTER, LEAVE, NAMES, SIZE, BYTES, DROP}
+use Rattle.log_record.specs.Grammar.{◌>>=◌, AreBytes, IsInode, Fits, is_inode, is_extent, fits, u32, u64, kind_byte, effect_bytes, byte_at, run_at, number_at, kind_at, make_at, enter_at, leave_at, names_at, size_at, bytes_at, dropped_at, fields_at, effect_at}
 use Rattle.log_record.proofs.Fields.{AreBytes-rest, bind_some, chosen, test_some, some_is, Takes, Takes-then, Takes-cons, u32_takes, u64_takes, u32_again, u64_again, run_takes, run_again, byte_takes, kind_takes}
 
 -- ---- the limits, as a test and as a fact
@@ -30,20 +30,30 @@ Fits-from_fits (effect.Enter d i k name) e =
     let p = and_parts (is_inode d && is_inode i) (is_name name) e in
     let q = and_parts (is_inode d) (is_inode i) p.0 in
     (inode_from d q.0, inode_from i q.1, p.1)
+Fits-from_fits (effect.Leave d name) e =
+    let p = and_parts (is_inode d) (is_name name) e in
+    (inode_from d p.0, p.1)
 Fits-from_fits (effect.Names i n) e =
     let p = and_parts (is_inode i) (leb n 1000) e in
+    (inode_from i p.0, leb-true _ _ p.1)
+Fits-from_fits (effect.Size i size) e =
+    let p = and_parts (is_inode i) (leb size 1048576) e in
     (inode_from i p.0, leb-true _ _ p.1)
 Fits-from_fits (effect.Bytes i at new) e =
     let p = and_parts (is_inode i) (is_extent at (length new)) e in
     let q = and_parts (leb 1 (length new) && leb (length new) 65536) (leb (at + length new) 1048576) p.1 in
     let r = and_parts (leb 1 (length new)) (leb (length new) 65536) q.0 in
     (inode_from i p.0, leb-true _ _ r.0, leb-true _ _ r.1, leb-true _ _ q.1)
+Fits-from_fits (effect.Drop i) e = inode_from i e
 
 pub fits-from_Fits : (e : Effect) → Fits e → fits e ≡ true
 fits-from_Fits (effect.Make i k) h = inode_fits i h
 fits-from_Fits (effect.Enter d i k name) h = and_from _ _ (and_from _ _ (inode_fits d h.0) (inode_fits i h.1)) h.2
+fits-from_Fits (effect.Leave d name) h = and_from _ _ (inode_fits d h.0) h.1
 fits-from_Fits (effect.Names i n) h = and_from _ _ (inode_fits i h.0) (le-leb _ _ h.1)
+fits-from_Fits (effect.Size i size) h = and_from _ _ (inode_fits i h.0) (le-leb _ _ h.1)
 fits-from_Fits (effect.Bytes i at new) h = and_from _ _ (inode_fits i h.0) (and_from _ _ (and_from _ _ (le-leb _ _ h.1) (le-leb _ _ h.2)) (le-leb _ _ h.3))
+fits-from_Fits (effect.Drop i) h = inode_fits i h
 
 -- ---- what is read is spelled so
 
@@ -79,6 +89,21 @@ enter_takes bytes x are e =
     let made : Effect × List ℕ = (effect.Enter a.0.0 b.0.0 c.0.0 f.0.0, f.0.1) in
     subst (λ (y : Effect × List ℕ). Takes (ENTER ∷ bytes) (effect_bytes y.0) y.1) (some_is made x f.2) (Takes-cons ENTER _ _ _ fields)
 
+leave_takes : (bytes : List ℕ) (x : Effect × List ℕ) → AreBytes bytes → leave_at bytes ≡ Some x → Takes (LEAVE ∷ bytes) (effect_bytes x.0) x.1
+unfolding leave_at
+leave_takes bytes x are e =
+    let a = bind_some (number_at 4 bytes) (λ d. byte_at d.1 >>= λ n. run_at n.0 n.1 >>= λ name. Some (effect.Leave d.0 name.0, name.1)) x e in
+    let b = bind_some (byte_at a.0.1) (λ n. run_at n.0 n.1 >>= λ name. Some (effect.Leave a.0.0 name.0, name.1)) x a.2 in
+    let c = bind_some (run_at b.0.0 b.0.1) (λ name. Some (effect.Leave a.0.0 name.0, name.1)) x b.2 in
+    let t0 = u32_takes bytes a.0 are a.1 in
+    let t1 = byte_takes a.0.1 b.0 t0.0.behind b.1 in
+    let t2 = run_takes b.0.0 b.0.1 c.0 t1.behind c.1 in
+    let s1 = Takes-then a.0.1 (b.0.0 ∷ []) b.0.1 c.0.0 c.0.1 t1 t2.takes in
+    let s0 = Takes-then bytes (u32 a.0.0) a.0.1 (b.0.0 ∷ c.0.0) c.0.1 t0.0 s1 in
+    let fields = subst (λ (n : ℕ). Takes bytes (u32 a.0.0 ++ n ∷ c.0.0) c.0.1) (sym t2.long) s0 in
+    let made : Effect × List ℕ = (effect.Leave a.0.0 c.0.0, c.0.1) in
+    subst (λ (y : Effect × List ℕ). Takes (LEAVE ∷ bytes) (effect_bytes y.0) y.1) (some_is made x c.2) (Takes-cons LEAVE _ _ _ fields)
+
 names_takes : (bytes : List ℕ) (x : Effect × List ℕ) → AreBytes bytes → names_at bytes ≡ Some x → Takes (NAMES ∷ bytes) (effect_bytes x.0) x.1
 unfolding names_at
 names_takes bytes x are e =
@@ -89,6 +114,25 @@ names_takes bytes x are e =
     let fields = Takes-then bytes (u32 a.0.0) a.0.1 (u32 b.0.0) b.0.1 t0.0 t1.0 in
     let made : Effect × List ℕ = (effect.Names a.0.0 b.0.0, b.0.1) in
     subst (λ (y : Effect × List ℕ). Takes (NAMES ∷ bytes) (effect_bytes y.0) y.1) (some_is made x b.2) (Takes-cons NAMES _ _ _ fields)
+
+size_takes : (bytes : List ℕ) (x : Effect × List ℕ) → AreBytes bytes → size_at bytes ≡ Some x → Takes (SIZE ∷ bytes) (effect_bytes x.0) x.1
+unfolding size_at
+size_takes bytes x are e =
+    let a = bind_some (number_at 4 bytes) (λ i. number_at 8 i.1 >>= λ size. Some (effect.Size i.0 size.0, size.1)) x e in
+    let b = bind_some (number_at 8 a.0.1) (λ size. Some (effect.Size a.0.0 size.0, size.1)) x a.2 in
+    let t0 = u32_takes bytes a.0 are a.1 in
+    let t1 = u64_takes a.0.1 b.0 t0.0.behind b.1 in
+    let fields = Takes-then bytes (u32 a.0.0) a.0.1 (u64 b.0.0) b.0.1 t0.0 t1 in
+    let made : Effect × List ℕ = (effect.Size a.0.0 b.0.0, b.0.1) in
+    subst (λ (y : Effect × List ℕ). Takes (SIZE ∷ bytes) (effect_bytes y.0) y.1) (some_is made x b.2) (Takes-cons SIZE _ _ _ fields)
+
+dropped_takes : (bytes : List ℕ) (x : Effect × List ℕ) → AreBytes bytes → dropped_at bytes ≡ Some x → Takes (DROP ∷ bytes) (effect_bytes x.0) x.1
+unfolding dropped_at
+dropped_takes bytes x are e =
+    let a = bind_some (number_at 4 bytes) (λ i. Some (effect.Drop i.0, i.1)) x e in
+    let t0 = u32_takes bytes a.0 are a.1 in
+    let made : Effect × List ℕ = (effect.Drop a.0.0, a.0.1) in
+    subst (λ (y : Effect × List ℕ). Takes (DROP ∷ bytes) (effect_bytes y.0) y.1) (some_is made x a.2) (Takes-cons DROP _ _ _ t0.0)
 
 bytes_takes : (bytes : List ℕ) (x : Effect × List ℕ) → AreBytes bytes → bytes_at bytes ≡ Some x → Takes (BYTES ∷ bytes) (effect_bytes x.0) x.1
 unfolding bytes_at
@@ -112,6 +156,22 @@ bytes_takes bytes x are e =
 at_tag : (tag n : ℕ) (bytes : List ℕ) (x : Effect × List ℕ) → eqb tag n ≡ true → Takes (n ∷ bytes) (effect_bytes x.0) x.1 → Takes (tag ∷ bytes) (effect_bytes x.0) x.1
 at_tag tag n bytes x e takes = subst (λ (t : ℕ). Takes (t ∷ bytes) (effect_bytes x.0) x.1) (sym (eqb-true tag n e)) takes
 
+-- the tags from SIZE on
+later_fields_take : (tag : ℕ) (bytes : List ℕ) (x : Effect × List ℕ) → AreBytes (tag ∷ bytes)
+    → cond (eqb tag SIZE) (size_at bytes) (cond (eqb tag BYTES) (bytes_at bytes) (cond (eqb tag DROP) (dropped_at bytes) None)) ≡ Some x → Takes (tag ∷ bytes) (effect_bytes x.0) x.1
+later_fields_take tag bytes x are e =
+    let behind = AreBytes-rest tag bytes are in
+    elim (chosen (eqb tag SIZE) (size_at bytes) _ (Some x) e) [
+      | inl w ↦ at_tag tag SIZE bytes x w.0 (size_takes bytes x behind w.1)
+      | inr v ↦ elim (chosen (eqb tag BYTES) (bytes_at bytes) _ (Some x) v.1) [
+        | inl w ↦ at_tag tag BYTES bytes x w.0 (bytes_takes bytes x behind w.1)
+        | inr u ↦ elim (chosen (eqb tag DROP) (dropped_at bytes) None (Some x) u.1) [
+          | inl w ↦ at_tag tag DROP bytes x w.0 (dropped_takes bytes x behind w.1)
+          | inr t ↦ absurd (cc t.1)
+        ]
+      ]
+    ]
+
 fields_take : (bytes : List ℕ) (x : Effect × List ℕ) → AreBytes bytes → fields_at bytes ≡ Some x → Takes bytes (effect_bytes x.0) x.1
 unfolding fields_at
 fields_take [] x are e = absurd cc
@@ -121,11 +181,11 @@ fields_take (tag ∷ bytes) x are e =
       | inl w ↦ at_tag tag MAKE bytes x w.0 (make_takes bytes x behind w.1)
       | inr v ↦ elim (chosen (eqb tag ENTER) (enter_at bytes) _ (Some x) v.1) [
         | inl w ↦ at_tag tag ENTER bytes x w.0 (enter_takes bytes x behind w.1)
-        | inr u ↦ elim (chosen (eqb tag NAMES) (names_at bytes) _ (Some x) u.1) [
-          | inl w ↦ at_tag tag NAMES bytes x w.0 (names_takes bytes x behind w.1)
-          | inr t ↦ elim (chosen (eqb tag BYTES) (bytes_at bytes) None (Some x) t.1) [
-            | inl w ↦ at_tag tag BYTES bytes x w.0 (bytes_takes bytes x behind w.1)
-            | inr s ↦ absurd (cc s.1)
+        | inr u ↦ elim (chosen (eqb tag LEAVE) (leave_at bytes) _ (Some x) u.1) [
+          | inl w ↦ at_tag tag LEAVE bytes x w.0 (leave_takes bytes x behind w.1)
+          | inr t ↦ elim (chosen (eqb tag NAMES) (names_at bytes) _ (Some x) t.1) [
+            | inl w ↦ at_tag tag NAMES bytes x w.0 (names_takes bytes x behind w.1)
+            | inr s ↦ later_fields_take tag bytes x are s.1
           ]
         ]
       ]
@@ -150,9 +210,21 @@ unfolding enter_at
 enter_again d i kind.File name rest small few = rw (u32_again d (u32 i ++ 1 ∷ length name ∷ (name ++ rest)) small, u32_again i (1 ∷ length name ∷ (name ++ rest)) few, run_again name rest) refl
 enter_again d i kind.Directory name rest small few = rw (u32_again d (u32 i ++ 2 ∷ length name ∷ (name ++ rest)) small, u32_again i (2 ∷ length name ∷ (name ++ rest)) few, run_again name rest) refl
 
+leave_again : (d : ℕ) (name rest : List ℕ) → d < 2 ^ 32 → leave_at (u32 d ++ length name ∷ (name ++ rest)) ≡ Some (effect.Leave d name, rest)
+unfolding leave_at
+leave_again d name rest small = rw (u32_again d (length name ∷ (name ++ rest)) small, run_again name rest) refl
+
 names_again : (i n : ℕ) (rest : List ℕ) → i < 2 ^ 32 → n < 2 ^ 32 → names_at (u32 i ++ (u32 n ++ rest)) ≡ Some (effect.Names i n, rest)
 unfolding names_at
 names_again i n rest small few = rw (u32_again i (u32 n ++ rest) small, u32_again n rest few) refl
+
+size_again : (i size : ℕ) (rest : List ℕ) → i < 2 ^ 32 → size < 2 ^ 64 → size_at (u32 i ++ (u64 size ++ rest)) ≡ Some (effect.Size i size, rest)
+unfolding size_at
+size_again i size rest small few = rw (u32_again i (u64 size ++ rest) small, u64_again size rest few) refl
+
+dropped_again : (i : ℕ) (rest : List ℕ) → i < 2 ^ 32 → dropped_at (u32 i ++ rest) ≡ Some (effect.Drop i, rest)
+unfolding dropped_at
+dropped_again i rest small = rw (u32_again i rest small) refl
 
 bytes_again : (i at : ℕ) (new rest : List ℕ) → i < 2 ^ 32 → at < 2 ^ 64 → length new < 2 ^ 32 → bytes_at (u32 i ++ (u64 at ++ (u32 (length new) ++ (new ++ rest)))) ≡ Some (effect.Bytes i at new, rest)
 unfolding bytes_at
@@ -164,7 +236,10 @@ fields_again (effect.Make i k) rest h = ap make_at (append_assoc (u32 i) (kind_b
 fields_again (effect.Enter d i k name) rest h =
     ap enter_at (append_assoc (u32 d) (u32 i ++ kind_byte k ∷ length name ∷ name) rest ∙ ap (λ (t : List ℕ). u32 d ++ t) (append_assoc (u32 i) (kind_byte k ∷ length name ∷ name) rest))
     ∙ enter_again d i k name rest (omega (arith, h.0.1)) (omega (arith, h.1.1))
+fields_again (effect.Leave d name) rest h = ap leave_at (append_assoc (u32 d) (length name ∷ name) rest) ∙ leave_again d name rest (omega (arith, h.0.1))
 fields_again (effect.Names i n) rest h = ap names_at (append_assoc (u32 i) (u32 n) rest) ∙ names_again i n rest (omega (arith, h.0.1)) (omega (arith, h.1))
+fields_again (effect.Size i size) rest h = ap size_at (append_assoc (u32 i) (u64 size) rest) ∙ size_again i size rest (omega (arith, h.0.1)) (omega (arith, h.1))
+fields_again (effect.Drop i) rest h = dropped_again i rest (omega (arith, h.1))
 fields_again (effect.Bytes i at new) rest h =
     ap bytes_at (append_assoc (u32 i) (u64 at ++ (u32 (length new) ++ new)) rest ∙ ap (λ (t : List ℕ). u32 i ++ t) (append_assoc (u64 at) (u32 (length new) ++ new) rest ∙ ap (λ (t : List ℕ). u64 at ++ t) (append_assoc (u32 (length new)) new rest)))
     ∙ bytes_again i at new rest (omega (arith, h.0.1)) (omega (arith, h.3)) (omega (arith, h.2))

@@ -3,14 +3,13 @@ use Rattle.std.specs.Prelude.{◌≡◌, ℕ, zero, suc, ◌+◌, ◌^◌, ◌<�
 use Rattle.std.specs.List.{flat_map, AllByRecursion}
 use Rattle.byteorder.specs.Endian.{little_bytes, little_number}
 use Rattle.posix_calls.specs.Name.{is_name}
-use Rattle.posix_calls.specs.declared.limits.TheConstants.{MAX_TRANSFER}
-use Rattle.file_graph.specs.declared.limits.TheConstants.{MAX_INODE, MAX_NAMES, MAX_FILE}
+use Rattle.posix_calls.specs.declared.limits.TheConstants.{MAX_TRANSFER, MAX_INODE, MAX_NAMES, MAX_FILE}
 use Rattle.file_graph.specs.declared.effect.Kind.{Kind}
 use Rattle.file_graph.specs.declared.effect.Kind.TheVariants as kind
 use Rattle.file_graph.specs.declared.effect.Effect.{Effect}
 use Rattle.file_graph.specs.declared.effect.Effect.TheVariants as effect
 use Rattle.log_record.specs.declared.format.Record.{Record}
-use Rattle.log_record.specs.declared.format.TheConstants.{MAX_EFFECTS, MAKE, ENTER, NAMES, BYTES, FILE, DIRECTORY}
+use Rattle.log_record.specs.declared.format.TheConstants.{MAX_EFFECTS, MAKE, ENTER, LEAVE, NAMES, SIZE, BYTES, DROP, FILE, DIRECTORY}
 
 -- ---- what has a spelling
 
@@ -18,12 +17,15 @@ use Rattle.log_record.specs.declared.format.TheConstants.{MAX_EFFECTS, MAKE, ENT
 abbrev pub IsInode : ℕ → Type 0
 IsInode i = (1 ≤ i) × (i ≤ MAX_INODE)
 
--- what keeps the limits: inodes and names as they may be, and a write of some bytes within the greatest file
+-- what keeps the limits: inodes and names as they may be, and a size or the end of a write of some bytes within the greatest file
 abbrev pub Fits : Effect → Type 0
 Fits (effect.Make i k) = IsInode i
 Fits (effect.Enter d i k name) = IsInode d × IsInode i × (is_name name ≡ true)
+Fits (effect.Leave d name) = IsInode d × (is_name name ≡ true)
 Fits (effect.Names i n) = IsInode i × (n ≤ MAX_NAMES)
+Fits (effect.Size i size) = IsInode i × (size ≤ MAX_FILE)
 Fits (effect.Bytes i at new) = IsInode i × (1 ≤ length new) × (length new ≤ MAX_TRANSFER) × (at + length new ≤ MAX_FILE)
+Fits (effect.Drop i) = IsInode i
 
 -- a record that has a spelling: a u32 of units, and 1 to 8 effects that keep the limits
 pub record IsRecord (r : Record) : Type 0 where
@@ -51,8 +53,11 @@ kind_byte kind.Directory = DIRECTORY
 abbrev pub effect_bytes : Effect → List ℕ
 effect_bytes (effect.Make i k) = MAKE ∷ (u32 i ++ kind_byte k ∷ [])
 effect_bytes (effect.Enter d i k name) = ENTER ∷ (u32 d ++ (u32 i ++ kind_byte k ∷ length name ∷ name))
+effect_bytes (effect.Leave d name) = LEAVE ∷ (u32 d ++ length name ∷ name)
 effect_bytes (effect.Names i n) = NAMES ∷ (u32 i ++ u32 n)
+effect_bytes (effect.Size i size) = SIZE ∷ (u32 i ++ u64 size)
 effect_bytes (effect.Bytes i at new) = BYTES ∷ (u32 i ++ (u64 at ++ (u32 (length new) ++ new)))
+effect_bytes (effect.Drop i) = DROP ∷ u32 i
 
 -- the units, the count of the effects, and each of them
 abbrev pub spelling : Record → List ℕ
@@ -105,12 +110,27 @@ enter_at bytes = do
   name ← run_at n.0 n.1
   Some (effect.Enter d.0 i.0 k.0 name.0, name.1)
 
+-- the fields of a Leave: the directory, and the name behind its length
+unfoldable pub leave_at : Field Effect
+leave_at bytes = do
+  d ← number_at 4 bytes
+  n ← byte_at d.1
+  name ← run_at n.0 n.1
+  Some (effect.Leave d.0 name.0, name.1)
+
 -- the fields of a Names: the inode and the count
 unfoldable pub names_at : Field Effect
 names_at bytes = do
   i ← number_at 4 bytes
   n ← number_at 4 i.1
   Some (effect.Names i.0 n.0, n.1)
+
+-- the fields of a Size: the inode and the size
+unfoldable pub size_at : Field Effect
+size_at bytes = do
+  i ← number_at 4 bytes
+  size ← number_at 8 i.1
+  Some (effect.Size i.0 size.0, size.1)
 
 -- the fields of a Bytes: the inode, the offset, and the bytes behind their count
 unfoldable pub bytes_at : Field Effect
@@ -121,11 +141,17 @@ bytes_at bytes = do
   new ← run_at n.0 n.1
   Some (effect.Bytes i.0 at.0 new.0, new.1)
 
+-- the field of a Drop: the inode
+unfoldable pub dropped_at : Field Effect
+dropped_at bytes = do
+  i ← number_at 4 bytes
+  Some (effect.Drop i.0, i.1)
+
 -- a tag, and the fields of its effect; another tag is none
 unfoldable pub fields_at : Field Effect
 fields_at bytes = do
   tag ← byte_at bytes
-  if tag.0 == MAKE then make_at tag.1 else (if tag.0 == ENTER then enter_at tag.1 else (if tag.0 == NAMES then names_at tag.1 else (if tag.0 == BYTES then bytes_at tag.1 else None)))
+  if tag.0 == MAKE then make_at tag.1 else (if tag.0 == ENTER then enter_at tag.1 else (if tag.0 == LEAVE then leave_at tag.1 else (if tag.0 == NAMES then names_at tag.1 else (if tag.0 == SIZE then size_at tag.1 else (if tag.0 == BYTES then bytes_at tag.1 else (if tag.0 == DROP then dropped_at tag.1 else None))))))
 
 -- whether a number is an inode's
 abbrev pub is_inode : ℕ → Bool
@@ -139,8 +165,11 @@ is_extent at n = nat_le 1 n && nat_le n MAX_TRANSFER && nat_le (at + n) MAX_FILE
 abbrev pub fits : Effect → Bool
 fits (effect.Make i k) = is_inode i
 fits (effect.Enter d i k name) = is_inode d && is_inode i && is_name name
+fits (effect.Leave d name) = is_inode d && is_name name
 fits (effect.Names i n) = is_inode i && nat_le n MAX_NAMES
+fits (effect.Size i size) = is_inode i && nat_le size MAX_FILE
 fits (effect.Bytes i at new) = is_inode i && is_extent at (length new)
+fits (effect.Drop i) = is_inode i
 
 -- an effect that keeps the limits
 unfoldable pub effect_at : Field Effect

@@ -3,8 +3,8 @@ ghost use Rattle.log_record.specs.Outcome.{Gives, owned};
 ghost use Rattle.log_record.specs.Grammar.{fits, is_inode, is_extent};
 
 use crate::format::RecordError;
-use file_graph::{Effect, Kind, MAX_FILE, MAX_INODE, MAX_NAMES};
-use posix_calls::{Bytes, MAX_TRANSFER, Name};
+use file_graph::{Effect, Kind};
+use posix_calls::{Bytes, MAX_FILE, MAX_INODE, MAX_NAMES, MAX_TRANSFER, Name};
 use std::alloc::Global;
 
 /// An effect whose name or bytes lie elsewhere.
@@ -20,14 +20,25 @@ pub enum EffectRef<'a> {
         kind: Kind,
         name: &'a [u8],
     },
+    Leave {
+        directory: u32,
+        name: &'a [u8],
+    },
     Names {
         inode: u32,
         names: u32,
+    },
+    Size {
+        inode: u32,
+        size: u64,
     },
     Bytes {
         inode: u32,
         at: u64,
         bytes: &'a [u8],
+    },
+    Drop {
+        inode: u32,
     },
 }
 
@@ -44,8 +55,11 @@ impl EffectRef<'_> {
                 name,
                 ..
             } => is_inode(directory) && is_inode(inode) && Name::is_valid(name),
+            EffectRef::Leave { directory, name } => is_inode(directory) && Name::is_valid(name),
             EffectRef::Names { inode, names } => is_inode(inode) && names <= MAX_NAMES,
+            EffectRef::Size { inode, size } => is_inode(inode) && size <= MAX_FILE,
             EffectRef::Bytes { inode, at, bytes } => is_inode(inode) && is_extent(at, bytes.len()),
+            EffectRef::Drop { inode } => is_inode(inode),
         }
     }
 
@@ -72,11 +86,17 @@ impl EffectRef<'_> {
                 }),
                 Err(_) => Err(RecordError::NoRecord),
             },
+            EffectRef::Leave { directory, name } => match Name::from_vec(name.to_vec(alloc)?) {
+                Ok(name) => Ok(Effect::Leave { directory, name }),
+                Err(_) => Err(RecordError::NoRecord),
+            },
             EffectRef::Names { inode, names } => Ok(Effect::Names { inode, names }),
+            EffectRef::Size { inode, size } => Ok(Effect::Size { inode, size }),
             EffectRef::Bytes { inode, at, bytes } => {
                 let bytes = Bytes::copy_of(alloc, bytes)?;
                 Ok(Effect::Bytes { inode, at, bytes })
             }
+            EffectRef::Drop { inode } => Ok(Effect::Drop { inode }),
         }
     }
 }
@@ -101,15 +121,24 @@ pub fn lend(effect: &Effect) -> EffectRef<'_>
             kind: *kind,
             name: name.as_slice(),
         },
+        Effect::Leave { directory, name } => EffectRef::Leave {
+            directory: *directory,
+            name: name.as_slice(),
+        },
         Effect::Names { inode, names } => EffectRef::Names {
             inode: *inode,
             names: *names,
+        },
+        Effect::Size { inode, size } => EffectRef::Size {
+            inode: *inode,
+            size: *size,
         },
         Effect::Bytes { inode, at, bytes } => EffectRef::Bytes {
             inode: *inode,
             at: *at,
             bytes: bytes.as_slice(),
         },
+        Effect::Drop { inode } => EffectRef::Drop { inode: *inode },
     }
 }
 

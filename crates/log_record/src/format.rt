@@ -14,11 +14,20 @@ pub const MAKE: u8 = 1;
 /// The byte that an Enter begins with.
 pub const ENTER: u8 = 2;
 
+/// The byte that a Leave begins with.
+pub const LEAVE: u8 = 3;
+
 /// The byte that a Names begins with.
 pub const NAMES: u8 = 4;
 
+/// The byte that a Size begins with.
+pub const SIZE: u8 = 5;
+
 /// The byte that a Bytes begins with.
 pub const BYTES: u8 = 6;
+
+/// The byte that a Drop begins with.
+pub const DROP: u8 = 7;
 
 /// The byte of the kind of a file.
 pub const FILE: u8 = 1;

@@ -1,9 +1,11 @@
 ghost use Rattle.std.specs.Prelude.{◌≡◌, IfOk, drop, option_map, is_some};
 ghost use Rattle.log_record.specs.Outcome.{Gives, owned};
-ghost use Rattle.log_record.specs.Grammar.{Begins, NoneBegins, IsRecord, spelling, number_at, run_at, byte_at, kind_at, make_at, enter_at, names_at, bytes_at, fields_at, effect_at, effects_at, header_at, record_at, record_of};
+ghost use Rattle.log_record.specs.Grammar.{Begins, NoneBegins, IsRecord, spelling, number_at, run_at, byte_at, kind_at, make_at, enter_at, leave_at, names_at, size_at, bytes_at, dropped_at, fields_at, effect_at, effects_at, header_at, record_at, record_of};
 
 use crate::effect_ref::EffectRef;
-use crate::format::{BYTES, DIRECTORY, ENTER, FILE, MAKE, MAX_EFFECTS, NAMES, Record, RecordError};
+use crate::format::{
+    BYTES, DIRECTORY, DROP, ENTER, FILE, LEAVE, MAKE, MAX_EFFECTS, NAMES, Record, RecordError, SIZE,
+};
 use byteorder::{ByteOrder, LittleEndian};
 use file_graph::{Effect, Effects, Kind};
 use std::alloc::Global;
@@ -86,6 +88,16 @@ fn enter_of(bytes: &[u8]) -> Option<(EffectRef<'_>, &[u8])>
     ))
 }
 
+#[tactic(auto, unfolding(crate::specs::Grammar::leave_at))]
+fn leave_of(bytes: &[u8]) -> Option<(EffectRef<'_>, &[u8])>
+    ensures { option_map (λ x. (owned x.0, x.1.now)) result ≡ leave_at bytes.now }
+{
+    let (directory, rest) = u32_at(bytes)?;
+    let (count, rest) = u8_at(rest)?;
+    let (name, rest) = bytes_of(count as usize, rest)?;
+    Some((EffectRef::Leave { directory, name }, rest))
+}
+
 #[tactic(auto, unfolding(crate::specs::Grammar::names_at))]
 fn names_of(bytes: &[u8]) -> Option<(EffectRef<'_>, &[u8])>
     ensures { option_map (λ x. (owned x.0, x.1.now)) result ≡ names_at bytes.now }
@@ -93,6 +105,15 @@ fn names_of(bytes: &[u8]) -> Option<(EffectRef<'_>, &[u8])>
     let (inode, rest) = u32_at(bytes)?;
     let (names, rest) = u32_at(rest)?;
     Some((EffectRef::Names { inode, names }, rest))
+}
+
+#[tactic(auto, unfolding(crate::specs::Grammar::size_at))]
+fn resize_of(bytes: &[u8]) -> Option<(EffectRef<'_>, &[u8])>
+    ensures { option_map (λ x. (owned x.0, x.1.now)) result ≡ size_at bytes.now }
+{
+    let (inode, rest) = u32_at(bytes)?;
+    let (size, rest) = u64_at(rest)?;
+    Some((EffectRef::Size { inode, size }, rest))
 }
 
 #[tactic(auto, unfolding(crate::specs::Grammar::bytes_at))]
@@ -106,6 +127,14 @@ fn write_of(bytes: &[u8]) -> Option<(EffectRef<'_>, &[u8])>
     Some((EffectRef::Bytes { inode, at, bytes }, rest))
 }
 
+#[tactic(auto, unfolding(crate::specs::Grammar::dropped_at))]
+fn drop_of(bytes: &[u8]) -> Option<(EffectRef<'_>, &[u8])>
+    ensures { option_map (λ x. (owned x.0, x.1.now)) result ≡ dropped_at bytes.now }
+{
+    let (inode, rest) = u32_at(bytes)?;
+    Some((EffectRef::Drop { inode }, rest))
+}
+
 // The tag of an effect and its fields, whether or not they keep the limits.
 #[tactic(auto, unfolding(crate::specs::Grammar::fields_at))]
 fn fields_of(bytes: &[u8]) -> Option<(EffectRef<'_>, &[u8])>
@@ -115,8 +144,11 @@ fn fields_of(bytes: &[u8]) -> Option<(EffectRef<'_>, &[u8])>
     match tag {
         MAKE => make_of(rest),
         ENTER => enter_of(rest),
+        LEAVE => leave_of(rest),
         NAMES => names_of(rest),
+        SIZE => resize_of(rest),
         BYTES => write_of(rest),
+        DROP => drop_of(rest),
         _ => None,
     }
 }

@@ -4,7 +4,9 @@ ghost use Rattle.file_graph.specs.declared.effect.Effect.TheVariants as effect;
 ghost use Rattle.log_record.specs.Grammar.{u32 as bytes_4, u64 as bytes_8, kind_byte, effect_bytes, spelling, Fits, fits, IsRecord};
 
 use crate::effect_ref::lend;
-use crate::format::{BYTES, DIRECTORY, ENTER, FILE, MAKE, MAX_EFFECTS, NAMES, Record};
+use crate::format::{
+    BYTES, DIRECTORY, DROP, ENTER, FILE, LEAVE, MAKE, MAX_EFFECTS, NAMES, Record, SIZE,
+};
 use byteorder::{ByteOrder, LittleEndian};
 use file_graph::{Effect, Kind};
 use std::alloc::{AllocError, Global};
@@ -50,8 +52,9 @@ fn room_for(effects: &[Effect]) -> usize {
     for effect in effects {
         room = room.saturating_add(match effect {
             Effect::Enter { name, .. } => name.as_slice().len().saturating_add(11),
+            Effect::Leave { name, .. } => name.as_slice().len().saturating_add(6),
             Effect::Bytes { bytes, .. } => bytes.len().saturating_add(17),
-            _ => 9,
+            _ => 13,
         });
     }
     room
@@ -69,8 +72,11 @@ fn push_effect(out: &mut Vec<u8>, effect: &Effect) -> Result<(), AllocError>
             kind,
             name,
         } => push_enter(out, *directory, *inode, *kind, name.as_slice()),
+        Effect::Leave { directory, name } => push_leave(out, *directory, name.as_slice()),
         Effect::Names { inode, names } => push_names(out, *inode, *names),
+        Effect::Size { inode, size } => push_size(out, *inode, *size),
         Effect::Bytes { inode, at, bytes } => push_bytes(out, *inode, *at, bytes.as_slice()),
+        Effect::Drop { inode } => push_drop(out, *inode),
     }
 }
 
@@ -105,12 +111,34 @@ fn push_enter(
 }
 
 #[tactic(auto, using(std::proofs::lemmas::List::append_assoc))]
+fn push_leave(out: &mut Vec<u8>, directory: u32, name: &[u8]) -> Result<(), AllocError>
+    requires { length name.now ≤ 64 }
+    ensures { OnOk result (out.new.items ≡ out.old.items ++ effect_bytes (effect.Leave directory name.now)) }
+{
+    out.push(LEAVE)?;
+    push_u32(out, directory)?;
+    out.push(name.len() as u8)?;
+    out.extend_from_slice(name)?;
+    Ok(())
+}
+
+#[tactic(auto, using(std::proofs::lemmas::List::append_assoc))]
 fn push_names(out: &mut Vec<u8>, inode: u32, names: u32) -> Result<(), AllocError>
     ensures { OnOk result (out.new.items ≡ out.old.items ++ effect_bytes (effect.Names inode names)) }
 {
     out.push(NAMES)?;
     push_u32(out, inode)?;
     push_u32(out, names)?;
+    Ok(())
+}
+
+#[tactic(auto, using(std::proofs::lemmas::List::append_assoc))]
+fn push_size(out: &mut Vec<u8>, inode: u32, size: u64) -> Result<(), AllocError>
+    ensures { OnOk result (out.new.items ≡ out.old.items ++ effect_bytes (effect.Size inode size)) }
+{
+    out.push(SIZE)?;
+    push_u32(out, inode)?;
+    push_u64(out, size)?;
     Ok(())
 }
 
@@ -124,6 +152,15 @@ fn push_bytes(out: &mut Vec<u8>, inode: u32, at: u64, bytes: &[u8]) -> Result<()
     push_u64(out, at)?;
     push_u32(out, bytes.len() as u32)?;
     out.extend_from_slice(bytes)?;
+    Ok(())
+}
+
+#[tactic(auto, using(std::proofs::lemmas::List::append_assoc))]
+fn push_drop(out: &mut Vec<u8>, inode: u32) -> Result<(), AllocError>
+    ensures { OnOk result (out.new.items ≡ out.old.items ++ effect_bytes (effect.Drop inode)) }
+{
+    out.push(DROP)?;
+    push_u32(out, inode)?;
     Ok(())
 }
 

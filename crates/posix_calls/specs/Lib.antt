@@ -2,3 +2,11 @@ pub mod Name
 pub mod Content
 pub mod Errno
 pub mod Path
+pub mod Tree
+pub mod Asks
+pub mod Walk
+pub mod Decide
+pub mod Deeds
+pub mod Run
+pub mod Resolve
+pub mod WellFormed

@@ -101,25 +101,16 @@ fn medium(alloc: Global) -> Result<MemMedia, AllocError>
 // Appends the record until the region is full, and counts how often.
 fn fill(region: &mut Region<MemMedia>, entry: &Record) -> Result<u64> {
     for count in 0..u64::MAX {
-        match append(region, entry) {
+        if region.stage() != Stage::Resting || !entry.has_spelling() {
+            bail!("nothing can be appended");
+        }
+        match region.append(entry) {
             Ok(()) => {}
             Err(RegionError::RegionFull) => return Ok(count),
             Err(error) => bail!("appending: {error}"),
         }
     }
     Ok(u64::MAX)
-}
-
-fn append(region: &mut Region<MemMedia>, entry: &Record) -> Result<(), RegionError> {
-    if region.stage() != Stage::Resting || !entry.has_spelling() {
-        return Err(RegionError::Damaged);
-    }
-    region.begin(entry)?;
-    region.step()?;
-    region.step()?;
-    region.step()?;
-    region.step()?;
-    Ok(())
 }
 
 // Copies the bytes to each place of the buffer, one after the other, and counts how often.

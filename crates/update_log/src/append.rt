@@ -26,6 +26,7 @@ pub fn device_call<M: Media>(
     ensures clock { OnOk result (M.moment media.new ≡ M.moment media.old + 1) }
     ensures past { Keeps (M.moment media.old) (M.moment media.new) (M.left media.old) (M.left media.new) }
     ensures fault { OnErr result (Rose (M.faults media.old) (M.faults media.new)) }
+    ensures sound { OnOk result (M.faults media.new ≡ M.faults media.old) }
 {
     match stage {
         Stage::Begun => media.write(Tier::Fast, end + 1, body),

@@ -159,6 +159,7 @@ impl<M: Media> Region<M> {
         ensures only { IfErr result (λ e. e ≡ DeviceFault) }
         ensures failed { OnErr result (self.new.stage ≡ stages.Failed) }
         ensures fault { OnErr result (Rose (M.faults self.old.media) (M.faults self.new.media)) }
+        ensures sound { OnOk result (M.faults self.new.media ≡ M.faults self.old.media) }
     {
         let stage = self.stage;
         match device_call(&mut self.media, stage, self.end, &self.body) {
@@ -172,6 +173,29 @@ impl<M: Media> Region<M> {
                 Err(RegionError::DeviceFault)
             }
         }
+    }
+
+    /// Appends a record by its four device calls, one after the other.
+    ///
+    /// Refused as `begin` is, with nothing changed; where the device fails, as `step` is.
+    pub fn append(&mut self, entry: &Record) -> Result<(), RegionError>
+        requires ready { self.old.stage ≡ stages.Resting }
+        requires fits { IsRecord entry.now }
+        ensures appended { OnOk result (records_of M.seen self.new ≡ joined (records_of M.seen self.old) (Some entry.now)) }
+        ensures stage { OnOk result (self.new.stage ≡ stages.Resting) }
+        ensures same_header { header_of M.seen self.new ≡ header_of M.seen self.old }
+        ensures full { IsErrOf result RegionFull → REGION_SIZE < self.old.end + 5 + length (spelling entry.now) + 1 }
+        ensures refused { IfErr result (λ e. e ≢ DeviceFault → self.new ≡ self.old) }
+        ensures failed { IsErrOf result DeviceFault → self.new.stage ≡ stages.Failed }
+        ensures fault { IsErrOf result DeviceFault → Rose (M.faults self.old.media) (M.faults self.new.media) }
+        ensures only { IfErr result (λ e. e ≢ Damaged) }
+    {
+        self.begin(entry)?;
+        self.step()?;
+        self.step()?;
+        self.step()?;
+        self.step()?;
+        Ok(())
     }
 
     /// The records that are appended, in their order. It reads them from the medium, and changes nothing.

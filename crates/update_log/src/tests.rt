@@ -6,9 +6,9 @@ ghost use Rattle.tier_device.specs.Fault.{sound_of};
 ghost use Rattle.update_log.specs.declared.stage.Stage.TheVariants as stages;
 
 use crate::{REGION_SIZE, Region, RegionError, Stage};
-use file_graph::{Effect, Effects, Kind, ROOT};
+use file_graph::{Effect, Effects, Kind};
 use log_record::Record;
-use posix_calls::{Bytes, Name};
+use posix_calls::{Bytes, Name, ROOT};
 use std::alloc::{AllocError, Global};
 use std::process::Abort;
 use std::test::Fail;
@@ -87,12 +87,7 @@ fn append<M: Media>(region: &mut Region<M>, entry: &Record) -> Result<(), Region
     if region.stage() != Stage::Resting || !entry.has_spelling() {
         return Err(RegionError::Damaged);
     }
-    region.begin(entry)?;
-    region.step()?;
-    region.step()?;
-    region.step()?;
-    region.step()?;
-    Ok(())
+    region.append(entry)
 }
 
 #[test]

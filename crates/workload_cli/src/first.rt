@@ -6,8 +6,8 @@ use crate::two_clients::{
     FILE, apply, first_call, first_graph, log, logged, open_region, records_after_stop, replay,
     second_call,
 };
-use file_graph::{PlainGraph, ROOT};
-use posix_calls::Reply;
+use file_graph::PlainGraph;
+use posix_calls::{ROOT, Reply};
 use std::alloc::Global;
 use std::io::Write;
 

@@ -1,17 +1,21 @@
 // Two clients, each with a region of its own, over a graph that stands for the shared media.
-ghost use Rattle.std.specs.Prelude.{◌≡◌, IfOk, OnOk, Some};
-ghost use Rattle.tier_device.specs.Memory.{IsAtRest};
+ghost use Rattle.std.specs.Prelude.{◌≡◌, [], ◌∷◌, IfOk, OnOk, Ok, true, Some, drop, codes};
+ghost use Rattle.tier_device.specs.declared.media.Tier.TheVariants.{Fast};
+ghost use Rattle.tier_device.specs.Memory.{IsAtRest, memory_seen, memory_left, memory_moment};
 ghost use Rattle.tier_device.specs.Stop.{medium_of};
-ghost use Rattle.log_record.specs.Grammar.{IsRecord};
-ghost use Rattle.update_log.specs.declared.stage.Stage.TheVariants as stages;
+ghost use Rattle.posix_calls.specs.declared.call.Call.TheVariants as call;
+ghost use Rattle.file_graph.specs.Graph.{graph_of, after_effects};
+ghost use Rattle.file_graph.specs.declared.effect.Effect.TheVariants as effect;
+ghost use Rattle.file_graph.specs.declared.effect.Kind.TheVariants as kind;
 ghost use Rattle.update_log.specs.Frames.{joined};
 ghost use Rattle.update_log.specs.View.{records_of};
+ghost use Rattle.workload_cli.specs.FirstPath.{opening, made, logged_as, after_records, MayHold};
 
 use crate::fault::Fault;
 use crate::options::Stop;
-use file_graph::{Effect, Effects, Kind, PlainGraph, ROOT};
+use file_graph::{Effect, Effects, Kind, PlainGraph};
 use log_record::Record;
-use posix_calls::{Bytes, Call, Name, Reply};
+use posix_calls::{Bytes, Call, Name, ROOT, Reply};
 use std::alloc::Global;
 use tier_device::{Fill, Media, MemMedia, StopMedia};
 use update_log::{REGION_SIZE, Region, RegionError, Stage};
@@ -23,7 +27,9 @@ pub const FILE: u32 = 2;
 pub const NEW: u32 = 3;
 
 /// A root with the empty file `/f`.
-pub fn first_graph(alloc: Global) -> Result<PlainGraph, Fault> {
+pub fn first_graph(alloc: Global) -> Result<PlainGraph, Fault>
+    ensures { IfOk result (λ graph. graph_of graph ≡ opening) }
+{
     let mut graph = PlainGraph::with_root(alloc)?;
     graph.apply(&Effect::Make {
         inode: FILE,
@@ -42,7 +48,9 @@ pub fn first_graph(alloc: Global) -> Result<PlainGraph, Fault> {
     Ok(graph)
 }
 
-fn name(alloc: Global, bytes: &[u8]) -> Result<Name, Fault> {
+fn name(alloc: Global, bytes: &[u8]) -> Result<Name, Fault>
+    ensures { IfOk result (λ name. name ≡ bytes.now) }
+{
     match Name::from_vec(bytes.to_vec(alloc)?) {
         Ok(name) => Ok(name),
         Err(_) => Err(Fault::Damaged),
@@ -50,7 +58,9 @@ fn name(alloc: Global, bytes: &[u8]) -> Result<Name, Fault> {
 }
 
 /// What client 1 asks: four bytes at the start of `/f`.
-pub fn first_call(alloc: Global) -> Result<Call, Fault> {
+pub fn first_call(alloc: Global) -> Result<Call, Fault>
+    ensures { IfOk result (λ c. c ≡ call.Pwrite 0 0 (codes "aaaa")) }
+{
     Ok(Call::Pwrite {
         descriptor: 0,
         at: 0,
@@ -59,7 +69,9 @@ pub fn first_call(alloc: Global) -> Result<Call, Fault> {
 }
 
 /// What client 2 asks: the directory `/a`.
-pub fn second_call(alloc: Global) -> Result<Call, Fault> {
+pub fn second_call(alloc: Global) -> Result<Call, Fault>
+    ensures { IfOk result (λ c. c ≡ call.Mkdir (codes "/a")) }
+{
     Ok(Call::Mkdir {
         path: Bytes::copy_of(alloc, b"/a")?,
     })
@@ -67,43 +79,61 @@ pub fn second_call(alloc: Global) -> Result<Call, Fault> {
 
 /// The record of one of the two calls, and what is answered once it is logged. Each adds one unit: a first block, and a new
 /// directory.
-pub fn logged(alloc: Global, call: &Call) -> Result<(Record, Reply), Fault> {
-    let mut effects = Vec::new(alloc);
-    let reply = match call {
+pub fn logged(alloc: Global, call: &Call) -> Result<(Record, Reply), Fault>
+    ensures { IfOk result (λ l. logged_as call.now ≡ Some (l.0, l.1)) }
+{
+    match call {
         Call::Pwrite { at, bytes, .. } => {
-            let bytes = Bytes::copy_of(alloc, bytes.as_slice())?;
-            let count = u32::try_from(bytes.len()).unwrap_or(u32::MAX);
-            effects.push(Effect::Bytes {
-                inode: FILE,
-                at: *at,
-                bytes,
-            })?;
-            Reply::Wrote { count }
-        }
-        Call::Mkdir { path } => {
-            let Some((_slash, component)) = path.as_slice().split_first() else {
+            let Ok(count) = u32::try_from(bytes.len()) else {
                 return Err(Fault::Damaged);
             };
-            effects.push(Effect::Make {
-                inode: NEW,
-                kind: Kind::Directory,
-            })?;
-            effects.push(Effect::Enter {
-                directory: ROOT,
-                inode: NEW,
-                kind: Kind::Directory,
-                name: name(alloc, component)?,
-            })?;
-            effects.push(Effect::Names {
-                inode: NEW,
-                names: 1,
-            })?;
-            Reply::Done
+            let effects = write_of(alloc, *at, bytes.as_slice())?;
+            Ok((Record { units: 1, effects }, Reply::Wrote { count }))
         }
-        _ => return Err(Fault::Damaged),
-    };
-    let effects = Effects::from_vec(effects);
-    Ok((Record { units: 1, effects }, reply))
+        Call::Mkdir { path } => match path.as_slice() {
+            [_slash, component @ ..] => {
+                let effects = directory_of(alloc, component)?;
+                Ok((Record { units: 1, effects }, Reply::Done))
+            }
+            [] => Err(Fault::Damaged),
+        },
+        _ => Err(Fault::Damaged),
+    }
+}
+
+// The effects of a write to `/f`.
+fn write_of(alloc: Global, at: u64, bytes: &[u8]) -> Result<Effects, Fault>
+    ensures { IfOk result (λ es. es ≡ effect.Bytes FILE at bytes.now ∷ []) }
+{
+    let bytes = Bytes::copy_of(alloc, bytes)?;
+    let mut effects = Vec::new(alloc);
+    effects.push(Effect::Bytes {
+        inode: FILE,
+        at,
+        bytes,
+    })?;
+    Ok(Effects::from_vec(effects))
+}
+
+// The effects of a new directory in the root.
+fn directory_of(alloc: Global, component: &[u8]) -> Result<Effects, Fault>
+    ensures { IfOk result (λ es. es ≡ made kind.Directory NEW component.now) }
+{
+    let kind = Kind::Directory;
+    let name = name(alloc, component)?;
+    let mut effects = Vec::new(alloc);
+    effects.push(Effect::Make { inode: NEW, kind })?;
+    effects.push(Effect::Enter {
+        directory: ROOT,
+        inode: NEW,
+        kind,
+        name,
+    })?;
+    effects.push(Effect::Names {
+        inode: NEW,
+        names: 1,
+    })?;
+    Ok(Effects::from_vec(effects))
 }
 
 /// An empty region on a medium that stops where it is asked to.
@@ -139,33 +169,23 @@ fn armed(media: MemMedia, stop: Option<Stop>) -> StopMedia
 }
 
 /// Logs a record: whether it was answered, or the medium stopped before.
-pub fn log<M: Media>(region: &mut Region<M>, entry: &Record) -> Result<bool, Fault> {
+pub fn log<M: Media>(region: &mut Region<M>, entry: &Record) -> Result<bool, Fault>
+    ensures { result ≡ Ok true → records_of M.seen region.new ≡ joined (records_of M.seen region.old) (Some entry.now) }
+{
     if region.stage() != Stage::Resting || !entry.has_spelling() {
         return Err(Fault::Damaged);
     }
-    match append(region, entry) {
+    match region.append(entry) {
         Ok(()) => Ok(true),
         Err(RegionError::DeviceFault) => Ok(false),
         Err(error) => Err(Fault::from(error)),
     }
 }
 
-// Appends a record by its four device calls.
-fn append<M: Media>(region: &mut Region<M>, entry: &Record) -> Result<(), RegionError>
-    requires ready { region.old.stage ≡ stages.Resting }
-    requires fits { IsRecord entry.now }
-    ensures { OnOk result (records_of M.seen region.new ≡ joined (records_of M.seen region.old) (Some entry.now)) }
-{
-    region.begin(entry)?;
-    region.step()?;
-    region.step()?;
-    region.step()?;
-    region.step()?;
-    Ok(())
-}
-
 /// Stops a region's medium, and reads the records that it then holds.
-pub fn records_after_stop(alloc: Global, region: Region<StopMedia>) -> Result<Vec<Record>, Fault> {
+pub fn records_after_stop(alloc: Global, region: Region<StopMedia>) -> Result<Vec<Record>, Fault>
+    ensures { IfOk result (λ found. MayHold region.media found.items) }
+{
     let media = after_stop(region)?;
     match Region::reopen(alloc, media) {
         Ok(mut region) => Ok(region.records()?),
@@ -175,7 +195,8 @@ pub fn records_after_stop(alloc: Global, region: Region<StopMedia>) -> Result<Ve
 
 // The medium of a region after its stop.
 fn after_stop(region: Region<StopMedia>) -> Result<MemMedia, Fault>
-    ensures { IfOk result IsAtRest }
+    ensures at_rest { IfOk result IsAtRest }
+    ensures allowed { IfOk result (λ m. memory_left (medium_of region.media) (memory_moment (medium_of region.media)) Fast (memory_seen m Fast)) }
 {
     match region.into_media().rest() {
         Ok(media) => Ok(media),
@@ -184,15 +205,20 @@ fn after_stop(region: Region<StopMedia>) -> Result<MemMedia, Fault>
 }
 
 /// Does the effects of records that are not done yet.
-pub fn replay(graph: &mut PlainGraph, records: &[Record], done: usize) -> Result<(), Fault> {
-    for entry in records.iter().skip(done) {
+pub fn replay(graph: &mut PlainGraph, records: &[Record], done: usize) -> Result<(), Fault>
+    ensures { OnOk result (graph_of graph.new ≡ after_records (graph_of graph.old) (drop done records.now)) }
+{
+    let rest = records.get(done..).unwrap_or(&[]);
+    for entry in rest {
         apply(graph, entry)?;
     }
     Ok(())
 }
 
 /// Does the effects of a record.
-pub fn apply(graph: &mut PlainGraph, entry: &Record) -> Result<(), Fault> {
+pub fn apply(graph: &mut PlainGraph, entry: &Record) -> Result<(), Fault>
+    ensures { OnOk result (graph_of graph.new ≡ after_effects (graph_of graph.old) entry.now.effects) }
+{
     for effect in entry.effects.as_slice() {
         graph.apply(effect)?;
     }

@@ -1,0 +1,5 @@
+use Rattle.file_graph.proofs.Sums.{effects_commute}
+use Rattle.file_graph.proofs.laws.apart_effects_commute.Goals as goal
+
+pub returns : goal.returns
+returns c = effects_commute

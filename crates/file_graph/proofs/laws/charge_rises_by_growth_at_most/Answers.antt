@@ -1,0 +1,5 @@
+use Rattle.file_graph.proofs.Sums.{charge_rises}
+use Rattle.file_graph.proofs.laws.charge_rises_by_growth_at_most.Goals as goal
+
+pub returns : goal.returns
+returns c = charge_rises

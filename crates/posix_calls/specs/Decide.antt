@@ -1,0 +1,234 @@
+-- Each call's errors in their order, and the deed that it comes to if none holds.
+use Rattle.std.specs.Prelude.{ℕ, zero, suc, ◌+◌, List, [], ◌∷◌, map, take, drop, length, Bool, true, false, ◌&&◌, ◌||◌, not, ◌==◌, nat_lt, nat_le, Option, Some, None, if◌then◌else◌}
+use Rattle.std.specs.FinMap as fin
+use Rattle.std.specs.List.{list_any}
+use Rattle.posix_calls.specs.Path.{reading}
+use Rattle.posix_calls.specs.Tree.{Descriptor, Own}
+use Rattle.posix_calls.specs.Asks.{Seen, File, Dir, Asks, Gives, Refuses, Look, ◌>>=◌}
+use Rattle.posix_calls.specs.Walk.{Place, refuse, said, entries_at, bytes_at, bytes_seen, names_at, kind_at, prefix, is_root, is_there, there, is_full}
+use Rattle.posix_calls.specs.declared.deed.Spot.{Spot}
+use Rattle.posix_calls.specs.declared.limits.TheConstants.{MAX_DESCRIPTORS, MAX_FILE, MAX_NAMES, MAX_TRANSFER}
+use Rattle.posix_calls.specs.declared.errno.Errno.TheVariants as errno
+use Rattle.posix_calls.specs.declared.call.Flags.{Flags}
+use Rattle.posix_calls.specs.declared.call.Call.{Call}
+use Rattle.posix_calls.specs.declared.call.Call.TheVariants as call
+use Rattle.posix_calls.specs.declared.call.Reply.TheVariants as reply
+use Rattle.posix_calls.specs.declared.deed.Deed.{Deed}
+use Rattle.posix_calls.specs.declared.deed.Deed.TheVariants.{Tell, NewDir, NewFile, OpenFile, CloseFile, Write, Resize, RemoveDir, AddName, DropName, Move}
+use Rattle.posix_calls.specs.declared.deed.Replaced.{Replaced}
+use Rattle.posix_calls.specs.declared.deed.Replaced.TheVariants.{Nothing, OldFile, OldDir}
+
+-- ---- descriptors
+
+-- the inode that is open, where the descriptor passes
+abbrev pub opened : (Descriptor → Bool) → Option Descriptor → Asks ℕ
+opened test None = Refuses errno.BadDescriptor
+opened test (Some d) = if test d then Gives d.inode else Refuses errno.BadDescriptor
+
+-- the lowest of so many numbers from n on at which nothing is open
+abbrev pub lowest_free : Own → ℕ → ℕ → Option ℕ
+lowest_free own n zero = None
+lowest_free own n (suc many) = elim (own n) [ None ↦ Some n | Some d ↦ lowest_free own (n + 1) many ]
+
+-- the number, or an error where none is free
+abbrev pub number_or : Option ℕ → Asks ℕ
+number_or None = Refuses errno.TooManyOpen
+number_or (Some n) = Gives n
+
+-- ---- open, close, pread, pwrite
+
+-- whether flags ask for what makes no sense
+abbrev pub is_senseless : Flags → Bool
+is_senseless f = (f.truncate && not f.write) || (f.exclusive && not f.create) || (not f.read && not f.write)
+
+-- whether there are bytes to take away
+abbrev pub empties : Bool → ℕ → Asks Bool
+empties false i = Gives false
+empties true i = Look i (λ s. Gives (nat_lt 0 (length (bytes_seen s))))
+
+-- what is there is opened, and what is not there is made
+abbrev pub open_there : Place → ℕ → Flags → Option ℕ → Asks Deed
+open_there place number f (Some i) = do
+  empty ← empties f.truncate i
+  Gives (OpenFile i empty number f.read f.write)
+open_there place number f None = do
+  _ ← refuse errno.NoEntry (not f.create)
+  _ ← refuse errno.NoSpace (is_full place)
+  Gives (NewFile place.spot number f.read f.write)
+
+unfoldable pub open_path : Own → List ℕ → Flags → Asks Deed
+open_path own path f = do
+  names ← said (reading path)
+  _ ← refuse errno.Invalid (is_senseless f)
+  number ← number_or (lowest_free own 0 MAX_DESCRIPTORS)
+  place ← prefix names
+  _ ← refuse errno.Exists (f.create && f.exclusive && is_there place.inode)
+  is_dir ← kind_at place.inode
+  _ ← refuse errno.IsDirectory is_dir
+  open_there place number f place.inode
+
+unfoldable pub close : Own → ℕ → Asks Deed
+close own number = do
+  i ← opened (λ d. true) (own number)
+  Gives (CloseFile i number)
+
+unfoldable pub pread : Own → ℕ → ℕ → ℕ → Asks Deed
+pread own number at count = do
+  i ← opened (λ d. d.reads) (own number)
+  _ ← refuse errno.Invalid (nat_lt MAX_TRANSFER count)
+  bytes ← bytes_at i
+  Gives (Tell (reply.Read (take count (drop at bytes))))
+
+-- no bytes are written at once, and change nothing
+abbrev pub write_at : ℕ → ℕ → List ℕ → Asks Deed
+write_at i at [] = Gives (Tell (reply.Wrote 0))
+write_at i at (b ∷ bytes) = do
+  _ ← refuse errno.FileTooBig (nat_lt MAX_FILE (at + length (b ∷ bytes)))
+  Gives (Write i at (b ∷ bytes))
+
+unfoldable pub pwrite : Own → ℕ → ℕ → List ℕ → Asks Deed
+pwrite own number at bytes = do
+  i ← opened (λ d. d.writes) (own number)
+  _ ← refuse errno.Invalid (nat_lt MAX_TRANSFER (length bytes))
+  write_at i at bytes
+
+-- ---- truncate, mkdir, rmdir, link, unlink
+
+unfoldable pub truncate : List ℕ → ℕ → Asks Deed
+truncate path len = do
+  names ← said (reading path)
+  place ← prefix names
+  i ← there place.inode
+  is_dir ← kind_at place.inode
+  _ ← refuse errno.IsDirectory is_dir
+  _ ← refuse errno.FileTooBig (nat_lt MAX_FILE len)
+  bytes ← bytes_at i
+  Gives (if length bytes == len then Tell reply.Done else Resize i len)
+
+unfoldable pub mkdir : List ℕ → Asks Deed
+mkdir path = do
+  names ← said (reading path)
+  place ← prefix names
+  _ ← refuse errno.Exists (is_there place.inode)
+  _ ← refuse errno.NoSpace (is_full place)
+  Gives (NewDir place.spot)
+
+unfoldable pub rmdir : List ℕ → Asks Deed
+rmdir path = do
+  names ← said (reading path)
+  _ ← refuse errno.Busy (is_root names)
+  place ← prefix names
+  i ← there place.inode
+  is_dir ← kind_at place.inode
+  _ ← refuse errno.NotDirectory (not is_dir)
+  entries ← entries_at i
+  _ ← refuse errno.NotEmpty (nat_lt 0 (fin.len entries))
+  Gives (RemoveDir place.spot i)
+
+unfoldable pub link : List ℕ → List ℕ → Asks Deed
+link old new = do
+  old_names ← said (reading old)
+  new_names ← said (reading new)
+  from ← prefix old_names
+  i ← there from.inode
+  is_dir ← kind_at from.inode
+  _ ← refuse errno.NotPermitted is_dir
+  to ← prefix new_names
+  _ ← refuse errno.Exists (is_there to.inode)
+  names ← names_at i
+  _ ← refuse errno.TooManyLinks (nat_le MAX_NAMES names)
+  _ ← refuse errno.NoSpace (is_full to)
+  Gives (AddName to.spot i)
+
+unfoldable pub unlink : List ℕ → Asks Deed
+unlink path = do
+  names ← said (reading path)
+  _ ← refuse errno.Busy (is_root names)
+  place ← prefix names
+  i ← there place.inode
+  is_dir ← kind_at place.inode
+  _ ← refuse errno.NotPermitted is_dir
+  Gives (DropName place.spot i)
+
+-- ---- rename
+
+-- a directory is replaced if it is empty
+abbrev pub replacing_dir : ℕ → Asks Replaced
+replacing_dir j = do
+  entries ← entries_at j
+  _ ← refuse errno.NotEmpty (nat_lt 0 (fin.len entries))
+  Gives (OldDir j)
+
+-- what is at the new name is replaced if it is of the old one's kind; a name in another directory needs room
+abbrev pub replacing : Place → Place → Bool → Option ℕ → Asks Replaced
+replacing from to old_dir None = do
+  _ ← refuse errno.NoSpace (not (from.spot.parent == to.spot.parent) && is_full to)
+  Gives Nothing
+replacing from to old_dir (Some j) = do
+  new_dir ← kind_at (Some j)
+  _ ← refuse errno.NotDirectory (old_dir && not new_dir)
+  _ ← refuse errno.IsDirectory (not old_dir && new_dir)
+  if new_dir then replacing_dir j else Gives (OldFile j)
+
+-- whether this inode is there
+abbrev pub is_inode : ℕ → Option ℕ → Bool
+is_inode i None = false
+is_inode i (Some j) = i == j
+
+-- the name moves
+abbrev pub renamed : Place → Place → ℕ → Asks Deed
+renamed from to i = do
+  old_dir ← kind_at from.inode
+  replaced ← replacing from to old_dir to.inode
+  Gives (Move from.spot to.spot i old_dir replaced)
+
+unfoldable pub rename : List ℕ → List ℕ → Asks Deed
+rename old new = do
+  old_names ← said (reading old)
+  new_names ← said (reading new)
+  _ ← refuse errno.Busy (is_root old_names || is_root new_names)
+  from ← prefix old_names
+  i ← there from.inode
+  to ← prefix new_names
+  _ ← refuse errno.Invalid (list_any (λ d. d == i) to.walked)
+  if is_inode i to.inode then Gives (Tell reply.Done) else renamed from to i
+
+-- ---- list, stat
+
+unfoldable pub list_path : List ℕ → Asks Deed
+list_path path = do
+  names ← said (reading path)
+  place ← prefix names
+  i ← there place.inode
+  is_dir ← kind_at place.inode
+  _ ← refuse errno.NotDirectory (not is_dir)
+  entries ← entries_at i
+  Gives (Tell (reply.Listed (map (λ e. e.0) (fin.entries entries))))
+
+-- what there is to say of a node
+abbrev pub described : Option Seen → Asks Deed
+described None = Refuses errno.NoEntry
+described (Some (File names bytes)) = Gives (Tell (reply.File (length bytes) names))
+described (Some (Dir entries)) = Gives (Tell (reply.Dir (fin.len entries)))
+
+unfoldable pub stat : List ℕ → Asks Deed
+stat path = do
+  names ← said (reading path)
+  place ← prefix names
+  i ← there place.inode
+  Look i described
+
+-- what a call of a client with these descriptors asks, and comes to
+abbrev pub decide : Own → Call → Asks Deed
+decide own (call.Open path flags) = open_path own path flags
+decide own (call.Close number) = close own number
+decide own (call.Pread number at count) = pread own number at count
+decide own (call.Pwrite number at bytes) = pwrite own number at bytes
+decide own (call.Truncate path len) = truncate path len
+decide own (call.Mkdir path) = mkdir path
+decide own (call.Rmdir path) = rmdir path
+decide own (call.Link old new) = link old new
+decide own (call.Unlink path) = unlink path
+decide own (call.Rename old new) = rename old new
+decide own (call.List path) = list_path path
+decide own (call.Stat path) = stat path

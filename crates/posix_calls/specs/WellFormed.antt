@@ -1,0 +1,30 @@
+-- What every state of a file tree has in common.
+use Rattle.std.specs.Prelude.{◌≡◌, ◌≢◌, ◌⊎◌, ℕ, ◌<◌, ◌≤◌, List, true, false, Option, Some, None, IsSome, Ok, option_map}
+use Rattle.posix_calls.specs.Tree.{Node, Descriptor, State, names_of, is_open}
+use Rattle.posix_calls.specs.Asks.{dir_test}
+use Rattle.posix_calls.specs.Resolve.{resolve}
+use Rattle.posix_calls.specs.declared.limits.TheConstants.{ROOT, MAX_INODE, MAX_CLIENTS, MAX_DESCRIPTORS}
+
+-- a directory stands there
+abbrev pub IsDirectory : Option Node → Type 0
+IsDirectory o = option_map dir_test o ≡ Some true
+
+-- a file stands there
+abbrev pub IsFile : Option Node → Type 0
+IsFile o = option_map dir_test o ≡ Some false
+
+pub record IsWellFormed (s : State) : Type 0 where
+  -- the root is a directory, and has no name
+  pub root : IsDirectory (s.tree ROOT)
+  pub root_names : names_of s.tree ROOT ≡ 0
+  -- nodes have inode numbers, and what is open has a number of a client
+  pub inodes : (i : ℕ) → IsSome (s.tree i) → (ROOT ≤ i) × (i ≤ MAX_INODE)
+  pub numbers : (c n : ℕ) → IsSome (s.descriptors c n) → (1 ≤ c) × (c ≤ MAX_CLIENTS) × (n < MAX_DESCRIPTORS)
+  -- every entry names a node, so what is no node has no name; and what is open is a file
+  pub entries : (i : ℕ) → s.tree i ≡ None → names_of s.tree i ≡ 0
+  pub opened : (c n : ℕ) (o : Descriptor) → s.descriptors c n ≡ Some o → IsFile (s.tree o.inode)
+  -- every other directory has exactly one name, and a path leads to it, so that none is its own ancestor
+  pub one_name : (i : ℕ) → IsDirectory (s.tree i) → i ≢ ROOT → names_of s.tree i ≡ 1
+  pub reached : (i : ℕ) → IsDirectory (s.tree i) → (path : List (List ℕ)) × (resolve s.tree path ≡ Ok i)
+  -- a file has a name, or someone has it open
+  pub used : (i : ℕ) → IsFile (s.tree i) → (0 < names_of s.tree i) ⊎ (is_open s.descriptors i ≡ true)

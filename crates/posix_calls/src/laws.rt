@@ -1,0 +1,46 @@
+//! What holds of every step of the file tree, and of every part of it.
+
+ghost use Rattle.std.specs.Prelude.{◌≡◌, ◌++◌, ℕ, List, Result, Ok, Some, false};
+ghost use Rattle.posix_calls.specs.Content.{Entries};
+ghost use Rattle.posix_calls.specs.Tree.{Tree, Dir, State};
+ghost use Rattle.posix_calls.specs.Asks.{Asks, View, Part, Known, Lacks, IsPart, IsLeft, run, run_part, view_of};
+ghost use Rattle.posix_calls.specs.Walk.{inode_at};
+ghost use Rattle.posix_calls.specs.declared.deed.Deed.{Deed};
+ghost use Rattle.posix_calls.specs.Deeds.{makes, state_after, answer, Follows, Step};
+ghost use Rattle.posix_calls.specs.Run.{Turn, Run};
+ghost use Rattle.posix_calls.specs.Resolve.{resolve};
+ghost use Rattle.posix_calls.specs.declared.limits.TheConstants.{ROOT};
+ghost use Rattle.posix_calls.specs.declared.errno.Errno.{Errno};
+ghost use Rattle.posix_calls.specs.declared.call.Call.{Call};
+ghost use Rattle.posix_calls.specs.declared.call.Reply.{Reply};
+ghost use Rattle.posix_calls.specs.declared.call.Reply.TheVariants.{Failed};
+
+/// A call that isn't given up has one reply, and for each number of a new node one state after it; where no node is made, that
+/// number does not matter.
+pub fn step_is_determined()
+    ensures reply { (old : State) (client : ℕ) (call : Call) (i j : ℕ) (r s : Reply) (m n : State) → Follows old client i (answer old client call) r m → Follows old client j (answer old client call) s n → r ≡ s }
+    ensures state { (old : State) (client : ℕ) (call : Call) (i : ℕ) (r s : Reply) (m n : State) → Follows old client i (answer old client call) r m → Follows old client i (answer old client call) s n → m ≡ n }
+    ensures number { (old : State) (client i j : ℕ) (deed : Deed) → makes deed ≡ false → state_after client i old deed ≡ state_after client j old deed }
+{}
+
+/// A call that is answered by an error leaves the state as it was.
+pub fn failed_step_changes_nothing()
+    ensures { (old : State) (client : ℕ) (call : Call) (errno : Errno) (after : State) → Step old client call (Failed errno) after → after ≡ old }
+{}
+
+/// A run comes by some state between any two of its calls, and two runs that meet in a state are one.
+pub fn runs_split_anywhere()
+    ensures split { (first rest : List Turn) (old last : State) → Run old (first ++ rest) last → (mid : State) × Run old first mid × Run mid rest last }
+    ensures joined { (first rest : List Turn) (old mid last : State) → Run old first mid → Run mid rest last → Run old (first ++ rest) last }
+{}
+
+/// What a part of a tree can tell of a call is what the whole tells; where it lacks an inode, that inode is asked for next.
+pub fn part_answers_as_the_whole()
+    ensures known { (p : Part) (v : View) → IsPart p v → (q : Asks Deed) (r : Result Deed Errno) → run_part p q ≡ Known r → run v q ≡ r }
+    ensures lacks { (p : Part) (q : Asks Deed) (i : ℕ) → run_part p q ≡ Lacks i → IsLeft p i q }
+{}
+
+/// The walk of a call leads to the inode that its path names, or is refused by the first error on the way.
+pub fn walk_leads_where_the_path_does()
+    ensures { (t : Tree) (entries : Entries ℕ) (names : List (List ℕ)) → t ROOT ≡ Some (Dir entries) → run (view_of t) (inode_at names) ≡ resolve t names }
+{}
