@@ -10,7 +10,8 @@ use Rattle.std.specs.Cmp.{nat_cmp_total, tied_itself, ranked}
 use Rattle.std.specs.Map.{lookup, keys_of}
 use Rattle.std.specs.BTreeMap.{BTreeMap, get, is_at}
 use Rattle.file_graph.specs.Graph.{Graph, Node, cost}
-use Rattle.file_graph.specs.Units.{sum_up_to, charge}
+use Rattle.posix_calls.specs.Tree.{sum_up_to}
+use Rattle.file_graph.specs.Units.{charge}
 use Rattle.file_graph.specs.Plain.{units_at}
 
 -- ---- sums where one count changes

@@ -3,7 +3,8 @@ use Rattle.std.proofs.Common.{◌≡◌, ℕ, zero, suc, ◌+◌, ◌-◌, ◌�
 use Rattle.std.proofs.lemmas.List.Concat.{flat_map-cons}
 use Rattle.file_graph.specs.declared.effect.Effect.{Effect}
 use Rattle.file_graph.specs.Graph.{Graph, Node, after_effect, after_effects, touches, subjects, is_among, acted, AreApart, cost}
-use Rattle.file_graph.specs.Units.{sum_up_to, charge, rise, growth}
+use Rattle.posix_calls.specs.Tree.{sum_up_to}
+use Rattle.file_graph.specs.Units.{charge, rise, growth}
 
 -- ---- effects at one inode
 

@@ -1,9 +1,9 @@
 -- A graph of inodes, what an effect makes of it, and what a node costs.
-use Rattle.std.specs.Prelude.{◌≡◌, ℕ, ◌+◌, ◌/◌, ◌==◌, Bool, true, List, [], ◌∷◌, length, Option, Some, None, if◌then◌else◌, option_map}
+use Rattle.std.specs.Prelude.{◌≡◌, ℕ, ◌==◌, Bool, true, List, [], ◌∷◌, length, Option, Some, None, if◌then◌else◌, option_map}
 use Rattle.std.specs.List.{list_any, flat_map}
 use Rattle.std.specs.FinMap as fin
 use Rattle.std.specs.Ordering.{nat_cmp}
-use Rattle.posix_calls.specs.Content.{Entries, resized, written}
+use Rattle.posix_calls.specs.Content.{Entries, resized, written, file_units, directory_units}
 use Rattle.posix_calls.specs.declared.limits.TheConstants.{ROOT}
 use Rattle.file_graph.specs.declared.effect.Kind.{Kind}
 use Rattle.file_graph.specs.declared.effect.Kind.TheVariants as kind
@@ -92,10 +92,10 @@ touches es = flat_map subjects es
 abbrev pub AreApart : List ℕ → List ℕ → Type 0
 AreApart is js = (i : ℕ) → is_among i is ≡ true → is_among i js ≡ true → ⊥
 
--- units of a body: one, and one for each 4,096 bytes or 56 entries begun
+-- units of a body
 abbrev pub body_cost : Body → ℕ
-body_cost (FileBody bytes) = 1 + (length bytes + 4095) / 4096
-body_cost (DirBody entries) = 1 + (fin.len entries + 55) / 56
+body_cost (FileBody bytes) = file_units (length bytes)
+body_cost (DirBody entries) = directory_units (fin.len entries)
 
 -- units of what stands at an inode
 abbrev pub cost : Option Node → ℕ

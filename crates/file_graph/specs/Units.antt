@@ -1,13 +1,9 @@
 -- The units of a graph, and by how much effects may raise them.
-use Rattle.std.specs.Prelude.{ℕ, zero, suc, ◌+◌, ◌-◌, List, if◌then◌else◌}
+use Rattle.std.specs.Prelude.{ℕ, ◌-◌, List, if◌then◌else◌}
+use Rattle.posix_calls.specs.Tree.{sum_up_to}
 use Rattle.posix_calls.specs.declared.limits.TheConstants.{MAX_INODE}
 use Rattle.file_graph.specs.declared.effect.Effect.{Effect}
 use Rattle.file_graph.specs.Graph.{Graph, after_effects, touches, is_among, cost}
-
--- the sum of f over 1 to n
-unfoldable pub sum_up_to : ℕ → (ℕ → ℕ) → ℕ
-sum_up_to zero f = 0
-sum_up_to (suc n) f = f (suc n) + sum_up_to n f
 
 -- the units of a graph: what its inodes cost
 unfoldable pub charge : Graph → ℕ

@@ -7,7 +7,7 @@ ghost use Rattle.file_graph.specs.Bodies.{body_of};
 
 use crate::effect::{Effect, Kind};
 use crate::entries::{PlainEntries, PlainEntry};
-use posix_calls::Name;
+use posix_calls::{Name, UNIT_BYTES, UNIT_ENTRIES};
 use std::alloc::{AllocError, Global};
 use std::marker::Model;
 
@@ -87,8 +87,8 @@ impl PlainNode {
         ensures small { result < 2 ^ 53 }
     {
         match &self.body {
-            PlainBody::File(bytes) => 1 + (bytes.len() as u64 + 4_095) / 4_096,
-            PlainBody::Directory(entries) => 1 + (entries.as_slice().len() as u64 + 55) / 56,
+            PlainBody::File(bytes) => 1 + (bytes.len() as u64 + (UNIT_BYTES as u64 - 1)) / UNIT_BYTES as u64,
+            PlainBody::Directory(entries) => 1 + (entries.as_slice().len() as u64 + (UNIT_ENTRIES as u64 - 1)) / UNIT_ENTRIES as u64,
         }
     }
 

@@ -140,3 +140,11 @@ insert_back m name q v w is =
       | true ↦ λ e. inl (let s : w ≡ v = cc in s)
       | false ↦ λ e. inr e
     ] (sym (fin.get-insert nat_list_cmp_total m name v q) ∙ is)
+
+-- a name that leads somewhere is the one that was put, or led there before
+pub insert_named : {X : Type 0} (m : Entries X) (name q : List ℕ) (v w : X) → fin.get (fin.insert m name v) q ≡ Some w → (q ≡ name) ⊎ (fin.get m q ≡ Some w)
+insert_named m name q v w is =
+    elim (eq_by_cmp order q name) as (λ b. eq_by_cmp order q name ≡ b → cond b (Some v) (fin.get m q) ≡ Some w → (q ≡ name) ⊎ (fin.get m q ≡ Some w)) [
+      | true ↦ λ same e. inl (alike q name same)
+      | false ↦ λ off e. inr e
+    ] refl (sym (fin.get-insert nat_list_cmp_total m name v q) ∙ is)

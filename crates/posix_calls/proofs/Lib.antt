@@ -4,7 +4,8 @@ pub mod Steps
 pub mod Parts
 pub mod Walks
 pub mod Directory
-mod Rows
+pub mod Rows
+mod Orders
 pub mod Sums
 pub mod Entries
 pub mod Changes
@@ -12,3 +13,20 @@ pub mod Reached
 pub mod Trees
 pub mod Open
 pub mod Kept
+pub mod Moved
+pub mod Fits
+pub mod Comes
+pub mod Calls
+pub mod Lasting
+pub mod Ancestors
+pub mod Settled
+mod Ends
+pub mod Within
+pub mod Able
+pub mod Keeping
+pub mod Readings
+pub mod Passing
+pub mod Bounds
+pub mod Chain
+pub mod Places
+pub mod Walking

@@ -4,7 +4,8 @@ use Rattle.std.specs.Prelude.{◌||◌}
 use Rattle.std.proofs.lemmas.Bool.{eq-eqb}
 use Rattle.std.proofs.lemmas.Bool.Decides.{eqb_tells}
 use Rattle.std.proofs.Math.Decide.{dec_le}
-use Rattle.posix_calls.specs.Tree.{Descriptors, Descriptor, set_own, with_own, is_open, any_up_to, refers_to}
+use Rattle.posix_calls.specs.Tree.{Descriptors, set_own, with_own, is_open, any_up_to, refers_to}
+use Rattle.posix_calls.specs.declared.descriptor.Descriptor.{Descriptor}
 
 or_true : (b : Bool) → (b || true) ≡ true
 or_true true = refl

@@ -30,7 +30,7 @@ entry_ok : (o : Option ℕ) (c : ℕ) → entry_or o ≡ Ok c → o ≡ Some c
 entry_ok None c e = absurd (cc)
 entry_ok (Some i) c e = let same : i ≡ c = cc in ap (λ x. Some x) same
 
-child_ok : (o : Option Node) (name : List ℕ) (c : ℕ) → child o name ≡ Ok c → fin.get (entries_of o) name ≡ Some c
+pub child_ok : (o : Option Node) (name : List ℕ) (c : ℕ) → child o name ≡ Ok c → fin.get (entries_of o) name ≡ Some c
 child_ok None name c e = absurd (cc)
 child_ok (Some (File bytes)) name c e = absurd (cc)
 child_ok (Some (Dir es)) name c e = entry_ok (fin.get es name) c e
@@ -94,7 +94,7 @@ reached_moved g h i q reached stays kinds edge qs clear way j is =
     ]
 
 -- what has no entries leads nowhere
-nowhere : (g : Tree) (i : ℕ) (cs : List ℕ) (j : ℕ) → IsBare (g i) → j ≢ i → Chain g i cs j → ⊥
+pub nowhere : (g : Tree) (i : ℕ) (cs : List ℕ) (j : ℕ) → IsBare (g i) → j ≢ i → Chain g i cs j → ⊥
 nowhere g i [] j bare other e = other (sym e)
 nowhere g i (c ∷ cs) j bare other e = bare_entry (g i) e.0.0 c bare e.0.1
 

@@ -16,7 +16,7 @@ use Rattle.posix_calls.specs.declared.deed.Replaced.TheVariants.{Nothing}
 use Rattle.posix_calls.proofs.Answers.{runs}
 use Rattle.posix_calls.proofs.Directory.{lists}
 
-one_of : List ℕ → ℕ → Entries ℕ
+unfoldable pub one_of : List ℕ → ℕ → Entries ℕ
 one_of name i = fin.insert fin.empty name i
 
 -- directories /a (2), /a/b (3) and /e (4), and the file /a/f (5)
@@ -24,37 +24,33 @@ small : Tree
 small = set_node (set_node (set_node (set_node (set_node empty_tree 1 (Some (N.Dir (fin.insert (one_of (codes "a") 2) (codes "e") 4)))) 2 (Some (N.Dir (fin.insert (one_of (codes "b") 3) (codes "f") 5)))) 3 (Some (N.Dir fin.empty))) 4 (Some (N.Dir fin.empty))) 5 (Some (N.File (97 ∷ 98 ∷ 99 ∷ [])))
 
 -- nothing is open
-closed : Own
+unfoldable pub closed : Own
 closed n = None
 
 -- file 5 is open at number 0, for reading or for writing
-reading : Own
+unfoldable pub reading : Own
 reading = set_own closed 0 (Some (record { inode = 5; reads = true; writes = false }))
 
-writing : Own
+unfoldable pub writing : Own
 writing = set_own closed 0 (Some (record { inode = 5; reads = false; writes = true }))
 
 -- all numbers are in use
-full : Own
+unfoldable pub full : Own
 full n = Some (record { inode = 5; reads = true; writes = true })
 
 -- ---- open: paths, flags, numbers, prefix, taken, directory, not there
 
-r : Flags
+unfoldable pub r : Flags
 r = record { read = true; write = false; create = false; exclusive = false; truncate = false }
 
-rt : Flags
+unfoldable pub rt : Flags
 rt = record r { truncate = true }
 
-rc : Flags
+unfoldable pub rc : Flags
 rc = record r { create = true }
 
 rcx : Flags
 rcx = record rc { exclusive = true }
-
-open_path_first : run (view_of small) (open_path full (codes "f") rt) ≡ Err errno.Invalid
-unfolding open_path walk small full rt r
-open_path_first = simp runs refl
 
 open_flags_before_number : run (view_of small) (open_path full (codes "/f") rt) ≡ Err errno.Invalid
 unfolding open_path walk small full rt r
@@ -168,7 +164,7 @@ link_directory_before_new : run (view_of small) (link (codes "/") (codes "/n/x")
 unfolding link walk small one_of
 link_directory_before_new = simp runs refl
 
-link_paths_first : run (view_of small) (link (codes "/n") (codes "x")) ≡ Err errno.Invalid
+link_paths_first : run (view_of small) (link (codes "/n/x") (codes "x")) ≡ Err errno.Invalid
 unfolding link walk small one_of
 link_paths_first = simp runs refl
 

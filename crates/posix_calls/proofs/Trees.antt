@@ -2,7 +2,8 @@
 use Rattle.std.proofs.Common.{◌≡◌, ◌≢◌, ◌⊎◌, inl, inr, ℕ, ◌<◌, ◌≤◌, refl, Some, None, Option, ap, sym, ◌∙◌, subst, Bool, true, arith}
 use Rattle.std.proofs.lemmas.Bool.Decides.{eqb_tells}
 use Rattle.std.specs.Prelude.{option_map, IsSome, is_some}
-use Rattle.posix_calls.specs.Tree.{Tree, Node, Descriptor, Descriptors, State, set_node, names_of, is_open}
+use Rattle.posix_calls.specs.Tree.{Tree, Node, Descriptors, State, set_node, names_of, is_open}
+use Rattle.posix_calls.specs.declared.descriptor.Descriptor.{Descriptor}
 use Rattle.posix_calls.specs.Asks.{dir_test}
 use Rattle.posix_calls.specs.declared.deed.Spot.{Spot}
 use Rattle.posix_calls.specs.Deeds.{entered, left}
@@ -66,7 +67,7 @@ tree_set t i x tree other low high = record {
   ];
 }
 
-none_there : (o : Option Node) → option_map dir_test o ≡ None → o ≡ None
+pub none_there : (o : Option Node) → option_map dir_test o ≡ None → o ≡ None
 none_there None e = refl
 none_there (Some x) e = absurd (cc)
 

@@ -3,7 +3,8 @@ use Rattle.std.specs.Prelude.{ℕ, zero, suc, ◌+◌, List, [], ◌∷◌, map,
 use Rattle.std.specs.FinMap as fin
 use Rattle.std.specs.List.{list_any}
 use Rattle.posix_calls.specs.Path.{reading}
-use Rattle.posix_calls.specs.Tree.{Descriptor, Own}
+use Rattle.posix_calls.specs.Tree.{Own}
+use Rattle.posix_calls.specs.declared.descriptor.Descriptor.{Descriptor}
 use Rattle.posix_calls.specs.Asks.{Seen, File, Dir, Asks, Gives, Refuses, Look, ◌>>=◌}
 use Rattle.posix_calls.specs.Walk.{Place, refuse, said, entries_at, bytes_at, bytes_seen, names_at, kind_at, prefix, is_root, is_there, there, is_full}
 use Rattle.posix_calls.specs.declared.deed.Spot.{Spot}
@@ -56,6 +57,7 @@ open_there place number f None = do
   _ ← refuse errno.NoSpace (is_full place)
   Gives (NewFile place.spot number f.read f.write)
 
+-- a file is opened, and made first where it is not there and the flags say so
 unfoldable pub open_path : Own → List ℕ → Flags → Asks Deed
 open_path own path f = do
   names ← said (reading path)
@@ -67,11 +69,13 @@ open_path own path f = do
   _ ← refuse errno.IsDirectory is_dir
   open_there place number f place.inode
 
+-- a number is given back
 unfoldable pub close : Own → ℕ → Asks Deed
 close own number = do
   i ← opened (λ d. true) (own number)
   Gives (CloseFile i number)
 
+-- the bytes present, up to as many as asked; none at or past the end
 unfoldable pub pread : Own → ℕ → ℕ → ℕ → Asks Deed
 pread own number at count = do
   i ← opened (λ d. d.reads) (own number)
@@ -86,6 +90,7 @@ write_at i at (b ∷ bytes) = do
   _ ← refuse errno.FileTooBig (nat_lt MAX_FILE (at + length (b ∷ bytes)))
   Gives (Write i at (b ∷ bytes))
 
+-- bytes are put at an offset
 unfoldable pub pwrite : Own → ℕ → ℕ → List ℕ → Asks Deed
 pwrite own number at bytes = do
   i ← opened (λ d. d.writes) (own number)
@@ -94,6 +99,7 @@ pwrite own number at bytes = do
 
 -- ---- truncate, mkdir, rmdir, link, unlink
 
+-- a file is cut or grown to a length; where it has that already nothing changes
 unfoldable pub truncate : List ℕ → ℕ → Asks Deed
 truncate path len = do
   names ← said (reading path)
@@ -105,6 +111,7 @@ truncate path len = do
   bytes ← bytes_at i
   Gives (if length bytes == len then Tell reply.Done else Resize i len)
 
+-- an empty directory is made
 unfoldable pub mkdir : List ℕ → Asks Deed
 mkdir path = do
   names ← said (reading path)
@@ -113,6 +120,7 @@ mkdir path = do
   _ ← refuse errno.NoSpace (is_full place)
   Gives (NewDir place.spot)
 
+-- an empty directory goes
 unfoldable pub rmdir : List ℕ → Asks Deed
 rmdir path = do
   names ← said (reading path)
@@ -125,6 +133,7 @@ rmdir path = do
   _ ← refuse errno.NotEmpty (nat_lt 0 (fin.len entries))
   Gives (RemoveDir place.spot i)
 
+-- a file has one more name
 unfoldable pub link : List ℕ → List ℕ → Asks Deed
 link old new = do
   old_names ← said (reading old)
@@ -140,6 +149,7 @@ link old new = do
   _ ← refuse errno.NoSpace (is_full to)
   Gives (AddName to.spot i)
 
+-- a file has one name fewer
 unfoldable pub unlink : List ℕ → Asks Deed
 unlink path = do
   names ← said (reading path)
@@ -182,6 +192,7 @@ renamed from to i = do
   replaced ← replacing from to old_dir to.inode
   Gives (Move from.spot to.spot i old_dir replaced)
 
+-- a name moves, in place of what was there; between two names of one node nothing changes
 unfoldable pub rename : List ℕ → List ℕ → Asks Deed
 rename old new = do
   old_names ← said (reading old)
@@ -195,6 +206,7 @@ rename old new = do
 
 -- ---- list, stat
 
+-- all names in a directory, in the order of their bytes
 unfoldable pub list_path : List ℕ → Asks Deed
 list_path path = do
   names ← said (reading path)
@@ -211,6 +223,7 @@ described None = Refuses errno.NoEntry
 described (Some (File names bytes)) = Gives (Tell (reply.File (length bytes) names))
 described (Some (Dir entries)) = Gives (Tell (reply.Dir (fin.len entries)))
 
+-- what is at a path
 unfoldable pub stat : List ℕ → Asks Deed
 stat path = do
   names ← said (reading path)

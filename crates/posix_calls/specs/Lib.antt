@@ -10,3 +10,5 @@ pub mod Deeds
 pub mod Run
 pub mod Resolve
 pub mod WellFormed
+pub mod Answers
+pub mod Own

@@ -1,8 +1,9 @@
 -- The file tree, the files that its clients have open, and what a node costs.
-use Rattle.std.specs.Prelude.{ℕ, zero, suc, ◌+◌, ◌-◌, ◌/◌, List, [], length, count_by, Bool, false, ◌||◌, ◌==◌, Option, Some, None, if◌then◌else◌}
+use Rattle.std.specs.Prelude.{ℕ, zero, suc, ◌+◌, ◌-◌, List, [], length, count_by, Bool, false, ◌||◌, ◌==◌, Option, Some, None, if◌then◌else◌}
 use Rattle.std.specs.FinMap as fin
-use Rattle.posix_calls.specs.Content.{Entries}
-use Rattle.posix_calls.specs.declared.limits.TheConstants.{ROOT, MAX_INODE, MAX_CLIENTS, MAX_DESCRIPTORS, UNIT_BYTES, UNIT_ENTRIES}
+use Rattle.posix_calls.specs.Content.{Entries, file_units, directory_units}
+use Rattle.posix_calls.specs.declared.descriptor.Descriptor.{Descriptor}
+use Rattle.posix_calls.specs.declared.limits.TheConstants.{ROOT, MAX_INODE, MAX_CLIENTS, MAX_DESCRIPTORS}
 
 -- a file has bytes, a directory has an inode under each name
 pub data Node : Type 0 where
@@ -34,12 +35,6 @@ entries_of (Some (File bytes)) = fin.empty
 entries_of (Some (Dir entries)) = entries
 
 -- ---- descriptors
-
--- the file that is open, and whether it may be read from and written to
-pub record Descriptor : Type 0 where
-  pub inode : ℕ
-  pub reads : Bool
-  pub writes : Bool
 
 -- what one client has open at each number
 abbrev pub Own : Type 0
@@ -101,11 +96,11 @@ refers_to i (Some d) = d.inode == i
 unfoldable pub is_open : Descriptors → ℕ → Bool
 is_open held i = any_up_to MAX_CLIENTS (λ c. any_up_to MAX_DESCRIPTORS (λ n. refers_to i (held c (n - 1))))
 
--- units of what stands at an inode: one, and one for each UNIT_BYTES or UNIT_ENTRIES begun
+-- units of what stands at an inode
 abbrev pub units : Option Node → ℕ
 units None = 0
-units (Some (File bytes)) = 1 + (length bytes + (UNIT_BYTES - 1)) / UNIT_BYTES
-units (Some (Dir entries)) = 1 + (fin.len entries + (UNIT_ENTRIES - 1)) / UNIT_ENTRIES
+units (Some (File bytes)) = file_units (length bytes)
+units (Some (Dir entries)) = directory_units (fin.len entries)
 
 -- what the whole tree costs
 unfoldable pub charge : Tree → ℕ

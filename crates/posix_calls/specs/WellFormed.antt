@@ -1,9 +1,12 @@
 -- What every state of a file tree has in common.
-use Rattle.std.specs.Prelude.{◌≡◌, ◌≢◌, ◌⊎◌, ℕ, ◌<◌, ◌≤◌, List, true, false, Option, Some, None, IsSome, Ok, option_map}
-use Rattle.posix_calls.specs.Tree.{Node, Descriptor, State, names_of, is_open}
+use Rattle.std.specs.Prelude.{◌≡◌, ◌≢◌, ◌⊎◌, ℕ, ◌<◌, ◌≤◌, List, length, true, false, Option, Some, None, IsSome, Ok, option_map}
+use Rattle.std.specs.FinMap as fin
+use Rattle.posix_calls.specs.Name.{is_name}
+use Rattle.posix_calls.specs.Tree.{Node, Tree, bytes_of, entries_of, State, names_of, is_open}
+use Rattle.posix_calls.specs.declared.descriptor.Descriptor.{Descriptor}
 use Rattle.posix_calls.specs.Asks.{dir_test}
 use Rattle.posix_calls.specs.Resolve.{resolve}
-use Rattle.posix_calls.specs.declared.limits.TheConstants.{ROOT, MAX_INODE, MAX_CLIENTS, MAX_DESCRIPTORS}
+use Rattle.posix_calls.specs.declared.limits.TheConstants.{ROOT, MAX_INODE, MAX_CLIENTS, MAX_DESCRIPTORS, MAX_FILE, MAX_ENTRIES, MAX_NAMES}
 
 -- a directory stands there
 abbrev pub IsDirectory : Option Node → Type 0
@@ -28,3 +31,11 @@ pub record IsWellFormed (s : State) : Type 0 where
   pub reached : (i : ℕ) → IsDirectory (s.tree i) → (path : List (List ℕ)) × (resolve s.tree path ≡ Ok i)
   -- a file has a name, or someone has it open
   pub used : (i : ℕ) → IsFile (s.tree i) → (0 < names_of s.tree i) ⊎ (is_open s.descriptors i ≡ true)
+
+pub record IsWithinLimits (t : Tree) : Type 0 where
+  -- no file is too large, no directory too full, and nothing has too many names
+  pub sizes : (i : ℕ) → length (bytes_of (t i)) ≤ MAX_FILE
+  pub entries : (i : ℕ) → fin.len (entries_of (t i)) ≤ MAX_ENTRIES
+  pub names : (i : ℕ) → names_of t i ≤ MAX_NAMES
+  -- every entry has a name that is one
+  pub valid : (i : ℕ) (name : List ℕ) (j : ℕ) → fin.get (entries_of (t i)) name ≡ Some j → is_name name ≡ true

@@ -1,5 +1,6 @@
 use crate::bytes::Bytes;
 use crate::call::Reply;
+use crate::errno::Errno;
 use crate::name::Name;
 
 /// A name in a directory.
@@ -86,4 +87,24 @@ pub enum Deed {
         is_dir: bool,
         replaced: Replaced,
     },
+}
+
+/// Why a call comes to no deed.
+#[derive(Clone, Copy, Debug, PartialEq, Eq)]
+pub enum NoDeed {
+    /// The call is answered by this error.
+    Refused { errno: Errno },
+    /// More has to be known of this inode, which is the first that is asked for.
+    Lacks { inode: u32 },
+    /// Memory ran out.
+    Memory,
+}
+
+/// What there is to say of what stands at an inode.
+#[derive(Clone, Copy, Debug, PartialEq, Eq)]
+pub enum Description {
+    /// A file of so many bytes, which has so many names.
+    File { size: u64, names: u32 },
+    /// A directory with so many entries.
+    Dir { entries: u32 },
 }

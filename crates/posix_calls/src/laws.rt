@@ -1,14 +1,16 @@
 //! What holds of every step of the file tree, and of every part of it.
 
-ghost use Rattle.std.specs.Prelude.{◌≡◌, ◌++◌, ℕ, List, Result, Ok, Some, false};
+ghost use Rattle.std.specs.Prelude.{◌≡◌, ◌≢◌, ◌∷◌, ◌++◌, ℕ, List, Result, Ok, Some, IsSome, false};
+ghost use Rattle.std.specs.FinMap.{get};
 ghost use Rattle.posix_calls.specs.Content.{Entries};
-ghost use Rattle.posix_calls.specs.Tree.{Tree, Dir, State};
+ghost use Rattle.posix_calls.specs.Tree.{Tree, Dir, State, entries_of, opening};
 ghost use Rattle.posix_calls.specs.Asks.{Asks, View, Part, Known, Lacks, IsPart, IsLeft, run, run_part, view_of};
 ghost use Rattle.posix_calls.specs.Walk.{inode_at};
 ghost use Rattle.posix_calls.specs.declared.deed.Deed.{Deed};
 ghost use Rattle.posix_calls.specs.Deeds.{makes, state_after, answer, Follows, Step};
-ghost use Rattle.posix_calls.specs.Run.{Turn, Run};
-ghost use Rattle.posix_calls.specs.Resolve.{resolve};
+ghost use Rattle.posix_calls.specs.Run.{Turn, Run, settled};
+ghost use Rattle.posix_calls.specs.Resolve.{resolve, resolve_from};
+ghost use Rattle.posix_calls.specs.WellFormed.{IsDirectory, IsWellFormed, IsWithinLimits};
 ghost use Rattle.posix_calls.specs.declared.limits.TheConstants.{ROOT};
 ghost use Rattle.posix_calls.specs.declared.errno.Errno.{Errno};
 ghost use Rattle.posix_calls.specs.declared.call.Call.{Call};
@@ -43,4 +45,28 @@ pub fn part_answers_as_the_whole()
 /// The walk of a call leads to the inode that its path names, or is refused by the first error on the way.
 pub fn walk_leads_where_the_path_does()
     ensures { (t : Tree) (entries : Entries ℕ) (names : List (List ℕ)) → t ROOT ≡ Some (Dir entries) → run (view_of t) (inode_at names) ≡ resolve t names }
+{}
+
+/// Where no call was made the state is well-formed; so is one after a step or a run from such a state, and what is left of it
+/// where nobody has a file open.
+pub fn states_stay_well_formed()
+    ensures opening { IsWellFormed opening }
+    ensures step { (old : State) (client : ℕ) (call : Call) (reply : Reply) (after : State) → IsWellFormed old → Step old client call reply after → IsWellFormed after }
+    ensures run { (turns : List Turn) (old last : State) → IsWellFormed old → Run old turns last → IsWellFormed last }
+    ensures settled { (s : State) → IsWellFormed s → IsWellFormed (settled s) }
+{}
+
+/// So it is with the limits: no file is too large, no directory too full, no file has too many names, and every entry's name
+/// is one.
+pub fn states_stay_within_limits()
+    ensures opening { IsWithinLimits opening.tree }
+    ensures step { (old : State) (client : ℕ) (call : Call) (reply : Reply) (after : State) → IsWellFormed old → IsWithinLimits old.tree → Step old client call reply after → IsWithinLimits after.tree }
+    ensures run { (turns : List Turn) (old last : State) → IsWellFormed old → IsWithinLimits old.tree → Run old turns last → IsWithinLimits last.tree }
+    ensures settled { (s : State) → IsWellFormed s → IsWithinLimits s.tree → IsWithinLimits (settled s).tree }
+{}
+
+/// In a well-formed state every entry names a node, and no names lead from a directory back to it.
+pub fn well_formed_state_is_a_tree()
+    ensures entries { (s : State) → IsWellFormed s → (d : ℕ) (name : List ℕ) (i : ℕ) → get (entries_of (s.tree d)) name ≡ Some i → IsSome (s.tree i) }
+    ensures ancestors { (s : State) → IsWellFormed s → (i : ℕ) → IsDirectory (s.tree i) → (name : List ℕ) (names : List (List ℕ)) → resolve_from s.tree (name ∷ names) i ≢ Ok i }
 {}

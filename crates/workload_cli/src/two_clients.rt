@@ -1,6 +1,7 @@
 // Two clients, each with a region of its own, over a graph that stands for the shared media.
-ghost use Rattle.std.specs.Prelude.{◌≡◌, [], ◌∷◌, IfOk, OnOk, Ok, true, Some, drop, codes};
+ghost use Rattle.std.specs.Prelude.{◌≡◌, [], ◌∷◌, IfOk, OnOk, Ok, true, false, Some, drop, codes};
 ghost use Rattle.tier_device.specs.declared.media.Tier.TheVariants.{Fast};
+ghost use Rattle.tier_device.specs.Media.{Rose};
 ghost use Rattle.tier_device.specs.Memory.{IsAtRest, memory_seen, memory_left, memory_moment};
 ghost use Rattle.tier_device.specs.Stop.{medium_of};
 ghost use Rattle.posix_calls.specs.declared.call.Call.TheVariants as call;
@@ -170,7 +171,8 @@ fn armed(media: MemMedia, stop: Option<Stop>) -> StopMedia
 
 /// Logs a record: whether it was answered, or the medium stopped before.
 pub fn log<M: Media>(region: &mut Region<M>, entry: &Record) -> Result<bool, Fault>
-    ensures { result ≡ Ok true → records_of M.seen region.new ≡ joined (records_of M.seen region.old) (Some entry.now) }
+    ensures answered { result ≡ Ok true → records_of M.seen region.new ≡ joined (records_of M.seen region.old) (Some entry.now) }
+    ensures unanswered { result ≡ Ok false → Rose (M.faults region.old.media) (M.faults region.new.media) }
 {
     if region.stage() != Stage::Resting || !entry.has_spelling() {
         return Err(Fault::Damaged);

@@ -1,0 +1,9 @@
+pub mod Bytes
+pub mod Images
+pub mod Courses
+pub mod Meaning
+pub mod Stages
+pub mod Found
+pub mod Openings
+pub mod Views
+pub mod Pushing

@@ -1,0 +1,6 @@
+pub mod Images
+pub mod Blocks
+pub mod Volume
+pub mod Course
+pub mod Reading
+pub mod View

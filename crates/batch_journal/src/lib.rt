@@ -1,0 +1,22 @@
+//! The journal of the shared media: images of blocks go into their places all together or not at all.
+//!
+//! `Journal` owns a medium. Its contracts speak of `home`, the blocks that a fast tier stands for once an open journal is
+//! replayed. A stop at any moment of `commit` leaves these blocks as they were before the batch or as they are after it, and a
+//! stop at any moment of `reopen` leaves them as they were.
+#![tactic(auto)]
+
+mod batch;
+mod calls;
+mod error;
+mod head;
+mod journal;
+mod opening;
+mod reading;
+mod replay;
+
+pub use batch::Batch;
+pub use error::JournalError;
+pub use journal::{Journal, MAX_IMAGES};
+
+#[cfg(test)]
+mod tests;

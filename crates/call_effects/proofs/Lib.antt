@@ -1,0 +1,16 @@
+pub mod Asked
+pub mod Calls
+pub mod Changes
+pub mod Deeds
+pub mod Edges
+pub mod Facts
+pub mod Fresh
+pub mod Held
+pub mod Inodes
+pub mod NewNodes
+pub mod Puts
+pub mod Reached
+pub mod Steps
+pub mod Views
+pub mod Ways
+pub mod WellFormed

@@ -1,0 +1,55 @@
+//! What holds of every sound graph.
+
+ghost use Rattle.std.specs.Prelude.{◌≡◌, ℕ, ◌≤◌, None, Ok, Err, true};
+ghost use Rattle.posix_calls.specs.Tree.{Descriptors, opening};
+ghost use Rattle.posix_calls.specs.Asks.{view_of};
+ghost use Rattle.posix_calls.specs.Deeds.{makes, reply_of, held_after, state_after, Step};
+ghost use Rattle.posix_calls.specs.WellFormed.{IsWellFormed};
+ghost use Rattle.posix_calls.specs.declared.deed.Deed.{Deed};
+ghost use Rattle.posix_calls.specs.declared.call.Call.{Call};
+ghost use Rattle.posix_calls.specs.declared.call.Reply.TheVariants.{Failed};
+ghost use Rattle.posix_calls.specs.declared.errno.Errno.{Errno};
+ghost use Rattle.posix_calls.specs.declared.limits.TheConstants.{MAX_CLIENTS};
+ghost use Rattle.file_graph.specs.Graph.{Graph, fresh, after_effects};
+ghost use Rattle.call_effects.specs.Calls.{answer_over};
+ghost use Rattle.call_effects.specs.Effects.{effects_of};
+ghost use Rattle.call_effects.specs.Wholes.{IsSound, state_of, graph_view};
+ghost use Rattle.call_effects.specs.Fits.{IsNew, Fits};
+
+/// The graph of a root alone, of which nothing is open, is sound, and stands for the empty tree.
+pub fn fresh_graph_stands_for_the_opening()
+    ensures sound { IsSound fresh (λ c n. None) }
+    ensures state { state_of fresh (λ c n. None) ≡ opening }
+{}
+
+/// What a call sees of a sound graph by the stored counts of names is what it sees of its tree, whose names are counted.
+pub fn stored_counts_are_the_counted_names()
+    ensures { (g : Graph) (held : Descriptors) → IsSound g held → view_of ((state_of g held).tree) ≡ graph_view g held }
+{}
+
+/// A deed that fits a sound graph is its effects: the graph after them is sound, and stands, with the descriptors after the
+/// deed, for the state after it.
+pub fn deed_is_its_effects()
+    ensures state { (g : Graph) (held : Descriptors) (client new : ℕ) (deed : Deed) → 1 ≤ client → client ≤ MAX_CLIENTS → IsSound g held → (makes deed ≡ true → IsNew g new) → Fits g held (held client) deed → state_of (after_effects g (effects_of g new deed)) (held_after client new held deed) ≡ state_after client new (state_of g held) deed }
+    ensures sound { (g : Graph) (held : Descriptors) (client new : ℕ) (deed : Deed) → 1 ≤ client → client ≤ MAX_CLIENTS → IsSound g held → (makes deed ≡ true → IsNew g new) → Fits g held (held client) deed → IsSound (after_effects g (effects_of g new deed)) (held_after client new held deed) }
+{}
+
+/// What a call comes to over a sound graph fits it: no deed is asked of a file that isn't there, of a name that is taken, or
+/// of a directory that would become its own ancestor.
+pub fn answered_deed_fits()
+    ensures { (g : Graph) (held : Descriptors) (client : ℕ) (call : Call) (deed : Deed) → IsSound g held → answer_over g held client call ≡ Ok deed → Fits g held (held client) deed }
+{}
+
+/// Every call over a sound graph is one step of the file tree that the graph and the descriptors stand for. Where it comes to
+/// a deed, the graph after the deed's effects stands for the state after the step, and is sound again; where it comes to an
+/// error, the state stays.
+pub fn call_is_a_step()
+    ensures done { (g : Graph) (held : Descriptors) (client new : ℕ) (call : Call) (deed : Deed) → IsSound g held → answer_over g held client call ≡ Ok deed → (makes deed ≡ true → IsNew g new) → Step (state_of g held) client call (reply_of deed) (state_of (after_effects g (effects_of g new deed)) (held_after client new held deed)) }
+    ensures sound { (g : Graph) (held : Descriptors) (client new : ℕ) (call : Call) (deed : Deed) → IsSound g held → answer_over g held client call ≡ Ok deed → (makes deed ≡ true → IsNew g new) → IsSound (after_effects g (effects_of g new deed)) (held_after client new held deed) }
+    ensures refused { (g : Graph) (held : Descriptors) (client : ℕ) (call : Call) (errno : Errno) → IsSound g held → answer_over g held client call ≡ Err errno → Step (state_of g held) client call (Failed errno) (state_of g held) }
+{}
+
+/// The state that a sound graph and descriptors stand for is well-formed.
+pub fn sound_graph_is_well_formed()
+    ensures { (g : Graph) (held : Descriptors) → IsSound g held → IsWellFormed (state_of g held) }
+{}

@@ -1,0 +1,9 @@
+mod Blocks
+mod DirectoryLaws
+mod ExtentLaws
+mod Fields
+mod Items
+mod Limits
+mod MarksLaws
+mod SlotLaws
+mod Supers

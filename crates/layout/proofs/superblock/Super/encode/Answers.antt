@@ -1,0 +1,21 @@
+use Rattle.std.proofs.Common.{◌≡◌, ℕ, List, [], ◌++◌, refl, ap, ◌∙◌, append_assoc, arith}
+use Rattle.layout.specs.Bytes.{u32, zeros, filled}
+use Rattle.layout.specs.Super.{magic}
+use Rattle.layout.proofs.Blocks.{filled_nothing, written_on, written_u32}
+use Rattle.layout.proofs.superblock.Super.encode.Goals as goal
+
+pub returns : goal.returns
+returns c =
+    let b0 : c.clear.new.bytes ≡ filled 4096 [] = c.clear.ensures ∙ ap zeros c.requires ∙ filled_nothing 4096 in
+    let b1 : c.put.new.bytes ≡ filled 4096 magic = c.put.ensures ∙ written_on 4096 0 [] magic c.clear.new.bytes b0 refl (omega arith) in
+    let w2 = written_u32 4096 8 1 magic c.put.new.bytes b1 refl (omega arith) in
+    let w3 = written_u32 4096 12 c.units.result (magic ++ u32 1) c.put_u32.new.bytes (c.put_u32.ensures ∙ w2.0) w2.1 (omega arith) in
+    let t3 : List ℕ = (magic ++ u32 1) ++ u32 c.units.result in
+    let w4 = written_u32 4096 16 c.data_blocks.result t3 c.put_u32-2.new.bytes (c.put_u32-2.ensures ∙ w3.0) w3.1 (omega arith) in
+    let t4 : List ℕ = t3 ++ u32 c.data_blocks.result in
+    let w5 = written_u32 4096 20 c.data_blocks-2.result t4 c.put_u32-3.new.bytes (c.put_u32-3.ensures ∙ w4.0) w4.1 (omega arith) in
+    let t5 : List ℕ = t4 ++ u32 c.data_blocks-2.result in
+    let w6 = written_u32 4096 24 c.data_blocks-3.result t5 c.put_u32-4.new.bytes (c.put_u32-4.ensures ∙ w5.0) w5.1 (omega arith) in
+    c.put_u32-5.ensures
+    ∙ w6.0
+    ∙ rw (← c.units.ensures.units, ← c.data_blocks.ensures.blocks, ← c.data_blocks-2.ensures.blocks, ← c.data_blocks-3.ensures.blocks) (ap (filled 4096) (simp append_assoc))

@@ -1,0 +1,88 @@
+-- Directory blocks: entries of a directory.
+use Rattle.std.specs.Prelude.{◌==◌, ◌&&◌, nat_le, Bool, List, [], ◌∷◌, ◌++◌, length, take, drop, ℕ, Option, Some, None, if◌then◌else◌}
+use Rattle.std.specs.List.{flat_map, list_all}
+use Rattle.posix_calls.specs.declared.limits.TheConstants.{MAX_NAME}
+use Rattle.posix_calls.specs.Name.{is_name}
+use Rattle.layout.specs.declared.places.TheConstants.{BLOCK}
+use Rattle.layout.specs.declared.directory.TheConstants.{MAX_IN_BLOCK, FIRST_ENTRY_AT, HEAD_GAP}
+use Rattle.layout.specs.declared.kinds.TheConstants.{FILE, DIRECTORY}
+use Rattle.layout.specs.declared.kinds.NodeKind.{NodeKind}
+use Rattle.layout.specs.declared.kinds.NodeKind.TheVariants as kind
+use Rattle.layout.specs.declared.directory.DirEntry.{DirEntry}
+use Rattle.layout.specs.Places.{is_inode}
+use Rattle.layout.specs.Bytes.{◌>>=◌, Field, u32, zeros, filled, number_at, byte_at, run_at, text_at, items_at, are_zero, within}
+
+-- a directory, and entries of it
+pub record EntryList : Type 0 where
+  pub owner : ℕ
+  pub entries : List DirEntry
+
+-- 1 is a file, 2 a directory
+abbrev pub kind_byte : NodeKind → ℕ
+kind_byte kind.File = FILE
+kind_byte kind.Directory = DIRECTORY
+
+-- the inode, the kind, the length of the name, two zero bytes, and the name filled up with zeros
+abbrev pub entry_text : DirEntry → List ℕ
+entry_text e = u32 e.inode ++ kind_byte e.kind ∷ length e.name ∷ 0 ∷ 0 ∷ filled MAX_NAME e.name
+
+-- the owner and the count, filled up with zeros, and the entries
+abbrev pub entries_text : EntryList → List ℕ
+entries_text v = filled FIRST_ENTRY_AT (u32 v.owner ++ u32 (length v.entries)) ++ flat_map entry_text v.entries
+
+-- the block that entries are spelled as
+abbrev pub entries_spelling : EntryList → List ℕ
+entries_spelling v = filled BLOCK (entries_text v)
+
+-- whether an entry names an inode, by a name
+abbrev pub fits_entry : DirEntry → Bool
+fits_entry e = is_inode e.inode && is_name e.name
+
+-- whether the entries of a directory are few enough for a block, and each fits
+abbrev pub fits_entries : EntryList → Bool
+fits_entries v = is_inode v.owner && nat_le (length v.entries) MAX_IN_BLOCK && list_all fits_entry v.entries
+
+-- the kind of a node
+abbrev pub kind_at : Field NodeKind
+kind_at [] = None
+kind_at (b ∷ rest) = if b == FILE then Some (kind.File, rest) else (if b == DIRECTORY then Some (kind.Directory, rest) else None)
+
+-- the text of so many bytes at the front of a field that is zero behind it
+abbrev pub front_of : ℕ → List ℕ → Option (List ℕ)
+front_of n field = if nat_le n (length field) && are_zero (drop n field) then Some (take n field) else None
+
+-- the fields of an entry, whatever inode and name they tell
+unfoldable pub fields_at : Field DirEntry
+fields_at bytes = do
+  inode ← number_at 4 bytes
+  kind ← kind_at inode.1
+  count ← byte_at kind.1
+  rest ← text_at (0 ∷ 0 ∷ []) count.1
+  field ← run_at MAX_NAME rest
+  name ← front_of count.0 field.0
+  Some (record { inode = inode.0; kind = kind.0; name = name }, field.1)
+
+-- an entry that fits
+unfoldable pub entry_at : Field DirEntry
+entry_at bytes = do
+  e ← fields_at bytes
+  if fits_entry e.0 then Some e else None
+
+-- the owner, and the count of the entries
+unfoldable pub head_at : Field (ℕ × ℕ)
+head_at bytes = do
+  owner ← number_at 4 bytes
+  count ← number_at 4 owner.1
+  rest ← text_at (zeros HEAD_GAP) count.1
+  if is_inode owner.0 && nat_le count.0 MAX_IN_BLOCK then Some ((owner.0, count.0), rest) else None
+
+-- the owner and its entries
+unfoldable pub entries_at : Field EntryList
+entries_at bytes = do
+  head ← head_at bytes
+  entries ← items_at entry_at head.0.1 head.1
+  Some (record { owner = head.0.0; entries = entries.0 }, entries.1)
+
+-- the entries that a block spells
+unfoldable pub entries_of : List ℕ → Option EntryList
+entries_of bytes = within BLOCK entries_at bytes

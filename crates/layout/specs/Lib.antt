@@ -1,0 +1,9 @@
+pub mod Answers
+pub mod Bytes
+pub mod Directory
+pub mod Extents
+pub mod Lent
+pub mod Marks
+pub mod Places
+pub mod Slot
+pub mod Super

@@ -1,0 +1,149 @@
+// Entries of a directory, at the front of bytes.
+ghost use Rattle.std.specs.Prelude.{◌≡◌, ◌≤◌, ◌+◌, ◌∷◌, [], length, option_map, IfOk};
+ghost use Rattle.layout.specs.Bytes.{byte_at, run_at, zeros, filled, overwritten};
+ghost use Rattle.layout.specs.Directory.{kind_byte, kind_at, front_of, fields_at, entry_at, entry_text};
+ghost use Rattle.layout.specs.Lent.{owned};
+
+use crate::directory::DirEntry;
+use crate::kinds::{DIRECTORY, FILE, NodeKind};
+use crate::places::is_inode;
+use crate::reading::{are_zero, text_of, u32_of};
+use crate::writing::{put, put_u32};
+use posix_calls::{MAX_NAME, Name};
+use std::alloc::{AllocError, Global};
+
+// An entry whose name lies elsewhere.
+#[derive(Clone, Copy)]
+pub struct EntryRef<'a> {
+    pub inode: u32,
+    pub kind: NodeKind,
+    pub name: &'a [u8],
+}
+
+pub fn put_entry(block: &mut [u8], at: usize, entry: &DirEntry)
+    requires { at + 72 ≤ length block.old }
+    ensures text { block.new ≡ overwritten at (entry_text entry.now) block.old }
+    ensures short { length entry.now.name ≤ MAX_NAME }
+{
+    let name = entry.name.as_slice();
+    put_u32(block, at, entry.inode);
+    put_tags(block, at + 4, entry.kind, name.len());
+    put_name(block, at + 8, name);
+}
+
+// The kind, the length of the name, and two zero bytes.
+fn put_tags(block: &mut [u8], at: usize, kind: NodeKind, count: usize)
+    requires within { at + 4 ≤ length block.old }
+    requires few { count ≤ MAX_NAME }
+    ensures { block.new ≡ overwritten at (kind_byte kind ∷ count ∷ 0 ∷ 0 ∷ []) block.old }
+{
+    put(block, at, &[kind_byte(kind), count as u8, 0, 0]);
+}
+
+fn put_name(block: &mut [u8], at: usize, name: &[u8])
+    requires within { at + MAX_NAME ≤ length block.old }
+    requires short { length name.now ≤ MAX_NAME }
+    ensures { block.new ≡ overwritten at (filled MAX_NAME name.now) block.old }
+{
+    put_zeros(block, at);
+    put(block, at, name);
+}
+
+// As many zero bytes as a name may have.
+#[tactic(auto, unfolding(crate::specs::Bytes::zeros))]
+fn put_zeros(block: &mut [u8], at: usize)
+    requires { at + MAX_NAME ≤ length block.old }
+    ensures { block.new ≡ overwritten at (zeros MAX_NAME) block.old }
+{
+    let text = [0u8; MAX_NAME];
+    put(block, at, &text);
+}
+
+fn kind_byte(kind: NodeKind) -> u8
+    ensures { result ≡ kind_byte kind }
+{
+    match kind {
+        NodeKind::File => FILE,
+        NodeKind::Directory => DIRECTORY,
+    }
+}
+
+fn byte_of(bytes: &[u8]) -> Option<(u8, &[u8])>
+    ensures { option_map (λ x. (x.0, x.1.now)) result ≡ byte_at bytes.now }
+{
+    match bytes {
+        [] => None,
+        [byte, rest @ ..] => Some((*byte, rest)),
+    }
+}
+
+fn run_of(count: usize, bytes: &[u8]) -> Option<(&[u8], &[u8])>
+    ensures { option_map (λ x. (x.0.now, x.1.now)) result ≡ run_at count bytes.now }
+{
+    if bytes.len() < count {
+        return None;
+    }
+    Some(bytes.split_at(count))
+}
+
+fn kind_of(bytes: &[u8]) -> Option<(NodeKind, &[u8])>
+    ensures { option_map (λ x. (x.0, x.1.now)) result ≡ kind_at bytes.now }
+{
+    let (byte, rest) = byte_of(bytes)?;
+    match byte {
+        FILE => Some((NodeKind::File, rest)),
+        DIRECTORY => Some((NodeKind::Directory, rest)),
+        _ => None,
+    }
+}
+
+// The text of so many bytes at the front of a field that is zero behind it.
+fn front_of(count: usize, field: &[u8]) -> Option<&[u8]>
+    ensures { option_map (λ x. x.now) result ≡ front_of count field.now }
+{
+    if field.len() < count {
+        return None;
+    }
+    let (name, rest) = field.split_at(count);
+    if !are_zero(rest) {
+        return None;
+    }
+    Some(name)
+}
+
+#[tactic(auto, unfolding(crate::specs::Directory::fields_at))]
+fn fields_of(bytes: &[u8]) -> Option<(EntryRef<'_>, &[u8])>
+    ensures { option_map (λ x. (owned x.0, x.1.now)) result ≡ fields_at bytes.now }
+{
+    let (inode, rest) = u32_of(bytes)?;
+    let (kind, rest) = kind_of(rest)?;
+    let (count, rest) = byte_of(rest)?;
+    let rest = text_of(&[0, 0], rest)?;
+    let (field, rest) = run_of(MAX_NAME, rest)?;
+    let name = front_of(count as usize, field)?;
+    Some((EntryRef { inode, kind, name }, rest))
+}
+
+#[tactic(auto, unfolding(crate::specs::Directory::entry_at))]
+pub fn entry_of(alloc: Global, bytes: &[u8]) -> Result<Option<(DirEntry, &[u8])>, AllocError>
+    ensures { IfOk result (λ found. option_map (λ x. (x.0, x.1.now)) found ≡ entry_at bytes.now) }
+{
+    let Some((entry, rest)) = fields_of(bytes) else {
+        return Ok(None);
+    };
+    if !is_inode(entry.inode) {
+        return Ok(None);
+    }
+    let copy = entry.name.to_vec(alloc)?;
+    match Name::from_vec(copy) {
+        Ok(name) => {
+            let entry = DirEntry {
+                inode: entry.inode,
+                kind: entry.kind,
+                name,
+            };
+            Ok(Some((entry, rest)))
+        }
+        Err(_) => Ok(None),
+    }
+}

@@ -1,0 +1,42 @@
+//! The structures of the shared media, and the bytes of each, both ways.
+//!
+//! `Geometry` says where everything stands. `Super`, `Slot`, `Marks`, `ExtentBlock` and `DirBlock` are what stands there. What
+//! each is spelled as, and what bytes are read as, are functions of `specs/`; `encode` and `decode` meet them exactly. Numbers
+//! are little-endian, and bytes that no field names are zero.
+#![tactic(auto)]
+
+mod damaged;
+mod directory;
+mod entry;
+mod extents;
+mod geometry;
+mod kinds;
+mod laws;
+mod marks;
+mod places;
+mod reading;
+mod slot;
+mod slot_fields;
+mod superblock;
+mod writing;
+
+pub use damaged::{Damaged, DecodeError, What};
+pub use directory::{DirBlock, DirEntry, MAX_IN_BLOCK};
+pub use extents::{Extent, ExtentBlock, MAX_EXTENTS};
+pub use geometry::Geometry;
+pub use kinds::NodeKind;
+pub use laws::{
+    entries_are_read, entries_are_spelled, extents_are_read, extents_are_spelled, marks_are_read,
+    marks_are_spelled, slot_is_read, slot_is_spelled, super_is_read, super_is_spelled,
+};
+pub use marks::{CLIENTS, Mark, Marks};
+pub use places::{
+    BLOCK, FIRST_IMAGE_BLOCK, FIRST_NODE_BLOCK, FIRST_SLOT_BLOCK, GATE_BLOCK, HEAD_BLOCK,
+    MARKS_BLOCK, MAX_DATA_BLOCKS, MAX_IMAGES, MAX_UNITS, MIN_UNITS, SLOT_SIZE, SLOTS_IN_BLOCK,
+    SUPER_BLOCK, is_inode, slot_block, slot_byte,
+};
+pub use slot::Slot;
+pub use superblock::Super;
+
+#[cfg(test)]
+mod tests;

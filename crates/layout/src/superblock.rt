@@ -1,0 +1,86 @@
+ghost use Rattle.std.specs.Prelude.{◌≡◌, length, option_map};
+ghost use Rattle.layout.specs.Answers.{answer};
+ghost use Rattle.layout.specs.Super.{super_spelling, super_at, super_of};
+ghost use Rattle.layout.specs.declared.damaged.What.TheVariants as what;
+
+use crate::damaged::{Damaged, What};
+use crate::geometry::Geometry;
+use crate::places::{BLOCK, SUPER_BLOCK};
+use crate::reading::{are_zero, text_of, u32_of};
+use crate::writing::{clear, put, put_u32};
+use tier_device::Tier;
+
+/// The version of the format.
+pub const VERSION: u32 = 1;
+
+// What a superblock begins with.
+const MAGIC: &[u8] = b"STRATAFS";
+
+/// The superblock, which tells the geometry.
+#[derive(Clone, Copy, Debug, PartialEq, Eq)]
+pub struct Super {
+    pub geometry: Geometry,
+}
+
+impl Super {
+    /// Writes the superblock over a block.
+    pub fn encode(&self, block: &mut [u8])
+        requires { length block.old ≡ BLOCK }
+        ensures { block.new ≡ super_spelling self.now }
+    {
+        let geometry = self.geometry;
+        clear(block);
+        put(block, 0, MAGIC);
+        put_u32(block, 8, VERSION);
+        put_u32(block, 12, geometry.units());
+        put_u32(block, 16, geometry.data_blocks(Tier::Fast));
+        put_u32(block, 20, geometry.data_blocks(Tier::Block));
+        put_u32(block, 24, geometry.data_blocks(Tier::Slow));
+    }
+
+    /// The superblock that a block spells; `Damaged` where it spells none.
+    pub fn decode(block: &[u8]) -> Result<Self, Damaged>
+        ensures { result ≡ answer what.Super SUPER_BLOCK (super_of block.now) }
+    {
+        match super_of(block) {
+            Some(found) => Ok(found),
+            None => Err(Damaged {
+                what: What::Super,
+                block: SUPER_BLOCK,
+            }),
+        }
+    }
+}
+
+#[tactic(auto, unfolding(crate::specs::Super::super_of))]
+fn super_of(block: &[u8]) -> Option<Super>
+    ensures { result ≡ super_of block.now }
+{
+    if block.len() != BLOCK {
+        return None;
+    }
+    let Some((found, rest)) = fields_of(block) else {
+        return None;
+    };
+    if !are_zero(rest) {
+        return None;
+    }
+    Some(found)
+}
+
+#[tactic(auto, unfolding(crate::specs::Super::super_at))]
+fn fields_of(bytes: &[u8]) -> Option<(Super, &[u8])>
+    ensures { option_map (λ x. (x.0, x.1.now)) result ≡ super_at bytes.now }
+{
+    let rest = text_of(MAGIC, bytes)?;
+    let (version, rest) = u32_of(rest)?;
+    let (units, rest) = u32_of(rest)?;
+    let (fast, rest) = u32_of(rest)?;
+    let (block, rest) = u32_of(rest)?;
+    let (slow, rest) = u32_of(rest)?;
+    if version != VERSION {
+        return None;
+    }
+    let geometry = Geometry::new(units, fast, block, slow)?;
+    Some((Super { geometry }, rest))
+}

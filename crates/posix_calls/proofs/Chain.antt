@@ -1,0 +1,248 @@
+-- How a decision that is made step by step stands to a chain of questions.
+use Rattle.std.proofs.Common.{arith, ◌+◌, ◌==◌, ◌||◌, List, [], ◌∷◌, length, not, nat_lt, if◌then◌else◌, ◌≡◌, ℕ, Bool, true, false, refl, Option, Some, None, Result, Ok, Err, ap, sym, ◌∙◌, subst, ◌⊎◌, inl, inr}
+use Rattle.std.specs.Prelude.{option_map}
+use Rattle.std.specs.FinMap as fin
+use Rattle.std.specs.Result.{IsErrAnd}
+use Rattle.std.proofs.lemmas.Bool.Decides.{nat_tests}
+use Rattle.std.proofs.lemmas.Result.{err_from_is_err_and}
+use Rattle.posix_calls.specs.declared.errno.Errno.{Errno}
+use Rattle.posix_calls.specs.declared.deed.NoDeed.{NoDeed}
+use Rattle.posix_calls.specs.declared.deed.NoDeed.TheVariants.{Refused, Lacks, Memory}
+use Rattle.posix_calls.specs.declared.errno.Errno.TheVariants.{NoMemory}
+use Rattle.posix_calls.specs.Asks.{Seen, File, Dir, Asks, Gives, Refuses, IsDir, Look, ◌>>=◌, Part, Found, Known, run_part}
+use Rattle.posix_calls.specs.Asks as asks
+use Rattle.posix_calls.specs.Walk.{refuse, said}
+use Rattle.posix_calls.specs.Answers.{Tells, no_deed, description_of}
+use Rattle.posix_calls.specs.Decide.{described, opened, write_at}
+use Rattle.posix_calls.specs.declared.descriptor.Descriptor.{Descriptor}
+use Rattle.posix_calls.specs.declared.limits.TheConstants.{MAX_FILE}
+use Rattle.posix_calls.specs.declared.errno.Errno.TheVariants as errno
+use Rattle.posix_calls.specs.declared.deed.Deed.TheVariants.{Tell, Write}
+use Rattle.posix_calls.specs.declared.deed.Description.TheVariants as description
+use Rattle.posix_calls.specs.declared.call.Reply.TheVariants as reply
+
+-- what a first answer leads to
+abbrev pub then_found : {A B : Type 0} → Found A → (A → Found B) → Found B
+then_found (Known (Ok x)) f = f x
+then_found (Known (Err e)) f = Known (Err e)
+then_found (asks.Lacks i) f = asks.Lacks i
+
+-- questions one after another come to what the first leads to
+pub part_bind : {A B : Type 0} (p : Part) (q : Asks A) (f : A → Asks B) → run_part p (q >>= f) ≡ then_found (run_part p q) (λ x. run_part p (f x))
+unfolding run_part ◌>>=◌
+part_bind p (Gives x) f = refl
+part_bind p (Refuses e) f = refl
+part_bind {B = B} p (IsDir i next) f =
+    elim (p.is_dir i) as (λ o. ◌≡◌ {A = Found B} (elim o [ None ↦ asks.Lacks i | Some a ↦ run_part p (next a >>= f) ]) (then_found (elim o [ None ↦ asks.Lacks i | Some a ↦ run_part p (next a) ]) (λ x. run_part p (f x)))) [
+      | None ↦ refl
+      | Some a ↦ part_bind p (next a) f
+    ]
+part_bind {B = B} p (Look i next) f =
+    elim (p.node i) as (λ o. ◌≡◌ {A = Found B} (elim o [ None ↦ asks.Lacks i | Some a ↦ run_part p (next a >>= f) ]) (then_found (elim o [ None ↦ asks.Lacks i | Some a ↦ run_part p (next a) ]) (λ x. run_part p (f x)))) [
+      | None ↦ refl
+      | Some a ↦ part_bind p (next a) f
+    ]
+
+pub part_gives : {A : Type 0} (p : Part) (x : A) → run_part p (Gives x) ≡ Known (Ok x)
+unfolding run_part
+part_gives p x = refl
+
+pub part_refuses : (A : Type 0) (p : Part) (e : Errno) → run_part {A = A} p (Refuses e) ≡ Known (Err e)
+unfolding run_part
+part_refuses A p e = refl
+
+-- ---- a result, an error
+
+-- what is found is told
+pub tells_ok : {A : Type 0} {p : Part} {q : Asks A} {x : A} → run_part p q ≡ Known (Ok x) → Tells p q (Ok x)
+tells_ok {x = x} is = record { gives = λ y h. let same : x ≡ y = cc in is ∙ ap (λ z. Known (Ok z)) same; refuses = λ e h. absurd (cc); lacks = λ i h. absurd (cc) }
+
+pub tells_err : {A : Type 0} {p : Part} {q : Asks A} {e : Errno} → run_part p q ≡ Known (Err e) → Tells p q (Err (Refused e))
+tells_err {e = e} is = record { gives = λ y h. absurd (cc); refuses = λ d h. let same : e ≡ d = cc in is ∙ ap (λ z. Known (Err z)) same; lacks = λ i h. absurd (cc) }
+
+pub tells_lack : {A : Type 0} {p : Part} {q : Asks A} {i : ℕ} → run_part p q ≡ asks.Lacks i → Tells p q (Err (Lacks i))
+tells_lack {i = i} is = record { gives = λ y h. absurd (cc); refuses = λ d h. absurd (cc); lacks = λ j h. let same : i ≡ j = cc in is ∙ ap (λ z. asks.Lacks z) same }
+
+-- want of memory says nothing
+pub tells_memory : {A : Type 0} (p : Part) (q : Asks A) → Tells p q (Err Memory)
+tells_memory p q = record { gives = λ y h. absurd (cc); refuses = λ d h. absurd (cc); lacks = λ j h. absurd (cc) }
+
+-- what comes to the same is told by the same
+pub tells_same : {A : Type 0} {p : Part} {q r : Asks A} {s : Result A NoDeed} → run_part p q ≡ run_part p r → Tells p r s → Tells p q s
+tells_same is h = record { gives = λ y e. is ∙ h.gives y e; refuses = λ e t. is ∙ h.refuses e t; lacks = λ i t. is ∙ h.lacks i t }
+
+-- the exit of a `?` tells what was told there
+pub exits : {A : Type 0} {p : Part} {q : Asks A} {r : Result A NoDeed} {s : NoDeed} → IsErrAnd r (λ t. t ≡ s) → Tells p q (Err s) → Tells p q r
+exits {p = p} {q = q} {r = r} is h = let e = err_from_is_err_and r is in subst (λ z. Tells p q z) (sym (e.1 ∙ ap (λ z. Err z) e.2)) h
+
+-- the same question is told by the same
+pub tells_is : {A : Type 0} {p : Part} {q t : Asks A} {r : Result A NoDeed} → q ≡ t → Tells p t r → Tells p q r
+tells_is {p = p} {r = r} is h = subst (λ z. Tells p z r) (sym is) h
+
+-- what is given is told
+pub gives : {A : Type 0} {p : Part} {x : A} → Tells p (Gives x) (Ok x)
+gives {p = p} {x = x} = tells_ok (part_gives p x)
+
+pub gives_as : {A : Type 0} {p : Part} {x y : A} → x ≡ y → Tells p (Gives x) (Ok y)
+gives_as {p = p} {y = y} is = subst (λ z. Tells p (Gives z) (Ok y)) (sym is) gives
+
+-- so is what is refused
+pub refuses : {A : Type 0} {p : Part} {e : Errno} → Tells {A = A} p (Refuses e) (Err (Refused e))
+refuses {A = A} {p = p} {e = e} = tells_err (part_refuses A p e)
+
+-- ---- one after another
+
+-- after a result comes what it leads to
+pub bind_gives : {A B : Type 0} {p : Part} {q : Asks A} (f : A → Asks B) {x : A} {r : Result B NoDeed} → Tells p q (Ok x) → Tells p (f x) r → Tells p (q >>= f) r
+bind_gives {p = p} {q = q} f {x = x} h rest = tells_same (part_bind p q f ∙ ap (λ z. then_found z (λ y. run_part p (f y))) (h.gives x refl)) rest
+
+-- after a stop comes nothing
+pub bind_stops : {A B : Type 0} {p : Part} {q : Asks A} (f : A → Asks B) {s : NoDeed} → Tells p q (Err s) → Tells p (q >>= f) (Err s)
+bind_stops {p = p} {q = q} f {s = Refused e} h = tells_err (part_bind p q f ∙ ap (λ z. then_found z (λ y. run_part p (f y))) (h.refuses e refl))
+bind_stops {p = p} {q = q} f {s = Lacks i} h = tells_lack (part_bind p q f ∙ ap (λ z. then_found z (λ y. run_part p (f y))) (h.lacks i refl))
+bind_stops {p = p} {q = q} f {s = Memory} h = tells_memory p (q >>= f)
+
+-- a test that does not hold is passed
+pub passes : {B : Type 0} {p : Part} (e : Errno) {b : Bool} (f : Unit {0} → Asks B) {r : Result B NoDeed} → b ≡ false → Tells p (f tt) r → Tells p (refuse e b >>= f) r
+passes {p = p} e {b = b} f {r = r} clear rest = subst (λ z. Tells p (refuse e z >>= f) r) (sym clear) (bind_gives f gives rest)
+
+-- one that does is refused
+pub fails : {B : Type 0} {p : Part} (e : Errno) {b : Bool} (f : Unit {0} → Asks B) {s : NoDeed} → s ≡ Refused e → b ≡ true → Tells p (refuse e b >>= f) (Err s)
+fails {p = p} e {b = b} f {s = s} why holds = subst (λ z. Tells p (refuse e z >>= f) (Err s)) (sym holds) (bind_stops f (subst (λ z. Tells p (refuse e true) (Err z)) (sym why) refuses))
+
+-- two tests in one
+pub or_clear : {a b : Bool} → a ≡ false → b ≡ false → (a || b) ≡ false
+or_clear e h = rw (e, h) refl
+
+pub or_left : {a : Bool} (b : Bool) → a ≡ true → (a || b) ≡ true
+or_left b e = rw e refl
+
+pub or_right : (a : Bool) {b : Bool} → b ≡ true → (a || b) ≡ true
+or_right true h = refl
+or_right false h = h
+
+-- a branch that is taken
+pub if_holds : {A : Type 0} {p : Part} {b : Bool} {q : Asks A} (t : Asks A) {r : Result A NoDeed} → b ≡ true → Tells p q r → Tells p (if b then q else t) r
+if_holds {p = p} {q = q} t {r = r} e h = subst (λ z. Tells p (if z then q else t) r) (sym e) h
+
+pub if_fails : {A : Type 0} {p : Part} {b : Bool} (q : Asks A) {t : Asks A} {r : Result A NoDeed} → b ≡ false → Tells p t r → Tells p (if b then q else t) r
+if_fails {p = p} q {t = t} {r = r} e h = subst (λ z. Tells p (if z then q else t) r) (sym e) h
+
+pub same_if : {A : Type 0} (n m : ℕ) (x y : A) → n ≡ m → (if n == m then x else y) ≡ x
+same_if n m x y e = grind (arith, nat_tests)
+
+pub apart_if : {A : Type 0} (n m : ℕ) (x y : A) → (n ≡ m → ⊥) → (if n == m then x else y) ≡ y
+apart_if n m x y e = grind (arith, nat_tests)
+
+-- ---- questions
+
+-- a question that is answered leads on
+pub is_dir_known : {A : Type 0} {p : Part} {i : ℕ} {next : Option Bool → Asks A} {o : Option Bool} {r : Result A NoDeed} → p.is_dir i ≡ Some o → Tells p (next o) r → Tells p (IsDir i next) r
+unfolding run_part
+is_dir_known {p = p} {i = i} {next = next} is rest = tells_same (ap (λ z. elim z [ None ↦ asks.Lacks i | Some a ↦ run_part p (next a) ]) is) rest
+
+-- one that is not is lacked
+pub is_dir_lacks : {A : Type 0} {p : Part} {i : ℕ} {next : Option Bool → Asks A} {s : NoDeed} → s ≡ Lacks i → p.is_dir i ≡ None → Tells p (IsDir i next) (Err s)
+unfolding run_part
+is_dir_lacks {p = p} {i = i} {next = next} lack is = subst (λ z. Tells p (IsDir i next) (Err z)) (sym lack) (tells_lack (ap (λ z. elim z [ None ↦ asks.Lacks i | Some a ↦ run_part p (next a) ]) is))
+
+-- the same of a look, by what is told of the node
+pub look_known : {A C : Type 0} {p : Part} {i : ℕ} (g : Option Seen → C) (next : C → Asks A) {y : C} {r : Result A NoDeed} → option_map g (p.node i) ≡ Some y → Tells p (next y) r → Tells p (Look i (λ s. next (g s))) r
+unfolding run_part
+look_known {A = A} {p = p} {i = i} g next {y = y} is rest =
+    tells_same (elim (p.node i) as (λ z. option_map g z ≡ Some y → ◌≡◌ {A = Found A} (elim z [ None ↦ asks.Lacks i | Some a ↦ run_part p (next (g a)) ]) (run_part p (next y))) [
+      | None ↦ λ h. absurd (cc)
+      | Some a ↦ λ h. let same : g a ≡ y = cc in ap (λ z. run_part p (next z)) same
+    ] is) rest
+
+pub look_lacks : {A C : Type 0} {p : Part} {i : ℕ} (g : Option Seen → C) (next : Option Seen → Asks A) {s : NoDeed} → s ≡ Lacks i → option_map g (p.node i) ≡ None → Tells p (Look i next) (Err s)
+unfolding run_part
+look_lacks {A = A} {p = p} {i = i} g next lack is =
+    subst (λ z. Tells p (Look i next) (Err z)) (sym lack) (tells_lack (elim (p.node i) as (λ z. option_map g z ≡ None → ◌≡◌ {A = Found A} (elim z [ None ↦ asks.Lacks i | Some a ↦ run_part p (next a) ]) (asks.Lacks i)) [
+      | None ↦ λ h. refl
+      | Some a ↦ λ h. absurd (cc)
+    ] is))
+
+-- a look of which not all is told
+pub look_seen : {A C : Type 0} {p : Part} {i : ℕ} (g : Option Seen → C) (next : Option Seen → Asks A) {y : C} {r : Result A NoDeed} → option_map g (p.node i) ≡ Some y → ((s : Option Seen) → g s ≡ y → Tells p (next s) r) → Tells p (Look i next) r
+unfolding run_part
+look_seen {p = p} {i = i} g next {y = y} {r = r} is rest =
+    elim (p.node i) as (λ z. p.node i ≡ z → option_map g z ≡ Some y → Tells p (Look i next) r) [
+      | None ↦ λ at h. absurd (cc)
+      | Some a ↦ λ at h. let same : g a ≡ y = cc in tells_same (ap (λ z. elim z [ None ↦ asks.Lacks i | Some a ↦ run_part p (next a) ]) at) (rest a same)
+    ] refl is
+
+pub bind_look : {B C D : Type 0} {p : Part} (i : ℕ) (h : Option Seen → C) (g : Option Seen → D) (f : C → Asks B) {y : D} {r : Result B NoDeed} → option_map g (p.node i) ≡ Some y → ((s : Option Seen) → g s ≡ y → Tells p (f (h s)) r) → Tells p (Look i (λ s. Gives (h s)) >>= f) r
+unfolding ◌>>=◌
+bind_look i h g f is rest = look_seen g (λ s. f (h s)) is rest
+
+pub bind_look_lacks : {B C D : Type 0} {p : Part} (i : ℕ) (h : Option Seen → C) (g : Option Seen → D) (f : C → Asks B) {s : NoDeed} → s ≡ Lacks i → option_map g (p.node i) ≡ None → Tells p (Look i (λ s. Gives (h s)) >>= f) (Err s)
+bind_look_lacks i h g f lack is = bind_stops f (look_lacks g _ lack is)
+
+-- what stat tells of a node
+pub file_told : {p : Part} (s : Option Seen) (size names : ℕ) → description_of s ≡ Some (description.File size names) → Tells p (described s) (Ok (Tell (reply.File size names)))
+file_told None size names is = absurd (cc)
+file_told (Some (File many bytes)) size names is =
+    let long : length bytes ≡ size = cc in
+    let same : many ≡ names = cc in
+    gives_as (ap (λ z. Tell (reply.File z many)) long ∙ ap (λ z. Tell (reply.File size z)) same)
+file_told (Some (Dir entries)) size names is = absurd (cc)
+
+pub dir_told : {p : Part} (s : Option Seen) (many : ℕ) → description_of s ≡ Some (description.Dir many) → Tells p (described s) (Ok (Tell (reply.Dir many)))
+dir_told None many is = absurd (cc)
+dir_told (Some (File names bytes)) many is = absurd (cc)
+dir_told (Some (Dir entries)) many is = let same : fin.len entries ≡ many = cc in gives_as (ap (λ z. Tell (reply.Dir z)) same)
+
+pub nothing_told : {p : Part} (s : Option Seen) → description_of s ≡ None → Tells p (described s) (Err (Refused errno.NoEntry))
+nothing_told None is = refuses
+nothing_told (Some (File names bytes)) is = absurd (cc)
+nothing_told (Some (Dir entries)) is = absurd (cc)
+
+-- what is written
+pub write_nothing : (i at : ℕ) (bytes : List ℕ) → (length bytes == 0) ≡ true → write_at i at bytes ≡ Gives (Tell (reply.Wrote 0))
+write_nothing i at [] none = refl
+write_nothing i at (b ∷ bytes) none = absurd (grind (arith, nat_tests))
+
+pub write_some : (i at : ℕ) (bytes : List ℕ) → (length bytes == 0) ≡ false → write_at i at bytes ≡ (refuse errno.FileTooBig (nat_lt MAX_FILE (at + length bytes)) >>= (λ _. Gives (Write i at bytes)))
+write_some i at [] some = absurd (grind (arith, nat_tests))
+write_some i at (b ∷ bytes) some = refl
+
+-- ---- descriptors
+
+-- what is open is found
+pub opened_passes : {p : Part} (test : Descriptor → Bool) {o : Option Descriptor} (d : Descriptor) → o ≡ Some d → test d ≡ true → Tells p (opened test o) (Ok d.inode)
+opened_passes {p = p} test d is passes = subst (λ z. Tells p (opened test z) (Ok d.inode)) (sym is) (if_holds (Refuses errno.BadDescriptor) passes gives)
+
+-- what does not pass is refused
+pub opened_fails : {p : Part} (test : Descriptor → Bool) {o : Option Descriptor} (d : Descriptor) {s : NoDeed} → o ≡ Some d → s ≡ Refused errno.BadDescriptor → test d ≡ false → Tells p (opened test o) (Err s)
+opened_fails {p = p} test d {s = s} is why fails = subst (λ z. Tells p (opened test z) (Err s)) (sym is) (if_fails (Gives d.inode) fails (subst (λ z. Tells {A = ℕ} p (Refuses errno.BadDescriptor) (Err z)) (sym why) refuses))
+
+-- so is what is not open
+pub opened_none : {p : Part} (test : Descriptor → Bool) {o : Option Descriptor} → o ≡ None → Tells p (opened test o) (Err (Refused errno.BadDescriptor))
+opened_none {p = p} test is = subst (λ z. Tells p (opened test z) (Err (Refused errno.BadDescriptor))) (sym is) refuses
+
+pub not_false : (b : Bool) → not b ≡ true → b ≡ false
+not_false true e = absurd (cc)
+not_false false e = refl
+
+pub not_true : (b : Bool) → not b ≡ false → b ≡ true
+not_true true e = refl
+not_true false e = absurd (cc)
+
+-- ---- errors
+
+-- what was read is told
+pub said_ok : {A : Type 0} {p : Part} {r : Result A Errno} {x : A} → r ≡ Ok x → Tells p (said r) (Ok x)
+said_ok {p = p} {x = x} is = subst (λ z. Tells p (said z) (Ok x)) (sym is) gives
+
+refused_as : {A : Type 0} (p : Part) (e : Errno) → Tells {A = A} p (Refuses e) (Err (no_deed e))
+refused_as p NoMemory = tells_memory p (Refuses NoMemory)
+refused_as p e = refuses
+
+-- so is why it was not
+pub said_err : {A : Type 0} {p : Part} {r : Result A Errno} {e : Errno} → (e ≡ NoMemory) ⊎ (r ≡ Err e) → Tells p (said r) (Err (no_deed e))
+said_err {p = p} {r = r} {e = e} why =
+    elim why [
+      | inl memory ↦ subst (λ z. Tells p (said r) (Err (no_deed z))) (sym memory) (tells_memory p (said r))
+      | inr is ↦ subst (λ z. Tells p (said z) (Err (no_deed e))) (sym is) (refused_as p e)
+    ]

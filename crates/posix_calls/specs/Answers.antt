@@ -1,0 +1,79 @@
+-- What someone who knows a part of a tree answers, piece by piece, and how a decision stands to its questions.
+use Rattle.std.specs.Prelude.{◌≡◌, ℕ, List, [], ◌∷◌, map, take, drop, length, ◌==◌, Option, Some, None, Result, Ok, Err}
+use Rattle.std.specs.FinMap as fin
+use Rattle.std.specs.List.{list_any}
+use Rattle.posix_calls.specs.Asks.{Seen, File, Dir, Asks, Gives, Look, ◌>>=◌, Part, Known, run_part}
+use Rattle.posix_calls.specs.Asks as asks
+use Rattle.posix_calls.specs.Walk.{Place, entries_seen, bytes_seen, directory, prefix}
+use Rattle.posix_calls.specs.declared.errno.Errno.{Errno}
+use Rattle.posix_calls.specs.declared.errno.Errno.TheVariants.{NoMemory}
+use Rattle.posix_calls.specs.declared.deed.NoDeed.{NoDeed}
+use Rattle.posix_calls.specs.declared.deed.NoDeed.TheVariants.{Refused, Lacks, Memory}
+use Rattle.posix_calls.specs.declared.deed.Description.{Description}
+use Rattle.posix_calls.specs.declared.deed.Description.TheVariants as description
+use Rattle.posix_calls.specs.declared.walk.Landing.{Landing}
+
+-- ---- of one node
+
+-- the inode under a name of a directory
+abbrev pub entry_in : List ℕ → Option Seen → Option ℕ
+entry_in name s = fin.get (entries_seen s) name
+
+-- how many entries a directory has
+abbrev pub count_in : Option Seen → ℕ
+count_in s = fin.len (entries_seen s)
+
+-- the names in a directory, in the order of their bytes
+abbrev pub listed_in : Option Seen → List (List ℕ)
+listed_in s = map (λ e. e.0) (fin.entries (entries_seen s))
+
+-- how many bytes a file has
+abbrev pub size_in : Option Seen → ℕ
+size_in s = length (bytes_seen s)
+
+-- so many bytes of a file from an offset on, or those that there are
+abbrev pub range_in : ℕ → ℕ → Option Seen → List ℕ
+range_in at count s = take count (drop at (bytes_seen s))
+
+-- what there is to say of a node
+abbrev pub description_of : Option Seen → Option Description
+description_of None = None
+description_of (Some (File names bytes)) = Some (description.File (length bytes) names)
+description_of (Some (Dir entries)) = Some (description.Dir (fin.len entries))
+
+-- ---- of a walk
+
+-- the last name of a path
+abbrev pub last_name : List (List ℕ) → List ℕ
+last_name [] = []
+last_name (name ∷ []) = name
+last_name (name ∷ next ∷ names) = last_name (next ∷ names)
+
+-- what a call needs of a place beside its name, and whether the walk went through an inode
+abbrev pub landing_of : ℕ → Place → Landing
+landing_of watched place = record { parent = place.spot.parent; inode = place.inode; entries = place.entries; passed = list_any (λ d. d == watched) place.walked }
+
+-- a place by what is kept of it
+abbrev pub place_at : List (List ℕ) → Landing → List ℕ → Place
+place_at names to walked = record { spot = record { parent = to.parent; name = last_name names }; inode = to.inode; walked = walked; entries = to.entries }
+
+-- that of the place to which the walk along a path leads
+abbrev pub landing : ℕ → List (List ℕ) → Asks Landing
+landing watched names = prefix names >>= (λ place. Gives (landing_of watched place))
+
+-- the directory under a name of a directory
+abbrev pub child_at : ℕ → List ℕ → Asks ℕ
+child_at dir name = Look dir (λ s. directory (entry_in name s))
+
+-- ---- of a decision
+
+-- an error as the reason for no deed
+abbrev pub no_deed : Errno → NoDeed
+no_deed NoMemory = Memory
+no_deed e = Refused e
+
+-- by what is known, a result is what the questions come to, an error too, and what is lacked is what they lack; want of memory says nothing
+pub record Tells {A : Type 0} (p : Part) (q : Asks A) (result : Result A NoDeed) : Type 0 where
+  pub gives : (x : A) → result ≡ Ok x → run_part p q ≡ Known (Ok x)
+  pub refuses : (e : Errno) → result ≡ Err (Refused e) → run_part p q ≡ Known (Err e)
+  pub lacks : (i : ℕ) → result ≡ Err (Lacks i) → run_part p q ≡ asks.Lacks i

@@ -1,0 +1,53 @@
+ghost use Rattle.posix_calls.specs.Answers.{Tells};
+ghost use Rattle.posix_calls.specs.Decide.{decide};
+ghost use Rattle.posix_calls.specs.Own.{own_of};
+
+use crate::call::Call;
+use crate::deed::{Deed, NoDeed};
+use crate::descriptor_calls::{close, open, pread, pwrite};
+use crate::dir_calls::{mkdir, rmdir};
+use crate::file_calls::{truncate, unlink};
+use crate::own::OwnDescriptors;
+use crate::tell_calls::{list, stat};
+use crate::tree_answers::TreeAnswers;
+use crate::two_path_calls::{link, rename};
+use std::alloc::Global;
+
+/// What a call comes to, for a client with these descriptors: the deed, or else the first error of the call in the order of
+/// its profile. Nothing is changed; who decides carries the deed out.
+///
+/// The tree may be known in part. What the call needs is asked for in the order of its errors, and the first inode of which more
+/// has to be known is answered by `Lacks`; once it is known, the same call may be decided again. Where an answer comes, it is that
+/// of every tree of which this is a part. Memory is taken for the names of the paths and for what the deed carries; `Memory` may
+/// stand in place of any answer.
+pub fn decide<T: TreeAnswers>(
+    alloc: Global,
+    tree: &T,
+    own: &OwnDescriptors,
+    call: &Call,
+) -> Result<Deed, NoDeed>
+    ensures { Tells (T.part tree.now) (decide (own_of own.now) call.now) result }
+{
+    match call {
+        Call::Open { path, flags } => open(alloc, tree, own, path.as_slice(), *flags),
+        Call::Close { descriptor } => close(own, *descriptor),
+        Call::Pread {
+            descriptor,
+            at,
+            count,
+        } => pread(alloc, tree, own, *descriptor, *at, *count),
+        Call::Pwrite {
+            descriptor,
+            at,
+            bytes,
+        } => pwrite(alloc, own, *descriptor, *at, bytes.as_slice()),
+        Call::Truncate { path, len } => truncate(alloc, tree, path.as_slice(), *len),
+        Call::Mkdir { path } => mkdir(alloc, tree, path.as_slice()),
+        Call::Rmdir { path } => rmdir(alloc, tree, path.as_slice()),
+        Call::Link { old, new } => link(alloc, tree, old.as_slice(), new.as_slice()),
+        Call::Unlink { path } => unlink(alloc, tree, path.as_slice()),
+        Call::Rename { old, new } => rename(alloc, tree, old.as_slice(), new.as_slice()),
+        Call::List { path } => list(alloc, tree, path.as_slice()),
+        Call::Stat { path } => stat(alloc, tree, path.as_slice()),
+    }
+}

@@ -1,0 +1,194 @@
+// What the calls that take or give a descriptor come to: open, close, pread, pwrite.
+ghost use Rattle.std.specs.Prelude.{◌≡◌, ◌&&◌, ◌+◌, nat_lt, true};
+ghost use Rattle.posix_calls.specs.Walk.{is_there};
+ghost use Rattle.posix_calls.specs.Asks.{Part};
+ghost use Rattle.posix_calls.specs.Answers.{Tells};
+ghost use Rattle.posix_calls.specs.Own.{own_of};
+ghost use Rattle.posix_calls.specs.declared.limits.TheConstants.{MAX_DESCRIPTORS};
+ghost use Rattle.posix_calls.specs.Decide.{is_senseless, number_or, lowest_free, opened, empties, open_path, close, pread, write_at, pwrite};
+
+use crate::bytes::Bytes;
+use crate::call::{Flags, Reply};
+use crate::deed::{Deed, NoDeed};
+use crate::errno::Errno;
+use crate::limits::{MAX_FILE, MAX_TRANSFER};
+use crate::own::OwnDescriptors;
+use crate::tree_answers::TreeAnswers;
+use crate::walk::{Landing, kind_at, known, prefix, read_path, refuse_if, spot};
+use std::alloc::Global;
+
+impl Flags {
+    // Whether they ask for what makes no sense.
+    fn is_senseless(self) -> bool
+        ensures { result ≡ is_senseless self }
+    {
+        (self.truncate && !self.write)
+            || (self.exclusive && !self.create)
+            || (!self.read && !self.write)
+    }
+
+    // Whether the name must not be taken, and is.
+    fn is_taken(self, to: Landing) -> bool
+        ensures { result ≡ (self.create && self.exclusive && is_there to.inode) }
+    {
+        self.create && self.exclusive && to.is_there()
+    }
+}
+
+// The lowest number that is free.
+fn free_number(own: &OwnDescriptors) -> Result<u32, NoDeed>
+    ensures { (p : Part) → Tells p (number_or (lowest_free (own_of own.now) 0 MAX_DESCRIPTORS)) result }
+{
+    match own.lowest_free() {
+        Some(number) => Ok(number),
+        None => Err(NoDeed::Refused {
+            errno: Errno::TooManyOpen,
+        }),
+    }
+}
+
+// Whether there are bytes to take away.
+fn empties<T: TreeAnswers>(tree: &T, truncate: bool, inode: u32) -> Result<bool, NoDeed>
+    ensures { Tells (T.part tree.now) (empties truncate inode) result }
+{
+    if !truncate {
+        return Ok(false);
+    }
+    let size = known(tree.file_size(inode), inode)?;
+    Ok(size > 0)
+}
+
+pub(crate) fn open<T: TreeAnswers>(
+    alloc: Global,
+    tree: &T,
+    own: &OwnDescriptors,
+    bytes: &[u8],
+    flags: Flags,
+) -> Result<Deed, NoDeed>
+    ensures { Tells (T.part tree.now) (open_path (own_of own.now) bytes.now flags) result }
+{
+    let path = read_path(alloc, bytes)?;
+    refuse_if(flags.is_senseless(), Errno::Invalid)?;
+    let descriptor = free_number(own)?;
+    let to = prefix(tree, &path)?;
+    refuse_if(flags.is_taken(to), Errno::Exists)?;
+    let is_dir = kind_at(tree, to.inode)?;
+    refuse_if(is_dir, Errno::IsDirectory)?;
+    let Some(inode) = to.inode else {
+        refuse_if(!flags.create, Errno::NoEntry)?;
+        refuse_if(to.is_full(), Errno::NoSpace)?;
+        let at = spot(alloc, to.parent, &path)?;
+        return Ok(Deed::NewFile {
+            at,
+            descriptor,
+            reads: flags.read,
+            writes: flags.write,
+        });
+    };
+    let empties = empties(tree, flags.truncate, inode)?;
+    Ok(Deed::OpenFile {
+        inode,
+        empties,
+        descriptor,
+        reads: flags.read,
+        writes: flags.write,
+    })
+}
+
+// The inode that is open at a number.
+fn open_inode(own: &OwnDescriptors, number: u32) -> Result<u32, NoDeed>
+    ensures { (p : Part) → Tells p (opened (λ d. true) (own_of own.now number)) result }
+{
+    match own.get(number) {
+        Some(descriptor) => Ok(descriptor.inode),
+        None => Err(NoDeed::Refused {
+            errno: Errno::BadDescriptor,
+        }),
+    }
+}
+
+// The inode that is open at a number for reading.
+fn readable_inode(own: &OwnDescriptors, number: u32) -> Result<u32, NoDeed>
+    ensures { (p : Part) → Tells p (opened (λ d. d.reads) (own_of own.now number)) result }
+{
+    let Some(descriptor) = own.get(number) else {
+        return Err(NoDeed::Refused {
+            errno: Errno::BadDescriptor,
+        });
+    };
+    refuse_if(!descriptor.reads, Errno::BadDescriptor)?;
+    Ok(descriptor.inode)
+}
+
+// The inode that is open at a number for writing.
+fn writable_inode(own: &OwnDescriptors, number: u32) -> Result<u32, NoDeed>
+    ensures { (p : Part) → Tells p (opened (λ d. d.writes) (own_of own.now number)) result }
+{
+    let Some(descriptor) = own.get(number) else {
+        return Err(NoDeed::Refused {
+            errno: Errno::BadDescriptor,
+        });
+    };
+    refuse_if(!descriptor.writes, Errno::BadDescriptor)?;
+    Ok(descriptor.inode)
+}
+
+pub(crate) fn close(own: &OwnDescriptors, number: u32) -> Result<Deed, NoDeed>
+    ensures { (p : Part) → Tells p (close (own_of own.now) number) result }
+{
+    let inode = open_inode(own, number)?;
+    Ok(Deed::CloseFile {
+        inode,
+        descriptor: number,
+    })
+}
+
+pub(crate) fn pread<T: TreeAnswers>(
+    alloc: Global,
+    tree: &T,
+    own: &OwnDescriptors,
+    number: u32,
+    at: u64,
+    count: u64,
+) -> Result<Deed, NoDeed>
+    ensures { Tells (T.part tree.now) (pread (own_of own.now) number at count) result }
+{
+    let inode = readable_inode(own, number)?;
+    refuse_if(count > MAX_TRANSFER as u64, Errno::Invalid)?;
+    let answer = tree.read(alloc, inode, at, count)?;
+    let bytes = known(answer, inode)?;
+    Ok(Deed::Tell {
+        answer: Reply::Read { bytes },
+    })
+}
+
+pub(crate) fn pwrite(
+    alloc: Global,
+    own: &OwnDescriptors,
+    number: u32,
+    at: u64,
+    bytes: &[u8],
+) -> Result<Deed, NoDeed>
+    ensures { (p : Part) → Tells p (pwrite (own_of own.now) number at bytes.now) result }
+{
+    let inode = writable_inode(own, number)?;
+    refuse_if(bytes.len() > MAX_TRANSFER, Errno::Invalid)?;
+    if bytes.is_empty() {
+        return Ok(Deed::Tell {
+            answer: Reply::Wrote { count: 0 },
+        });
+    }
+    refuse_if(ends_behind(at, bytes.len()), Errno::FileTooBig)?;
+    let bytes = Bytes::copy_of(alloc, bytes)?;
+    Ok(Deed::Write { inode, at, bytes })
+}
+
+// Whether so many bytes from an offset on end behind the greatest size of a file.
+fn ends_behind(at: u64, count: usize) -> bool
+    ensures { result ≡ nat_lt MAX_FILE (at + count) }
+{
+    match at.checked_add(count as u64) {
+        Some(end) => end > MAX_FILE,
+        None => true,
+    }
+}

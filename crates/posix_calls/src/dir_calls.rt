@@ -1,0 +1,36 @@
+// What the calls that make and take away a directory come to: mkdir, rmdir.
+ghost use Rattle.std.specs.Prelude.{◌≡◌};
+ghost use Rattle.posix_calls.specs.Answers.{Tells};
+ghost use Rattle.posix_calls.specs.Decide.{mkdir, rmdir};
+
+use crate::deed::{Deed, NoDeed};
+use crate::errno::Errno;
+use crate::tree_answers::TreeAnswers;
+use crate::walk::{kind_at, known, prefix, read_path, refuse_if, refuse_root, spot, there};
+use std::alloc::Global;
+
+pub(crate) fn mkdir<T: TreeAnswers>(alloc: Global, tree: &T, bytes: &[u8]) -> Result<Deed, NoDeed>
+    ensures { Tells (T.part tree.now) (mkdir bytes.now) result }
+{
+    let path = read_path(alloc, bytes)?;
+    let to = prefix(tree, &path)?;
+    refuse_if(to.is_there(), Errno::Exists)?;
+    refuse_if(to.is_full(), Errno::NoSpace)?;
+    let at = spot(alloc, to.parent, &path)?;
+    Ok(Deed::NewDir { at })
+}
+
+pub(crate) fn rmdir<T: TreeAnswers>(alloc: Global, tree: &T, bytes: &[u8]) -> Result<Deed, NoDeed>
+    ensures { Tells (T.part tree.now) (rmdir bytes.now) result }
+{
+    let path = read_path(alloc, bytes)?;
+    refuse_root(&path)?;
+    let to = prefix(tree, &path)?;
+    let inode = there(to.inode)?;
+    let is_dir = kind_at(tree, to.inode)?;
+    refuse_if(!is_dir, Errno::NotDirectory)?;
+    let entries = known(tree.entry_count(inode), inode)?;
+    refuse_if(entries > 0, Errno::NotEmpty)?;
+    let at = spot(alloc, to.parent, &path)?;
+    Ok(Deed::RemoveDir { at, inode })
+}

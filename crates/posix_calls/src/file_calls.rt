@@ -1,0 +1,48 @@
+// What the calls that cut a file and take a name of it away come to: truncate, unlink.
+ghost use Rattle.std.specs.Prelude.{◌≡◌};
+ghost use Rattle.posix_calls.specs.Answers.{Tells};
+ghost use Rattle.posix_calls.specs.Decide.{truncate, unlink};
+
+use crate::call::Reply;
+use crate::deed::{Deed, NoDeed};
+use crate::errno::Errno;
+use crate::limits::MAX_FILE;
+use crate::tree_answers::TreeAnswers;
+use crate::walk::{kind_at, known, prefix, read_path, refuse_if, refuse_root, spot, there};
+use std::alloc::Global;
+
+pub(crate) fn truncate<T: TreeAnswers>(
+    alloc: Global,
+    tree: &T,
+    bytes: &[u8],
+    len: u64,
+) -> Result<Deed, NoDeed>
+    ensures { Tells (T.part tree.now) (truncate bytes.now len) result }
+{
+    let path = read_path(alloc, bytes)?;
+    let to = prefix(tree, &path)?;
+    let inode = there(to.inode)?;
+    let is_dir = kind_at(tree, to.inode)?;
+    refuse_if(is_dir, Errno::IsDirectory)?;
+    refuse_if(len > MAX_FILE, Errno::FileTooBig)?;
+    let size = known(tree.file_size(inode), inode)?;
+    if size == len {
+        return Ok(Deed::Tell {
+            answer: Reply::Done,
+        });
+    }
+    Ok(Deed::Resize { inode, len })
+}
+
+pub(crate) fn unlink<T: TreeAnswers>(alloc: Global, tree: &T, bytes: &[u8]) -> Result<Deed, NoDeed>
+    ensures { Tells (T.part tree.now) (unlink bytes.now) result }
+{
+    let path = read_path(alloc, bytes)?;
+    refuse_root(&path)?;
+    let to = prefix(tree, &path)?;
+    let inode = there(to.inode)?;
+    let is_dir = kind_at(tree, to.inode)?;
+    refuse_if(is_dir, Errno::NotPermitted)?;
+    let at = spot(alloc, to.parent, &path)?;
+    Ok(Deed::DropName { at, inode })
+}

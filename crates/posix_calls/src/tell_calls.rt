@@ -1,0 +1,48 @@
+// What the calls that only tell come to: list, stat.
+ghost use Rattle.std.specs.Prelude.{◌≡◌};
+ghost use Rattle.posix_calls.specs.Answers.{Tells};
+ghost use Rattle.posix_calls.specs.Decide.{list_path, stat};
+
+use crate::call::Reply;
+use crate::deed::{Deed, Description, NoDeed};
+use crate::errno::Errno;
+use crate::tree_answers::TreeAnswers;
+use crate::walk::{kind_at, known, prefix, read_path, refuse_if, there};
+use std::alloc::Global;
+
+pub(crate) fn list<T: TreeAnswers>(alloc: Global, tree: &T, bytes: &[u8]) -> Result<Deed, NoDeed>
+    ensures { Tells (T.part tree.now) (list_path bytes.now) result }
+{
+    let path = read_path(alloc, bytes)?;
+    let to = prefix(tree, &path)?;
+    let inode = there(to.inode)?;
+    let is_dir = kind_at(tree, to.inode)?;
+    refuse_if(!is_dir, Errno::NotDirectory)?;
+    let answer = tree.names(alloc, inode)?;
+    let names = known(answer, inode)?;
+    Ok(Deed::Tell {
+        answer: Reply::Listed { names },
+    })
+}
+
+pub(crate) fn stat<T: TreeAnswers>(alloc: Global, tree: &T, bytes: &[u8]) -> Result<Deed, NoDeed>
+    ensures { Tells (T.part tree.now) (stat bytes.now) result }
+{
+    let path = read_path(alloc, bytes)?;
+    let to = prefix(tree, &path)?;
+    let inode = there(to.inode)?;
+    let answer = known(tree.describe(inode), inode)?;
+    let Some(description) = answer else {
+        return Err(NoDeed::Refused {
+            errno: Errno::NoEntry,
+        });
+    };
+    match description {
+        Description::File { size, names } => Ok(Deed::Tell {
+            answer: Reply::File { size, names },
+        }),
+        Description::Dir { entries } => Ok(Deed::Tell {
+            answer: Reply::Dir { entries },
+        }),
+    }
+}

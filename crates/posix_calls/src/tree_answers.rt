@@ -1,0 +1,57 @@
+ghost use Rattle.std.specs.Prelude.{◌≡◌, option_map, IfOk};
+ghost use Rattle.posix_calls.specs.Asks.{Part};
+ghost use Rattle.posix_calls.specs.Answers.{entry_in, count_in, listed_in, size_in, range_in, description_of};
+ghost use Rattle.posix_calls.specs.Walk.{names_seen};
+
+use crate::bytes::Bytes;
+use crate::deed::Description;
+use crate::names::Names;
+use std::alloc::{AllocError, Global};
+
+/// Who knows a file tree or a part of it, and answers what a call asks of it: `None` where the answer isn't known.
+///
+/// What is known of an inode is known whole: its entries with their number and order, or its bytes with the number of the
+/// file's names. Only whether it is a directory may be known alone. What is no directory has no entries, and what is no file
+/// has no bytes and no names.
+pub trait TreeAnswers {
+    /// What is known of the tree.
+    ghost part: { Self → Part };
+
+    /// Whether an inode is a directory; `Some(None)` where nothing stands at it.
+    fn is_dir(&self, inode: u32) -> Option<Option<bool>>
+        ensures { result ≡ (part self.now).is_dir inode };
+
+    /// The inode under a name of a directory; `Some(None)` where it has no such name.
+    fn entry(&self, dir: u32, name: &[u8]) -> Option<Option<u32>>
+        ensures { result ≡ option_map (entry_in name.now) ((part self.now).node dir) };
+
+    /// How many entries a directory has.
+    fn entry_count(&self, dir: u32) -> Option<u32>
+        ensures { result ≡ option_map count_in ((part self.now).node dir) };
+
+    /// The names in a directory, in the order of their bytes.
+    fn names(&self, alloc: Global, dir: u32) -> Result<Option<Names>, AllocError>
+        ensures { IfOk result (λ names. names ≡ option_map listed_in ((part self.now).node dir)) };
+
+    /// How many bytes a file has.
+    fn file_size(&self, inode: u32) -> Option<u64>
+        ensures { result ≡ option_map size_in ((part self.now).node inode) };
+
+    /// How many names a file has.
+    fn file_names(&self, inode: u32) -> Option<u32>
+        ensures { result ≡ option_map names_seen ((part self.now).node inode) };
+
+    /// Up to `count` bytes of a file from an offset on; fewer where the file ends before.
+    fn read(
+        &self,
+        alloc: Global,
+        inode: u32,
+        at: u64,
+        count: u64,
+    ) -> Result<Option<Bytes>, AllocError>
+        ensures { IfOk result (λ bytes. bytes ≡ option_map (range_in at count) ((part self.now).node inode)) };
+
+    /// What there is to say of an inode; `Some(None)` where nothing stands at it.
+    fn describe(&self, inode: u32) -> Option<Option<Description>>
+        ensures { result ≡ option_map description_of ((part self.now).node inode) };
+}

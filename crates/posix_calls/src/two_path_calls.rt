@@ -1,0 +1,113 @@
+// What the calls on two paths come to: link, rename.
+ghost use Rattle.std.specs.Prelude.{◌≡◌, ◌==◌, ◌&&◌, not, ℕ, List, []};
+ghost use Rattle.posix_calls.specs.Answers.{Tells, place_at};
+ghost use Rattle.posix_calls.specs.Walk.{is_full};
+ghost use Rattle.posix_calls.specs.Decide.{link, rename, replacing, is_inode};
+
+use crate::call::Reply;
+use crate::deed::{Deed, NoDeed, Replaced};
+use crate::errno::Errno;
+use crate::limits::MAX_NAMES;
+use crate::tree_answers::TreeAnswers;
+use crate::walk::{
+    Landing, kind_at, known, prefix, read_path, refuse_if, refuse_root, spot, there, walk,
+};
+use std::alloc::Global;
+
+pub(crate) fn link<T: TreeAnswers>(
+    alloc: Global,
+    tree: &T,
+    old: &[u8],
+    new: &[u8],
+) -> Result<Deed, NoDeed>
+    ensures { Tells (T.part tree.now) (link old.now new.now) result }
+{
+    let old_path = read_path(alloc, old)?;
+    let new_path = read_path(alloc, new)?;
+    let from = prefix(tree, &old_path)?;
+    let inode = there(from.inode)?;
+    let is_dir = kind_at(tree, from.inode)?;
+    refuse_if(is_dir, Errno::NotPermitted)?;
+    let to = prefix(tree, &new_path)?;
+    refuse_if(to.is_there(), Errno::Exists)?;
+    let names = known(tree.file_names(inode), inode)?;
+    refuse_if(names >= MAX_NAMES, Errno::TooManyLinks)?;
+    refuse_if(to.is_full(), Errno::NoSpace)?;
+    let at = spot(alloc, to.parent, &new_path)?;
+    Ok(Deed::AddName { at, inode })
+}
+
+// Whether a name that moves needs a place in a directory that has none.
+fn lacks_room(from: Landing, to: Landing) -> bool
+    ensures { result ≡ (not (from.parent == to.parent) && is_full (place_at [] to [])) }
+{
+    from.parent != to.parent && to.is_full()
+}
+
+// What is at the new name, and is put out of its place.
+fn replaced<T: TreeAnswers>(
+    tree: &T,
+    from: Landing,
+    to: Landing,
+    old_dir: bool,
+) -> Result<Replaced, NoDeed>
+    ensures { (a b : List (List ℕ)) (v w : List ℕ) → Tells (T.part tree.now) (replacing (place_at a from v) (place_at b to w) old_dir to.inode) result }
+{
+    let Some(inode) = to.inode else {
+        refuse_if(lacks_room(from, to), Errno::NoSpace)?;
+        return Ok(Replaced::Nothing);
+    };
+    let new_dir = kind_at(tree, Some(inode))?;
+    refuse_if(old_dir & !new_dir, Errno::NotDirectory)?;
+    refuse_if(!old_dir & new_dir, Errno::IsDirectory)?;
+    if !new_dir {
+        return Ok(Replaced::OldFile { inode });
+    }
+    let entries = known(tree.entry_count(inode), inode)?;
+    refuse_if(entries > 0, Errno::NotEmpty)?;
+    Ok(Replaced::OldDir { inode })
+}
+
+// Whether this inode is there.
+fn is_inode(inode: u32, at: Option<u32>) -> bool
+    ensures { result ≡ is_inode inode at }
+{
+    match at {
+        Some(other) => inode == other,
+        None => false,
+    }
+}
+
+pub(crate) fn rename<T: TreeAnswers>(
+    alloc: Global,
+    tree: &T,
+    old: &[u8],
+    new: &[u8],
+) -> Result<Deed, NoDeed>
+    ensures { Tells (T.part tree.now) (rename old.now new.now) result }
+{
+    let old_path = read_path(alloc, old)?;
+    let new_path = read_path(alloc, new)?;
+    refuse_root(&old_path)?;
+    refuse_root(&new_path)?;
+    let from = prefix(tree, &old_path)?;
+    let inode = there(from.inode)?;
+    let to = walk(tree, &new_path, inode)?;
+    refuse_if(to.passed, Errno::Invalid)?;
+    if is_inode(inode, to.inode) {
+        return Ok(Deed::Tell {
+            answer: Reply::Done,
+        });
+    }
+    let is_dir = kind_at(tree, from.inode)?;
+    let replaced = replaced(tree, from, to, is_dir)?;
+    let old_spot = spot(alloc, from.parent, &old_path)?;
+    let new_spot = spot(alloc, to.parent, &new_path)?;
+    Ok(Deed::Move {
+        from: old_spot,
+        to: new_spot,
+        inode,
+        is_dir,
+        replaced,
+    })
+}

@@ -1,0 +1,182 @@
+// The walk along a path, and the tests that several calls have in common. Each function answers one question of a call.
+ghost use Rattle.std.specs.Prelude.{◌≡◌, Some, None, Ok, Err, true, false, IfOk, IfErr, nat_le};
+ghost use Rattle.posix_calls.specs.Path.{reading};
+ghost use Rattle.posix_calls.specs.Asks.{Part};
+ghost use Rattle.posix_calls.specs.Walk.{said, kind_at, there, is_root, is_there};
+ghost use Rattle.posix_calls.specs.Answers.{Tells, last_name, landing, child_at};
+ghost use Rattle.posix_calls.specs.declared.deed.NoDeed.TheVariants.{Refused, Lacks, Memory};
+
+use crate::deed::{NoDeed, Spot};
+use crate::errno::Errno;
+use crate::limits::{MAX_ENTRIES, ROOT};
+use crate::name::Name;
+use crate::path::Path;
+use crate::tree_answers::TreeAnswers;
+use std::alloc::Global;
+
+// Where a path leads: the directory of its last name, the inode there, and how many entries that directory has; and whether
+// the walk went through the inode that it was to watch for.
+#[derive(Clone, Copy, Debug, PartialEq, Eq)]
+pub struct Landing {
+    pub parent: u32,
+    pub inode: Option<u32>,
+    pub entries: u32,
+    pub passed: bool,
+}
+
+// No inode has this number.
+const NOTHING: u32 = 0;
+
+// This error, where the test holds.
+pub(crate) fn refuse_if(test: bool, errno: Errno) -> Result<(), NoDeed>
+    ensures clear { IfOk result (λ _. test ≡ false) }
+    ensures refused { IfErr result (λ why. (why ≡ Refused errno) × (test ≡ true)) }
+{
+    if test {
+        return Err(NoDeed::Refused { errno });
+    }
+    Ok(())
+}
+
+// The root's place is not to be had.
+pub(crate) fn refuse_root(path: &Path) -> Result<(), NoDeed>
+    ensures clear { IfOk result (λ _. is_root path.now ≡ false) }
+    ensures refused { IfErr result (λ why. (why ≡ Refused Errno.Busy) × (is_root path.now ≡ true)) }
+{
+    if path.is_root() {
+        return Err(NoDeed::Refused { errno: Errno::Busy });
+    }
+    Ok(())
+}
+
+// What is known of an inode.
+pub(crate) fn known<A: Drop>(answer: Option<A>, inode: u32) -> Result<A, NoDeed>
+    ensures known { IfOk result (λ x. answer ≡ Some x) }
+    ensures lacks { IfErr result (λ why. (why ≡ Lacks inode) × (answer ≡ None)) }
+{
+    match answer {
+        Some(x) => Ok(x),
+        None => Err(NoDeed::Lacks { inode }),
+    }
+}
+
+// Reads a path.
+pub(crate) fn read_path(alloc: Global, bytes: &[u8]) -> Result<Path, NoDeed>
+    ensures { (p : Part) → Tells p (said (reading bytes.now)) result }
+{
+    Ok(Path::read(alloc, bytes)?)
+}
+
+// Whether there is a directory.
+pub(crate) fn kind_at<T: TreeAnswers>(tree: &T, inode: Option<u32>) -> Result<bool, NoDeed>
+    ensures { Tells (T.part tree.now) (kind_at inode) result }
+{
+    let Some(inode) = inode else {
+        return Ok(false);
+    };
+    let answer = known(tree.is_dir(inode), inode)?;
+    Ok(answer.unwrap_or(false))
+}
+
+// The inode, where there is one.
+pub(crate) fn there(inode: Option<u32>) -> Result<u32, NoDeed>
+    ensures { (p : Part) → Tells p (there inode) result }
+{
+    match inode {
+        Some(inode) => Ok(inode),
+        None => Err(NoDeed::Refused {
+            errno: Errno::NoEntry,
+        }),
+    }
+}
+
+// The directory under a name of a directory.
+fn child_at<T: TreeAnswers>(tree: &T, dir: u32, name: &[u8]) -> Result<u32, NoDeed>
+    ensures { Tells (T.part tree.now) (child_at dir name.now) result }
+{
+    let entry = known(tree.entry(dir, name), dir)?;
+    let Some(inode) = entry else {
+        return Err(NoDeed::Refused {
+            errno: Errno::NoEntry,
+        });
+    };
+    let answer = known(tree.is_dir(inode), inode)?;
+    match answer {
+        Some(true) => Ok(inode),
+        Some(false) => Err(NoDeed::Refused {
+            errno: Errno::NotDirectory,
+        }),
+        None => Err(NoDeed::Refused {
+            errno: Errno::NoEntry,
+        }),
+    }
+}
+
+// Walks along a path to the parent of its last name, and watches for an inode.
+pub(crate) fn walk<T: TreeAnswers>(tree: &T, path: &Path, watched: u32) -> Result<Landing, NoDeed>
+    ensures tells { Tells (T.part tree.now) (landing watched path.now) result }
+    ensures root { IfOk result (λ to. is_root path.now ≡ true → to.inode ≡ Some ROOT) }
+{
+    let [before @ .., last] = path.names() else {
+        return Ok(Landing {
+            parent: 0,
+            inode: Some(ROOT),
+            entries: 0,
+            passed: false,
+        });
+    };
+    let mut dir = ROOT;
+    let mut passed = false;
+    for name in before {
+        passed |= dir == watched;
+        dir = child_at(tree, dir, name.as_slice())?;
+    }
+    let inode = known(tree.entry(dir, last.as_slice()), dir)?;
+    let entries = known(tree.entry_count(dir), dir)?;
+    passed |= dir == watched;
+    Ok(Landing {
+        parent: dir,
+        inode,
+        entries,
+        passed,
+    })
+}
+
+// Walks along a path to the parent of its last name.
+pub(crate) fn prefix<T: TreeAnswers>(tree: &T, path: &Path) -> Result<Landing, NoDeed>
+    ensures tells { Tells (T.part tree.now) (landing 0 path.now) result }
+    ensures root { IfOk result (λ to. is_root path.now ≡ true → to.inode ≡ Some ROOT) }
+{
+    walk(tree, path, NOTHING)
+}
+
+// The last name of a path, in its directory.
+pub(crate) fn spot(alloc: Global, parent: u32, path: &Path) -> Result<Spot, NoDeed>
+    requires { is_root path.now ≡ false }
+    ensures spot { IfOk result (λ at. at ≡ record { parent = parent; name = last_name path.now }) }
+    ensures only { IfErr result (λ why. why ≡ Memory) }
+{
+    let [.., last] = path.names() else {
+        unreachable!();
+    };
+    Ok(Spot {
+        parent,
+        name: last.copy(alloc)?,
+    })
+}
+
+impl Landing {
+    // Whether something is there.
+    pub(crate) fn is_there(self) -> bool
+        ensures { result ≡ is_there self.inode }
+    {
+        self.inode.is_some()
+    }
+
+    // Whether the directory takes no more names.
+    pub(crate) fn is_full(self) -> bool
+        ensures { result ≡ nat_le MAX_ENTRIES self.entries }
+    {
+        MAX_ENTRIES <= self.entries
+    }
+}
