@@ -87,8 +87,11 @@ impl PlainNode {
         ensures small { result < 2 ^ 53 }
     {
         match &self.body {
-            PlainBody::File(bytes) => 1 + (bytes.len() as u64 + (UNIT_BYTES as u64 - 1)) / UNIT_BYTES as u64,
-            PlainBody::Directory(entries) => 1 + (entries.as_slice().len() as u64 + (UNIT_ENTRIES as u64 - 1)) / UNIT_ENTRIES as u64,
+            PlainBody::File(bytes) => 1
+                + (bytes.len() as u64 + (UNIT_BYTES as u64 - 1)) / UNIT_BYTES as u64,
+            PlainBody::Directory(entries) => 1
+                + (entries.as_slice().len() as u64 + (UNIT_ENTRIES as u64 - 1))
+                    / UNIT_ENTRIES as u64,
         }
     }
 
