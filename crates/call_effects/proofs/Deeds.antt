@@ -13,7 +13,7 @@ use Rattle.posix_calls.specs.declared.deed.Deed.TheVariants.{Tell, NewDir, NewFi
 use Rattle.posix_calls.specs.declared.deed.Replaced.{Replaced}
 use Rattle.posix_calls.specs.declared.deed.Replaced.TheVariants.{Nothing, OldFile, OldDir}
 use Rattle.posix_calls.specs.Deeds.{tree_after, makes, entered, left, less_replaced}
-use Rattle.posix_calls.proofs.Entries.{get_other, gone, none_left, none_of_no_entries}
+use Rattle.posix_calls.proofs.Counts.{get_other, gone, none_left, none_of_no_entries}
 use Rattle.file_graph.specs.Graph.{Graph, Node, after_effect, after_effects}
 use Rattle.file_graph.specs.declared.effect.Kind.{Kind}
 use Rattle.file_graph.specs.declared.effect.Kind.TheVariants as kind

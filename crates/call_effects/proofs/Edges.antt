@@ -15,7 +15,7 @@ use Rattle.call_effects.specs.Effects.{stored, removing}
 use Rattle.call_effects.specs.Wholes.{without_kinds, tree_of, tree_node, kept, kind_of, one_if, IsTyped}
 use Rattle.posix_calls.specs.declared.deed.Spot.{Spot}
 use Rattle.posix_calls.specs.Deeds.{entered, left, less_unused}
-use Rattle.posix_calls.proofs.Entries.{counted, counted_is, counted_empty, get_inserted, get_left, none_of_no_entries}
+use Rattle.posix_calls.proofs.Counts.{counted, counted_is, counted_empty, get_inserted, get_left, none_of_no_entries}
 use Rattle.posix_calls.proofs.Changes.{off_one, on_one}
 use Rattle.call_effects.specs.Fits.{IsRoom, IsEntry}
 use Rattle.call_effects.proofs.Puts.{put, put_there, put_other, put_same}

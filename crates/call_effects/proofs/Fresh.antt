@@ -11,7 +11,7 @@ use Rattle.posix_calls.specs.Tree as tree
 use Rattle.posix_calls.specs.Resolve.{resolve, resolve_from}
 use Rattle.posix_calls.specs.WellFormed.{IsDirectory}
 use Rattle.posix_calls.proofs.Sums.{all_zero}
-use Rattle.posix_calls.proofs.Entries.{counted, counted_is, counted_empty}
+use Rattle.posix_calls.proofs.Counts.{counted, counted_is, counted_empty}
 use Rattle.file_graph.specs.Graph.{Node, DirBody, fresh}
 use Rattle.file_graph.specs.declared.effect.Kind.{Kind}
 use Rattle.file_graph.specs.declared.effect.Kind.TheVariants as kind

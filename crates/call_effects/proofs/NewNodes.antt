@@ -16,7 +16,7 @@ use Rattle.call_effects.specs.Effects.{stored, making}
 use Rattle.call_effects.specs.Wholes.{without_kinds, tree_of, tree_node, kept, kind_of, one_if, IsTyped}
 use Rattle.posix_calls.specs.declared.deed.Spot.{Spot}
 use Rattle.posix_calls.specs.Deeds.{entered}
-use Rattle.posix_calls.proofs.Entries.{counted, counted_is, counted_empty, get_inserted}
+use Rattle.posix_calls.proofs.Counts.{counted, counted_is, counted_empty, get_inserted}
 use Rattle.posix_calls.proofs.Changes.{off_one, on_one}
 use Rattle.call_effects.specs.Fits.{IsNew, IsRoom}
 use Rattle.call_effects.proofs.Puts.{put, put_there, put_other, put_twice, put_exchange}

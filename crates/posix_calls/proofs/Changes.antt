@@ -11,7 +11,7 @@ use Rattle.posix_calls.specs.declared.deed.Spot.{Spot}
 use Rattle.posix_calls.specs.Deeds.{entered, left}
 use Rattle.posix_calls.specs.WellFormed.{IsDirectory, IsFile}
 use Rattle.posix_calls.proofs.Sums.{names_of-set_node, same_if, there_if}
-use Rattle.posix_calls.proofs.Entries.{order, counted, counted_is, counted_insert, counted_remove, counted_empty, gone, get_left, none_left, get_other, get_other_insert, get_here, insert_back}
+use Rattle.posix_calls.proofs.Counts.{order, counted, counted_is, counted_insert, counted_remove, counted_empty, gone, get_left, none_left, get_other, get_other_insert, get_here, insert_back}
 
 -- what a name in a directory leads to
 abbrev pub entry : Tree → Spot → Option ℕ

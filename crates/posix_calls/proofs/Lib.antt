@@ -7,7 +7,7 @@ pub mod Directory
 pub mod Rows
 mod Orders
 pub mod Sums
-pub mod Entries
+pub mod Counts
 pub mod Changes
 pub mod Reached
 pub mod Trees
@@ -30,3 +30,15 @@ pub mod Bounds
 pub mod Chain
 pub mod Places
 pub mod Walking
+pub mod Ordered
+pub mod Writes
+pub mod Slots
+pub mod Moves
+pub mod Tables
+pub mod Carried
+pub mod Doable
+pub mod Answering
+pub mod Asking
+pub mod Decided
+pub mod Made
+pub mod Scans

@@ -10,7 +10,7 @@ use Rattle.posix_calls.specs.Run.{settled_tree, settled}
 use Rattle.posix_calls.specs.Resolve.{resolve_from}
 use Rattle.posix_calls.specs.WellFormed.{IsDirectory, IsFile, IsWellFormed}
 use Rattle.posix_calls.proofs.Sums.{all_zero}
-use Rattle.posix_calls.proofs.Entries.{counted_empty}
+use Rattle.posix_calls.proofs.Counts.{counted_empty}
 use Rattle.posix_calls.proofs.Changes.{in_node, entry_parent}
 use Rattle.posix_calls.proofs.Reached.{chain_stays, chain_path}
 use Rattle.posix_calls.proofs.Trees.{some_kind, reached_of}

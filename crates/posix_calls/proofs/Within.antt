@@ -10,7 +10,7 @@ use Rattle.posix_calls.specs.Name.{is_name}
 use Rattle.posix_calls.specs.Tree.{Tree, Node, File, Dir, set_node, bytes_of, entries_of}
 use Rattle.posix_calls.specs.declared.deed.Spot.{Spot}
 use Rattle.posix_calls.specs.Deeds.{entered, left}
-use Rattle.posix_calls.proofs.Entries.{order, get_left, insert_named}
+use Rattle.posix_calls.proofs.Counts.{order, get_left, insert_named}
 use Rattle.posix_calls.proofs.Changes.{set_there, set_other}
 
 -- ---- lengths

@@ -12,3 +12,8 @@ pub mod Resolve
 pub mod WellFormed
 pub mod Answers
 pub mod Own
+pub mod Ordered
+pub mod Codes
+pub mod Bodies
+pub mod Plain
+pub mod PlainCode

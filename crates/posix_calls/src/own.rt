@@ -49,6 +49,13 @@ impl OwnDescriptors {
         self.places[number as usize] = what;
     }
 
+    /// Nothing is open at a number any more.
+    pub fn clear(&mut self, number: u32)
+        ensures { (n : ℕ) → own_of self.new n ≡ set_own (own_of self.old) number None n }
+    {
+        clear_place(&mut self.places, number as usize);
+    }
+
     /// The lowest number at which nothing is open.
     pub fn lowest_free(&self) -> Option<u32>
         ensures { result ≡ lowest_free (own_of self.now) 0 MAX_DESCRIPTORS }
@@ -59,5 +66,13 @@ impl OwnDescriptors {
             };
         }
         None
+    }
+}
+
+fn clear_place(places: &mut [Option<Descriptor>], place: usize)
+    ensures { (n : ℕ) → own_of places.new n ≡ set_own (own_of places.old) place None n }
+{
+    if place < places.len() {
+        places[place] = None;
     }
 }
