@@ -1,4 +1,0 @@
-pub mod Numbers
-pub mod Parts
-pub mod Paths
-pub mod RunLaws
