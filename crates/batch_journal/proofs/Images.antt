@@ -1,5 +1,5 @@
 -- Images and the blocks that they are for.
-use Rattle.std.proofs.Common.{◌≡◌, ◌≢◌, ◌⊎◌, inl, inr, ℕ, zero, suc, ◌+◌, ◌-◌, ◌*◌, ◌≤◌, ◌<◌, List, [], ◌∷◌, length, take, drop, refl, sym, ◌∙◌, ap, subst, arith, true, Some, None, cond, ◌↔◌}
+use Rattle.std.proofs.Common.{◌≡◌, ◌≢◌, ◌⊎◌, inl, inr, ℕ, zero, suc, ◌+◌, ◌-◌, ◌*◌, ◌≤◌, ◌<◌, List, [], ◌∷◌, length, take, drop, refl, sym, ◌∙◌, ap, subst, arith, true, Some, None, cond, ◌==◌, ◌↔◌}
 use Rattle.std.proofs.lemmas.List.{length-take-le, length-drop, take_rest}
 use Rattle.std.proofs.lemmas.Bool.{cases_lt, cases_eq}
 use Rattle.std.proofs.lemmas.Bool.Decides.{eqb_tells}
@@ -159,6 +159,10 @@ pub rises_rising : (g : Sizes) (low : ℕ) (images : List (ℕ × List ℕ)) →
 rises_rising g low [] rises are = rises
 rises_rising g low (image ∷ images) rises are = (rises.0, are.0, rises_rising g (image.0 + 1) images rises.1 are.1)
 
+pub rising_journaled : (g : Sizes) (low : ℕ) (images : List (ℕ × List ℕ)) → Rising g low images → AreJournaled g images
+rising_journaled g low [] rising = rising
+rising_journaled g low (image ∷ images) rising = (rising.1, rising_journaled g (image.0 + 1) images rising.2)
+
 pub rising_fit : (g : Sizes) (size low : ℕ) (images : List (ℕ × List ℕ)) → 4096 * tier_blocks g Fast ≤ size → Rising g low images → Fit size images
 rising_fit g size low [] le rising = rising
 rising_fit g size low (image ∷ images) le rising =
@@ -188,3 +192,17 @@ module _ (bytes : List ℕ) (g : Sizes) (low p n x : ℕ) (lt : p < n) (is : x �
 
 pub is_home_by : (t : ℕ) → (t < 34) ⊎ (292 ≤ t) → is_home t ≡ true
 is_home_by t either = grind arith
+
+-- ---- the image for block 0
+
+pub first_for_0 : (bytes : List ℕ) (n : ℕ) → 1 ≤ n → number_at bytes 0 ≡ 0 → image_for 0 (images_from bytes 0 n) ≡ Some (image_at bytes 0)
+first_for_0 bytes zero some is = absurd (omega (arith, some))
+first_for_0 bytes (suc n) some is = ap (λ t. cond (0 == t) (Some (image_at bytes 0)) (image_for 0 (images_from bytes 1 n))) is
+
+pub none_for_0 : (bytes : List ℕ) (n : ℕ) → Rises 0 (images_from bytes 0 n) → (n ≡ 0) ⊎ (number_at bytes 0 ≢ 0) → image_for 0 (images_from bytes 0 n) ≡ None
+none_for_0 bytes zero rises either = refl
+none_for_0 bytes (suc n) rises (inl is) = absurd (omega (arith, is))
+none_for_0 bytes (suc n) rises (inr away) = elim (eqb_tells 0 (number_at bytes 0)) [
+  | inl same ↦ absurd (away (sym same.1))
+  | inr off ↦ ap (λ b. cond b (Some (image_at bytes 0)) (image_for 0 (images_from bytes 1 n))) off.0 ∙ none_below (number_at bytes 0 + 1) 0 (images_from bytes 1 n) rises.1 (omega arith)
+]

@@ -1,10 +1,14 @@
-ghost use Rattle.std.specs.Prelude.{◌≡◌, ◌<◌, ◌≤◌, ◌+◌, ◌*◌, ℕ, List, [], ◌∷◌, ◌++◌, length, OnOk, OnErr, IfOk, replicate};
+ghost use Rattle.std.specs.Prelude.{◌≡◌, ◌<◌, ◌≤◌, ◌+◌, ◌*◌, ℕ, List, [], ◌∷◌, ◌++◌, length, OnOk, OnErr, IfOk, IsTrue, ◌↔◌, replicate};
 ghost use Rattle.batch_journal.specs.Images.{next_of, images_of};
+ghost use Rattle.batch_journal.specs.Blocks.{AreJournaled};
+ghost use Rattle.batch_journal.specs.Volume.{KeepsGeometry};
 ghost use Rattle.batch_journal.specs.View.{IsBatch};
 ghost use Rattle.byteorder.specs.Endian.{little_bytes};
 ghost use Rattle.tier_device.specs.Media.{overwritten};
 
+use crate::head::{is_rising, keeps_geometry};
 use byteorder::{ByteOrder, LittleEndian};
+use layout::Geometry;
 use std::alloc::{AllocError, Global};
 use std::marker::Model;
 
@@ -76,6 +80,15 @@ impl Batch {
         ensures { result ≡ next_of self.now }
     {
         self.next
+    }
+
+    /// Whether a journal of this geometry may commit it, if it is not too large: each image is for a block that a batch may
+    /// write, and one for block 0 spells the same geometry.
+    pub fn suits(&self, geometry: &Geometry) -> bool
+        ensures { IsTrue result ↔ (AreJournaled geometry.now self.now × KeepsGeometry geometry.now self.now) }
+    {
+        is_rising(&self.bytes, self.count, geometry)
+            && keeps_geometry(&self.bytes, self.count, geometry)
     }
 
     // Head and images, as a journal writes them.

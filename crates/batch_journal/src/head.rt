@@ -1,12 +1,12 @@
 // What the bytes of a head say.
 ghost use Rattle.std.specs.Prelude.{◌≡◌, ◌<◌, ◌≤◌, ◌+◌, ◌*◌, ◌^◌, ℕ, List, length, true, IsTrue, ◌↔◌};
 ghost use Rattle.layout.specs.Places.{is_journaled};
-ghost use Rattle.batch_journal.specs.Images.{count_of, number_at, images_of, rest_of_head, is_zero};
+ghost use Rattle.batch_journal.specs.Images.{count_of, number_at, images_of, rest_of_head, is_zero, Rises};
 ghost use Rattle.batch_journal.specs.Blocks.{Rising};
-ghost use Rattle.batch_journal.specs.Volume.{IsHead};
+ghost use Rattle.batch_journal.specs.Volume.{IsHead, Spells, KeepsGeometry};
 
 use byteorder::{ByteOrder, LittleEndian};
-use layout::Geometry;
+use layout::{Geometry, Super};
 
 /// Whether all bytes are zero.
 pub fn are_zero(bytes: &[u8]) -> bool
@@ -43,9 +43,10 @@ fn ends_in_zeros(bytes: &[u8], count: usize) -> bool
     are_zero(&bytes[4 + 4 * count..4096])
 }
 
-fn is_rising(bytes: &[u8], count: usize, geometry: &Geometry) -> bool
+/// Whether the numbers rise and name blocks that a batch may write.
+pub fn is_rising(bytes: &[u8], count: usize, geometry: &Geometry) -> bool
     requires count { count ≡ count_of bytes.now }
-    requires few { count ≤ 256 }
+    requires few { count ≤ 1023 }
     requires long { 4096 * count + 4096 ≤ length bytes.now }
     ensures { IsTrue result ↔ Rising geometry.now 0 (images_of bytes.now) }
 {
@@ -66,4 +67,27 @@ fn may_follow(number: u32, low: u64, geometry: &Geometry) -> bool
     ensures { IsTrue result ↔ ((low ≤ number) × (is_journaled geometry.now number ≡ true)) }
 {
     low <= number as u64 && geometry.is_journaled(number)
+}
+
+/// Whether an image for block 0 spells this geometry, if there is one: it is the first.
+pub fn keeps_geometry(bytes: &[u8], count: usize, geometry: &Geometry) -> bool
+    requires count { count ≡ count_of bytes.now }
+    requires few { count ≤ 1023 }
+    requires long { 4096 * count + 4096 ≤ length bytes.now }
+    requires rises { Rises 0 (images_of bytes.now) }
+    ensures { IsTrue result ↔ KeepsGeometry geometry.now (images_of bytes.now) }
+{
+    if count == 0 || number_in(bytes, 0) != 0 {
+        return true;
+    }
+    spells(&bytes[4096..8192], geometry)
+}
+
+fn spells(block: &[u8], geometry: &Geometry) -> bool
+    ensures { IsTrue result ↔ Spells geometry.now block.now }
+{
+    match Super::decode(block) {
+        Ok(found) => found.geometry == *geometry,
+        Err(_) => false,
+    }
 }

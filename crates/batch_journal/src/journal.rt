@@ -90,8 +90,9 @@ impl<M: Media> Journal<M> {
         }
     }
 
-    /// Writes the images of a batch to their blocks, all or none at each moment. It makes 7 device calls and one for each
-    /// image, none for a batch of no image, and takes no memory. After it, nothing is pending on the fast tier.
+    /// Writes the images of a batch to their blocks, all or none at each moment: a batch that `suits` the geometry. It makes 7
+    /// device calls and one for each image, none for a batch of no image, and takes no memory. After it, nothing is pending on
+    /// the fast tier.
     ///
     /// `BatchTooLarge`, with nothing changed, exactly where there are over 256 images. Where the device fails, a stop leaves
     /// the blocks from before the batch or those after it.

@@ -115,6 +115,19 @@ const BEFORE: [u8; 4] = [0, 0, 0, 0];
 
 const AFTER: [u8; 4] = [0x61, 0x61, 0x62, 0x62];
 
+// It is short, so that it can be run with each of its allocations failing in turn.
+#[test]
+fn two_images_are_read_again(rt: HostRuntime) -> Result<(), Fail> {
+    let alloc = rt.alloc();
+    let mut journal = reopened(alloc, medium(alloc, &[(0, &SUPERBLOCK)])?)?;
+    assert_eq!(rt; ends(alloc, &mut journal)?, BEFORE);
+    commit_two(alloc, &mut journal)?;
+    let rest = journal.into_media().after_stop(Fill::Byte(0xa5))?;
+    let mut journal = reopened(alloc, rest)?;
+    assert_eq!(rt; ends(alloc, &mut journal)?, AFTER);
+    Ok(())
+}
+
 // The gate is opened by call 3 and kept by call 4; until then no fill but an open gate's lets the batch be seen.
 fn expected(call: u64, fill: Fill) -> [u8; 4] {
     match (call, fill) {

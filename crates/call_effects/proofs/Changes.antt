@@ -6,7 +6,6 @@ use Rattle.std.specs.Prelude.{option_map}
 use Rattle.std.specs.FinMap as fin
 use Rattle.posix_calls.specs.Content.{Entries}
 use Rattle.posix_calls.specs.Tree.{Tree, Descriptors, names_of, names_in, is_open, entries_of}
-use Rattle.posix_calls.specs.declared.descriptor.Descriptor.{Descriptor}
 use Rattle.posix_calls.specs.Tree as tree
 use Rattle.file_graph.specs.Graph.{Graph, Node, Body, FileBody, DirBody, after_effect, acted, subjects, is_among}
 use Rattle.file_graph.specs.declared.effect.Kind.{Kind}

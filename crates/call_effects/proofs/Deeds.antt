@@ -5,7 +5,6 @@ use Rattle.std.proofs.lemmas.Bool.Decides.{eqb_tells}
 use Rattle.std.specs.FinMap as fin
 use Rattle.posix_calls.specs.Content.{resized}
 use Rattle.posix_calls.specs.Tree.{Tree, Descriptors, Own, is_open, bytes_of}
-use Rattle.posix_calls.specs.declared.descriptor.Descriptor.{Descriptor}
 use Rattle.posix_calls.specs.Tree as tree
 use Rattle.posix_calls.specs.declared.deed.Spot.{Spot}
 use Rattle.posix_calls.specs.declared.deed.Deed.{Deed}
@@ -19,7 +18,7 @@ use Rattle.file_graph.specs.declared.effect.Kind.{Kind}
 use Rattle.file_graph.specs.declared.effect.Kind.TheVariants as kind
 use Rattle.file_graph.specs.declared.effect.Effect.{Effect}
 use Rattle.file_graph.specs.declared.effect.Effect.TheVariants as effect
-use Rattle.call_effects.specs.Effects.{effects_of, replacing, dropping, kind_if, stored}
+use Rattle.call_effects.specs.Effects.{effects_of, replacing, replaced_file, dropping, kind_if, stored, stored_at}
 use Rattle.call_effects.specs.Wholes.{kept, tree_of}
 use Rattle.call_effects.specs.Fits.{IsNew, IsRoom, IsEntry, IsUsedFile, IsEmptyDir, Fits}
 use Rattle.call_effects.proofs.Puts.{put, put_there, put_other}
@@ -87,19 +86,20 @@ moved_none g d new from to i b fair entry room =
     }
 
 -- the second half, on the graph that the first half left
-moved_on : (g h : Graph) (d : Descriptors) (new : ℕ) (from to : Spot) (i : ℕ) (b : Bool) (replaced : Replaced) → after_effects g (replacing g to replaced) ≡ h → IsFair h d → tree_of (kept h d) ≡ less_replaced d (tree_of (kept g d)) to replaced
+moved_on : (g h : Graph) (d : Descriptors) (new : ℕ) (from to : Spot) (i : ℕ) (b : Bool) (replaced : Replaced) → after_effects g (replacing (stored_at g (replaced_file replaced)) to replaced) ≡ h → IsFair h d → tree_of (kept h d) ≡ less_replaced d (tree_of (kept g d)) to replaced
     → IsEntry h from (i, kind_if b) → IsRoom h to → IsAfterDeed g d new (Move from to i b replaced)
 moved_on g h d new from to i b replaced is fair same entry room =
     let half = moved_none h d new from to i b fair entry room in
     let rest = effect.Leave from.parent from.name ∷ effect.Enter to.parent i (kind_if b) to.name ∷ [] in
-    let whole : after_effects g (replacing g to replaced ++ rest) ≡ after_effects h rest = after_append g (replacing g to replaced) rest ∙ ap (λ x. after_effects x rest) is in
+    let first = replacing (stored_at g (replaced_file replaced)) to replaced in
+    let whole : after_effects g (first ++ rest) ≡ after_effects h rest = after_append g first rest ∙ ap (λ x. after_effects x rest) is in
     record {
       tree = ap (λ x. tree_of (kept x d)) whole ∙ half.tree ∙ ap (λ t. entered (left t from) to i) same;
       fair = subst (λ x. IsFair x d) (sym whole) half.fair;
     }
 
 -- a name of a file is dropped, where its count stands in the graph
-dropped_is : (g : Graph) (d : Descriptors) (at : Spot) (i : ℕ) (fair : IsFair g d) (entry : IsEntry g at (i, kind.File)) (f : IsUsedFile g d i) → after_effects g (dropping g at i) ≡ drop_2 g d i f.names at f.bytes fair entry f.is
+dropped_is : (g : Graph) (d : Descriptors) (at : Spot) (i : ℕ) (fair : IsFair g d) (entry : IsEntry g at (i, kind.File)) (f : IsUsedFile g d i) → after_effects g (dropping at i (stored (g i))) ≡ drop_2 g d i f.names at f.bytes fair entry f.is
 dropped_is g d at i fair entry f = ap (λ o. after_effects g (effect.Leave at.parent at.name ∷ effect.Names i (stored o - 1) ∷ [])) f.is ∙ dropped g d i f.names at f.bytes fair entry f.is
 
 moved_file : (g : Graph) (d : Descriptors) (new : ℕ) (from to : Spot) (i : ℕ) (b : Bool) (j : ℕ) → IsFair g d → IsEntry g from (i, kind_if b) → i ≢ j → IsEntry g to (j, kind.File) → IsUsedFile g d j → IsAfterDeed g d new (Move from to i b (OldFile j))

@@ -5,7 +5,6 @@ use Rattle.std.proofs.lemmas.Bool.Decides.{eqb_tells}
 use Rattle.std.specs.FinMap as fin
 use Rattle.posix_calls.specs.Content.{Entries, resized, written}
 use Rattle.posix_calls.specs.Tree.{Tree, Descriptors, names_of, names_in, is_open, entries_of, bytes_of}
-use Rattle.posix_calls.specs.declared.descriptor.Descriptor.{Descriptor}
 use Rattle.posix_calls.specs.Tree as tree
 use Rattle.file_graph.specs.Graph.{Graph, Node, FileBody, after_effect, after_effects, acted}
 use Rattle.file_graph.specs.declared.effect.Kind.{Kind}

@@ -25,30 +25,52 @@ kind_if false = kind.File
 abbrev pub making : ℕ → Kind → Spot → List Effect
 making new k at = effect.Make new k ∷ effect.Enter at.parent new k at.name ∷ effect.Names new 1 ∷ []
 
--- one name of a file fewer
-abbrev pub dropping : Graph → Spot → ℕ → List Effect
-dropping g at i = effect.Leave at.parent at.name ∷ effect.Names i (stored (g i) - 1) ∷ []
+-- one name fewer of a file that has so many
+abbrev pub dropping : Spot → ℕ → ℕ → List Effect
+dropping at i names = effect.Leave at.parent at.name ∷ effect.Names i (names - 1) ∷ []
 
 -- a directory less, and its name
 abbrev pub removing : Spot → ℕ → List Effect
 removing at i = effect.Leave at.parent at.name ∷ effect.Drop i ∷ []
 
--- what a rename puts out of its place
-abbrev pub replacing : Graph → Spot → Replaced → List Effect
-replacing g at Nothing = []
-replacing g at (OldFile j) = dropping g at j
-replacing g at (OldDir j) = removing at j
+-- what a rename puts out of its place; a file has so many names
+abbrev pub replacing : ℕ → Spot → Replaced → List Effect
+replacing names at Nothing = []
+replacing names at (OldFile j) = dropping at j names
+replacing names at (OldDir j) = removing at j
+
+-- the file that a rename puts out of its place
+abbrev pub replaced_file : Replaced → Option ℕ
+replaced_file Nothing = None
+replaced_file (OldFile j) = Some j
+replaced_file (OldDir j) = None
+
+-- the file that gets another number of names
+abbrev pub recounted : Deed → Option ℕ
+recounted (AddName at i) = Some i
+recounted (DropName at i) = Some i
+recounted (Move from to i is_dir replaced) = replaced_file replaced
+recounted _ = None
+
+-- the effects of a deed, where a new node has the number new, and the file that gets another number of names has so many
+abbrev pub effects_by : ℕ → ℕ → Deed → List Effect
+effects_by names new (Tell answer) = []
+effects_by names new (NewDir at) = making new kind.Directory at
+effects_by names new (NewFile at number reads writes) = making new kind.File at
+effects_by names new (OpenFile i empties number reads writes) = if empties then effect.Size i 0 ∷ [] else []
+effects_by names new (CloseFile i number) = []
+effects_by names new (Write i at bytes) = effect.Bytes i at bytes ∷ []
+effects_by names new (Resize i len) = effect.Size i len ∷ []
+effects_by names new (RemoveDir at i) = removing at i
+effects_by names new (AddName at i) = effect.Enter at.parent i kind.File at.name ∷ effect.Names i (names + 1) ∷ []
+effects_by names new (DropName at i) = dropping at i names
+effects_by names new (Move from to i is_dir replaced) = replacing names to replaced ++ (effect.Leave from.parent from.name ∷ effect.Enter to.parent i (kind_if is_dir) to.name ∷ [])
+
+-- the count of names that a file has stored, if there is one to ask for
+abbrev pub stored_at : Graph → Option ℕ → ℕ
+stored_at g None = 0
+stored_at g (Some i) = stored (g i)
 
 -- the effects of a deed over a graph, where a new node has the number new
 abbrev pub effects_of : Graph → ℕ → Deed → List Effect
-effects_of g new (Tell answer) = []
-effects_of g new (NewDir at) = making new kind.Directory at
-effects_of g new (NewFile at number reads writes) = making new kind.File at
-effects_of g new (OpenFile i empties number reads writes) = if empties then effect.Size i 0 ∷ [] else []
-effects_of g new (CloseFile i number) = []
-effects_of g new (Write i at bytes) = effect.Bytes i at bytes ∷ []
-effects_of g new (Resize i len) = effect.Size i len ∷ []
-effects_of g new (RemoveDir at i) = removing at i
-effects_of g new (AddName at i) = effect.Enter at.parent i kind.File at.name ∷ effect.Names i (stored (g i) + 1) ∷ []
-effects_of g new (DropName at i) = dropping g at i
-effects_of g new (Move from to i is_dir replaced) = replacing g to replaced ++ (effect.Leave from.parent from.name ∷ effect.Enter to.parent i (kind_if is_dir) to.name ∷ [])
+effects_of g new deed = effects_by (stored_at g (recounted deed)) new deed

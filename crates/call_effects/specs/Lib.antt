@@ -1,4 +1,10 @@
 pub mod Calls
+pub mod Changed
 pub mod Effects
 pub mod Fits
+pub mod Known
+pub mod Partial
+pub mod Recorded
+pub mod Records
+pub mod Rises
 pub mod Wholes

@@ -29,7 +29,7 @@ among_append i (j ∷ is) js e =
     (ap (λ (b : Bool). b || is_among i is) p.0 ∙ q.0, q.1)
 
 -- an inode that no effect has as its subject stays
-untouched : (g : Graph) (es : List Effect) (i : ℕ) → is_among i (touches es) ≡ false → after_effects g es i ≡ g i
+pub untouched : (g : Graph) (es : List Effect) (i : ℕ) → is_among i (touches es) ≡ false → after_effects g es i ≡ g i
 untouched g [] i e = refl
 untouched g (f ∷ es) i e =
     let p = among_append i (subjects f) (touches es) (ap (is_among i) (sym (flat_map-cons subjects f es)) ∙ e) in

@@ -60,6 +60,14 @@ overwritten_then at next u v old there fits =
     ∙ ap (λ (k : ℕ). drop k old) (omega (arith, length-append u v)) in
     rw (before, after) (ap (λ (t : List ℕ). t ++ drop (at + length (u ++ v)) old) (append_assoc (take at old) u v))
 
+-- and three are
+pub overwritten_thrice : (at second third : ℕ) (u v w old : List ℕ) → at + length u ≡ second → second + length v ≡ third → third + length w ≤ length old
+    → overwritten third w (overwritten second v (overwritten at u old)) ≡ overwritten at (u ++ (v ++ w)) old
+overwritten_thrice at second third u v w old there next fits =
+    ap (overwritten third w) (overwritten_then at second u v old there (omega (arith, next, fits)))
+    ∙ overwritten_then at third (u ++ v) w old (omega (arith, there, next, length-append u v)) fits
+    ∙ ap (λ (t : List ℕ). overwritten at t old) (append_assoc u v w)
+
 pub written_u32 : (n at x : ℕ) (text old : List ℕ) → old ≡ filled n text → length text ≡ at → at + 4 ≤ n → (overwritten at (u32 x) old ≡ filled n (text ++ u32 x)) × (length (text ++ u32 x) ≡ at + 4)
 written_u32 n at x text old is long fits =
     (written_on n at text (u32 x) old is (sym long) (omega (arith, u32_long x)), omega (arith, length-append text (u32 x), u32_long x))

@@ -6,8 +6,8 @@ use Rattle.posix_calls.specs.Name.{is_name}
 use Rattle.layout.specs.declared.places.TheConstants.{BLOCK}
 use Rattle.layout.specs.declared.directory.TheConstants.{MAX_IN_BLOCK, FIRST_ENTRY_AT, HEAD_GAP}
 use Rattle.layout.specs.declared.kinds.TheConstants.{FILE, DIRECTORY}
-use Rattle.layout.specs.declared.kinds.NodeKind.{NodeKind}
-use Rattle.layout.specs.declared.kinds.NodeKind.TheVariants as kind
+use Rattle.file_graph.specs.declared.effect.Kind.{Kind}
+use Rattle.file_graph.specs.declared.effect.Kind.TheVariants as kind
 use Rattle.layout.specs.declared.directory.DirEntry.{DirEntry}
 use Rattle.layout.specs.Places.{is_inode}
 use Rattle.layout.specs.Bytes.{◌>>=◌, Field, u32, zeros, filled, number_at, byte_at, run_at, text_at, items_at, are_zero, within}
@@ -18,7 +18,7 @@ pub record EntryList : Type 0 where
   pub entries : List DirEntry
 
 -- 1 is a file, 2 a directory
-abbrev pub kind_byte : NodeKind → ℕ
+abbrev pub kind_byte : Kind → ℕ
 kind_byte kind.File = FILE
 kind_byte kind.Directory = DIRECTORY
 
@@ -43,7 +43,7 @@ abbrev pub fits_entries : EntryList → Bool
 fits_entries v = is_inode v.owner && nat_le (length v.entries) MAX_IN_BLOCK && list_all fits_entry v.entries
 
 -- the kind of a node
-abbrev pub kind_at : Field NodeKind
+abbrev pub kind_at : Field Kind
 kind_at [] = None
 kind_at (b ∷ rest) = if b == FILE then Some (kind.File, rest) else (if b == DIRECTORY then Some (kind.Directory, rest) else None)
 

@@ -6,10 +6,10 @@ ghost use Rattle.layout.specs.declared.damaged.What.TheVariants as what;
 
 use crate::damaged::{Damaged, DecodeError, What};
 use crate::entry::{entry_of, put_entry};
-use crate::kinds::NodeKind;
 use crate::places::{BLOCK, is_inode};
 use crate::reading::{are_zero, text_of, u32_of};
 use crate::writing::{clear, put_u32};
+use file_graph::Kind;
 use posix_calls::Name;
 use std::alloc::{AllocError, Global};
 use std::marker::Model;
@@ -30,7 +30,7 @@ pub const ENTRY_SIZE: usize = 72;
 #[derive(Debug, Drop)]
 pub struct DirEntry {
     pub inode: u32,
-    pub kind: NodeKind,
+    pub kind: Kind,
     pub name: Name,
 }
 

@@ -5,10 +5,11 @@ ghost use Rattle.layout.specs.Directory.{kind_byte, kind_at, front_of, fields_at
 ghost use Rattle.layout.specs.Lent.{owned};
 
 use crate::directory::DirEntry;
-use crate::kinds::{DIRECTORY, FILE, NodeKind};
+use crate::kinds::{DIRECTORY, FILE};
 use crate::places::is_inode;
 use crate::reading::{are_zero, text_of, u32_of};
 use crate::writing::{put, put_u32};
+use file_graph::Kind;
 use posix_calls::{MAX_NAME, Name};
 use std::alloc::{AllocError, Global};
 
@@ -16,7 +17,7 @@ use std::alloc::{AllocError, Global};
 #[derive(Clone, Copy)]
 pub struct EntryRef<'a> {
     pub inode: u32,
-    pub kind: NodeKind,
+    pub kind: Kind,
     pub name: &'a [u8],
 }
 
@@ -32,7 +33,7 @@ pub fn put_entry(block: &mut [u8], at: usize, entry: &DirEntry)
 }
 
 // The kind, the length of the name, and two zero bytes.
-fn put_tags(block: &mut [u8], at: usize, kind: NodeKind, count: usize)
+fn put_tags(block: &mut [u8], at: usize, kind: Kind, count: usize)
     requires within { at + 4 ≤ length block.old }
     requires few { count ≤ MAX_NAME }
     ensures { block.new ≡ overwritten at (kind_byte kind ∷ count ∷ 0 ∷ 0 ∷ []) block.old }
@@ -59,12 +60,12 @@ fn put_zeros(block: &mut [u8], at: usize)
     put(block, at, &text);
 }
 
-fn kind_byte(kind: NodeKind) -> u8
+fn kind_byte(kind: Kind) -> u8
     ensures { result ≡ kind_byte kind }
 {
     match kind {
-        NodeKind::File => FILE,
-        NodeKind::Directory => DIRECTORY,
+        Kind::File => FILE,
+        Kind::Directory => DIRECTORY,
     }
 }
 
@@ -86,13 +87,13 @@ fn run_of(count: usize, bytes: &[u8]) -> Option<(&[u8], &[u8])>
     Some(bytes.split_at(count))
 }
 
-fn kind_of(bytes: &[u8]) -> Option<(NodeKind, &[u8])>
+fn kind_of(bytes: &[u8]) -> Option<(Kind, &[u8])>
     ensures { option_map (λ x. (x.0, x.1.now)) result ≡ kind_at bytes.now }
 {
     let (byte, rest) = byte_of(bytes)?;
     match byte {
-        FILE => Some((NodeKind::File, rest)),
-        DIRECTORY => Some((NodeKind::Directory, rest)),
+        FILE => Some((Kind::File, rest)),
+        DIRECTORY => Some((Kind::Directory, rest)),
         _ => None,
     }
 }

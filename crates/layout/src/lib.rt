@@ -24,7 +24,6 @@ pub use damaged::{Damaged, DecodeError, What};
 pub use directory::{DirBlock, DirEntry, MAX_IN_BLOCK};
 pub use extents::{Extent, ExtentBlock, MAX_EXTENTS};
 pub use geometry::Geometry;
-pub use kinds::NodeKind;
 pub use laws::{
     entries_are_read, entries_are_spelled, extents_are_read, extents_are_spelled, marks_are_read,
     marks_are_spelled, slot_is_read, slot_is_spelled, super_is_read, super_is_spelled,

@@ -1,8 +1,9 @@
 use crate::{
     BLOCK, Damaged, DecodeError, DirBlock, DirEntry, Extent, ExtentBlock, FIRST_NODE_BLOCK,
-    Geometry, MAX_EXTENTS, MAX_IN_BLOCK, Mark, Marks, NodeKind, SLOT_SIZE, Slot, Super, What,
-    slot_block, slot_byte,
+    Geometry, MAX_EXTENTS, MAX_IN_BLOCK, Mark, Marks, SLOT_SIZE, Slot, Super, What, slot_block,
+    slot_byte,
 };
+use file_graph::Kind;
 use posix_calls::Name;
 use std::alloc::{AllocError, AllocFailed, Global};
 use tier_device::Tier;
@@ -348,7 +349,7 @@ fn dir_block_has_its_bytes(rt: HostRuntime) -> Result<(), Stopped> {
     };
     entries.push(DirEntry {
         inode: 2,
-        kind: NodeKind::Directory,
+        kind: Kind::Directory,
         name,
     })?;
     let Ok(name) = Name::from_vec(b"b.c".to_vec(alloc)?) else {
@@ -356,7 +357,7 @@ fn dir_block_has_its_bytes(rt: HostRuntime) -> Result<(), Stopped> {
     };
     entries.push(DirEntry {
         inode: 1_024,
-        kind: NodeKind::File,
+        kind: Kind::File,
         name,
     })?;
     let found = DirBlock::new(1, entries);

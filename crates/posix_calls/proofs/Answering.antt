@@ -1,11 +1,9 @@
 -- Nodes as a call sees them, and who knows them all.
-use Rattle.std.proofs.Common.{◌≡◌, ℕ, List, Option, Some, None, false, length, ltb, Result, Ok, Err, refl, ap, sym, ◌∙◌}
+use Rattle.std.proofs.Common.{◌≡◌, ℕ, List, Option, Some, None, false, length, ltb, refl, ap, sym, ◌∙◌}
 use Rattle.std.specs.Prelude.{option_map}
-use Rattle.std.specs.FinMap as fin
-use Rattle.posix_calls.specs.Content.{Entries}
-use Rattle.posix_calls.specs.Tree.{Node, File, Dir, entries_of, bytes_of}
-use Rattle.posix_calls.specs.Asks.{Asks, Gives, Refuses, IsDir, Look, View, Part, Found, Known, Lacks, run, run_part, seen}
-use Rattle.posix_calls.specs.Walk.{entries_seen, bytes_seen}
+use Rattle.posix_calls.specs.Tree.{Node, File, Dir, entries_of}
+use Rattle.posix_calls.specs.Asks.{Asks, Gives, Refuses, IsDir, Look, View, Found, Known, Lacks, run, run_part, seen}
+use Rattle.posix_calls.specs.Walk.{entries_seen}
 use Rattle.posix_calls.specs.Plain.{whole, tree_of}
 use Rattle.std.proofs.lemmas.Bool.{ltb-false}
 use Rattle.std.proofs.lemmas.List.{get_or_past}

@@ -1,14 +1,14 @@
 -- What a plain tree answers, from what its parts ensure.
-use Rattle.std.proofs.Common.{◌≡◌, ℕ, zero, suc, ◌<◌, ◌≤◌, ◌-◌, List, [], Option, Some, None, Result, Ok, Err, Bool, true, false, ◌&&◌, ◌==◌, length, get_or, refl, ap, sym, subst, ◌∙◌, inl, inr, arith, ◌⊎◌}
-use Rattle.std.specs.Prelude.{nat_le, if◌then◌else◌}
+use Rattle.std.proofs.Common.{◌≡◌, ℕ, zero, suc, ◌<◌, ◌≤◌, ◌-◌, List, [], Option, Result, Ok, Err, Bool, true, false, length, get_or, refl, ap, sym, subst, ◌∙◌, inl, inr, arith, ◌⊎◌}
+use Rattle.std.specs.Prelude.{if◌then◌else◌}
 use Rattle.std.proofs.lemmas.Bool.Decides.{nat_tests}
 use Rattle.std.proofs.lemmas.List.{get_or_default}
 use Rattle.posix_calls.specs.Tree.{Own, State}
 use Rattle.posix_calls.specs.Own.{own_of}
-use Rattle.posix_calls.specs.Asks.{Known, Lacks, run, run_part, view_of}
+use Rattle.posix_calls.specs.Asks.{Known, run, run_part, view_of}
 use Rattle.posix_calls.specs.Decide.{decide}
-use Rattle.posix_calls.specs.Deeds.{answer, Follows, Step, GivesUp, makes, is_client}
-use Rattle.posix_calls.specs.Plain.{Stored, tree_of, held_of, state_of, whole, IsLowest, IsDone, IsDropped, IsAnswered, IsGivenUp}
+use Rattle.posix_calls.specs.Deeds.{answer, Follows, Step, makes, is_client}
+use Rattle.posix_calls.specs.Plain.{Stored, IsSound, tree_of, held_of, state_of, whole, IsLowest, IsDone, IsDropped, IsAnswered, IsGivenUp}
 use Rattle.posix_calls.specs.declared.deed.Deed.{Deed}
 use Rattle.posix_calls.specs.declared.call.Call.{Call}
 use Rattle.posix_calls.specs.declared.call.Reply.{Reply}
@@ -17,6 +17,8 @@ use Rattle.posix_calls.specs.declared.descriptor.Descriptor.{Descriptor}
 use Rattle.posix_calls.specs.declared.errno.Errno.{Errno}
 use Rattle.posix_calls.specs.declared.errno.Errno.TheVariants as errno
 use Rattle.posix_calls.proofs.Answering.{whole_knows}
+use Rattle.posix_calls.proofs.Lasting.{step_fine}
+use Rattle.posix_calls.proofs.Passing.{step_within}
 
 abbrev Row : Type 0
 Row = List (Option Descriptor)
@@ -61,3 +63,14 @@ step_of old after client call r (inr (inr full, same)) = inr (errno.NoSpace, ref
 pub refused_of : (s : Stored) (client : ℕ) (call : Call) (e : Errno) → answer (state_of s) client call ≡ Err e → IsAnswered (state_of s) client call (Failed e) (state_of s)
 refused_of s client call e is =
     (0, λ d f m. absurd (cc), subst (λ a. Follows (state_of s) client 0 a (Failed e) (state_of s)) (sym is) (refl, refl))
+
+-- the deed of a client's call was done or given up; what is stored is seen as one value
+pub came_of : (held now : Stored) (client : ℕ) (call : Call) (deed : Deed) (r : Reply) (after : State) (row : Row) → held ≡ now → 0 < client → client ≤ 8 → length held.rows ≡ 8 → row ≡ get_or held.rows (client - 1) row
+    → run_part (whole (view_of (tree_of now.nodes))) (decide (own_of row) call) ≡ Known (Ok deed) → IsDone (state_of held) client deed r after ⊎ IsDropped (state_of held) deed r after → IsAnswered (state_of now) client call r after ⊎ IsGivenUp (state_of now) client call r after
+came_of held now client call deed r after row seen low high rows is known done =
+    let own = ap (λ (s : Stored). held_of s.rows client) (sym seen) ∙ row_of held.rows client row low (omega (arith, rows, high)) is in
+    exact_of (state_of now) after client call deed r (answer_is now client call row (Ok deed) (among client low high) own known) (subst (λ (s : Stored). IsDone (state_of s) client deed r after ⊎ IsDropped (state_of s) deed r after) seen done)
+
+-- the state stays sound
+pub sound_after : (old after : State) (client : ℕ) (call : Call) (r : Reply) → IsSound old → Step old client call r after → IsSound after
+sound_after old after client call r sound step = (step_fine old client call r after sound.0 step, step_within old client call r after sound.0 sound.1 step)

@@ -9,6 +9,7 @@ use Rattle.posix_calls.specs.Tree.{Tree, Node, File, Dir, set_node, entries_of, 
 use Rattle.posix_calls.specs.Asks.{dir_test}
 use Rattle.posix_calls.specs.declared.deed.Spot.{Spot}
 use Rattle.posix_calls.specs.Deeds.{entered, left}
+pub use Rattle.posix_calls.specs.Plain.{IsBare}
 use Rattle.posix_calls.specs.WellFormed.{IsDirectory, IsFile}
 use Rattle.posix_calls.proofs.Sums.{names_of-set_node, same_if, there_if}
 use Rattle.posix_calls.proofs.Counts.{order, counted, counted_is, counted_insert, counted_remove, counted_empty, gone, get_left, none_left, get_other, get_other_insert, get_here, insert_back}
@@ -58,9 +59,6 @@ in_node k (Some (File bytes)) = sym (counted_empty k)
 in_node k (Some (Dir es)) = counted_is k es
 
 -- ---- a node without entries is changed for another
-
-abbrev pub IsBare : Option Node → Type 0
-IsBare o = entries_of o ≡ fin.empty
 
 pub bare_entry : (o : Option Node) (name : List ℕ) (i : ℕ) → IsBare o → fin.get (entries_of o) name ≡ Some i → ⊥
 bare_entry o name i bare e = no_entry name i (ap (λ m. fin.get m name) (sym bare) ∙ e)

@@ -87,6 +87,15 @@ stays m name v is = fin.same_map nat_list_cmp_total names_same _ _ (λ q.
       | false ↦ λ e. refl
     ] refl)
 
+-- a name that is not there takes nothing out
+pub absent : {X : Type 0} (m : Entries X) (name : List ℕ) → fin.get m name ≡ None → fin.remove m name ≡ m
+absent m name none = fin.same_map nat_list_cmp_total names_same _ _ (λ q.
+    fin.get-remove nat_list_cmp_total m name q
+    ∙ elim (eq_by_cmp order q name) as (λ b. eq_by_cmp order q name ≡ b → cond b None (fin.get m q) ≡ fin.get m q) [
+      | true ↦ λ e. sym none ∙ ap (fin.get m) (sym (alike q name e))
+      | false ↦ λ e. refl
+    ] refl)
+
 pub counted_remove : (i : ℕ) (m : Entries ℕ) (name : List ℕ) (v : ℕ) → fin.get m name ≡ Some v → counted i (fin.remove m name) + cond (v == i) 1 0 ≡ counted i m
 counted_remove i m name v is = sym (counted_insert i (fin.remove m name) name v (gone m name)) ∙ ap (counted i) (put_back m name v ∙ stays m name v is)
 

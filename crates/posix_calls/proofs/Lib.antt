@@ -39,6 +39,6 @@ pub mod Carried
 pub mod Doable
 pub mod Answering
 pub mod Asking
-pub mod Decided
 pub mod Made
 pub mod Scans
+pub mod Tallies

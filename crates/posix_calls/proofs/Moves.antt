@@ -1,18 +1,18 @@
 -- A name that is put in before the old one is taken out.
-use Rattle.std.proofs.Common.{◌≡◌, ◌≢◌, ℕ, List, [], ◌∷◌, Option, Some, None, refl, sym, ap, subst, ◌∙◌, inl, inr, arith, cond, ◌==◌, ◌&&◌, true, false, Bool, not, ◌+◌, T}
+use Rattle.std.proofs.Common.{◌≡◌, ◌≢◌, ℕ, List, [], ◌∷◌, Option, Some, None, refl, sym, ap, ◌∙◌, inl, inr, arith, cond, ◌==◌, ◌&&◌, true, false, Bool, not, ◌+◌, T}
 use Rattle.std.proofs.lemmas.List.Sums.{sum_by-cons}
 use Rattle.std.specs.Prelude.{count_by}
-use Rattle.std.specs.Ordering.{nat_cmp, is_eq}
+use Rattle.std.specs.Ordering.{is_eq}
 use Rattle.std.specs.declared.cmp.Ordering.TheVariants.{Less, Equal, Greater}
-use Rattle.std.specs.Cmp.Lexicographic.{slice_cmp, nat_list_cmp_total}
+use Rattle.std.specs.Cmp.Lexicographic.{nat_list_cmp_total}
 use Rattle.std.specs.FinMap as fin
 use Rattle.std.specs.FinMap.Entries.{by_order, below_all}
 use Rattle.std.proofs.lemmas.Bool.{cases_eq, and_parts}
 use Rattle.std.proofs.lemmas.Bool.Decides.{nat_tests}
 use Rattle.posix_calls.specs.Content.{Entries}
 use Rattle.posix_calls.specs.Tree.{Node, Tree, Dir, set_node, entries_of, names_in, names_of, sum_up_to, is_open, Descriptors}
-use Rattle.posix_calls.specs.Deeds.{entered, left, less_unused, less_replaced}
-use Rattle.posix_calls.specs.Plain.{less_put_out, at_spot, IsReplaceable, IsMovable}
+use Rattle.posix_calls.specs.Deeds.{entered, left, less_replaced}
+use Rattle.posix_calls.specs.Plain.{less_put_out, at_spot, IsMovable}
 use Rattle.posix_calls.specs.Ordered.{without}
 use Rattle.posix_calls.specs.declared.deed.Spot.{Spot}
 use Rattle.posix_calls.specs.declared.deed.Replaced.{Replaced}
@@ -118,7 +118,7 @@ swapped t from to i apart =
     ]
 
 -- a name that was taken out first
-renewed : (t : Tree) (to : Spot) (i : ℕ) → entered (left t to) to i ≡ entered t to i
+pub renewed : (t : Tree) (to : Spot) (i : ℕ) → entered (left t to) to i ≡ entered t to i
 renewed t to i =
     let p = to.parent in
     ap (λ (o : Option Node). set_node (left t to) p (with_name o to.name i)) (node_here t p p (less_name (t p) to.name) refl)
@@ -207,7 +207,7 @@ same_names t to i j apart = ap (sum_up_to MAX_INODE) (λ k d. put_in_at t to i j
 
 -- ---- a move
 
-off_parent : (t : Tree) (at : Spot) (j n : ℕ) → at_spot t at ≡ Some n → entries_of (t j) ≡ fin.empty → j ≢ at.parent
+pub off_parent : (t : Tree) (at : Spot) (j n : ℕ) → at_spot t at ≡ Some n → entries_of (t j) ≡ fin.empty → j ≢ at.parent
 off_parent t at j n there empty same =
     let nothing : fin.get (entries_of (t at.parent)) at.name ≡ None = ap (λ (m : ℕ). fin.get (entries_of (t m)) at.name) (sym same) ∙ ap (λ (e : Entries ℕ). fin.get e at.name) empty ∙ fin.get-empty names_cmp at.name in
     absurd (cc)

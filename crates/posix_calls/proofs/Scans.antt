@@ -1,7 +1,7 @@
--- Sums and searches over the numbers from 1 on, as a loop makes them.
-use Rattle.std.proofs.Common.{◌≡◌, ℕ, zero, suc, ◌+◌, ◌<◌, ◌≤◌, Bool, true, false, ◌||◌, refl, sym, ap, ◌∙◌, inl, inr, arith, add-one}
+-- Searches over the numbers from 1 on, as a loop makes them.
+use Rattle.std.proofs.Common.{◌≡◌, ℕ, zero, suc, ◌+◌, ◌<◌, Bool, true, false, ◌||◌, refl, sym, ap, ◌∙◌, inl, inr, arith, add-one}
 use Rattle.std.proofs.lemmas.Bool.{cases_eq}
-use Rattle.posix_calls.specs.Tree.{any_up_to, sum_up_to}
+use Rattle.posix_calls.specs.Tree.{any_up_to}
 
 pub any_none : (p : ℕ → Bool) → any_up_to 0 p ≡ false
 unfolding any_up_to
@@ -32,17 +32,3 @@ any_found n (suc m) p below here =
       | inl same ↦ or_left _ _ (ap (λ k. p (suc k)) (sym same) ∙ here)
       | inr apart ↦ or_right (p (suc m)) _ (any_found n m p (omega arith) here)
     ]
-
-pub sum_none : (f : ℕ → ℕ) → sum_up_to 0 f ≡ 0
-unfolding sum_up_to
-sum_none f = refl
-
-sum_suc : (n : ℕ) (f : ℕ → ℕ) → sum_up_to (suc n) f ≡ f (suc n) + sum_up_to n f
-unfolding sum_up_to
-sum_suc n f = refl
-
-pub sum_more : (n count here : ℕ) (f : ℕ → ℕ) → count ≡ sum_up_to n f → here ≡ f (n + 1) → count + here ≡ sum_up_to (n + 1) f
-sum_more n count here f before is =
-    let now : here ≡ f (suc n) = is ∙ ap f (add-one n) in
-    let step : sum_up_to (n + 1) f ≡ f (suc n) + sum_up_to n f = ap (λ m. sum_up_to m f) (add-one n) ∙ sum_suc n f in
-    omega (arith, now, step, before)

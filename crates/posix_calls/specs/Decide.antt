@@ -7,7 +7,6 @@ use Rattle.posix_calls.specs.Tree.{Own}
 use Rattle.posix_calls.specs.declared.descriptor.Descriptor.{Descriptor}
 use Rattle.posix_calls.specs.Asks.{Seen, File, Dir, Asks, Gives, Refuses, Look, ◌>>=◌}
 use Rattle.posix_calls.specs.Walk.{Place, refuse, said, entries_at, bytes_at, bytes_seen, names_at, kind_at, prefix, is_root, is_there, there, is_full}
-use Rattle.posix_calls.specs.declared.deed.Spot.{Spot}
 use Rattle.posix_calls.specs.declared.limits.TheConstants.{MAX_DESCRIPTORS, MAX_FILE, MAX_NAMES, MAX_TRANSFER}
 use Rattle.posix_calls.specs.declared.errno.Errno.TheVariants as errno
 use Rattle.posix_calls.specs.declared.call.Flags.{Flags}

@@ -1,7 +1,7 @@
 -- The state that a plain tree stores.
-use Rattle.std.specs.Prelude.{◌≡◌, ◌≢◌, ◌⊎◌, length, true, Ok, ℕ, zero, suc, ◌<◌, ◌≤◌, List, [], get_or, Option, Some, None}
+use Rattle.std.specs.Prelude.{◌≡◌, ◌≢◌, ◌⊎◌, length, true, Ok, ℕ, zero, suc, ◌<◌, ◌≤◌, ◌==◌, List, [], get_or, Option, Some, None, if◌then◌else◌}
 use Rattle.std.specs.FinMap as fin
-use Rattle.posix_calls.specs.Tree.{Node, Tree, set_node, entries_of, Own, Descriptors, State}
+use Rattle.posix_calls.specs.Tree.{Node, Tree, set_node, entries_of, names_of, Descriptors, State, set_descriptor}
 use Rattle.posix_calls.specs.Own.{own_of}
 use Rattle.posix_calls.specs.Deeds.{IsFree, less_unused, Follows, answer, makes, reply_of, state_after}
 use Rattle.posix_calls.specs.Asks.{View, Part}
@@ -9,12 +9,13 @@ use Rattle.posix_calls.specs.declared.deed.Spot.{Spot}
 use Rattle.posix_calls.specs.declared.deed.Replaced.{Replaced}
 use Rattle.posix_calls.specs.declared.deed.Replaced.TheVariants.{Nothing, OldFile, OldDir}
 use Rattle.posix_calls.specs.declared.deed.Deed.{Deed}
-use Rattle.posix_calls.specs.declared.deed.Deed.TheVariants.{Tell, NewDir, NewFile, OpenFile, Write, Move}
+use Rattle.posix_calls.specs.declared.deed.Deed.TheVariants.{Tell, NewDir, NewFile, OpenFile, CloseFile, Write, Resize, RemoveDir, AddName, DropName, Move}
+use Rattle.posix_calls.specs.WellFormed.{IsWellFormed, IsWithinLimits}
 use Rattle.posix_calls.specs.declared.call.Call.{Call}
 use Rattle.posix_calls.specs.declared.call.Reply.{Reply}
 use Rattle.posix_calls.specs.declared.call.Reply.TheVariants.{Failed}
 use Rattle.posix_calls.specs.declared.errno.Errno.TheVariants as errno
-use Rattle.posix_calls.specs.declared.limits.TheConstants.{ROOT, MAX_INODE, MAX_DESCRIPTORS, MAX_TRANSFER}
+use Rattle.posix_calls.specs.declared.limits.TheConstants.{ROOT, MAX_INODE, MAX_DESCRIPTORS, MAX_FILE, MAX_NAMES}
 use Rattle.posix_calls.specs.declared.descriptor.Descriptor.{Descriptor}
 
 -- the tree with these nodes, from inode 0 on
@@ -34,6 +35,37 @@ pub record Stored : Type 0 where
 -- the state that is stored
 abbrev pub state_of : Stored → State
 state_of s = record { tree = tree_of s.nodes; descriptors = held_of s.rows }
+
+-- how many names are stored for each inode, from inode 0 on
+abbrev pub count_at : List ℕ → ℕ → ℕ
+count_at counts i = get_or counts i 0
+
+-- one for the inode that is meant, none for all others
+abbrev pub one_for : Option ℕ → ℕ → ℕ
+one_for None j = 0
+one_for (Some i) j = if i == j then 1 else 0
+
+-- for each inode is stored how many names it has in the whole tree
+abbrev pub IsCounted : List ℕ → List (Option Node) → Type 0
+IsCounted counts nodes = (i : ℕ) → count_at counts i ≡ names_of (tree_of nodes) i
+
+-- the state is well-formed, and within its limits
+abbrev pub IsSound : State → Type 0
+IsSound s = IsWellFormed s × IsWithinLimits s.tree
+
+-- a number that a node can have
+abbrev pub IsInode : ℕ → Type 0
+IsInode i = (ROOT ≤ i) × (i ≤ MAX_INODE)
+
+-- there are no entries
+abbrev pub IsBare : Option Node → Type 0
+IsBare o = entries_of o ≡ fin.empty
+
+-- what is put out of its place has no entries
+abbrev pub IsBareReplaced : Tree → Replaced → Type 0
+IsBareReplaced t Nothing = Unit {0}
+IsBareReplaced t (OldFile j) = IsBare (t j)
+IsBareReplaced t (OldDir j) = IsBare (t j)
 
 -- the lowest number for a new node
 pub record IsLowest (t : Tree) (i : ℕ) : Type 0 where
@@ -56,7 +88,7 @@ at_spot t at = fin.get (entries_of (t at.parent)) at.name
 
 -- another inode is at the new name, and has no entries
 abbrev pub IsReplaceable : Tree → Spot → ℕ → ℕ → Type 0
-IsReplaceable t to i j = (i ≢ j) × (at_spot t to ≡ Some j) × (entries_of (t j) ≡ fin.empty)
+IsReplaceable t to i j = (i ≢ j) × (at_spot t to ≡ Some j) × IsBare (t j)
 
 -- what is put out of its place is at the new name
 abbrev pub Replaces : Tree → Spot → ℕ → Replaced → Type 0
@@ -83,26 +115,57 @@ abbrev pub IsChange : Deed → Type 0
 IsChange (Tell answer) = ⊥
 IsChange _ = Unit {0}
 
--- no more bytes than one write moves
+-- no more bytes than a file may have
 abbrev pub IsSmall : Deed → Type 0
-IsSmall (Write i at bytes) = length bytes ≤ MAX_TRANSFER
+IsSmall (Write i at bytes) = length bytes ≤ MAX_FILE
 IsSmall _ = Unit {0}
 
--- a name's directory is the root, or there is a node
-abbrev pub IsHeld : Tree → Spot → Type 0
-IsHeld t at = (at.parent ≡ ROOT) ⊎ (t at.parent ≢ None)
+-- a deed that closes nothing
+abbrev pub IsNoClose : Deed → Type 0
+IsNoClose (CloseFile i number) = ⊥
+IsNoClose _ = Unit {0}
 
--- what is made has its name in a directory, descriptors have numbers, and what moves can move
+-- what a deed opens, and its number
+abbrev pub opened_by : ℕ → Deed → Option (ℕ × Descriptor)
+opened_by new (NewFile at number reads writes) = Some (number, record { inode = new; reads = reads; writes = writes })
+opened_by new (OpenFile i empties number reads writes) = Some (number, record { inode = i; reads = reads; writes = writes })
+opened_by new _ = None
+
+-- the descriptors with what a client opens, if it opens anything
+abbrev pub with_opened : Descriptors → ℕ → Option (ℕ × Descriptor) → Descriptors
+with_opened held client None = held
+with_opened held client (Some (number, what)) = set_descriptor held client number (Some what)
+
+-- what is opened has the number of a descriptor
+abbrev pub HasNumber : Option (ℕ × Descriptor) → Type 0
+HasNumber None = Unit {0}
+HasNumber (Some (number, what)) = number < MAX_DESCRIPTORS
+
+-- a name's directory is there, under a number that a node can have
+abbrev pub IsHeld : Tree → Spot → Type 0
+IsHeld t at = IsInode at.parent × (t at.parent ≢ None)
+
+-- names come and go in directories that are there, what is written or goes has no entries, descriptors have numbers, and what moves can move
 abbrev pub IsPlaced : Tree → Deed → Type 0
+IsPlaced t (Tell answer) = Unit {0}
 IsPlaced t (NewDir at) = IsHeld t at
 IsPlaced t (NewFile at number reads writes) = (number < MAX_DESCRIPTORS) × IsHeld t at
-IsPlaced t (OpenFile i empties number reads writes) = number < MAX_DESCRIPTORS
-IsPlaced t (Move from to i is_dir replaced) = IsMovable t from to i replaced
-IsPlaced t _ = Unit {0}
+IsPlaced t (OpenFile i empties number reads writes) = (number < MAX_DESCRIPTORS) × IsBare (t i)
+IsPlaced t (CloseFile i number) = IsBare (t i)
+IsPlaced t (Write i at bytes) = IsBare (t i)
+IsPlaced t (Resize i len) = IsBare (t i)
+IsPlaced t (RemoveDir at i) = IsHeld t at × IsBare (t i)
+IsPlaced t (AddName at i) = IsHeld t at
+IsPlaced t (DropName at i) = IsHeld t at × IsBare (t i)
+IsPlaced t (Move from to i is_dir replaced) = IsHeld t from × IsHeld t to × IsMovable t from to i replaced
+
+-- nothing has more names than it may
+abbrev pub HasFewNames : Tree → Type 0
+HasFewNames t = (i : ℕ) → names_of t i ≤ MAX_NAMES
 
 -- a deed that a call can come to
 abbrev pub IsDoable : Tree → Deed → Type 0
-IsDoable t deed = IsSmall deed × IsPlaced t deed
+IsDoable t deed = IsSmall deed × HasFewNames t × IsPlaced t deed
 
 -- the deed was done, and a node that it makes has the lowest number that is free
 abbrev pub IsDone : State → ℕ → Deed → Reply → State → Type 0

@@ -1,4 +1,4 @@
-ghost use Rattle.std.specs.Prelude.{◌≡◌, ◌==◌, ◌≤◌, ◌<◌, ℕ, List, length, map, count_by, IfOk, OnOk, OnErr};
+ghost use Rattle.std.specs.Prelude.{◌≡◌, ◌≤◌, ◌<◌, ℕ, List, length, map, IfOk, OnOk, OnErr};
 ghost use Rattle.std.specs.List.Sorted.{IsSearchInRange};
 ghost use Rattle.std.specs.Ordering.{nat_cmp};
 ghost use Rattle.std.specs.FinMap as fin;
@@ -12,7 +12,7 @@ use std::alloc::{AllocError, Global};
 use std::cmp::Ordering;
 use std::marker::Model;
 
-// No directory is let grow past this, so that the names of a file can be counted; it is more than a directory may have.
+// No directory is let grow past this, so that its entries can be counted; it is more than a directory may have.
 const MOST_ENTRIES: usize = 65_535;
 
 /// An entry of a directory.
@@ -69,14 +69,6 @@ impl PlainEntries {
         self.entries.len() as u32
     }
 
-    /// How many of them name an inode.
-    pub fn count(&self, inode: u32) -> u32
-        ensures count { result ≡ count_by (λ e. e.1 == inode) (fin.entries self.now) }
-        ensures small { result ≤ 65535 }
-    {
-        count_entries(&self.entries, inode)
-    }
-
     /// The names, in the order of their bytes.
     pub fn names(&self, alloc: Global) -> Result<Names, AllocError>
         ensures { IfOk result (λ names. names ≡ map (λ e. e.0) (fin.entries self.now)) }
@@ -108,20 +100,6 @@ fn get_entry(entries: &[PlainEntry], name: &[u8]) -> Option<u32>
         Ok(place) => Some(entries[place].inode),
         Err(_) => None,
     }
-}
-
-fn count_entries(entries: &[PlainEntry], inode: u32) -> u32
-    requires { length entries.now ≤ 65535 }
-    ensures count { result ≡ count_by (λ e. e.1 == inode) (pairs entries.now) }
-    ensures small { result ≤ 65535 }
-{
-    let mut count: u32 = 0;
-    for entry in entries {
-        if entry.inode == inode {
-            count += 1;
-        }
-    }
-    count
 }
 
 fn names_of_entries(alloc: Global, entries: &[PlainEntry]) -> Result<Names, AllocError>

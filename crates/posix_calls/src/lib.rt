@@ -23,6 +23,7 @@ mod file_calls;
 mod laws;
 mod limits;
 mod name;
+mod name_counts;
 mod names;
 mod no_deed;
 mod node;

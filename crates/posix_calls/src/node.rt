@@ -1,7 +1,7 @@
 ghost use Rattle.std.specs.Prelude.{◌≡◌, ◌≤◌, ◌+◌, ◌++◌, ℕ, Option, None, Some, length, take, drop, map, option_map, [], IfOk, OnOk, OnErr};
 ghost use Rattle.std.specs.FinMap as fin;
 ghost use Rattle.posix_calls.specs.Content.{resized, written};
-ghost use Rattle.posix_calls.specs.Tree.{File, Dir, bytes_of, entries_of, names_in};
+ghost use Rattle.posix_calls.specs.Tree.{File, Dir, bytes_of, entries_of};
 ghost use Rattle.posix_calls.specs.Asks.{dir_test};
 ghost use Rattle.posix_calls.specs.Bodies.{node_of};
 
@@ -110,17 +110,6 @@ impl PlainNode {
         match &self.body {
             PlainBody::Nothing | PlainBody::File(_) => Ok(Names::from_vec(Vec::new(alloc))),
             PlainBody::Directory(entries) => entries.names(alloc),
-        }
-    }
-
-    /// How many entries of a directory name an inode.
-    pub fn count(&self, inode: u32) -> u32
-        ensures count { result ≡ names_in inode self.now }
-        ensures small { result ≤ 65535 }
-    {
-        match &self.body {
-            PlainBody::Directory(entries) => entries.count(inode),
-            _ => 0,
         }
     }
 

@@ -2,23 +2,21 @@ ghost use Rattle.std.specs.Prelude.{◌≡◌, ◌⊎◌, ◌≤◌, ◌<◌, �
 ghost use Rattle.posix_calls.specs.Tree.{opening, empty_tree};
 ghost use Rattle.posix_calls.specs.Asks.{view_of};
 ghost use Rattle.posix_calls.specs.Answers.{description_of};
-ghost use Rattle.posix_calls.specs.Deeds.{Step, makes, reply_of, state_after};
-ghost use Rattle.posix_calls.specs.Plain.{tree_of, held_of, state_of, state_in, whole, IsChange, IsSmall, IsDoable, IsDone, IsDropped, IsAnswered, IsGivenUp, IsLowest, IsTaken};
+ghost use Rattle.posix_calls.specs.Deeds.{Step, makes, reply_of, state_after, tree_after};
+ghost use Rattle.posix_calls.specs.Plain.{tree_of, held_of, state_of, state_in, opened_by, whole, IsChange, IsNoClose, IsSmall, IsDoable, IsDone, IsDropped, IsAnswered, IsGivenUp, IsLowest, IsTaken};
 ghost use Rattle.posix_calls.specs.declared.call.Reply.TheVariants.{Failed};
 
 use crate::bytes::Bytes;
 use crate::call::{Call, Reply};
 use crate::decision::decide;
 use crate::deed::{Deed, Description, NoDeed};
-use crate::deeds::{
-    close_at, drop_name, empty_if, make, move_name, open_at, remove_dir, resize, write,
-};
+use crate::deeds::{close_at, drop_name, empty_if, make, move_name, open_if, remove_dir};
 use crate::descriptor::Descriptor;
 use crate::errno::Errno;
 use crate::limits::{MAX_CLIENTS, ROOT};
 use crate::names::Names;
 use crate::node::PlainNode;
-use crate::nodes::{count_names, drop_unused, enter, lowest_free, make_room, put_node};
+use crate::nodes::{PlainNodes, lowest_free};
 use crate::own::OwnDescriptors;
 use crate::tree_answers::TreeAnswers;
 use std::alloc::{AllocError, Global};
@@ -28,22 +26,22 @@ use std::marker::Model;
 #[derive(Drop)]
 pub struct PlainTree {
     alloc: Global,
-    nodes: Vec<PlainNode>,
+    nodes: PlainNodes,
     rows: Vec<OwnDescriptors>,
 }
 
 impl Model for PlainTree {
     ghost use Rattle.std.specs.Prelude.{◌≡◌, length};
-    ghost use Rattle.posix_calls.specs.Plain.{Stored};
+    ghost use Rattle.posix_calls.specs.Plain.{Stored, state_in, IsSound};
     ghost use Rattle.posix_calls.specs.PlainCode.{stored_code};
 
     ghost Value = { Stored };
 
     ghost coded = { stored_code };
 
-    ghost view = { λ p. record { nodes = p.nodes.items; rows = p.rows.items } };
+    ghost view = { λ p. record { nodes = p.nodes; rows = p.rows.items } };
 
-    ghost invariant = { λ p. length p.rows.items ≡ 8 };
+    ghost invariant = { λ p. (length p.rows.items ≡ 8) × IsSound (state_in p.nodes p.rows.items) };
 }
 
 impl PlainTree {
@@ -85,43 +83,43 @@ impl TreeAnswers for PlainTree {
     ghost part = { λ s. whole (view_of (tree_of s.nodes)) };
 
     fn is_dir(&self, inode: u32) -> Option<Option<bool>> {
-        match self.nodes.get(inode as usize) {
+        match self.nodes.as_slice().get(inode as usize) {
             Some(node) => Some(node.is_dir()),
             None => Some(None),
         }
     }
 
     fn entry(&self, dir: u32, name: &[u8]) -> Option<Option<u32>> {
-        match self.nodes.get(dir as usize) {
+        match self.nodes.as_slice().get(dir as usize) {
             Some(node) => Some(node.entry(name)),
             None => Some(None),
         }
     }
 
     fn entry_count(&self, dir: u32) -> Option<u32> {
-        match self.nodes.get(dir as usize) {
+        match self.nodes.as_slice().get(dir as usize) {
             Some(node) => Some(node.entry_count()),
             None => Some(0),
         }
     }
 
     fn names(&self, alloc: Global, dir: u32) -> Result<Option<Names>, AllocError> {
-        match self.nodes.get(dir as usize) {
+        match self.nodes.as_slice().get(dir as usize) {
             Some(node) => Ok(Some(node.names(alloc)?)),
             None => Ok(Some(Names::from_vec(Vec::new(alloc)))),
         }
     }
 
     fn file_size(&self, inode: u32) -> Option<u64> {
-        match self.nodes.get(inode as usize) {
+        match self.nodes.as_slice().get(inode as usize) {
             Some(node) => Some(node.size()),
             None => Some(0),
         }
     }
 
     fn file_names(&self, inode: u32) -> Option<u32> {
-        match self.nodes.get(inode as usize) {
-            Some(node) if node.is_dir() == Some(false) => Some(count_names(&self.nodes, inode)),
+        match self.nodes.as_slice().get(inode as usize) {
+            Some(node) if node.is_dir() == Some(false) => Some(self.nodes.name_count(inode)),
             _ => Some(0),
         }
     }
@@ -133,7 +131,7 @@ impl TreeAnswers for PlainTree {
         at: u64,
         count: u64,
     ) -> Result<Option<Bytes>, AllocError> {
-        match self.nodes.get(inode as usize) {
+        match self.nodes.as_slice().get(inode as usize) {
             Some(node) => Ok(Some(node.read(alloc, at, count)?)),
             None => Ok(Some(Bytes::from_vec(Vec::new(alloc)))),
         }
@@ -144,10 +142,10 @@ impl TreeAnswers for PlainTree {
     }
 }
 
-fn describe(nodes: &[PlainNode], inode: u32) -> Option<Description>
+fn describe(nodes: &PlainNodes, inode: u32) -> Option<Description>
     ensures { result ≡ description_of ((view_of (tree_of nodes.now)).node inode) }
 {
-    let node = nodes.get(inode as usize)?;
+    let node = nodes.as_slice().get(inode as usize)?;
     match node.is_dir() {
         None => None,
         Some(true) => Some(Description::Dir {
@@ -155,17 +153,17 @@ fn describe(nodes: &[PlainNode], inode: u32) -> Option<Description>
         }),
         Some(false) => Some(Description::File {
             size: node.size(),
-            names: count_names(nodes, inode),
+            names: nodes.name_count(inode),
         }),
     }
 }
 
-fn root_alone(alloc: Global) -> Result<Vec<PlainNode>, AllocError>
-    ensures { IfOk result (λ nodes. tree_of nodes.items ≡ empty_tree) }
+fn root_alone(alloc: Global) -> Result<PlainNodes, AllocError>
+    ensures { IfOk result (λ nodes. tree_of nodes ≡ empty_tree) }
 {
-    let mut nodes = Vec::new(alloc);
-    make_room(&mut nodes, ROOT)?;
-    put_node(&mut nodes, ROOT, PlainNode::directory(alloc));
+    let mut nodes = PlainNodes::new(alloc);
+    nodes.make_room(ROOT)?;
+    nodes.put(ROOT, PlainNode::directory(alloc));
     Ok(nodes)
 }
 
@@ -183,15 +181,15 @@ fn no_descriptors(alloc: Global, clients: u32) -> Result<Vec<OwnDescriptors>, Al
 // Carries a deed out, and answers the call.
 fn carry_out(
     alloc: Global,
-    nodes: &mut Vec<PlainNode>,
+    nodes: &mut PlainNodes,
     rows: &mut Vec<OwnDescriptors>,
     client: u32,
     deed: Deed,
 ) -> Reply
     requires low { 0 < client }
     requires high { client ≤ length rows.old.items }
-    requires doable { IsDoable (tree_of nodes.old.items) deed }
-    ensures done { IsDone (state_in nodes.old.items rows.old.items) client deed result (state_in nodes.new.items rows.new.items) ⊎ IsDropped (state_in nodes.old.items rows.old.items) deed result (state_in nodes.new.items rows.new.items) }
+    requires doable { IsDoable (tree_of nodes.old) deed }
+    ensures done { IsDone (state_in nodes.old rows.old.items) client deed result (state_in nodes.new rows.new.items) ⊎ IsDropped (state_in nodes.old rows.old.items) deed result (state_in nodes.new rows.new.items) }
     ensures kept { length rows.new.items ≡ length rows.old.items }
 {
     match deed {
@@ -203,20 +201,20 @@ fn carry_out(
 // Carries out a deed that changes something.
 fn change(
     alloc: Global,
-    nodes: &mut Vec<PlainNode>,
+    nodes: &mut PlainNodes,
     rows: &mut Vec<OwnDescriptors>,
     client: u32,
     deed: Deed,
 ) -> Reply
     requires low { 0 < client }
     requires high { client ≤ length rows.old.items }
-    requires doable { IsDoable (tree_of nodes.old.items) deed }
+    requires doable { IsDoable (tree_of nodes.old) deed }
     requires change { IsChange deed }
-    ensures done { IsDone (state_in nodes.old.items rows.old.items) client deed result (state_in nodes.new.items rows.new.items) ⊎ IsDropped (state_in nodes.old.items rows.old.items) deed result (state_in nodes.new.items rows.new.items) }
+    ensures done { IsDone (state_in nodes.old rows.old.items) client deed result (state_in nodes.new rows.new.items) ⊎ IsDropped (state_in nodes.old rows.old.items) deed result (state_in nodes.new rows.new.items) }
     ensures kept { length rows.new.items ≡ length rows.old.items }
 {
     let reply = reply_to(&deed);
-    let Some(inode) = new_inode(nodes, &deed) else {
+    let Some(inode) = new_inode(nodes.as_slice(), &deed) else {
         return Reply::Failed {
             errno: Errno::NoSpace,
         };
@@ -272,7 +270,7 @@ fn makes_node(deed: &Deed) -> bool
 // Carries a deed out, where a new node gets this number. Where there is no memory for it, all stays as it was.
 fn apply(
     alloc: Global,
-    nodes: &mut Vec<PlainNode>,
+    nodes: &mut PlainNodes,
     rows: &mut Vec<OwnDescriptors>,
     client: u32,
     new: u32,
@@ -280,64 +278,85 @@ fn apply(
 ) -> Result<(), AllocError>
     requires low { 0 < client }
     requires high { client ≤ length rows.old.items }
-    requires doable { IsDoable (tree_of nodes.old.items) deed }
-    requires lowest { makes deed ≡ true → IsLowest (tree_of nodes.old.items) new }
-    ensures ok { OnOk result (state_in nodes.new.items rows.new.items ≡ state_after client new (state_in nodes.old.items rows.old.items) deed) }
-    ensures err { OnErr result (state_in nodes.new.items rows.new.items ≡ state_in nodes.old.items rows.old.items) }
+    requires doable { IsDoable (tree_of nodes.old) deed }
+    requires lowest { makes deed ≡ true → IsLowest (tree_of nodes.old) new }
+    ensures ok { OnOk result (state_in nodes.new rows.new.items ≡ state_after client new (state_in nodes.old rows.old.items) deed) }
+    ensures err { OnErr result (state_in nodes.new rows.new.items ≡ state_in nodes.old rows.old.items) }
     ensures kept { length rows.new.items ≡ length rows.old.items }
 {
     match deed {
-        Deed::Tell { .. } => Ok(()),
-        Deed::NewDir { at } => make(alloc, nodes, at, new, PlainNode::directory(alloc)),
-        Deed::NewFile {
-            at,
-            descriptor,
-            reads,
-            writes,
-        } => {
-            make(alloc, nodes, at, new, PlainNode::file(alloc))?;
-            let inode = new;
-            open_at(
-                rows,
-                client,
-                descriptor,
-                Descriptor {
-                    inode,
-                    reads,
-                    writes,
-                },
-            );
-            Ok(())
-        }
-        Deed::OpenFile {
-            inode,
-            empties,
-            descriptor,
-            reads,
-            writes,
-        } => {
-            empty_if(alloc, nodes, inode, empties)?;
-            open_at(
-                rows,
-                client,
-                descriptor,
-                Descriptor {
-                    inode,
-                    reads,
-                    writes,
-                },
-            );
-            Ok(())
-        }
         Deed::CloseFile { inode, descriptor } => {
             close_at(rows, client, descriptor);
-            drop_unused(nodes, rows, inode);
+            nodes.drop_unused(rows, inode);
             Ok(())
         }
-        Deed::Write { inode, at, bytes } => write(alloc, nodes, inode, at, bytes.as_slice()),
-        Deed::Resize { inode, len } => resize(alloc, nodes, inode, len),
+        deed => {
+            let opened = opened_by(&deed, new);
+            apply_to_tree(alloc, nodes, rows, new, deed)?;
+            open_if(rows, client, opened);
+            Ok(())
+        }
+    }
+}
+
+// What a deed opens, and its number.
+fn opened_by(deed: &Deed, new: u32) -> Option<(u32, Descriptor)>
+    ensures { result ≡ opened_by new deed.now }
+{
+    match deed {
+        Deed::NewFile {
+            descriptor,
+            reads,
+            writes,
+            ..
+        } => Some((
+            *descriptor,
+            Descriptor {
+                inode: new,
+                reads: *reads,
+                writes: *writes,
+            },
+        )),
+        Deed::OpenFile {
+            inode,
+            descriptor,
+            reads,
+            writes,
+            ..
+        } => Some((
+            *descriptor,
+            Descriptor {
+                inode: *inode,
+                reads: *reads,
+                writes: *writes,
+            },
+        )),
+        _ => None,
+    }
+}
+
+// Carries out what a deed that closes nothing does to the tree.
+fn apply_to_tree(
+    alloc: Global,
+    nodes: &mut PlainNodes,
+    rows: &[OwnDescriptors],
+    new: u32,
+    deed: Deed,
+) -> Result<(), AllocError>
+    requires stays { IsNoClose deed }
+    requires doable { IsDoable (tree_of nodes.old) deed }
+    requires lowest { makes deed ≡ true → IsLowest (tree_of nodes.old) new }
+    ensures ok { OnOk result (tree_of nodes.new ≡ tree_after (held_of rows.now) new (tree_of nodes.old) deed) }
+    ensures err { OnErr result (tree_of nodes.new ≡ tree_of nodes.old) }
+{
+    match deed {
+        Deed::NewDir { at } => make(alloc, nodes, at, new, PlainNode::directory(alloc)),
+        Deed::NewFile { at, .. } => make(alloc, nodes, at, new, PlainNode::file(alloc)),
+        Deed::OpenFile { inode, empties, .. } => empty_if(alloc, nodes, inode, empties),
+        Deed::Write { inode, at, bytes } => nodes.write(alloc, inode, at, bytes.as_slice()),
+        Deed::Resize { inode, len } => nodes.resize(alloc, inode, len),
         Deed::RemoveDir { at, inode } => remove_dir(alloc, nodes, &at, inode),
-        Deed::AddName { at, inode } => enter(alloc, nodes, at, inode),
+        Deed::AddName { at, inode } => nodes.enter(alloc, at, inode),
         Deed::DropName { at, inode } => drop_name(alloc, nodes, rows, &at, inode),
         Deed::Move {
             from,
@@ -346,5 +365,6 @@ fn apply(
             replaced,
             ..
         } => { move_name(alloc, nodes, rows, &from, to, inode, replaced) }
+        _ => Ok(()),
     }
 }

@@ -2,7 +2,9 @@
 #![tactic(auto)]
 
 mod append;
+mod batch;
 mod leases;
+mod script;
 
 use anyhow::{Context, Result};
 use clap::{Arg, ArgAction, Command, value_parser};
@@ -17,15 +19,27 @@ fn command<'a>(alloc: Global) -> Result<Command<'a>> {
         .help("Time appends of records that write so many bytes, 1 to 65536")
         .action(ArgAction::Set)
         .value_parser(value_parser!(u64).range(1..65_537));
+    let batch = Arg::new(alloc, "batch")
+        .long("batch")
+        .value_name("IMAGES")
+        .help("Time commits of batches of so many images, 1 to 256")
+        .action(ArgAction::Set)
+        .value_parser(value_parser!(u64).range(1..257));
     let leases = Arg::new(alloc, "leases")
         .long("leases")
         .help("Time leases that are taken and given, alone and in eight threads")
+        .action(ArgAction::SetTrue);
+    let script = Arg::new(alloc, "script")
+        .long("script")
+        .help("Time the calls of a file tree in memory, over a thousand files")
         .action(ArgAction::SetTrue);
     Ok(
         Command::new(alloc, "strata_bench")
             .about("Times the layers of Strata beside plain work on the same bytes")
             .arg(append)?
-            .arg(leases)?,
+            .arg(batch)?
+            .arg(leases)?
+            .arg(script)?,
     )
 }
 
@@ -45,15 +59,25 @@ fn main(rt: HostRuntime) -> Result<ExitCode> {
         }
     };
     let append = matches.get_one::<u64>("append");
+    let batch = matches.get_one::<u64>("batch");
     let leases = matches.get_flag("leases");
+    let script = matches.get_flag("script");
     if let Some(bytes) = append {
         append::run(&rt, bytes as usize)?;
+    }
+    if let Some(images) = batch {
+        batch::run(&rt, images as usize)?;
     }
     if leases {
         leases::run(&rt)?;
     }
-    if append.is_none() && !leases {
-        println!(rt; "usage: strata_bench [--append BYTES] [--leases]")?;
+    if script {
+        script::run(&rt)?;
+    }
+    if append.is_none() && batch.is_none() && !leases && !script {
+        println!(rt;
+            "usage: strata_bench [--append BYTES] [--batch IMAGES] [--leases] [--script]"
+        )?;
     }
     Ok(ExitCode::SUCCESS)
 }

@@ -1,15 +1,31 @@
 //! Two clients log a call each, the run stops, and a recovery shows what was kept.
 #![tactic(auto)]
 
+use std::env;
+use std::io::{self, ErrorKind};
 use std::process::ExitCode;
-use std::{env, io};
 use workload_cli::run_first;
 
-fn main(rt: HostRuntime) -> io::Result<ExitCode> {
+fn main(rt: HostRuntime) -> ExitCode {
+    match first(&rt) {
+        Ok(status) => ExitCode::from(status),
+        // Nothing but memory is asked for before the run begins.
+        Err(_) => {
+            let _ = eprintln!(rt; "fault 15");
+            ExitCode::from(3)
+        }
+    }
+}
+
+fn first(rt: &HostRuntime) -> io::Result<u8> {
     let alloc = rt.alloc();
-    let Ok(args) = env::args(&rt) else {
-        eprintln!(rt; "error: a word of the command line is no text")?;
-        return Ok(ExitCode::from(2));
+    let args = match env::args(rt) {
+        Ok(args) => args,
+        Err(error) if error.kind() == ErrorKind::InvalidData => {
+            let _ = eprintln!(rt; "error: a word of the command line is no text");
+            return Ok(2);
+        }
+        Err(error) => return Err(error),
     };
     let mut words = Vec::new(alloc);
     for arg in args {
@@ -21,5 +37,5 @@ fn main(rt: HostRuntime) -> io::Result<ExitCode> {
     }
     let mut out = rt.stdout();
     let mut err = rt.stderr();
-    Ok(ExitCode::from(run_first(alloc, &texts, &mut out, &mut err)))
+    Ok(run_first(alloc, &texts, &mut out, &mut err))
 }

@@ -1,12 +1,12 @@
 use std::alloc::{AllocError, AllocFailed};
-use std::io;
+use std::io::{self, ErrorKind};
 use thiserror::Error;
 use update_log::RegionError;
 
 /// What ends a run before its end.
 #[derive(Clone, Copy, Debug, PartialEq, Eq, Error)]
 pub enum Fault {
-    /// A device, a file or standard output failed.
+    /// A device, a file, the input or the output failed.
     #[error("fault 2")]
     Device,
     /// What was read is no content of a region.
@@ -33,8 +33,11 @@ impl<T: Drop> From<AllocFailed<T>> for Fault {
 }
 
 impl From<io::Error> for Fault {
-    fn from(_e: io::Error) -> Fault {
-        Fault::Device
+    fn from(error: io::Error) -> Fault {
+        match error.kind() {
+            ErrorKind::OutOfMemory => Fault::Memory,
+            _ => Fault::Device,
+        }
     }
 }
 

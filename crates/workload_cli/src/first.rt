@@ -1,15 +1,18 @@
 // The program `strata_first`.
 use crate::fault::Fault;
 use crate::lines::{write_data, write_names};
-use crate::options::{Stop, WordsError, first_options};
+use crate::options::{Stop, first_options};
 use crate::two_clients::{
     FILE, apply, first_call, first_graph, log, logged, open_region, records_after_stop, replay,
     second_call,
 };
+use crate::usage::{tell, tell_fault};
 use file_graph::PlainGraph;
 use posix_calls::{ROOT, Reply};
 use std::alloc::Global;
 use std::io::Write;
+use tier_device::StopMedia;
+use update_log::Region;
 
 /// Runs `strata_first`: client 1 writes into `/f` and client 2 makes `/a`, each into a region of its own; then the run stops,
 /// and a recovery replays what both regions hold. The first word is the program's name.
@@ -24,34 +27,9 @@ pub fn run_first<'a, O: Write, E: Write>(
     match first_options(alloc, words) {
         Ok(stop) => match run(alloc, stop, out) {
             Ok(()) => 0,
-            Err(fault) => {
-                let _ = writeln!(err, "{fault}");
-                3
-            }
+            Err(fault) => tell_fault(fault, err),
         },
         Err(error) => tell(error, out, err),
-    }
-}
-
-// Tells what is wrong with the words, or the help, and answers the exit status.
-fn tell<O: Write, E: Write>(error: WordsError, out: &mut O, err: &mut E) -> u8 {
-    match error {
-        WordsError::Usage(error) if !error.use_stderr() => {
-            let _ = write!(out, "{error}");
-            0
-        }
-        WordsError::Usage(error) => {
-            let _ = write!(err, "{error}");
-            2
-        }
-        WordsError::Value(text) => {
-            let _ = writeln!(err, "error: {text}");
-            2
-        }
-        WordsError::Memory => {
-            let _ = writeln!(err, "{}", Fault::Memory);
-            3
-        }
     }
 }
 
@@ -59,23 +37,53 @@ fn run<O: Write>(alloc: Global, stop: Option<Stop>, out: &mut O) -> Result<(), F
     let mut graph = first_graph(alloc)?;
     let mut first = open_region(alloc, stop)?;
     let mut second = open_region(alloc, stop)?;
-
-    let (entry, reply) = logged(alloc, &first_call(alloc)?)?;
-    let is_answered = log(&mut first, &entry)?;
-    write_reply(out, 1, is_answered, &reply)?;
-    let mut done = 0;
-    if is_answered {
-        apply(&mut graph, &entry)?;
-        done = 1;
-    }
-    let (entry, reply) = logged(alloc, &second_call(alloc)?)?;
-    let is_answered = log(&mut second, &entry)?;
-    write_reply(out, 2, is_answered, &reply)?;
+    let done = ask_first(alloc, &mut first, &mut graph, out)?;
+    ask_second(alloc, &mut second, out)?;
     writeln!(out, "applied {done}")?;
-
-    replay(&mut graph, &records_after_stop(alloc, first)?, done)?;
-    replay(&mut graph, &records_after_stop(alloc, second)?, 0)?;
+    recover(alloc, first, &mut graph, done)?;
+    recover(alloc, second, &mut graph, 0)?;
     write_tree(out, &graph)
+}
+
+// Logs what client 1 asks, does it where it was answered, and tells how many records were done.
+fn ask_first<O: Write>(
+    alloc: Global,
+    region: &mut Region<StopMedia>,
+    graph: &mut PlainGraph,
+    out: &mut O,
+) -> Result<usize, Fault> {
+    let call = first_call(alloc)?;
+    let (entry, reply) = logged(alloc, &call)?;
+    let is_answered = log(region, &entry)?;
+    write_reply(out, 1, is_answered, &reply)?;
+    if !is_answered {
+        return Ok(0);
+    }
+    apply(graph, &entry)?;
+    Ok(1)
+}
+
+// Logs what client 2 asks.
+fn ask_second<O: Write>(
+    alloc: Global,
+    region: &mut Region<StopMedia>,
+    out: &mut O,
+) -> Result<(), Fault> {
+    let call = second_call(alloc)?;
+    let (entry, reply) = logged(alloc, &call)?;
+    let is_answered = log(region, &entry)?;
+    write_reply(out, 2, is_answered, &reply)
+}
+
+// Stops a region's medium, and does what it then holds, but for the records that are done.
+fn recover(
+    alloc: Global,
+    region: Region<StopMedia>,
+    graph: &mut PlainGraph,
+    done: usize,
+) -> Result<(), Fault> {
+    let found = records_after_stop(alloc, region)?;
+    replay(graph, &found, done)
 }
 
 fn write_reply<O: Write>(

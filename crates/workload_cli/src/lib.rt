@@ -1,15 +1,25 @@
 //! The programs of Strata, as functions over their words, their output and their errors.
 //!
 //! `run_first` is the whole path in small: two clients' calls, each logged in its client's region, a stop, and a recovery.
+//! `run_sh` answers a script of calls, line by line, over a file tree in memory.
 #![tactic(auto)]
 
 mod fault;
 mod first;
 mod lines;
 mod options;
+mod script;
+mod shell;
 mod two_clients;
+mod usage;
 
 pub use first::run_first;
+pub use script::part::MAX_LINE;
+pub use shell::run_sh;
 
+#[cfg(test)]
+mod script_tests;
+#[cfg(test)]
+mod stream_tests;
 #[cfg(test)]
 mod tests;

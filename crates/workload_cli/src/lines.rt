@@ -1,30 +1,42 @@
 // What is printed of bytes and names.
+ghost use Rattle.std.specs.Prelude.{◌≡◌, ◌<◌, IfSome, length, option_map};
+ghost use Rattle.workload_cli.specs.Printed.{run_in_front};
+
 use crate::fault::Fault;
 use file_graph::PlainEntry;
+use script_lines::{is_plain, run_len};
 use std::io::Write;
 
 /// Bytes as runs of one byte each, `hhxN` joined by `+`, or `-` where there is none.
 pub fn write_data<W: Write>(out: &mut W, bytes: &[u8]) -> Result<(), Fault> {
-    let Some((first, rest)) = bytes.split_first() else {
+    let Some((byte, count, behind)) = first_run(bytes) else {
         out.write_all(b"-")?;
         return Ok(());
     };
-    let mut byte = *first;
-    let mut count = 1u64;
-    for next in rest {
-        if *next == byte {
-            count = count.saturating_add(1);
-        } else {
-            write!(out, "{byte:02x}x{count}+")?;
-            byte = *next;
-            count = 1;
-        }
-    }
     write!(out, "{byte:02x}x{count}")?;
+    let mut rest = behind;
+    while let Some((byte, count, behind)) = first_run(rest) {
+        write!(out, "+{byte:02x}x{count}")?;
+        rest = behind;
+    }
     Ok(())
 }
 
-/// A line of names, each behind a space. Bytes from 0x21 to 0x7e but `%` stand as they are, all others as `%hh`.
+// The byte in front, how often it stands there in a row, and what stands behind.
+fn first_run(bytes: &[u8]) -> Option<(u8, usize, &[u8])>
+    ensures run { option_map (λ r. (r.0, r.1, r.2.now)) result ≡ run_in_front bytes.now }
+    ensures shorter { IfSome result (λ r. length r.2.now < length bytes.now) }
+{
+    match bytes {
+        [byte, rest @ ..] => {
+            let more = run_len(*byte, rest);
+            Some((*byte, more + 1, &rest[more..]))
+        }
+        [] => None,
+    }
+}
+
+/// A line of names, each behind a space.
 pub fn write_names<W: Write>(out: &mut W, entries: &[PlainEntry]) -> Result<(), Fault> {
     out.write_all(b"names")?;
     for entry in entries {
@@ -35,9 +47,10 @@ pub fn write_names<W: Write>(out: &mut W, entries: &[PlainEntry]) -> Result<(), 
     Ok(())
 }
 
-fn write_name<W: Write>(out: &mut W, name: &[u8]) -> Result<(), Fault> {
+/// A name. Bytes from 0x21 to 0x7e but `%` stand as they are, all others as `%hh`.
+pub fn write_name<W: Write>(out: &mut W, name: &[u8]) -> Result<(), Fault> {
     for byte in name {
-        if (0x21..=0x7e).contains(byte) && *byte != b'%' {
+        if is_plain(*byte) {
             out.write_all(&[*byte])?;
         } else {
             write!(out, "%{byte:02x}")?;

@@ -1,7 +1,9 @@
 // The words of a program's command line.
-ghost use Rattle.std.specs.Prelude.{◌≤◌, IfSome};
+ghost use Rattle.std.specs.Prelude.{◌≤◌};
 
-use clap::{Arg, ArgAction, ArgMatches, Command, Error, value_parser};
+use crate::usage::WordsError;
+use clap::{Arg, ArgAction, ArgMatches, Command, value_parser};
+use script_lines::hex_byte;
 use std::alloc::{AllocError, Global};
 
 /// Where each region stops, and what its bytes then hold.
@@ -12,28 +14,6 @@ pub struct Stop {
     /// What every byte that is written and not fenced holds after the stop.
     pub fill: u8,
     ghost counted: { 1 ≤ call },
-}
-
-/// Why words can't be read.
-#[derive(Debug, Drop)]
-pub enum WordsError {
-    /// What `clap` has to say of them: its help, too.
-    Usage(Error),
-    /// The value of an option is not of its form.
-    Value(&'static str),
-    Memory,
-}
-
-impl From<AllocError> for WordsError {
-    fn from(_e: AllocError) -> WordsError {
-        WordsError::Memory
-    }
-}
-
-impl From<Error> for WordsError {
-    fn from(error: Error) -> WordsError {
-        WordsError::Usage(error)
-    }
 }
 
 /// The stop that the words of `strata_first` ask for, if they ask for one. The first word is the program's name.
@@ -72,7 +52,7 @@ fn stop_of(matches: &ArgMatches<'_>) -> Result<Option<Stop>, WordsError> {
     let Some(digits) = matches.get_str("fill") else {
         return Ok(None);
     };
-    let Some(fill) = hex_byte(digits.as_bytes()) else {
+    let Some(fill) = fill_of(digits.as_bytes()) else {
         return Err(WordsError::Value("--fill takes two digits of 0 to 9 and a to f, as --fill a5"));
     };
     if call < 1 {
@@ -81,20 +61,9 @@ fn stop_of(matches: &ArgMatches<'_>) -> Result<Option<Stop>, WordsError> {
     Ok(Some(Stop { call, fill }))
 }
 
-// The byte of two lower case hexadecimal digits.
-fn hex_byte(digits: &[u8]) -> Option<u8> {
+fn fill_of(digits: &[u8]) -> Option<u8> {
     match digits {
-        [high, low] => Some(16 * hex_digit(*high)? + hex_digit(*low)?),
-        _ => None,
-    }
-}
-
-fn hex_digit(digit: u8) -> Option<u8>
-    ensures { IfSome result (λ d. d ≤ 15) }
-{
-    match digit {
-        b'0'..=b'9' => Some(digit - b'0'),
-        b'a'..=b'f' => Some(digit - b'a' + 10),
+        [high, low] => hex_byte(*high, *low),
         _ => None,
     }
 }

@@ -1,9 +1,8 @@
-use Rattle.std.proofs.Common.{◌+◌, ◌≤◌, ℕ, List, [], ◌∷◌, ◌++◌, length, ap, sym, ◌∙◌, append_assoc, arith, subst}
-use Rattle.std.proofs.lemmas.List.{length-append}
+use Rattle.std.proofs.Common.{◌+◌, ◌≤◌, ℕ, List, [], ◌∷◌, ◌++◌, length, ap, sym, ◌∙◌, arith, subst}
 use Rattle.layout.specs.Bytes.{u32, filled, overwritten}
 use Rattle.layout.specs.Directory.{kind_byte}
 use Rattle.layout.proofs.Fields.{u32_long}
-use Rattle.layout.proofs.Blocks.{overwritten_then, filled_long}
+use Rattle.layout.proofs.Blocks.{overwritten_thrice, filled_long}
 use Rattle.layout.proofs.DirectoryLaws.{short_name}
 use Rattle.layout.proofs.entry.put_entry.Goals as goal
 
@@ -17,10 +16,7 @@ returns-clause-text c =
     let i : List ℕ = u32 e.inode in
     let tags : List ℕ = kind_byte e.kind ∷ length name ∷ 0 ∷ 0 ∷ [] in
     let field : List ℕ = filled 64 name in
-    let two = overwritten_then at (at + 4) i tags old (omega (arith, u32_long e.inode)) (omega (arith, c.requires)) in
-    let three = overwritten_then at (at + 8) (i ++ tags) field old (omega (arith, length-append i tags, u32_long e.inode)) (omega (arith, c.requires, filled_long 64 name short)) in
     c.put_name.ensures
-    ∙ ap (overwritten (at + 8) field) (c.put_tags.ensures ∙ ap (overwritten (at + 4) tags) c.put_u32.ensures ∙ two)
-    ∙ three
-    ∙ ap (λ (t : List ℕ). overwritten at t old) (append_assoc i tags field)
+    ∙ ap (overwritten (at + 8) field) (c.put_tags.ensures ∙ ap (overwritten (at + 4) tags) c.put_u32.ensures)
+    ∙ overwritten_thrice at (at + 4) (at + 8) i tags field old (omega (arith, u32_long e.inode)) (omega arith) (omega (arith, c.requires, filled_long 64 name short))
     ∙ ap (λ (n : List ℕ). overwritten at (i ++ (kind_byte e.kind ∷ length n ∷ 0 ∷ 0 ∷ filled 64 n)) old) c.as_slice-name.ensures.bytes

@@ -1,4 +1,4 @@
-use Rattle.std.proofs.Common.{Some, None}
+use Rattle.std.proofs.Common.{None}
 use Rattle.posix_calls.proofs.Tables.{row_set}
 use Rattle.posix_calls.proofs.deeds.close_at.Goals as goal
 

@@ -1,5 +1,4 @@
-use Rattle.std.proofs.Common.{◌≡◌, Ok, Err, sym, ◌∙◌}
-use Rattle.posix_calls.specs.Ordered.{place_in}
+use Rattle.std.proofs.Common.{sym}
 use Rattle.posix_calls.proofs.Ordered.{find_found, find_free}
 use Rattle.posix_calls.proofs.entries.get_entry.Goals as goal
 

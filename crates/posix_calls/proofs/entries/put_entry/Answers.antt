@@ -1,4 +1,4 @@
-use Rattle.std.proofs.Common.{◌≡◌, Ok, Err, sym, ◌∙◌, ap}
+use Rattle.std.proofs.Common.{◌≡◌, Ok, Err, ◌∙◌, ap}
 use Rattle.std.proofs.lemmas.Result.{on_ok_weaker}
 use Rattle.posix_calls.specs.declared.entries.PlainEntry.{PlainEntry}
 use Rattle.posix_calls.specs.Ordered.{place_in, pairs}

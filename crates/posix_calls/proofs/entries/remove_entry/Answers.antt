@@ -1,7 +1,5 @@
-use Rattle.std.proofs.Common.{◌≡◌, Ok, Err, Result, ℕ, List, refl, sym, ◌∙◌, ap, subst}
-use Rattle.std.specs.Prelude.{IsErr}
-use Rattle.posix_calls.specs.declared.entries.PlainEntry.{PlainEntry}
-use Rattle.posix_calls.specs.Ordered.{IsInOrder, pairs, without, place_in}
+use Rattle.std.proofs.Common.{◌≡◌, Ok, Err, ◌∙◌, ap}
+use Rattle.posix_calls.specs.Ordered.{pairs, place_in}
 use Rattle.posix_calls.proofs.Ordered.{remove_found, remove_free}
 use Rattle.posix_calls.proofs.entries.remove_entry.Goals as goal
 

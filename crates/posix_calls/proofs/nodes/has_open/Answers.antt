@@ -1,5 +1,5 @@
-use Rattle.std.proofs.Common.{◌≡◌, ◌-◌, ◌≤◌, ℕ, suc, Bool, true, false, arith, ap, sym, ◌∙◌}
-use Rattle.posix_calls.specs.Tree.{any_up_to, refers_to}
+use Rattle.std.proofs.Common.{◌≡◌, ◌-◌, suc, arith, ap, sym, ◌∙◌}
+use Rattle.posix_calls.specs.Tree.{refers_to}
 use Rattle.posix_calls.specs.Own.{own_of}
 use Rattle.posix_calls.specs.declared.limits.TheConstants.{MAX_DESCRIPTORS}
 use Rattle.posix_calls.proofs.Scans.{any_none, any_more, any_found}

@@ -1,4 +1,4 @@
-use Rattle.std.proofs.Common.{◌≡◌, ◌-◌, ◌≤◌, ℕ, suc, Bool, true, false, arith, ap, sym, ◌∙◌}
+use Rattle.std.proofs.Common.{◌≡◌, ◌-◌, arith, ap, sym, ◌∙◌}
 use Rattle.posix_calls.specs.Tree.{any_up_to, refers_to, is_open}
 use Rattle.posix_calls.specs.Plain.{held_of}
 use Rattle.posix_calls.specs.declared.limits.TheConstants.{MAX_CLIENTS, MAX_DESCRIPTORS}

@@ -1,4 +1,4 @@
-use Rattle.std.proofs.Common.{◌≡◌, ◌-◌, ◌≤◌, ℕ, zero, suc, List, [], Bool, true, false, ◌||◌, refl, arith, ap, sym, ◌∙◌, Option, None, get_or, length, ltb}
+use Rattle.std.proofs.Common.{◌≡◌, ◌-◌, ◌≤◌, ℕ, zero, suc, List, [], false, refl, arith, ap, sym, ◌∙◌, Option, get_or, length, ltb}
 use Rattle.std.proofs.lemmas.Bool.Decides.{nat_tests}
 use Rattle.std.proofs.lemmas.List.{get_or_past}
 use Rattle.posix_calls.specs.Tree.{any_up_to, refers_to}

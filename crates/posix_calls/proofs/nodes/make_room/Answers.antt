@@ -1,4 +1,4 @@
-use Rattle.std.proofs.Common.{◌≡◌, ◌+◌, ◌≤◌, ℕ, arith, ap, sym, ◌∙◌, length, List, [], ◌∷◌, ◌++◌, Option, None, length-append}
+use Rattle.std.proofs.Common.{◌≡◌, ◌+◌, arith, ap, ◌∙◌, length, [], ◌∷◌, ◌++◌, Option, None, length-append}
 use Rattle.posix_calls.specs.Tree.{Node}
 use Rattle.posix_calls.specs.Plain.{tree_of}
 use Rattle.posix_calls.proofs.Slots.{tree_pushed}

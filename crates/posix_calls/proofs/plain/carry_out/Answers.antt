@@ -1,5 +1,4 @@
-use Rattle.std.proofs.Common.{◌≡◌, inl, inr, refl, false, true, ap, sym, ◌∙◌}
-use Rattle.std.specs.Prelude.{Bool}
+use Rattle.std.proofs.Common.{◌≡◌, inl, refl, false, ap, sym}
 use Rattle.posix_calls.specs.Deeds.{makes, reply_of}
 use Rattle.posix_calls.specs.declared.deed.Deed.TheVariants.{Tell}
 use Rattle.posix_calls.proofs.Carried.{quiet_as}
@@ -12,5 +11,5 @@ returns-in-Tell-clause-done c =
       0,
       λ e. absurd (cc),
       sym (ap reply_of c.in-Tell.is),
-      quiet_as c.args.nodes.now.items c.args.nodes.now.items c.args.rows.now.items c.args.client 0 c.args.deed (Tell c.in-Tell.answer) c.in-Tell.is refl refl,
+      quiet_as c.args.nodes.now c.args.nodes.now c.args.rows.now.items c.args.client 0 c.args.deed (Tell c.in-Tell.answer) c.in-Tell.is refl refl,
     )

@@ -1,4 +1,4 @@
-use Rattle.std.proofs.Common.{◌≡◌, inl, inr, refl, sym, ap, ◌∙◌, subst, List, Option}
+use Rattle.std.proofs.Common.{◌≡◌, inl, inr, refl, subst, List, Option}
 use Rattle.posix_calls.specs.Tree.{Node}
 use Rattle.posix_calls.specs.Deeds.{makes}
 use Rattle.posix_calls.specs.Plain.{tree_of, IsLowest}
@@ -7,7 +7,7 @@ use Rattle.posix_calls.proofs.plain.change.Goals as goal
 
 pub returns-in-Ok-clause-done : goal.returns-in-Ok-clause-done
 returns-in-Ok-clause-done c =
-    inl (c.in-Some.inode, subst (λ (nodes : List (Option Node)). makes c.args.deed ≡ true → IsLowest (tree_of nodes) c.in-Some.inode) c.deref.ensures.value c.in-Some.ensures, c.reply_to-reply.ensures, c.in-Ok.ensures.ok)
+    inl (c.in-Some.inode, subst (λ (nodes : List (Option Node)). makes c.args.deed ≡ true → IsLowest (tree_of nodes) c.in-Some.inode) c.as_slice.ensures c.in-Some.ensures, c.reply_to-reply.ensures, c.in-Ok.ensures.ok)
 
 pub returns-in-Err-clause-done : goal.returns-in-Err-clause-done
 returns-in-Err-clause-done c = inr (inl refl, c.in-Err.ensures.err)

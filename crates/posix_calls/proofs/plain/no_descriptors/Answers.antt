@@ -1,5 +1,4 @@
-use Rattle.std.proofs.Common.{◌≡◌, ◌<◌, ◌≤◌, ◌+◌, ℕ, zero, suc, None, List, [], ◌∷◌, ◌++◌, Option, length, get_or, refl, ap, sym, ◌∙◌, inl, inr, arith, length-append}
-use Rattle.std.proofs.lemmas.Bool.{cases_lt}
+use Rattle.std.proofs.Common.{◌≡◌, ◌+◌, ℕ, zero, suc, None, List, [], ◌∷◌, ◌++◌, Option, length, get_or, refl, ap, ◌∙◌, length-append}
 use Rattle.posix_calls.specs.Own.{own_of}
 use Rattle.posix_calls.specs.Plain.{held_of}
 use Rattle.posix_calls.specs.declared.descriptor.Descriptor.{Descriptor}

@@ -1,4 +1,4 @@
-use Rattle.std.proofs.Common.{◌≡◌, ◌<◌, ℕ, None, length, get_or, []}
+use Rattle.std.proofs.Common.{◌≡◌, ℕ, None, length, get_or, []}
 use Rattle.posix_calls.specs.Own.{own_of}
 use Rattle.posix_calls.proofs.plain.no_descriptors.Given as goal
 

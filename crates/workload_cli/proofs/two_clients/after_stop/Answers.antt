@@ -1,4 +1,4 @@
-use Rattle.std.proofs.Common.{subst, sym}
+use Rattle.std.proofs.Common.{subst}
 use Rattle.tier_device.specs.declared.media.Tier.TheVariants.{Fast}
 use Rattle.tier_device.specs.declared.stop.StopMedia.{StopMedia}
 use Rattle.tier_device.specs.Memory.{memory_seen, memory_left, memory_moment}

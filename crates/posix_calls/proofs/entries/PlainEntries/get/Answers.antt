@@ -1,4 +1,4 @@
-use Rattle.std.proofs.Common.{◌≡◌, ap, ◌∙◌, List, Option, ℕ}
+use Rattle.std.proofs.Common.{ap, ◌∙◌, List, ℕ}
 use Rattle.std.specs.FinMap as fin
 use Rattle.posix_calls.specs.declared.entries.PlainEntry.{PlainEntry}
 use Rattle.posix_calls.specs.Content.{Entries}

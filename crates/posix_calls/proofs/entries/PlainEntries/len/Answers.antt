@@ -1,4 +1,4 @@
-use Rattle.std.proofs.Common.{◌≡◌, ap, sym, ◌∙◌, length, ℕ, arith}
+use Rattle.std.proofs.Common.{ap, sym, ◌∙◌, length, ℕ}
 use Rattle.std.specs.FinMap as fin
 use Rattle.std.proofs.lemmas.List.{length-map}
 use Rattle.posix_calls.specs.declared.entries.PlainEntry.{PlainEntry}

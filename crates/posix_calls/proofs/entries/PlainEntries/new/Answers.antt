@@ -1,6 +1,4 @@
-use Rattle.std.proofs.Common.{◌≡◌, refl, rules}
-use Rattle.posix_calls.specs.declared.entries.PlainEntry.{PlainEntry}
-use Rattle.posix_calls.specs.Ordered.{IsInOrder}
+use Rattle.std.proofs.Common.{refl, rules}
 use Rattle.posix_calls.proofs.Ordered.{no_entries}
 use Rattle.posix_calls.proofs.entries.PlainEntries.new.Goals as goal
 

@@ -1,4 +1,4 @@
-use Rattle.std.proofs.Common.{◌≡◌, ◌≤◌, length, sym, subst, List, Result, Ok, Err}
+use Rattle.std.proofs.Common.{◌≡◌, sym, subst, List, Result, Ok, Err}
 use Rattle.std.specs.Prelude.{OnOk, OnErr}
 use Rattle.std.proofs.lemmas.Result.{on_ok_weaker}
 use Rattle.posix_calls.specs.declared.entries.PlainEntry.{PlainEntry}

@@ -1,4 +1,4 @@
-use Rattle.std.proofs.Common.{◌≡◌, ◌≤◌, length, sym, subst, arith}
+use Rattle.std.proofs.Common.{arith}
 use Rattle.posix_calls.proofs.Ordered.{without_is_remove}
 use Rattle.posix_calls.proofs.entries.PlainEntries.remove.Goals as goal
 

@@ -1,22 +1,26 @@
-use Rattle.std.proofs.Common.{◌≡◌, Ok, Err, inl, inr, refl, ap, sym, subst, ◌∙◌, arith, ◌⊎◌}
-use Rattle.posix_calls.specs.Asks.{run, run_part, Known, Lacks, view_of}
+use Rattle.std.proofs.Common.{◌≡◌, Ok, Err, inl, ap, sym, subst, ◌∙◌, arith}
+use Rattle.posix_calls.specs.Asks.{run, view_of}
 use Rattle.posix_calls.specs.Decide.{decide}
+use Rattle.posix_calls.specs.Tree.{Own}
 use Rattle.posix_calls.specs.Own.{own_of}
-use Rattle.posix_calls.specs.Deeds.{answer, Step}
+use Rattle.posix_calls.specs.Deeds.{Step}
 use Rattle.posix_calls.specs.declared.deed.NoDeed.TheVariants.{Refused}
-use Rattle.posix_calls.specs.Plain.{Stored, tree_of, held_of, state_of, state_in, whole, IsDoable, IsDone, IsDropped}
+use Rattle.posix_calls.specs.Plain.{Stored, tree_of, held_of, state_of, state_in, IsSound}
 use Rattle.posix_calls.proofs.Steps.{failed_step}
 use Rattle.posix_calls.proofs.Answering.{known_lacks_nothing, known_of}
-use Rattle.posix_calls.proofs.Decided.{decide_doable}
-use Rattle.posix_calls.proofs.Asking.{row_of, among, answer_is, exact_of, step_of, refused_of}
+use Rattle.posix_calls.proofs.Doable.{doable}
+use Rattle.posix_calls.proofs.Asking.{row_of, among, answer_is, came_of, step_of, refused_of, sound_after}
 use Rattle.posix_calls.proofs.plain.PlainTree.ask.Goals as goal
 
 pub carry_out-requires-clause-doable : goal.carry_out-requires-clause-doable
 carry_out-requires-clause-doable c =
-    let t = tree_of c.args.self.now.nodes in
-    subst (λ (s : Stored). IsDoable (tree_of s.nodes) c.in-Ok.deed) (sym c.self.view_is)
-    (decide_doable t (own_of c.index.result.now) c.args.call.now c.in-Ok.deed
-    (known_of (view_of t) (decide (own_of c.index.result.now) c.args.call.now) (Ok c.in-Ok.deed) (c.decide.ensures.gives c.in-Ok.deed c.in-Ok.is)))
+    let s = state_in c.self.inside.nodes c.self.inside.rows.items in
+    let row = row_of c.self.inside.rows.items c.args.client c.index.result.now (omega arith) (omega (arith, c.self.invariant.0, c.if-client-gt-MAX_CLIENTS.false)) c.index.ensures in
+    let v = view_of (tree_of c.args.self.now.nodes) in
+    let comes : run v (decide (own_of c.index.result.now) c.args.call.now) ≡ Ok c.in-Ok.deed = known_of v (decide (own_of c.index.result.now) c.args.call.now) (Ok c.in-Ok.deed) (c.decide.ensures.gives c.in-Ok.deed c.in-Ok.is) in
+    doable s c.self.invariant.1 c.args.client c.args.call.now c.in-Ok.deed
+    (subst (λ (own : Own). run (view_of s.tree) (decide own c.args.call.now) ≡ Ok c.in-Ok.deed) (sym row)
+    (subst (λ (x : Stored). run (view_of (tree_of x.nodes)) (decide (own_of c.index.result.now) c.args.call.now) ≡ Ok c.in-Ok.deed) (sym c.self.view_is) comes))
 
 pub unreachable-requires : goal.unreachable-requires
 unreachable-requires c =
@@ -25,22 +29,30 @@ unreachable-requires c =
 
 pub returns-in-Ok-clause-exact : goal.returns-in-Ok-clause-exact
 returns-in-Ok-clause-exact c =
-    let row = ap (λ (s : Stored). held_of s.rows c.args.client) (sym c.self.view_is) ∙ row_of c.self.inside.rows.items c.args.client c.index.result.now (omega arith) (omega (arith, c.self.invariant, c.if-client-gt-MAX_CLIENTS.false)) c.index.ensures in
-    let is : answer (state_of c.args.self.now) c.args.client c.args.call.now ≡ Ok c.in-Ok.deed = answer_is c.args.self.now c.args.client c.args.call.now c.index.result.now (Ok c.in-Ok.deed) (among c.args.client (omega arith) (omega (arith, c.if-client-gt-MAX_CLIENTS.false))) row (c.decide.ensures.gives c.in-Ok.deed c.in-Ok.is) in
-    exact_of (state_of c.args.self.now) _ c.args.client c.args.call.now c.in-Ok.deed c.carry_out.result is
-    (subst (λ (s : Stored). IsDone (state_of s) c.args.client c.in-Ok.deed c.carry_out.result (state_in c.carry_out.new.nodes.items c.carry_out.new.rows.items) ⊎ IsDropped (state_of s) c.in-Ok.deed c.carry_out.result (state_in c.carry_out.new.nodes.items c.carry_out.new.rows.items)) c.self.view_is c.carry_out.ensures.done)
+    came_of (record { nodes = c.self.inside.nodes; rows = c.self.inside.rows.items }) c.args.self.now c.args.client c.args.call.now c.in-Ok.deed c.carry_out.result (state_in c.carry_out.new.nodes c.carry_out.new.rows.items) c.index.result.now
+    c.self.view_is (omega arith) (omega arith) c.self.invariant.0 c.index.ensures (c.decide.ensures.gives c.in-Ok.deed c.in-Ok.is) c.carry_out.ensures.done
+
+pub invariant_of-self : goal.invariant_of-self
+invariant_of-self c =
+    let old = state_of c.args.self.now in
+    let after = state_in c.carry_out.new.nodes c.carry_out.new.rows.items in (
+      c.carry_out.ensures.kept ∙ c.self.invariant.0,
+      sound_after old after c.args.client c.args.call.now c.carry_out.result (subst (λ (s : Stored). IsSound (state_of s)) c.self.view_is c.self.invariant.1)
+          (step_of old after c.args.client c.args.call.now c.carry_out.result
+          (came_of (record { nodes = c.self.inside.nodes; rows = c.self.inside.rows.items }) c.args.self.now c.args.client c.args.call.now c.in-Ok.deed c.carry_out.result after c.index.result.now c.self.view_is (omega arith) (omega arith) c.self.invariant.0 c.index.ensures (c.decide.ensures.gives c.in-Ok.deed c.in-Ok.is) c.carry_out.ensures.done)),
+    )
 
 pub returns-in-Ok-clause-step : goal.returns-in-Ok-clause-step
 returns-in-Ok-clause-step c = step_of (state_of c.args.self.now) _ c.args.client c.args.call.now c.carry_out.result (returns-in-Ok-clause-exact c)
 
 pub returns-in-Ok-clause-refused : goal.returns-in-Ok-clause-refused
 returns-in-Ok-clause-refused c = λ e is.
-    failed_step (state_of c.args.self.now) c.args.client c.args.call.now e (state_in c.carry_out.new.nodes.items c.carry_out.new.rows.items)
-    (subst (λ r. Step (state_of c.args.self.now) c.args.client c.args.call.now r (state_in c.carry_out.new.nodes.items c.carry_out.new.rows.items)) is (returns-in-Ok-clause-step c))
+    failed_step (state_of c.args.self.now) c.args.client c.args.call.now e (state_in c.carry_out.new.nodes c.carry_out.new.rows.items)
+    (subst (λ r. Step (state_of c.args.self.now) c.args.client c.args.call.now r (state_in c.carry_out.new.nodes c.carry_out.new.rows.items)) is (returns-in-Ok-clause-step c))
 
 pub returns-in-Err-Refused-clause-exact : goal.returns-in-Err-Refused-clause-exact
 returns-in-Err-Refused-clause-exact c =
-    let row = ap (λ (s : Stored). held_of s.rows c.args.client) (sym c.self.view_is) ∙ row_of c.self.inside.rows.items c.args.client c.index.result.now (omega arith) (omega (arith, c.self.invariant, c.if-client-gt-MAX_CLIENTS.false)) c.index.ensures in
+    let row = ap (λ (s : Stored). held_of s.rows c.args.client) (sym c.self.view_is) ∙ row_of c.self.inside.rows.items c.args.client c.index.result.now (omega arith) (omega (arith, c.self.invariant.0, c.if-client-gt-MAX_CLIENTS.false)) c.index.ensures in
     let why : c.decide.result ≡ Err (Refused c.in-Err-Refused.errno) = c.in-Err-Refused.is ∙ ap Err c.in-Err-Refused.field-0-is in
     inl (refused_of c.args.self.now c.args.client c.args.call.now c.in-Err-Refused.errno
     (answer_is c.args.self.now c.args.client c.args.call.now c.index.result.now (Err c.in-Err-Refused.errno) (among c.args.client (omega arith) (omega (arith, c.if-client-gt-MAX_CLIENTS.false))) row (c.decide.ensures.refuses c.in-Err-Refused.errno why)))

@@ -1,0 +1,9 @@
+use Rattle.std.proofs.Common.{sym}
+use Rattle.posix_calls.proofs.Chain.{gives_as, bind_gives, bind_stops}
+use Rattle.call_effects.proofs.record.record_of.Goals as goal
+
+pub returns-in-Err-clause-tells : goal.returns-in-Err-clause-tells
+returns-in-Err-clause-tells g c = bind_stops _ (rw c.recounted.ensures at c.in-Err.ensures.tells)
+
+pub returns-clause-tells : goal.returns-clause-tells
+returns-clause-tells g c = bind_gives _ (rw c.recounted.ensures at c.in-Ok.ensures.tells) (gives_as (sym c.effects_by-effects.ensures))

@@ -1,0 +1,114 @@
+ghost use Rattle.std.specs.Prelude.{◌≡◌, ◌+◌, ◌^◌, ◌<◌, IfOk, max};
+ghost use Rattle.posix_calls.specs.Answers.{Tells};
+ghost use Rattle.posix_calls.specs.Content.{file_units, directory_units};
+ghost use Rattle.call_effects.specs.Records.{file_rise, entry_rise, move_rise, growth_asked};
+ghost use Rattle.call_effects.specs.Rises.{new_rise, size_rise};
+
+use crate::asking::known;
+use posix_calls::{Deed, NoDeed, Replaced, Spot, TreeAnswers, UNIT_BYTES, UNIT_ENTRIES};
+
+/// By how many units a deed raises the graph at most: the rises of the inodes that its effects touch, each by itself. No fall
+/// is set against a rise.
+///
+/// Of the tree, the directory that gets an entry or the file that gets another length has to be known; `Lacks` names it. No
+/// other error comes. A deed that a call came to grows by a few hundred units at most.
+pub fn growth_of<T: TreeAnswers>(tree: &T, deed: &Deed) -> Result<u64, NoDeed>
+    ensures { Tells (T.part tree.now) (growth_asked deed.now) result }
+{
+    match deed {
+        Deed::NewDir { at } => new_rise(tree, at.parent, directory_units(0)),
+        Deed::NewFile { at, .. } => new_rise(tree, at.parent, file_units(0)),
+        Deed::Write { inode, at, bytes } => write_rise(tree, *inode, *at, bytes.len()),
+        Deed::Resize { inode, len } => resize_rise(tree, *inode, *len),
+        Deed::AddName { at, .. } => entry_rise(tree, at.parent),
+        Deed::Move {
+            from,
+            to,
+            replaced,
+            ..
+        } => move_rise(tree, from, to, *replaced),
+        Deed::Tell { .. } => Ok(0),
+        Deed::OpenFile { .. } => Ok(0),
+        Deed::CloseFile { .. } => Ok(0),
+        Deed::RemoveDir { .. } => Ok(0),
+        Deed::DropName { .. } => Ok(0),
+    }
+}
+
+// Which directory or file costs how much; a length may be the end of a write, which is past the end of no 128 bits.
+fn directory_units(entries: u64) -> u64
+    requires { entries < 2 ^ 33 }
+    ensures units { result ≡ directory_units entries }
+    ensures small { result < 2 ^ 33 }
+{
+    1 + (entries + (UNIT_ENTRIES as u64 - 1)) / UNIT_ENTRIES as u64
+}
+
+fn file_units(len: u128) -> u64
+    requires { len < 2 ^ 65 }
+    ensures units { result ≡ file_units len }
+    ensures small { result < 2 ^ 54 }
+{
+    (1 + (len + (UNIT_BYTES as u128 - 1)) / UNIT_BYTES as u128) as u64
+}
+
+// The rise of a directory that gets one more entry.
+fn entry_rise<T: TreeAnswers>(tree: &T, dir: u32) -> Result<u64, NoDeed>
+    ensures tells { Tells (T.part tree.now) (entry_rise dir) result }
+    ensures small { IfOk result (λ rise. rise < 2 ^ 33) }
+{
+    let entries = known(tree.entry_count(dir), dir)? as u64;
+    Ok(directory_units(entries + 1).saturating_sub(directory_units(entries)))
+}
+
+// The units of a new node, and the rise of its directory.
+fn new_rise<T: TreeAnswers>(tree: &T, dir: u32, units: u64) -> Result<u64, NoDeed>
+    requires { units < 2 ^ 54 }
+    ensures { Tells (T.part tree.now) (new_rise units dir) result }
+{
+    let rise = entry_rise(tree, dir)?;
+    Ok(units + rise)
+}
+
+// The rise of a directory that something moves to: what is put out makes room for it.
+fn move_rise<T: TreeAnswers>(
+    tree: &T,
+    from: &Spot,
+    to: &Spot,
+    replaced: Replaced,
+) -> Result<u64, NoDeed>
+    ensures { Tells (T.part tree.now) (move_rise from.now to.now replaced) result }
+{
+    match replaced {
+        Replaced::Nothing if from.parent == to.parent => Ok(0),
+        Replaced::Nothing => entry_rise(tree, to.parent),
+        Replaced::OldFile { .. } => Ok(0),
+        Replaced::OldDir { .. } => Ok(0),
+    }
+}
+
+// The rise of a file from one size to another.
+fn file_rise(old: u128, new: u128) -> u64
+    requires old { old < 2 ^ 65 }
+    requires new { new < 2 ^ 65 }
+    ensures { result ≡ file_rise old new }
+{
+    file_units(new).saturating_sub(file_units(old))
+}
+
+// The rise of a file that so many bytes are put into at an offset.
+fn write_rise<T: TreeAnswers>(tree: &T, inode: u32, at: u64, count: usize) -> Result<u64, NoDeed>
+    ensures { Tells (T.part tree.now) (size_rise (λ old. max old (at + count)) inode) result }
+{
+    let old = known(tree.file_size(inode), inode)? as u128;
+    let end = at as u128 + count as u128;
+    Ok(file_rise(old, old.max(end)))
+}
+
+// The rise of a file that is cut or grown to a length.
+fn resize_rise<T: TreeAnswers>(tree: &T, inode: u32, len: u64) -> Result<u64, NoDeed>
+    ensures { Tells (T.part tree.now) (size_rise (λ old. len) inode) result }
+{
+    let old = known(tree.file_size(inode), inode)?;
+    Ok(file_rise(old as u128, len as u128))
+}

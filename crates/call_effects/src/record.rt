@@ -1,0 +1,290 @@
+ghost use Rattle.std.specs.Prelude.{◌≡◌, ◌+◌, ◌-◌, ◌^◌, ◌<◌, ◌≤◌, [], ◌∷◌, ◌++◌, length, IfOk, IfErr, OnOk, vec_len, if◌then◌else◌};
+ghost use Rattle.std.specs.Vec.{vec_capacity};
+ghost use Rattle.posix_calls.specs.Answers.{Tells};
+ghost use Rattle.posix_calls.specs.declared.deed.Deed.TheVariants.{AddName};
+ghost use Rattle.file_graph.specs.declared.effect.Effect.TheVariants.{Size, Leave, Enter};
+ghost use Rattle.call_effects.specs.Effects.{recounted, kind_if, making, dropping, removing, replacing, effects_by};
+ghost use Rattle.call_effects.specs.Records.{names_if, effects_asked};
+ghost use Rattle.call_effects.specs.Recorded.{effects_told, leaving_first, putting_out, copied};
+
+use crate::asking::known;
+use file_graph::{Effect, Effects, Kind};
+use log_record::Record;
+use posix_calls::{Deed, NoDeed, Replaced, Spot, TreeAnswers};
+use std::alloc::{AllocError, Global};
+
+// No deed has more effects.
+const MOST_EFFECTS: usize = 4;
+
+/// The record of a deed, with its effects and these units; a node that the deed makes gets the number `new`. A deed that
+/// changes nothing (`has_effects`) has a record without effects, which has no spelling and is not to be logged.
+///
+/// The names and bytes of the deed go into the record, but for one name that two effects of a rename need. Of the tree, the
+/// file that gets another number of names has to be known; `Lacks` names it. Memory is taken before anything is moved, so the
+/// deed is handed back with each error; `Memory` may stand in place of any answer, and does where a file's names would pass
+/// 32 bits.
+pub fn record_of<T: TreeAnswers>(
+    alloc: Global,
+    tree: &T,
+    deed: Deed,
+    new: u32,
+    units: u32,
+) -> Result<Record, (NoDeed, Deed)>
+    ensures tells { Tells (T.part tree.now) (effects_asked new deed) (effects_told result) }
+    ensures units { IfOk result (λ made. made.units ≡ units) }
+    ensures back { IfErr result (λ back. back.1 ≡ deed) }
+{
+    let names = match names_if(tree, recounted(&deed)) {
+        Ok(names) => names,
+        Err(why) => return Err((why, deed)),
+    };
+    let room = match room_for(alloc, &deed) {
+        Ok(room) => room,
+        Err(_) => return Err((NoDeed::Memory, deed)),
+    };
+    let effects = effects_by(room, names, new, deed);
+    Ok(Record { units, effects })
+}
+
+// The file that gets another number of names.
+fn recounted(deed: &Deed) -> Option<u32>
+    ensures { result ≡ recounted deed.now }
+{
+    match deed {
+        Deed::AddName { inode, .. } => Some(*inode),
+        Deed::DropName { inode, .. } => Some(*inode),
+        Deed::Move {
+            replaced: Replaced::OldFile { inode },
+            ..
+        } => Some(*inode),
+        _ => None,
+    }
+}
+
+// How many names a file has; one more can be counted.
+fn names_if<T: TreeAnswers>(tree: &T, inode: Option<u32>) -> Result<u32, NoDeed>
+    ensures tells { Tells (T.part tree.now) (names_if inode) result }
+    ensures fits { IfOk result (λ names. names + 1 < 2 ^ 32) }
+{
+    let Some(inode) = inode else {
+        return Ok(0);
+    };
+    let names = known(tree.file_names(inode), inode)?;
+    if names == u32::MAX {
+        return Err(NoDeed::Memory);
+    }
+    Ok(names)
+}
+
+// Room for the effects of a deed, with the first of them in it where its name is copied.
+fn room_for(alloc: Global, deed: &Deed) -> Result<Vec<Effect>, AllocError>
+    ensures copied { IfOk result (λ effects. effects.items ≡ copied deed.now) }
+    ensures room { IfOk result (λ effects. MOST_EFFECTS ≤ vec_capacity effects) }
+{
+    let mut effects = Vec::with_capacity(alloc, MOST_EFFECTS)?;
+    if let Deed::Move { to, replaced, .. } = deed {
+        leave_first(alloc, &mut effects, to, *replaced)?;
+    }
+    Ok(effects)
+}
+
+// The name of what is put out leaves its directory.
+fn leave_first(
+    alloc: Global,
+    effects: &mut Vec<Effect>,
+    to: &Spot,
+    replaced: Replaced,
+) -> Result<(), AllocError>
+    requires { vec_len effects.old < vec_capacity effects.old }
+    ensures items { OnOk result (effects.new.items ≡ effects.old.items ++ leaving_first to.now replaced) }
+    ensures room { vec_capacity effects.old ≤ vec_capacity effects.new }
+{
+    match replaced {
+        Replaced::Nothing => Ok(()),
+        _ => {
+            let directory = to.parent;
+            let name = to.name.copy(alloc)?;
+            put(effects, Effect::Leave { directory, name });
+            Ok(())
+        }
+    }
+}
+
+// Puts an effect behind the others, for which there is room.
+fn put(effects: &mut Vec<Effect>, effect: Effect)
+    requires { vec_len effects.old < vec_capacity effects.old }
+    ensures items { effects.new.items ≡ effects.old.items ++ effect ∷ [] }
+    ensures len { vec_len effects.new ≡ vec_len effects.old + 1 }
+    ensures room { vec_capacity effects.old ≤ vec_capacity effects.new }
+{
+    effects.push(effect).unwrap();
+}
+
+// The effects of a deed, into which its names and bytes go.
+fn effects_by(effects: Vec<Effect>, names: u32, new: u32, deed: Deed) -> Effects
+    requires copied { effects.items ≡ copied deed }
+    requires room { MOST_EFFECTS ≤ vec_capacity effects }
+    requires fits { names + 1 < 2 ^ 32 }
+    ensures { result ≡ effects_by names new deed }
+{
+    match deed {
+        Deed::Tell { .. } => Effects::from_vec(effects),
+        Deed::NewDir { at } => making(effects, new, Kind::Directory, at),
+        Deed::NewFile { at, .. } => making(effects, new, Kind::File, at),
+        Deed::OpenFile { inode, empties, .. } => emptying(effects, inode, empties),
+        Deed::CloseFile { .. } => Effects::from_vec(effects),
+        Deed::Write { inode, at, bytes } => alone(effects, Effect::Bytes { inode, at, bytes }),
+        Deed::Resize { inode, len } => alone(effects, Effect::Size { inode, size: len }),
+        Deed::RemoveDir { at, inode } => removing(effects, at, inode),
+        Deed::AddName { at, inode } => adding(effects, at, inode, names),
+        Deed::DropName { at, inode } => dropping(effects, at, inode, names),
+        Deed::Move {
+            from,
+            to,
+            inode,
+            is_dir,
+            replaced,
+        } => moving(effects, names, from, to, inode, kind_if(is_dir), replaced),
+    }
+}
+
+fn alone(mut effects: Vec<Effect>, effect: Effect) -> Effects
+    requires none { effects.items ≡ [] }
+    requires room { MOST_EFFECTS ≤ vec_capacity effects }
+    ensures { result ≡ effect ∷ [] }
+{
+    put(&mut effects, effect);
+    Effects::from_vec(effects)
+}
+
+fn emptying(effects: Vec<Effect>, inode: u32, empties: bool) -> Effects
+    requires none { effects.items ≡ [] }
+    requires room { MOST_EFFECTS ≤ vec_capacity effects }
+    ensures { result ≡ (if empties then Size inode 0 ∷ [] else []) }
+{
+    if empties {
+        return alone(effects, Effect::Size { inode, size: 0 });
+    }
+    Effects::from_vec(effects)
+}
+
+fn making(mut effects: Vec<Effect>, new: u32, kind: Kind, at: Spot) -> Effects
+    requires none { effects.items ≡ [] }
+    requires room { MOST_EFFECTS ≤ vec_capacity effects }
+    ensures { result ≡ making new kind at }
+{
+    put(&mut effects, Effect::Make { inode: new, kind });
+    put(&mut effects, entering(at, new, kind));
+    put(
+        &mut effects,
+        Effect::Names {
+            inode: new,
+            names: 1,
+        },
+    );
+    Effects::from_vec(effects)
+}
+
+fn adding(mut effects: Vec<Effect>, at: Spot, inode: u32, names: u32) -> Effects
+    requires none { effects.items ≡ [] }
+    requires room { MOST_EFFECTS ≤ vec_capacity effects }
+    requires fits { names + 1 < 2 ^ 32 }
+    ensures { result ≡ effects_by names 0 (AddName at inode) }
+{
+    put(&mut effects, entering(at, inode, Kind::File));
+    put(
+        &mut effects,
+        Effect::Names {
+            inode,
+            names: names + 1,
+        },
+    );
+    Effects::from_vec(effects)
+}
+
+fn dropping(mut effects: Vec<Effect>, at: Spot, inode: u32, names: u32) -> Effects
+    requires none { effects.items ≡ [] }
+    requires room { MOST_EFFECTS ≤ vec_capacity effects }
+    ensures { result ≡ dropping at inode names }
+{
+    put(&mut effects, leaving(at));
+    put(
+        &mut effects,
+        Effect::Names {
+            inode,
+            names: names.saturating_sub(1),
+        },
+    );
+    Effects::from_vec(effects)
+}
+
+fn removing(mut effects: Vec<Effect>, at: Spot, inode: u32) -> Effects
+    requires none { effects.items ≡ [] }
+    requires room { MOST_EFFECTS ≤ vec_capacity effects }
+    ensures { result ≡ removing at inode }
+{
+    put(&mut effects, leaving(at));
+    put(&mut effects, Effect::Drop { inode });
+    Effects::from_vec(effects)
+}
+
+fn moving(
+    mut effects: Vec<Effect>,
+    names: u32,
+    from: Spot,
+    to: Spot,
+    inode: u32,
+    kind: Kind,
+    replaced: Replaced,
+) -> Effects
+    requires first { effects.items ≡ leaving_first to replaced }
+    requires room { MOST_EFFECTS ≤ vec_capacity effects }
+    ensures { result ≡ replacing names to replaced ++ (Leave from.parent from.name ∷ Enter to.parent inode kind to.name ∷ []) }
+{
+    put_out(&mut effects, names.saturating_sub(1), replaced);
+    put(&mut effects, leaving(from));
+    put(&mut effects, entering(to, inode, kind));
+    Effects::from_vec(effects)
+}
+
+// What is put out has one name fewer, or goes.
+fn put_out(effects: &mut Vec<Effect>, names: u32, replaced: Replaced)
+    requires { vec_len effects.old < vec_capacity effects.old }
+    ensures items { effects.new.items ≡ effects.old.items ++ putting_out names replaced }
+    ensures len { vec_len effects.new ≤ vec_len effects.old + 1 }
+    ensures room { vec_capacity effects.old ≤ vec_capacity effects.new }
+{
+    match replaced {
+        Replaced::Nothing => {}
+        Replaced::OldFile { inode } => put(effects, Effect::Names { inode, names }),
+        Replaced::OldDir { inode } => put(effects, Effect::Drop { inode }),
+    }
+}
+
+fn kind_if(is_dir: bool) -> Kind
+    ensures { result ≡ kind_if is_dir }
+{
+    if is_dir { Kind::Directory } else { Kind::File }
+}
+
+// A name of an inode is entered.
+fn entering(at: Spot, inode: u32, kind: Kind) -> Effect
+    ensures { result ≡ Enter at.parent inode kind at.name }
+{
+    Effect::Enter {
+        directory: at.parent,
+        inode,
+        kind,
+        name: at.name,
+    }
+}
+
+// A name leaves its directory.
+fn leaving(at: Spot) -> Effect
+    ensures { result ≡ Leave at.parent at.name }
+{
+    Effect::Leave {
+        directory: at.parent,
+        name: at.name,
+    }
+}

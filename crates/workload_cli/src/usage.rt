@@ -1,0 +1,63 @@
+// What is told of the words of a command line.
+use crate::fault::Fault;
+use clap::Error;
+use clap::error::ErrorKind;
+use std::alloc::AllocError;
+use std::io::Write;
+
+/// Why words can't be read.
+#[derive(Debug, Drop)]
+pub enum WordsError {
+    /// What `clap` has to say of them: its help, too.
+    Usage(Error),
+    /// The value of an option is not of its form.
+    Value(&'static str),
+    Memory,
+}
+
+impl From<AllocError> for WordsError {
+    fn from(_e: AllocError) -> WordsError {
+        WordsError::Memory
+    }
+}
+
+impl From<Error> for WordsError {
+    fn from(error: Error) -> WordsError {
+        match error.kind() {
+            ErrorKind::OutOfMemory => WordsError::Memory,
+            _ => WordsError::Usage(error),
+        }
+    }
+}
+
+/// Tells what is wrong with the words, or the help, and answers the exit status: 0 for the help, 2 for words that can't be read,
+/// and 3 after a fault.
+pub fn tell<O: Write, E: Write>(error: WordsError, out: &mut O, err: &mut E) -> u8 {
+    match error {
+        WordsError::Usage(error) if !error.use_stderr() => match print_help(error, out) {
+            Ok(()) => 0,
+            Err(fault) => tell_fault(fault, err),
+        },
+        WordsError::Usage(error) => {
+            let _ = write!(err, "{error}");
+            2
+        }
+        WordsError::Value(text) => {
+            let _ = writeln!(err, "error: {text}");
+            2
+        }
+        WordsError::Memory => tell_fault(Fault::Memory, err),
+    }
+}
+
+fn print_help<O: Write>(help: Error, out: &mut O) -> Result<(), Fault> {
+    write!(out, "{help}")?;
+    out.flush()?;
+    Ok(())
+}
+
+/// Tells what ended a run before its end, and answers the exit status 3.
+pub fn tell_fault<E: Write>(fault: Fault, err: &mut E) -> u8 {
+    let _ = writeln!(err, "{fault}");
+    3
+}
