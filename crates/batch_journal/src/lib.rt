@@ -17,6 +17,3 @@ mod replay;
 pub use batch::Batch;
 pub use error::JournalError;
 pub use journal::{Journal, MAX_IMAGES};
-
-#[cfg(test)]
-mod tests;

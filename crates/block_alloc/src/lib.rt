@@ -8,6 +8,3 @@ mod runs;
 pub use fault::AllocFault;
 pub use free_runs::FreeRuns;
 pub use runs::Run;
-
-#[cfg(test)]
-mod tests;

@@ -22,7 +22,6 @@ pub mod KnownSteps
 pub mod KnownTold
 pub mod KnownUnits
 pub mod NewNodes
-pub mod Partial
 pub mod Puts
 pub mod Reached
 pub mod Rises

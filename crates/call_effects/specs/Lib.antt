@@ -3,7 +3,6 @@ pub mod Changed
 pub mod Effects
 pub mod Fits
 pub mod Known
-pub mod Partial
 pub mod Recorded
 pub mod Records
 pub mod Rises

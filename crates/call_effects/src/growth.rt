@@ -4,8 +4,7 @@ ghost use Rattle.posix_calls.specs.Content.{file_units, directory_units};
 ghost use Rattle.call_effects.specs.Records.{file_rise, entry_rise, move_rise, growth_asked};
 ghost use Rattle.call_effects.specs.Rises.{new_rise, size_rise};
 
-use crate::asking::known;
-use posix_calls::{Deed, NoDeed, Replaced, Spot, TreeAnswers, UNIT_BYTES, UNIT_ENTRIES};
+use posix_calls::{Deed, NoDeed, Replaced, Spot, TreeAnswers, UNIT_BYTES, UNIT_ENTRIES, known};
 
 /// By how many units a deed raises the graph at most: the rises of the inodes that its effects touch, each by itself. No fall
 /// is set against a rise.

@@ -7,7 +7,6 @@
 //! units (`record_laws`), and for a client that knows a part (`known_laws`).
 #![tactic(auto)]
 
-mod asking;
 mod changed;
 mod growth;
 mod known_laws;
@@ -31,8 +30,3 @@ pub use record_laws::{
     answered_deeds_have_spellings, asked_effects_are_the_deeds, asked_growth_is_the_effects_growth,
     growth_is_local,
 };
-
-#[cfg(test)]
-mod graph_reader;
-#[cfg(test)]
-mod tests;

@@ -7,10 +7,9 @@ ghost use Rattle.call_effects.specs.Effects.{recounted, kind_if, making, droppin
 ghost use Rattle.call_effects.specs.Records.{names_if, effects_asked};
 ghost use Rattle.call_effects.specs.Recorded.{effects_told, leaving_first, putting_out, copied};
 
-use crate::asking::known;
 use file_graph::{Effect, Effects, Kind};
 use log_record::Record;
-use posix_calls::{Deed, NoDeed, Replaced, Spot, TreeAnswers};
+use posix_calls::{Deed, NoDeed, Replaced, Spot, TreeAnswers, known};
 use std::alloc::{AllocError, Global};
 
 // No deed has more effects.

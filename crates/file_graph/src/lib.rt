@@ -17,6 +17,3 @@ pub use laws::{
     apart_effects_commute, charge_rises_by_growth_at_most, effect_changes_its_subjects,
 };
 pub use plain::PlainGraph;
-
-#[cfg(test)]
-mod tests;

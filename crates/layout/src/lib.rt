@@ -36,6 +36,3 @@ pub use places::{
 };
 pub use slot::Slot;
 pub use superblock::Super;
-
-#[cfg(test)]
-mod tests;

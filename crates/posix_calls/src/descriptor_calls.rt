@@ -13,8 +13,8 @@ use crate::deed::{Deed, NoDeed};
 use crate::errno::Errno;
 use crate::limits::{MAX_FILE, MAX_TRANSFER};
 use crate::own::OwnDescriptors;
-use crate::tree_answers::TreeAnswers;
-use crate::walk::{Landing, kind_at, known, prefix, read_path, refuse_if, spot};
+use crate::tree_answers::{TreeAnswers, known};
+use crate::walk::{Landing, kind_at, prefix, read_path, refuse_if, spot};
 use std::alloc::Global;
 
 impl Flags {

@@ -5,8 +5,8 @@ ghost use Rattle.posix_calls.specs.Decide.{mkdir, rmdir};
 
 use crate::deed::{Deed, NoDeed};
 use crate::errno::Errno;
-use crate::tree_answers::TreeAnswers;
-use crate::walk::{kind_at, known, prefix, read_path, refuse_if, refuse_root, spot, there};
+use crate::tree_answers::{TreeAnswers, known};
+use crate::walk::{kind_at, prefix, read_path, refuse_if, refuse_root, spot, there};
 use std::alloc::Global;
 
 pub(crate) fn mkdir<T: TreeAnswers>(alloc: Global, tree: &T, bytes: &[u8]) -> Result<Deed, NoDeed>

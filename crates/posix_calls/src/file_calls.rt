@@ -7,8 +7,8 @@ use crate::call::Reply;
 use crate::deed::{Deed, NoDeed};
 use crate::errno::Errno;
 use crate::limits::MAX_FILE;
-use crate::tree_answers::TreeAnswers;
-use crate::walk::{kind_at, known, prefix, read_path, refuse_if, refuse_root, spot, there};
+use crate::tree_answers::{TreeAnswers, known};
+use crate::walk::{kind_at, prefix, read_path, refuse_if, refuse_root, spot, there};
 use std::alloc::Global;
 
 pub(crate) fn truncate<T: TreeAnswers>(

@@ -56,11 +56,4 @@ pub use names::Names;
 pub use own::OwnDescriptors;
 pub use path::Path;
 pub use plain::PlainTree;
-pub use tree_answers::TreeAnswers;
-
-#[cfg(test)]
-mod decision_tests;
-#[cfg(test)]
-mod plain_tests;
-#[cfg(test)]
-mod tests;
+pub use tree_answers::{TreeAnswers, known};

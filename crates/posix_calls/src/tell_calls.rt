@@ -6,8 +6,8 @@ ghost use Rattle.posix_calls.specs.Decide.{list_path, stat};
 use crate::call::Reply;
 use crate::deed::{Deed, Description, NoDeed};
 use crate::errno::Errno;
-use crate::tree_answers::TreeAnswers;
-use crate::walk::{kind_at, known, prefix, read_path, refuse_if, there};
+use crate::tree_answers::{TreeAnswers, known};
+use crate::walk::{kind_at, prefix, read_path, refuse_if, there};
 use std::alloc::Global;
 
 pub(crate) fn list<T: TreeAnswers>(alloc: Global, tree: &T, bytes: &[u8]) -> Result<Deed, NoDeed>

@@ -1,10 +1,11 @@
-ghost use Rattle.std.specs.Prelude.{◌≡◌, option_map, IfOk};
+ghost use Rattle.std.specs.Prelude.{◌≡◌, Some, None, option_map, IfOk, IfErr};
 ghost use Rattle.posix_calls.specs.Asks.{Part};
 ghost use Rattle.posix_calls.specs.Answers.{entry_in, count_in, listed_in, size_in, range_in, description_of};
 ghost use Rattle.posix_calls.specs.Walk.{names_seen};
+ghost use Rattle.posix_calls.specs.declared.deed.NoDeed.TheVariants.{Lacks};
 
 use crate::bytes::Bytes;
-use crate::deed::Description;
+use crate::deed::{Description, NoDeed};
 use crate::names::Names;
 use std::alloc::{AllocError, Global};
 
@@ -54,4 +55,15 @@ pub trait TreeAnswers {
     /// What there is to say of an inode; `Some(None)` where nothing stands at it.
     fn describe(&self, inode: u32) -> Option<Option<Description>>
         ensures { result ≡ option_map description_of ((part self.now).node inode) };
+}
+
+/// What was answered of an inode, or that more has to be known of it.
+pub fn known<A: Drop>(answer: Option<A>, inode: u32) -> Result<A, NoDeed>
+    ensures known { IfOk result (λ x. answer ≡ Some x) }
+    ensures lacks { IfErr result (λ why. (why ≡ Lacks inode) × (answer ≡ None)) }
+{
+    match answer {
+        Some(x) => Ok(x),
+        None => Err(NoDeed::Lacks { inode }),
+    }
 }

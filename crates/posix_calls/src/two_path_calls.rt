@@ -8,10 +8,8 @@ use crate::call::Reply;
 use crate::deed::{Deed, NoDeed, Replaced};
 use crate::errno::Errno;
 use crate::limits::MAX_NAMES;
-use crate::tree_answers::TreeAnswers;
-use crate::walk::{
-    Landing, kind_at, known, prefix, read_path, refuse_if, refuse_root, spot, there, walk,
-};
+use crate::tree_answers::{TreeAnswers, known};
+use crate::walk::{Landing, kind_at, prefix, read_path, refuse_if, refuse_root, spot, there, walk};
 use std::alloc::Global;
 
 pub(crate) fn link<T: TreeAnswers>(

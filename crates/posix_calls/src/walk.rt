@@ -4,14 +4,14 @@ ghost use Rattle.posix_calls.specs.Path.{reading};
 ghost use Rattle.posix_calls.specs.Asks.{Part};
 ghost use Rattle.posix_calls.specs.Walk.{said, kind_at, there, is_root, is_there};
 ghost use Rattle.posix_calls.specs.Answers.{Tells, last_name, landing, child_at};
-ghost use Rattle.posix_calls.specs.declared.deed.NoDeed.TheVariants.{Refused, Lacks, Memory};
+ghost use Rattle.posix_calls.specs.declared.deed.NoDeed.TheVariants.{Refused, Memory};
 
 use crate::deed::{NoDeed, Spot};
 use crate::errno::Errno;
 use crate::limits::{MAX_ENTRIES, ROOT};
 use crate::name::Name;
 use crate::path::Path;
-use crate::tree_answers::TreeAnswers;
+use crate::tree_answers::{TreeAnswers, known};
 use std::alloc::Global;
 
 // Where a path leads: the directory of its last name, the inode there, and how many entries that directory has; and whether
@@ -47,17 +47,6 @@ pub(crate) fn refuse_root(path: &Path) -> Result<(), NoDeed>
         return Err(NoDeed::Refused { errno: Errno::Busy });
     }
     Ok(())
-}
-
-// What is known of an inode.
-pub(crate) fn known<A: Drop>(answer: Option<A>, inode: u32) -> Result<A, NoDeed>
-    ensures known { IfOk result (λ x. answer ≡ Some x) }
-    ensures lacks { IfErr result (λ why. (why ≡ Lacks inode) × (answer ≡ None)) }
-{
-    match answer {
-        Some(x) => Ok(x),
-        None => Err(NoDeed::Lacks { inode }),
-    }
 }
 
 // Reads a path.

@@ -20,6 +20,3 @@ pub use data_text::DataText;
 pub use hex::hex_byte;
 pub use path_text::PathText;
 pub use printed::{is_plain, run_len};
-
-#[cfg(test)]
-mod tests;

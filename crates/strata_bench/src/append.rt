@@ -18,27 +18,42 @@ const REGIONS: u32 = 200;
 
 /// Prints the time of an append of a record that writes so many bytes, that of a copy of the same bytes, and their ratio.
 pub fn run(rt: &HostRuntime, bytes: usize) -> Result<()> {
-    let alloc = rt.alloc();
-    let entry = write_of(alloc, bytes)?;
-    keep_freed_memory(alloc)?;
-    let mut appends = Duration::ZERO;
-    let mut appended = 0u64;
+    let append = time_of_an_append(rt, bytes)?;
+    let copy = time_of_a_copy(rt, bytes)?;
+    report(rt, bytes, append, copy)
+}
+
+fn time_of_an_append(rt: &HostRuntime, bytes: usize) -> Result<u128> {
+    let entry = write_of(rt.alloc(), bytes)?;
+    keep_freed_memory(rt.alloc())?;
+    let mut time = Duration::ZERO;
+    let mut count = 0u64;
     for _ in 0..REGIONS {
-        let mut region = fresh(alloc)?;
-        let start = Instant::now(rt)?;
-        appended = appended.saturating_add(fill(&mut region, &entry)?);
-        appends = appends.saturating_add(start.elapsed(rt)?);
+        let (took, appended) = timed_fill(rt, &entry)?;
+        time = time.saturating_add(took);
+        count = count.saturating_add(appended);
     }
+    Ok(each(time, count))
+}
+
+// The time in which one region is filled, and with how many records.
+fn timed_fill(rt: &HostRuntime, entry: &Record) -> Result<(Duration, u64)> {
+    let mut region = fresh(rt.alloc())?;
+    let start = Instant::now(rt)?;
+    let count = fill(&mut region, entry)?;
+    Ok((start.elapsed(rt)?, count))
+}
+
+fn time_of_a_copy(rt: &HostRuntime, bytes: usize) -> Result<u128> {
+    let alloc = rt.alloc();
     let from = vec![in alloc; 0x61u8; bytes]?;
     let mut to = vec![in alloc; 0u8; REGION_SIZE]?;
-    let mut copies = Duration::ZERO;
-    let mut copied = 0u64;
+    let start = Instant::now(rt)?;
+    let mut count = 0u64;
     for _ in 0..REGIONS {
-        let start = Instant::now(rt)?;
-        copied = copied.saturating_add(copy(&mut to, &from));
-        copies = copies.saturating_add(start.elapsed(rt)?);
+        count = count.saturating_add(copy(&mut to, &from));
     }
-    report(rt, bytes, each(appends, appended), each(copies, copied))
+    Ok(each(start.elapsed(rt)?, count))
 }
 
 // Frees a large block once: the allocator then keeps what is freed, so that no page is asked of the system while a region is

@@ -17,37 +17,64 @@ const TRIES: u32 = 10;
 /// How often the batch is committed to each of them, and how often its bytes are copied.
 const TURNS: u32 = 10;
 
+// Nanoseconds, each the best of some tries.
+#[derive(Clone, Copy)]
+struct Times {
+    open: u128,
+    commit: u128,
+    copy: u128,
+}
+
 /// Prints the time of a commit of so many images, that of a copy of the same bytes, and their ratio, and the time in which a
 /// medium of the default sizes is opened. Each is the best of some tries.
 pub fn run(rt: &HostRuntime, images: usize) -> Result<()> {
-    let alloc = rt.alloc();
     if MAX_IMAGES < images {
         bail!("a batch has up to {MAX_IMAGES} images");
     }
     let Some(geometry) = Geometry::new(1_024, 512, 1_024, 1_024) else {
         bail!("there are no such media");
     };
-    let batch = batch_of(alloc, images as u32)?;
-    let (mut open, mut commit, mut copy) = (u128::MAX, u128::MAX, u128::MAX);
+    let batch = batch_of(rt.alloc(), images as u32)?;
+    let times = best_of(rt, &geometry, &batch, images * BLOCK)?;
+    report(rt, images, &times)
+}
+
+fn best_of(rt: &HostRuntime, geometry: &Geometry, batch: &Batch, bytes: usize) -> Result<Times> {
+    let mut best = Times {
+        open: u128::MAX,
+        commit: u128::MAX,
+        copy: u128::MAX,
+    };
     for _ in 0..TRIES {
-        let media = medium(alloc, &geometry)?;
-        let start = Instant::now(rt)?;
-        let mut journal = opened(alloc, media)?;
-        open = open.min(start.elapsed(rt)?.as_nanos());
-        keep_freed_memory(alloc)?;
-        let start = Instant::now(rt)?;
-        commit_all(&mut journal, &batch)?;
-        commit = commit.min(start.elapsed(rt)?.as_nanos());
-        copy = copy.min(copies(rt, images * BLOCK)?);
+        let (open, commit) = one_try(rt, geometry, batch)?;
+        best.open = best.open.min(open);
+        best.commit = best.commit.min(commit);
+        best.copy = best.copy.min(copies(rt, bytes)?);
     }
-    report(
-        rt,
-        images,
-        commit / u128::from(TURNS),
-        copy / u128::from(TURNS),
-    )?;
-    println!(rt; "opening of a medium: {open} ns")?;
-    Ok(())
+    Ok(best)
+}
+
+// The times in which a medium is opened, and the batch is committed to it as often as is asked.
+fn one_try(rt: &HostRuntime, geometry: &Geometry, batch: &Batch) -> Result<(u128, u128)> {
+    let media = medium(rt.alloc(), geometry)?;
+    let (mut journal, open) = timed_opening(rt, media)?;
+    let commit = timed_commits(rt, &mut journal, batch)?;
+    Ok((open, commit))
+}
+
+fn timed_opening(rt: &HostRuntime, media: MemMedia) -> Result<(Journal<MemMedia>, u128)>
+    requires { IsAtRest media }
+{
+    let start = Instant::now(rt)?;
+    let journal = opened(rt.alloc(), media)?;
+    Ok((journal, start.elapsed(rt)?.as_nanos()))
+}
+
+fn timed_commits(rt: &HostRuntime, journal: &mut Journal<MemMedia>, batch: &Batch) -> Result<u128> {
+    keep_freed_memory(rt.alloc())?;
+    let start = Instant::now(rt)?;
+    commit_all(journal, batch)?;
+    Ok(start.elapsed(rt)?.as_nanos())
 }
 
 // Writes and frees as much memory as the media keep of the commits, twice: the allocator then keeps what is freed, so that no
@@ -60,12 +87,15 @@ fn keep_freed_memory(alloc: Global) -> Result<(), AllocError> {
     Ok(())
 }
 
-fn report(rt: &HostRuntime, images: usize, commit: u128, copy: u128) -> Result<()> {
+fn report(rt: &HostRuntime, images: usize, times: &Times) -> Result<()> {
+    let commit = times.commit / u128::from(TURNS);
+    let copy = times.copy / u128::from(TURNS);
     println!(rt; "commit of {images} images: {commit} ns")?;
     println!(rt; "copy of their bytes: {copy} ns")?;
     if let Some(ratio) = commit.saturating_mul(10).checked_div(copy) {
         println!(rt; "ratio: {}.{}", ratio / 10, ratio % 10)?;
     }
+    println!(rt; "opening of a medium: {} ns", times.open)?;
     Ok(())
 }
 

@@ -121,28 +121,49 @@ fn eight_clients<R: Threads + Sync + Clock + AllocGlobal>(
     Ok(nanos(start.elapsed(rt)?))
 }
 
+// Nanoseconds, each the best of some tries.
+#[derive(Clone, Copy)]
+struct Times {
+    bare: f64,
+    read: f64,
+    write: f64,
+    eight: f64,
+}
+
+fn best_of<R: Threads + Sync + Clock + AllocGlobal>(rt: &R) -> Result<Times, anyhow::Error> {
+    let mut best = Times {
+        bare: f64::MAX,
+        read: f64::MAX,
+        write: f64::MAX,
+        eight: f64::MAX,
+    };
+    for _ in 0..TRIES {
+        best.bare = best.bare.min(bare_word(rt)?);
+        best.read = best.read.min(one_client(rt, Kind::Read)?);
+        best.write = best.write.min(one_client(rt, Kind::Write)?);
+        best.eight = best.eight.min(eight_clients(rt, Kind::Write)?);
+    }
+    Ok(best)
+}
+
 /// Prints the time in which a lease is taken and given, beside one `fetch_or` of a bare word, and how many leases
 /// eight threads on inodes apart take in the time in which one thread takes one. Each is the best of some tries.
 pub fn run<R: Threads + Sync + Clock + Print + AllocGlobal>(rt: &R) -> Result<(), anyhow::Error> {
-    let (mut bare, mut read, mut write, mut eight) = (f64::MAX, f64::MAX, f64::MAX, f64::MAX);
-    for _ in 0..TRIES {
-        bare = bare.min(bare_word(rt)?);
-        read = read.min(one_client(rt, Kind::Read)?);
-        write = write.min(one_client(rt, Kind::Write)?);
-        eight = eight.min(eight_clients(rt, Kind::Write)?);
-    }
-    println!(rt; "fetch_or of a bare word: {bare:.1} ns")?;
-    println!(rt;
-        "take a read lease and give it: {read:.1} ns, {:.1} times as long",
-        read / bare
-    )?;
-    println!(rt;
-        "take a write lease and give it: {write:.1} ns, {:.1} times as long",
-        write / bare
-    )?;
+    let times = best_of(rt)?;
+    println!(rt; "fetch_or of a bare word: {:.1} ns", times.bare)?;
+    report(rt, "read", times.read, times.bare)?;
+    report(rt, "write", times.write, times.bare)?;
     println!(rt;
         "eight threads on inodes apart: {:.1} leases in the time of one",
-        8.0 * write / eight
+        8.0 * times.write / times.eight
+    )?;
+    Ok(())
+}
+
+fn report<R: Print>(rt: &R, kind: &str, time: f64, bare: f64) -> Result<(), anyhow::Error> {
+    println!(rt;
+        "take a {kind} lease and give it: {time:.1} ns, {:.1} times as long",
+        time / bare
     )?;
     Ok(())
 }

@@ -21,6 +21,3 @@ pub use memory::MemMedia;
 pub use record::{DeviceCall, Written};
 pub use stop::StopMedia;
 pub use tiers::Tiers;
-
-#[cfg(test)]
-mod tests;

@@ -16,6 +16,3 @@ pub use error::RegionError;
 pub use format::{CLOSED, HEADER, OPEN, REGION_SIZE};
 pub use region::Region;
 pub use stage::{Progress, Stage};
-
-#[cfg(test)]
-mod tests;

@@ -8,6 +8,7 @@ use crate::two_clients::{
 };
 use crate::usage::{tell, tell_fault};
 use file_graph::PlainGraph;
+use log_record::Record;
 use posix_calls::{ROOT, Reply};
 use std::alloc::Global;
 use std::io::Write;
@@ -33,16 +34,50 @@ pub fn run_first<'a, O: Write, E: Write>(
     }
 }
 
+// The regions of the two clients.
+#[derive(Drop)]
+struct Regions {
+    first: Region<StopMedia>,
+    second: Region<StopMedia>,
+}
+
 fn run<O: Write>(alloc: Global, stop: Option<Stop>, out: &mut O) -> Result<(), Fault> {
     let mut graph = first_graph(alloc)?;
-    let mut first = open_region(alloc, stop)?;
-    let mut second = open_region(alloc, stop)?;
-    let done = ask_first(alloc, &mut first, &mut graph, out)?;
-    ask_second(alloc, &mut second, out)?;
-    writeln!(out, "applied {done}")?;
-    recover(alloc, first, &mut graph, done)?;
-    recover(alloc, second, &mut graph, 0)?;
+    let mut regions = open_regions(alloc, stop)?;
+    let done = ask_both(alloc, &mut regions, &mut graph, out)?;
+    recover_both(alloc, regions, &mut graph, done)?;
     write_tree(out, &graph)
+}
+
+fn open_regions(alloc: Global, stop: Option<Stop>) -> Result<Regions, Fault> {
+    let first = open_region(alloc, stop)?;
+    let second = open_region(alloc, stop)?;
+    Ok(Regions { first, second })
+}
+
+// Asks both clients' calls, and tells how many records were done.
+fn ask_both<O: Write>(
+    alloc: Global,
+    regions: &mut Regions,
+    graph: &mut PlainGraph,
+    out: &mut O,
+) -> Result<usize, Fault> {
+    let done = ask_first(alloc, &mut regions.first, graph, out)?;
+    ask_second(alloc, &mut regions.second, out)?;
+    writeln!(out, "applied {done}")?;
+    Ok(done)
+}
+
+// Does what both regions then hold, but for the first one's records that are done.
+fn recover_both(
+    alloc: Global,
+    regions: Regions,
+    graph: &mut PlainGraph,
+    done: usize,
+) -> Result<(), Fault> {
+    let Regions { first, second } = regions;
+    recover(alloc, first, graph, done)?;
+    recover(alloc, second, graph, 0)
 }
 
 // Logs what client 1 asks, does it where it was answered, and tells how many records were done.
@@ -52,8 +87,7 @@ fn ask_first<O: Write>(
     graph: &mut PlainGraph,
     out: &mut O,
 ) -> Result<usize, Fault> {
-    let call = first_call(alloc)?;
-    let (entry, reply) = logged(alloc, &call)?;
+    let (entry, reply) = first_asked(alloc)?;
     let is_answered = log(region, &entry)?;
     write_reply(out, 1, is_answered, &reply)?;
     if !is_answered {
@@ -69,10 +103,19 @@ fn ask_second<O: Write>(
     region: &mut Region<StopMedia>,
     out: &mut O,
 ) -> Result<(), Fault> {
-    let call = second_call(alloc)?;
-    let (entry, reply) = logged(alloc, &call)?;
+    let (entry, reply) = second_asked(alloc)?;
     let is_answered = log(region, &entry)?;
     write_reply(out, 2, is_answered, &reply)
+}
+
+fn first_asked(alloc: Global) -> Result<(Record, Reply), Fault> {
+    let call = first_call(alloc)?;
+    logged(alloc, &call)
+}
+
+fn second_asked(alloc: Global) -> Result<(Record, Reply), Fault> {
+    let call = second_call(alloc)?;
+    logged(alloc, &call)
 }
 
 // Stops a region's medium, and does what it then holds, but for the records that are done.

@@ -16,10 +16,3 @@ mod usage;
 pub use first::run_first;
 pub use script::part::MAX_LINE;
 pub use shell::run_sh;
-
-#[cfg(test)]
-mod script_tests;
-#[cfg(test)]
-mod stream_tests;
-#[cfg(test)]
-mod tests;

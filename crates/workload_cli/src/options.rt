@@ -24,25 +24,31 @@ pub fn first_options<'a>(alloc: Global, words: &'a [&'a str]) -> Result<Option<S
 }
 
 fn first_command<'a>(alloc: Global) -> Result<Command<'a>, AllocError> {
-    let stop = Arg::new(alloc, "stop")
+    Command::new(alloc, "strata_first")
+        .about("Two clients log a call each, the run stops, and a recovery shows what was kept")
+        .arg(stop_arg(alloc)?)?
+        .arg(fill_arg(alloc)?)
+}
+
+fn stop_arg<'a>(alloc: Global) -> Result<Arg<'a>, AllocError> {
+    Arg::new(alloc, "stop")
         .long("stop")
         .value_name("K")
         .help("Stop each region within its K-th write or fence, K from 1 on")
         .action(ArgAction::Set)
         .value_parser(value_parser!(u64).range(1..))
-        .requires_arg("fill")?;
-    let fill = Arg::new(alloc, "fill")
+        .requires_arg("fill")
+}
+
+fn fill_arg<'a>(alloc: Global) -> Result<Arg<'a>, AllocError> {
+    Arg::new(alloc, "fill")
         .long("fill")
         .value_name("HH")
         .help(
             "What each byte that was written and not fenced then holds: two digits of 0 to 9 and a to f",
         )
         .action(ArgAction::Set)
-        .requires_arg("stop")?;
-    Command::new(alloc, "strata_first")
-        .about("Two clients log a call each, the run stops, and a recovery shows what was kept")
-        .arg(stop)?
-        .arg(fill)
+        .requires_arg("stop")
 }
 
 fn stop_of(matches: &ArgMatches<'_>) -> Result<Option<Stop>, WordsError> {

@@ -39,8 +39,9 @@ Example, with what its lines print:
 /// Runs `strata_sh`: the calls of a script are answered line by line, over an empty file tree at the start. The first word is
 /// the program's name.
 ///
-/// A line that is unreadable ends the run, with `line N: unreadable` on `err`. Only the line at hand is kept in memory.
-/// Where the memory for a line's call is wanting, the line is answered `ENOMEM` and the run goes on.
+/// A line that is unreadable ends the run, with `line N: unreadable` on `err`. Only the line at hand is kept in memory, in
+/// `MAX_LINE` bytes that are taken before the first. Where memory is wanting later, the line is answered `ENOMEM` and the run
+/// goes on.
 ///
 /// Answers the exit status: 0 at the end, 2 where the words or a line can't be read, 3 after a fault; the last two with a line
 /// on `err`. All that was printed is flushed before.
@@ -90,7 +91,15 @@ fn flushed<O: Write>(end: Result<(), Stopped>, out: &mut O) -> Result<(), Stoppe
 
 fn run<R: BufRead + Drop, O: Write>(alloc: Global, reader: R, out: &mut O) -> Result<(), Stopped> {
     let mut shell = Shell::new(alloc)?;
-    let mut lines = ScriptLines::new(alloc, reader);
+    let mut lines = ScriptLines::new(alloc, reader)?;
+    answer_all(&mut shell, &mut lines, out)
+}
+
+fn answer_all<R: BufRead + Drop, O: Write>(
+    shell: &mut Shell,
+    lines: &mut ScriptLines<R>,
+    out: &mut O,
+) -> Result<(), Stopped> {
     for _ in 0..u64::MAX {
         if !lines.read_next()? {
             return Ok(());

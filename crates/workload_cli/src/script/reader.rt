@@ -1,5 +1,5 @@
 // The lines of a script, one after the other.
-ghost use Rattle.std.specs.Prelude.{◌≡◌, ℕ, ◌≤◌, true, false, Ok, Err, vec_len};
+ghost use Rattle.std.specs.Prelude.{◌≡◌, ℕ, ◌≤◌, true, false, Ok, Err, IfOk, vec_len};
 ghost use Rattle.std.specs.Io.KnownBytes.{IsAtEnd};
 ghost use Rattle.workload_cli.specs.declared.script.part.TheConstants.{MAX_LINE};
 ghost use Rattle.workload_cli.specs.declared.script.reader.Stopped.TheVariants as stops;
@@ -37,15 +37,17 @@ pub struct ScriptLines<R: BufRead + Drop> {
 impl<R: BufRead + Drop> ScriptLines<R> {
     ghost use Rattle.workload_cli.specs.Reading.{number_after, LosesLine, BeginsTooLong};
 
-    pub fn new(alloc: Global, reader: R) -> Self
-        ensures reader { result.reader ≡ reader }
-        ensures number { result.number ≡ 0 }
+    /// The lines of what the reader gives. The memory of the longest line is taken at once, so that none is wanted later.
+    pub fn new(alloc: Global, reader: R) -> Result<Self, Fault>
+        ensures reader { IfOk result (λ lines. lines.reader ≡ reader) }
+        ensures number { IfOk result (λ lines. lines.number ≡ 0) }
     {
-        ScriptLines {
+        let line = Vec::with_capacity(alloc, MAX_LINE)?;
+        Ok(ScriptLines {
             reader,
-            line: Vec::new(alloc),
+            line,
             number: 0,
-        }
+        })
     }
 
     /// Reads the next line in place of the last, and says whether there is one. What stands behind the last newline is a line
