@@ -18,7 +18,7 @@ CRATE = os.path.join(os.path.dirname(os.path.abspath(__file__)), "..", "crates",
 FRONT = "1 stat /x"
 EACH = 3  # the allocations of a line in front
 BEFORE = 14  # those before the script is read
-LINES = 36  # the most lines that are put in front
+LINES = 36  # the most lines in front, with which it is one of theirs that fails
 
 
 def runs(scripts, failing=None):
@@ -54,12 +54,19 @@ def main():
     whole = [printed for printed, _, _ in runs({"tour": tour}).values()][0]
     first = BEFORE + 1 + EACH * (LINES - 1)
     for failing in range(first, first + EACH):
-        for front, (printed, status, _) in enumerate(runs({f"f{it}": [FRONT] * it + tour for it in range(LINES)}, failing).values()):
+        swept = runs({f"f{it}": [FRONT] * it + tour for it in range(LINES + 1)}, failing)
+        for front, (printed, status, _) in enumerate(swept.values()):
             answers = printed[front:]
             met = [at for at, line in enumerate(answers) if line == "ENOMEM"]
-            tried += len(met)
-            fits = [answers[:at] + answers[at + 1 :] == without[calls[at]] for at in met] if met else [answers == whole]
-            if status != "0" or printed[:front] != ["ENOENT"] * front or fits != [True]:
+            if front == LINES:  # the sweep has gone back through the whole tour
+                right = not met and printed[front - 1] == "ENOMEM"
+            elif front == 0:  # it began behind the tour's last allocation
+                right = answers == whole
+            else:
+                left_out = [without[calls[at]] == answers[:at] + answers[at + 1 :] for at in met]
+                right = printed[:front] == ["ENOENT"] * front and (left_out == [True] if met else answers == whole)
+                tried += len(met)
+            if status != "0" or not right:
                 failed.append(f"allocation {failing} with {front} lines in front: status {status}, ENOMEM at {met}")
     print("\n".join(failed + [f"{tried} allocations tried, {len(failed)} runs ended as they should not"]))
     return 1 if failed else 0
