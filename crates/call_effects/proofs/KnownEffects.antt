@@ -8,7 +8,7 @@ use Rattle.posix_calls.specs.declared.deed.Deed.TheVariants.{Tell, NewDir, NewFi
 use Rattle.posix_calls.specs.declared.deed.Replaced.{Replaced}
 use Rattle.posix_calls.specs.declared.deed.Replaced.TheVariants.{Nothing, OldFile, OldDir}
 use Rattle.posix_calls.specs.Asks.{Gives, ◌>>=◌, Part, run}
-use Rattle.posix_calls.specs.Plain.{whole}
+use Rattle.posix_calls.specs.Asks.{whole}
 use Rattle.posix_calls.specs.Walk.{names_seen, bytes_at}
 use Rattle.file_graph.specs.Graph.{Graph}
 use Rattle.call_effects.specs.Effects.{stored, stored_at, recounted, replaced_file, effects_by, effects_of}

@@ -7,7 +7,7 @@ use Rattle.posix_calls.specs.Tree.{Descriptors, is_open}
 use Rattle.posix_calls.specs.declared.descriptor.Descriptor.{Descriptor}
 use Rattle.posix_calls.specs.declared.call.Call.{Call}
 use Rattle.posix_calls.specs.Asks.{Asks, Gives, Refuses, IsDir, Look, View, Part, Found, Known, Lacks, IsPart, run, run_part}
-use Rattle.posix_calls.specs.Plain.{whole}
+use Rattle.posix_calls.specs.Asks.{whole}
 use Rattle.posix_calls.specs.Walk.{entries_seen, entries_at}
 use Rattle.posix_calls.specs.Decide.{decide}
 use Rattle.posix_calls.proofs.Counts.{order}

@@ -9,7 +9,7 @@ use Rattle.posix_calls.specs.Tree.{Tree, Node, File, Dir, set_node, entries_of, 
 use Rattle.posix_calls.specs.Asks.{dir_test}
 use Rattle.posix_calls.specs.declared.deed.Spot.{Spot}
 use Rattle.posix_calls.specs.Deeds.{entered, left}
-pub use Rattle.posix_calls.specs.Plain.{IsBare}
+pub use Rattle.posix_calls.specs.Tree.{IsBare}
 use Rattle.posix_calls.specs.WellFormed.{IsDirectory, IsFile}
 use Rattle.posix_calls.proofs.Sums.{names_of-set_node, same_if, there_if}
 use Rattle.posix_calls.proofs.Counts.{order, counted, counted_is, counted_insert, counted_remove, counted_empty, gone, get_left, none_left, get_other, get_other_insert, get_here, insert_back}

@@ -30,15 +30,3 @@ pub mod Bounds
 pub mod Chain
 pub mod Places
 pub mod Walking
-pub mod Ordered
-pub mod Writes
-pub mod Slots
-pub mod Moves
-pub mod Tables
-pub mod Carried
-pub mod Doable
-pub mod Answering
-pub mod Asking
-pub mod Made
-pub mod Scans
-pub mod Tallies

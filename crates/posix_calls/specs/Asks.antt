@@ -62,6 +62,10 @@ pub record Part : Type 0 where
   pub is_dir : ℕ → Option (Option Bool)
   pub node : ℕ → Option (Option Seen)
 
+-- who knows the whole of a view
+abbrev pub whole : View → Part
+whole v = record { is_dir = λ i. Some (v.is_dir i); node = λ i. Some (v.node i) }
+
 -- what a part comes to, or the first inode that it would have to know more of
 pub data Found (A : Type 0) : Type 0 where
   Known : (result : Result A Errno) → Found A

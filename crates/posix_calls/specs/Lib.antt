@@ -7,13 +7,9 @@ pub mod Asks
 pub mod Walk
 pub mod Decide
 pub mod Deeds
+pub mod Exact
 pub mod Run
 pub mod Resolve
 pub mod WellFormed
 pub mod Answers
 pub mod Own
-pub mod Ordered
-pub mod Codes
-pub mod Bodies
-pub mod Plain
-pub mod PlainCode

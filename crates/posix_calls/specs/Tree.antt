@@ -1,5 +1,5 @@
 -- The file tree, the files that its clients have open, and what a node costs.
-use Rattle.std.specs.Prelude.{ℕ, zero, suc, ◌+◌, ◌-◌, List, [], length, count_by, Bool, false, ◌||◌, ◌==◌, Option, Some, None, if◌then◌else◌}
+use Rattle.std.specs.Prelude.{◌≡◌, ℕ, zero, suc, ◌+◌, ◌-◌, List, [], length, count_by, Bool, false, ◌||◌, ◌==◌, Option, Some, None, if◌then◌else◌}
 use Rattle.std.specs.FinMap as fin
 use Rattle.posix_calls.specs.Content.{Entries, file_units, directory_units}
 use Rattle.posix_calls.specs.declared.descriptor.Descriptor.{Descriptor}
@@ -33,6 +33,10 @@ abbrev pub entries_of : Option Node → Entries ℕ
 entries_of None = fin.empty
 entries_of (Some (File bytes)) = fin.empty
 entries_of (Some (Dir entries)) = entries
+
+-- there are no entries
+abbrev pub IsBare : Option Node → Type 0
+IsBare o = entries_of o ≡ fin.empty
 
 -- ---- descriptors
 

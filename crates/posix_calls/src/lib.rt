@@ -6,31 +6,25 @@
 //!
 //! What a call is to be answered, and what it makes of the file tree, are definitions of `specs/`: the questions that it asks,
 //! its errors in their order (`Decide`), and what it does where none holds (`Deeds`). `decide` answers them for whoever knows the
-//! tree or a part of it (`TreeAnswers`), `PlainTree` is a tree that runs, and the functions of `laws` say what holds of every step.
+//! tree or a part of it (`TreeAnswers`), and the functions of `laws` say what holds of every step. `plain_tree` has a tree that runs.
 #![tactic(auto)]
 
 mod bytes;
 mod call;
 mod decision;
 mod deed;
-mod deeds;
 mod descriptor;
 mod descriptor_calls;
 mod dir_calls;
-mod entries;
 mod errno;
 mod file_calls;
 mod laws;
 mod limits;
 mod name;
-mod name_counts;
 mod names;
 mod no_deed;
-mod node;
-mod nodes;
 mod own;
 mod path;
-mod plain;
 mod tell_calls;
 mod tree_answers;
 mod two_path_calls;
@@ -55,5 +49,4 @@ pub use name::Name;
 pub use names::Names;
 pub use own::OwnDescriptors;
 pub use path::Path;
-pub use plain::PlainTree;
 pub use tree_answers::{TreeAnswers, known};

@@ -2,9 +2,10 @@
 use crate::graph_reader::GraphReader;
 use call_effects::{growth_of, has_effects, record_of};
 use file_graph::{Effect, Effects, Kind, PlainGraph};
+use plain_tree::PlainTree;
 use posix_calls::{
-    Bytes, Call, Deed, Descriptor, Errno, Flags, MAX_INODE, Name, NoDeed, OwnDescriptors,
-    PlainTree, ROOT, Reply, decide,
+    Bytes, Call, Deed, Descriptor, Errno, Flags, MAX_INODE, Name, NoDeed, OwnDescriptors, ROOT,
+    Reply, decide,
 };
 use std::alloc::Global;
 use std::process::Abort;

@@ -1,5 +1,6 @@
-//! Tests of the file tree, its calls and their records, over what the libraries make public: `posix_calls` (`paths`, `plain_tree`,
-//! `decisions`), `script_lines` (`lines`), `file_graph` (`graphs`), `log_record` (`records`) and `call_effects` (`call_records`).
+//! Tests of the file tree, its calls and their records, over what the libraries make public: `posix_calls` (`paths`,
+//! `decisions`), `plain_tree` (`tree`), `script_lines` (`lines`), `file_graph` (`graphs`), `log_record` (`records`) and
+//! `call_effects` (`call_records`).
 #![tactic(auto)]
 
 #[cfg(test)]
@@ -15,6 +16,6 @@ mod lines;
 #[cfg(test)]
 mod paths;
 #[cfg(test)]
-mod plain_tree;
-#[cfg(test)]
 mod records;
+#[cfg(test)]
+mod tree;

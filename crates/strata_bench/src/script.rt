@@ -1,6 +1,7 @@
 // How many calls a second a file tree in memory answers.
 use anyhow::{Result, bail};
-use posix_calls::{Bytes, Call, Flags, PlainTree, Reply};
+use plain_tree::PlainTree;
+use posix_calls::{Bytes, Call, Flags, Reply};
 use std::alloc::{AllocError, Global};
 use std::time::{Duration, Instant};
 

@@ -1,7 +1,7 @@
 -- What a line of a script is answered.
 use Rattle.std.specs.Prelude.{◌≡◌, ◌⊎◌, ℕ, Option, Some, None}
 use Rattle.posix_calls.specs.Tree.{State}
-use Rattle.posix_calls.specs.Plain.{IsAnswered, IsGivenUp}
+use Rattle.posix_calls.specs.Exact.{IsAnswered, IsGivenUp}
 use Rattle.posix_calls.specs.declared.call.Call.{Call}
 use Rattle.posix_calls.specs.declared.call.Reply.{Reply}
 use Rattle.workload_cli.specs.declared.script.answer.Answer.{Answer}

@@ -1,7 +1,8 @@
 // The program `strata_sh`.
 ghost use Rattle.std.specs.Prelude.{◌≡◌, ◌⊎◌, IfOk};
 ghost use Rattle.posix_calls.specs.Tree.{opening};
-ghost use Rattle.posix_calls.specs.Plain.{state_of, IsAnswered, IsGivenUp};
+ghost use Rattle.posix_calls.specs.Exact.{IsAnswered, IsGivenUp};
+ghost use Rattle.plain_tree.specs.Plain.{state_of};
 ghost use Rattle.script_lines.specs.Lines.{understood};
 ghost use Rattle.script_lines.specs.Seen.{asked};
 ghost use Rattle.workload_cli.specs.Answering.{IsAnswerTo};
@@ -11,7 +12,8 @@ use crate::script::answer::{Answer, write_answer};
 use crate::script::reader::{ScriptLines, Stopped};
 use crate::usage::{WordsError, tell, tell_fault};
 use clap::Command;
-use posix_calls::{Errno, PlainTree, Reply};
+use plain_tree::PlainTree;
+use posix_calls::{Errno, Reply};
 use script_lines::{CallText, Line, read_line};
 use std::alloc::Global;
 use std::io::{BufRead, Write};

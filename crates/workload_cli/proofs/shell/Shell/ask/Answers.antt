@@ -1,5 +1,6 @@
 use Rattle.std.proofs.Common.{◌⊎◌, subst}
-use Rattle.posix_calls.specs.Plain.{state_of, IsAnswered, IsGivenUp}
+use Rattle.posix_calls.specs.Exact.{IsAnswered, IsGivenUp}
+use Rattle.plain_tree.specs.Plain.{state_of}
 use Rattle.posix_calls.specs.declared.call.Call.{Call}
 use Rattle.workload_cli.proofs.shell.Shell.ask.Goals as goal
 

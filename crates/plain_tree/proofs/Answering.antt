@@ -1,0 +1,36 @@
+-- Nodes as a call sees them, and who knows them all.
+use Rattle.std.proofs.Common.{◌≡◌, ℕ, List, Option, Some, None, false, length, ltb, refl, ap, sym, ◌∙◌}
+use Rattle.std.specs.Prelude.{option_map}
+use Rattle.posix_calls.specs.Tree.{Node, File, Dir, entries_of}
+use Rattle.posix_calls.specs.Asks.{Asks, Gives, Refuses, IsDir, Look, View, Found, Known, Lacks, run, run_part, seen, whole}
+use Rattle.posix_calls.specs.Walk.{entries_seen}
+use Rattle.plain_tree.specs.Plain.{tree_of}
+use Rattle.std.proofs.lemmas.Bool.{ltb-false}
+use Rattle.std.proofs.lemmas.List.{get_or_past}
+
+pub entries_are_seen : (n : ℕ) (o : Option Node) → entries_seen (option_map (seen n) o) ≡ entries_of o
+entries_are_seen n None = refl
+entries_are_seen n (Some (File bytes)) = refl
+entries_are_seen n (Some (Dir entries)) = refl
+
+pub whole_knows : {A : Type 0} (v : View) (q : Asks A) → run_part (whole v) q ≡ Known (run v q)
+unfolding run_part run
+whole_knows v (Gives x) = refl
+whole_knows v (Refuses e) = refl
+whole_knows v (IsDir i next) = whole_knows v (next (v.is_dir i))
+whole_knows v (Look i next) = whole_knows v (next (v.node i))
+
+pub known_lacks_nothing : {A : Type 0} (v : View) (q : Asks A) (i : ℕ) → run_part (whole v) q ≡ Lacks i → ⊥
+known_lacks_nothing v q i e = apart (run v q) i (sym (whole_knows v q) ∙ e)
+  where
+    apart : {A : Type 0} (r : _) (i : ℕ) → ◌≡◌ {A = Found A} (Known r) (Lacks i) → ⊥
+    apart r i e = absurd cc
+
+pub known_of : {A : Type 0} (v : View) (q : Asks A) (r : _) → run_part (whole v) q ≡ Known r → run v q ≡ r
+known_of v q r e = same (run v q) r (sym (whole_knows v q) ∙ e)
+  where
+    same : {A : Type 0} (x y : _) → ◌≡◌ {A = Found A} (Known x) (Known y) → x ≡ y
+    same x y e = cc
+
+pub nothing_past : (nodes held : List (Option Node)) (i : ℕ) → nodes ≡ held → false ≡ ltb i (length nodes) → tree_of held i ≡ None
+nothing_past nodes held i same past = ap (λ (ns : List (Option Node)). tree_of ns i) (sym same) ∙ get_or_past nodes i None (ltb-false i (length nodes) (sym past))

@@ -1,0 +1,104 @@
+-- What deeds make of the nodes and the rows of a plain tree.
+use Rattle.std.proofs.Common.{◌≡◌, ◌≢◌, ℕ, List, Option, refl, sym, ap, ◌∙◌, inl, inr, arith}
+use Rattle.std.proofs.lemmas.Bool.{cases_eq}
+use Rattle.std.proofs.lemmas.Bool.Decides.{nat_tests}
+use Rattle.posix_calls.specs.Tree.{Node, Tree, Own, Descriptors, with_own, State}
+use Rattle.posix_calls.specs.Deeds.{tree_after, own_after, held_after, state_after}
+use Rattle.plain_tree.specs.Plain.{tree_of, held_of, state_in, with_opened, opened_by, HasNumber, IsPlaced}
+use Rattle.posix_calls.specs.declared.deed.Deed.{Deed}
+use Rattle.posix_calls.specs.declared.deed.Deed.TheVariants.{Tell, NewDir, NewFile, OpenFile, CloseFile, Write, Resize, RemoveDir, AddName, DropName, Move}
+use Rattle.posix_calls.specs.declared.descriptor.Descriptor.{Descriptor}
+
+same_own_at : (held : Descriptors) (client c n : ℕ) → with_own held client (held client) c n ≡ held c n
+same_own_at held client c n =
+    elim (cases_eq c client) [
+      | inl same ↦ own_here held client c n (held client) same ∙ ap (λ (k : ℕ). held k n) (sym same)
+      | inr apart ↦ own_off held client c n (held client) apart
+    ]
+  where
+    own_here : (held : Descriptors) (client c n : ℕ) (own : Own) → c ≡ client → with_own held client own c n ≡ own n
+    own_here held client c n own e = grind (arith, nat_tests)
+
+    own_off : (held : Descriptors) (client c n : ℕ) (own : Own) → c ≢ client → with_own held client own c n ≡ held c n
+    own_off held client c n own ne = grind (arith, nat_tests)
+
+-- a client's own descriptors are what it has
+pub same_own : (held : Descriptors) (client : ℕ) → with_own held client (held client) ≡ held
+same_own held client = λ k c n. same_own_at held client c n k
+
+pub same_state : (t u : Tree) (h k : Descriptors) → t ≡ u → h ≡ k → ◌≡◌ {A = State} (record { tree = t; descriptors = h }) (record { tree = u; descriptors = k })
+same_state t u h k p q = λ i. record { tree = p i; descriptors = q i }
+
+-- a deed by what it makes of the tree and the descriptors
+pub carried : (nodes nodes' : List (Option Node)) (rows rows' : List (List (Option Descriptor))) (client new : ℕ) (deed : Deed) → held_of rows' ≡ held_after client new (held_of rows) deed
+    → tree_of nodes' ≡ tree_after (held_of rows') new (tree_of nodes) deed → state_in nodes' rows' ≡ state_after client new (state_in nodes rows) deed
+carried nodes nodes' rows rows' client new deed held tree =
+    same_state _ _ _ _ (tree ∙ ap (λ (h : Descriptors). tree_after h new (tree_of nodes) deed) held) held
+
+-- a deed that leaves the descriptors
+pub quiet : (nodes nodes' : List (Option Node)) (rows : List (List (Option Descriptor))) (client new : ℕ) (deed : Deed) → own_after new (held_of rows client) deed ≡ held_of rows client
+    → tree_of nodes' ≡ tree_after (held_of rows) new (tree_of nodes) deed → state_in nodes' rows ≡ state_after client new (state_in nodes rows) deed
+quiet nodes nodes' rows client new deed own tree =
+    carried nodes nodes' rows rows client new deed (sym (ap (with_own (held_of rows) client) own ∙ same_own (held_of rows) client)) tree
+
+pub unchanged : (nodes nodes' : List (Option Node)) (rows : List (List (Option Descriptor))) → tree_of nodes' ≡ tree_of nodes → state_in nodes' rows ≡ state_in nodes rows
+unchanged nodes nodes' rows tree = same_state _ _ _ _ tree refl
+
+-- the same, of what a deed is known to be
+pub quiet_as : (nodes nodes' : List (Option Node)) (rows : List (List (Option Descriptor))) (client new : ℕ) (deed known : Deed) → deed ≡ known → own_after new (held_of rows client) known ≡ held_of rows client
+    → tree_of nodes' ≡ tree_after (held_of rows) new (tree_of nodes) known → state_in nodes' rows ≡ state_after client new (state_in nodes rows) deed
+quiet_as nodes nodes' rows client new deed known is own tree = quiet nodes nodes' rows client new known own tree ∙ ap (state_after client new (state_in nodes rows)) (sym is)
+
+pub carried_as : (nodes nodes' : List (Option Node)) (rows rows' : List (List (Option Descriptor))) (client new : ℕ) (deed known : Deed) → deed ≡ known → held_of rows' ≡ held_after client new (held_of rows) known
+    → tree_of nodes' ≡ tree_after (held_of rows') new (tree_of nodes) known → state_in nodes' rows' ≡ state_after client new (state_in nodes rows) deed
+carried_as nodes nodes' rows rows' client new deed known is held tree = carried nodes nodes' rows rows' client new known held tree ∙ ap (state_after client new (state_in nodes rows)) (sym is)
+
+-- what a deed that closes nothing makes of the descriptors
+pub opened_held : (held : Descriptors) (client new : ℕ) (deed : Deed) → ((i number : ℕ) → deed ≡ CloseFile i number → ⊥) → with_opened held client (opened_by new deed) ≡ held_after client new held deed
+opened_held held client new (Tell answer) closes = sym (same_own held client)
+opened_held held client new (NewDir at) closes = sym (same_own held client)
+opened_held held client new (NewFile at number reads writes) closes = refl
+opened_held held client new (OpenFile i empties number reads writes) closes = refl
+opened_held held client new (CloseFile i number) closes = absurd (closes i number refl)
+opened_held held client new (Write i at bytes) closes = sym (same_own held client)
+opened_held held client new (Resize i len) closes = sym (same_own held client)
+opened_held held client new (RemoveDir at i) closes = sym (same_own held client)
+opened_held held client new (AddName at i) closes = sym (same_own held client)
+opened_held held client new (DropName at i) closes = sym (same_own held client)
+opened_held held client new (Move from to i is_dir replaced) closes = sym (same_own held client)
+
+-- what is opened matters to no tree
+pub opened_tree : (held : Descriptors) (client new : ℕ) (t : Tree) (deed : Deed) → tree_after held new t deed ≡ tree_after (with_opened held client (opened_by new deed)) new t deed
+opened_tree held client new t (Tell answer) = refl
+opened_tree held client new t (NewDir at) = refl
+opened_tree held client new t (NewFile at number reads writes) = refl
+opened_tree held client new t (OpenFile i empties number reads writes) = refl
+opened_tree held client new t (CloseFile i number) = refl
+opened_tree held client new t (Write i at bytes) = refl
+opened_tree held client new t (Resize i len) = refl
+opened_tree held client new t (RemoveDir at i) = refl
+opened_tree held client new t (AddName at i) = refl
+opened_tree held client new t (DropName at i) = refl
+opened_tree held client new t (Move from to i is_dir replaced) = refl
+
+-- what a deed opens has a number
+pub opened_low : (t : Tree) (new : ℕ) (deed : Deed) → IsPlaced t deed → HasNumber (opened_by new deed)
+opened_low t new (Tell answer) placed = tt
+opened_low t new (NewDir at) placed = tt
+opened_low t new (NewFile at number reads writes) placed = placed.0
+opened_low t new (OpenFile i empties number reads writes) placed = placed.0
+opened_low t new (CloseFile i number) placed = tt
+opened_low t new (Write i at bytes) placed = tt
+opened_low t new (Resize i len) placed = tt
+opened_low t new (RemoveDir at i) placed = tt
+opened_low t new (AddName at i) placed = tt
+opened_low t new (DropName at i) placed = tt
+opened_low t new (Move from to i is_dir replaced) placed = tt
+
+-- a deed that closes nothing, by what it makes of the tree, and what it opens
+pub carried_open : (nodes nodes' : List (Option Node)) (rows rows' : List (List (Option Descriptor))) (client new : ℕ) (deed : Deed) (opened : Option (ℕ × Descriptor)) → ((i number : ℕ) → deed ≡ CloseFile i number → ⊥) → opened ≡ opened_by new deed
+    → tree_of nodes' ≡ tree_after (held_of rows) new (tree_of nodes) deed → held_of rows' ≡ with_opened (held_of rows) client opened → state_in nodes' rows' ≡ state_after client new (state_in nodes rows) deed
+carried_open nodes nodes' rows rows' client new deed opened closes is tree held =
+    let now : held_of rows' ≡ with_opened (held_of rows) client (opened_by new deed) = held ∙ ap (with_opened (held_of rows) client) is in
+    carried nodes nodes' rows rows' client new deed (now ∙ opened_held (held_of rows) client new deed closes)
+    (tree ∙ opened_tree (held_of rows) client new (tree_of nodes) deed ∙ ap (λ (h : Descriptors). tree_after h new (tree_of nodes) deed) (sym now))

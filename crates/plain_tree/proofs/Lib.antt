@@ -1,0 +1,12 @@
+pub mod Ordered
+pub mod Writes
+pub mod Slots
+pub mod Moves
+pub mod Made
+pub mod Tables
+pub mod Carried
+pub mod Doable
+pub mod Answering
+pub mod Asking
+pub mod Scans
+pub mod Tallies

@@ -1,0 +1,53 @@
+-- Nodes in a list, as the tree of them.
+use Rattle.std.proofs.Common.{◌≡◌, ◌≢◌, ℕ, zero, suc, ◌<◌, ◌≤◌, List, [], ◌∷◌, ◌++◌, length, get_or, set, Option, None, refl, sym, ap, ◌∙◌, inl, inr, arith}
+use Rattle.std.proofs.lemmas.Bool.{cases_eq}
+use Rattle.std.proofs.lemmas.Bool.Decides.{nat_tests}
+use Rattle.std.proofs.lemmas.List.{get_or-set_same, get_or-set_other, get_or_past, get_or_default}
+use Rattle.posix_calls.specs.Tree.{Node, Tree, set_node}
+use Rattle.plain_tree.specs.Plain.{tree_of}
+
+pub node_here : (t : Tree) (i j : ℕ) (x : Option Node) → j ≡ i → set_node t i x j ≡ x
+node_here t i j x e = grind (arith, nat_tests)
+
+pub node_off : (t : Tree) (i j : ℕ) (x : Option Node) → j ≢ i → set_node t i x j ≡ t j
+node_off t i j x ne = grind (arith, nat_tests)
+
+pushed_at : (nodes : List (Option Node)) (i : ℕ) → tree_of (nodes ++ None ∷ []) i ≡ tree_of nodes i
+pushed_at [] zero = refl
+pushed_at [] (suc i) = refl
+pushed_at (x ∷ nodes) zero = refl
+pushed_at (x ∷ nodes) (suc i) = pushed_at nodes i
+
+-- nothing at the end changes nothing
+pub tree_pushed : (nodes : List (Option Node)) → tree_of (nodes ++ None ∷ []) ≡ tree_of nodes
+tree_pushed nodes = λ k i. pushed_at nodes i k
+
+set_at : (nodes : List (Option Node)) (i : ℕ) (x : Option Node) (j : ℕ) → i < length nodes → tree_of (set nodes i x) j ≡ set_node (tree_of nodes) i x j
+set_at nodes i x j within =
+    elim (cases_eq j i) [
+      | inl same ↦ ap (λ (n : ℕ). get_or (set nodes i x) n None) same ∙ get_or-set_same nodes i x None within ∙ sym (node_here (tree_of nodes) i j x same)
+      | inr apart ↦ get_or-set_other nodes i j x None apart ∙ sym (node_off (tree_of nodes) i j x apart)
+    ]
+
+-- what is put in a place is at that inode
+pub tree_set : (nodes : List (Option Node)) (i : ℕ) (x : Option Node) → i < length nodes → tree_of (set nodes i x) ≡ set_node (tree_of nodes) i x
+tree_set nodes i x within = λ k j. set_at nodes i x j within k
+
+past_at : (nodes : List (Option Node)) (i j : ℕ) → length nodes ≤ i → tree_of nodes j ≡ set_node (tree_of nodes) i None j
+past_at nodes i j past =
+    elim (cases_eq j i) [
+      | inl same ↦ get_or_past nodes j None (omega arith) ∙ sym (node_here (tree_of nodes) i j None same)
+      | inr apart ↦ sym (node_off (tree_of nodes) i j None apart)
+    ]
+
+-- past the end there is nothing to take away
+pub tree_past : (nodes : List (Option Node)) (i : ℕ) → length nodes ≤ i → tree_of nodes ≡ set_node (tree_of nodes) i None
+tree_past nodes i past = λ k j. past_at nodes i j past k
+
+-- what is made of a node in its place, from what was read there
+pub tree_written : (nodes : List (Option Node)) (t : Tree) (i : ℕ) (f : Option Node → Option Node) (old new : Option Node) → i < length nodes → tree_of nodes ≡ t → old ≡ get_or nodes i old → new ≡ f old → tree_of (set nodes i new) ≡ set_node t i (f (t i))
+tree_written nodes t i f old new within tree read is =
+    let was : old ≡ t i = read ∙ get_or_default nodes i old None within ∙ ap (λ (u : Tree). u i) tree in
+    tree_set nodes i new within
+    ∙ ap (λ (u : Tree). set_node u i new) tree
+    ∙ ap (set_node t i) (is ∙ ap f was)

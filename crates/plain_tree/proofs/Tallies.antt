@@ -1,0 +1,169 @@
+-- How many names there are after a change, and that what is stored of them stays right.
+use Rattle.std.proofs.Common.{◌≡◌, ◌≢◌, ℕ, zero, suc, ◌+◌, ◌<◌, ◌≤◌, List, [], ◌∷◌, ◌++◌, length, Option, Some, None, Result, Ok, Err, refl, sym, ap, ◌∙◌, arith, inl, inr}
+use Rattle.std.specs.Prelude.{OnOk, OnErr}
+use Rattle.std.specs.declared.alloc.AllocError.{AllocError}
+use Rattle.std.proofs.lemmas.Bool.{cases_lt}
+use Rattle.std.proofs.lemmas.List.{get_or_past}
+use Rattle.std.specs.FinMap as fin
+use Rattle.posix_calls.specs.Tree.{Node, Tree, Dir, set_node, entries_of, names_in, names_of, sum_up_to, IsBare}
+use Rattle.posix_calls.specs.Deeds.{entered, left}
+use Rattle.plain_tree.specs.Plain.{tree_of, count_at, one_for, at_spot, IsBareReplaced, IsInode, IsCounted, Replaces}
+use Rattle.posix_calls.specs.declared.deed.Replaced.{Replaced}
+use Rattle.posix_calls.specs.declared.deed.Replaced.TheVariants.{Nothing, OldFile, OldDir}
+use Rattle.posix_calls.specs.Content.{Entries}
+use Rattle.posix_calls.specs.declared.deed.Spot.{Spot}
+use Rattle.posix_calls.specs.declared.limits.TheConstants.{MAX_INODE}
+use Rattle.posix_calls.proofs.Sums.{names_of-set_node, all_zero}
+use Rattle.posix_calls.proofs.Counts.{counted, counted_is, counted_empty, absent}
+use Rattle.posix_calls.proofs.Changes.{in_node, set_alike, entered_names, left_names, left_here, on_one, set_other, set_there}
+use Rattle.plain_tree.proofs.Moves.{renewed, off_parent}
+use Rattle.plain_tree.proofs.Ordered.{get_nothing}
+use Rattle.std.proofs.lemmas.Bool.Decides.{eqb_tells}
+
+-- ---- how many there are
+
+names_in_bare : (k : ℕ) (o : Option Node) → IsBare o → names_in k o ≡ 0
+names_in_bare k o bare = in_node k o ∙ ap (counted k) bare ∙ counted_empty k
+
+bare_at : (t : Tree) (i : ℕ) (x : Option Node) → IsBare (t i) → IsBare x → (k d : ℕ) → names_in k (set_node t i x d) ≡ names_in k (t d)
+bare_at t i x was is k d = set_alike (names_in k) t i x (names_in_bare k x is ∙ sym (names_in_bare k (t i) was)) d
+
+-- what has no entries comes and goes without a name
+pub bare_names : (t : Tree) (i : ℕ) (x : Option Node) → IsBare (t i) → IsBare x → (k : ℕ) → names_of (set_node t i x) k ≡ names_of t k
+unfolding names_of
+bare_names t i x was is k = ap (sum_up_to MAX_INODE) (λ j d. bare_at t i x was is k d j)
+
+less_none : (t : Tree) (at : Spot) → IsInode at.parent → at_spot t at ≡ None → (k : ℕ) → names_of (left t at) k + 0 ≡ names_of t k
+less_none t at place none k =
+    let change : names_of (left t at) k + names_in k (t at.parent) ≡ names_of t k + counted k (fin.remove (entries_of (t at.parent)) at.name)
+    = names_of-set_node t at.parent k (Some (Dir (fin.remove (entries_of (t at.parent)) at.name))) place.0 place.1 ∙ ap (λ n. names_of t k + n) (counted_is k (fin.remove (entries_of (t at.parent)) at.name)) in
+    let before = in_node k (t at.parent) in
+    let same : counted k (fin.remove (entries_of (t at.parent)) at.name) ≡ counted k (entries_of (t at.parent)) = ap (counted k) (absent (entries_of (t at.parent)) at.name none) in
+    omega (arith, change, before, same)
+
+-- the inode under a name that goes has one fewer
+pub names_left : (t : Tree) (at : Spot) → IsInode at.parent → (k : ℕ) → names_of (left t at) k + one_for (at_spot t at) k ≡ names_of t k
+names_left t at place k =
+    elim (at_spot t at) as (λ (o : Option ℕ). at_spot t at ≡ o → names_of (left t at) k + one_for o k ≡ names_of t k) [
+      | None ↦ λ none. less_none t at place none k
+      | Some i ↦ λ is. left_names t at i is place.0 place.1 k
+    ] refl
+
+pub named_most : (t : Tree) (at : Spot) → IsInode at.parent → (k : ℕ) → one_for (at_spot t at) k ≤ names_of t k
+named_most t at place k = let e = names_left t at place k in omega (arith, e)
+
+-- a name that comes is one more, once what is there went
+pub names_entered : (t : Tree) (at : Spot) (i : ℕ) → IsInode at.parent → (k : ℕ) → names_of (entered t at i) k ≡ names_of (left t at) k + one_for (Some i) k
+names_entered t at i place k = ap (λ (u : Tree). names_of u k) (sym (renewed t at i)) ∙ entered_names (left t at) at i (left_here t at) place.0 place.1 k
+
+-- ---- what has no entries still has none
+
+pub bare_entered : (t : Tree) (at : Spot) (i j : ℕ) → j ≢ at.parent → IsBare (t j) → IsBare (entered t at i j)
+bare_entered t at i j apart bare = ap entries_of (set_other t at.parent j (Some (Dir (fin.insert (entries_of (t at.parent)) at.name i))) apart) ∙ bare
+
+pub bare_left : (t : Tree) (at : Spot) (j : ℕ) → IsBare (t j) → IsBare (left t at j)
+bare_left t at j bare =
+    elim (eqb_tells j at.parent) [
+      | inl same ↦
+          let m = entries_of (t at.parent) in
+          let was : m ≡ fin.empty = ap (λ (k : ℕ). entries_of (t k)) (sym same.1) ∙ bare in
+          ap (λ (k : ℕ). entries_of (left t at k)) same.1
+          ∙ ap entries_of (set_there t at.parent (Some (Dir (fin.remove m at.name))))
+          ∙ absent m at.name (ap (λ (e : Entries ℕ). fin.get e at.name) was ∙ get_nothing at.name)
+          ∙ was
+      | inr off ↦ ap entries_of (set_other t at.parent j (Some (Dir (fin.remove (entries_of (t at.parent)) at.name))) off.1) ∙ bare
+    ]
+
+pub bare_put_out : (t : Tree) (to : Spot) (i : ℕ) (replaced : Replaced) → Replaces t to i replaced → IsBareReplaced (entered t to i) replaced
+bare_put_out t to i Nothing h = tt
+bare_put_out t to i (OldFile j) h = bare_entered t to i j (off_parent t to j j h.1 h.2) h.2
+bare_put_out t to i (OldDir j) h = bare_entered t to i j (off_parent t to j j h.1 h.2) h.2
+
+-- ---- what is stored
+
+abbrev Nodes : Type 0
+Nodes = List (Option Node)
+
+pub counted_none : IsCounted [] []
+unfolding names_of
+counted_none i = sym (all_zero MAX_INODE (λ d. names_in i (tree_of [] d)) (λ d. nothing d))
+  where
+    nothing : (d : ℕ) → names_in i (tree_of [] d) ≡ 0
+    nothing d = ap (names_in i) (get_or_past [] d None (omega arith))
+
+pub counted_same : (counts counts' : List ℕ) (old new : Nodes) → IsCounted counts old → count_at counts' ≡ count_at counts → tree_of new ≡ tree_of old → IsCounted counts' new
+counted_same counts counts' old new was same tree i = ap (λ (f : ℕ → ℕ). f i) same ∙ was i ∙ sym (ap (λ (t : Tree). names_of t i) tree)
+
+pub counted_set : (counts : List ℕ) (old new : Nodes) (i : ℕ) (x : Option Node) → IsCounted counts old → tree_of new ≡ set_node (tree_of old) i x → IsBare (tree_of old i) → IsBare x → IsCounted counts new
+counted_set counts old new i x was tree before after k =
+    was k ∙ sym (ap (λ (t : Tree). names_of t k) tree ∙ bare_names (tree_of old) i x before after k)
+
+pub counted_if : {R : Type 0} (r : Result R AllocError) (counts : List ℕ) (old new : Nodes) (i : ℕ) (x : Option Node) → IsCounted counts old → IsBare (tree_of old i) → IsBare x
+    → OnOk r (tree_of new ≡ set_node (tree_of old) i x) → OnErr r (tree_of new ≡ tree_of old) → IsCounted counts new
+counted_if (Ok a) counts old new i x was before after ok err = counted_set counts old new i x was ok before after
+counted_if (Err e) counts old new i x was before after ok err = counted_same counts counts old new was refl err
+
+-- what was stored, and the inode under a name
+module _ (counts made : List ℕ) (old : Nodes) (at : Spot) (o : Option ℕ) (was : IsCounted counts old) (same : count_at made ≡ count_at counts) (place : IsInode at.parent) (is : o ≡ at_spot (tree_of old) at) where
+  -- it has a name that can go
+  pub can_go : (k : ℕ) → one_for o k ≤ count_at made k
+  can_go k =
+      let most = named_most (tree_of old) at place k in
+      let one : one_for o k ≡ one_for (at_spot (tree_of old) at) k = ap (λ (p : Option ℕ). one_for p k) is in
+      let now : count_at made k ≡ count_at counts k = ap (λ (f : ℕ → ℕ). f k) same in
+      let before = was k in
+      omega (arith, most, one, now, before)
+
+  module _ (between : List ℕ) (fewer : (k : ℕ) → count_at between k + one_for o k ≡ count_at made k) where
+    pub few_then : (i most : ℕ) → names_of (tree_of old) i ≤ most → count_at between i ≤ most
+    few_then i most few =
+        let now : count_at made i ≡ count_at counts i = ap (λ (f : ℕ → ℕ). f i) same in
+        let less = fewer i in
+        let before = was i in
+        omega (arith, few, now, less, before)
+
+    pub counted_left : (new : Nodes) → tree_of new ≡ left (tree_of old) at → IsCounted between new
+    counted_left new tree k =
+        let all : names_of (tree_of new) k ≡ names_of (left (tree_of old) at) k = ap (λ (t : Tree). names_of t k) tree in
+        let less = names_left (tree_of old) at place k in
+        let one : one_for o k ≡ one_for (at_spot (tree_of old) at) k = ap (λ (p : Option ℕ). one_for p k) is in
+        let now : count_at made k ≡ count_at counts k = ap (λ (f : ℕ → ℕ). f k) same in
+        let before = was k in
+        let stored = fewer k in
+        omega (arith, all, less, one, now, before, stored)
+
+    pub counted_entered : (after : List ℕ) (new : Nodes) (i : ℕ) → ((k : ℕ) → count_at after k ≡ count_at between k + one_for (Some i) k) → tree_of new ≡ entered (tree_of old) at i → IsCounted after new
+    counted_entered after new i more tree k =
+        let all : names_of (tree_of new) k ≡ names_of (entered (tree_of old) at i) k = ap (λ (t : Tree). names_of t k) tree in
+        let come = names_entered (tree_of old) at i place k in
+        let less = names_left (tree_of old) at place k in
+        let one : one_for o k ≡ one_for (at_spot (tree_of old) at) k = ap (λ (p : Option ℕ). one_for p k) is in
+        let now : count_at made k ≡ count_at counts k = ap (λ (f : ℕ → ℕ). f k) same in
+        let before = was k in
+        let stored = fewer k in
+        let then_more = more k in
+        omega (arith, all, come, less, one, now, before, stored, then_more)
+
+-- ---- the counts in their list
+
+pushed_at : (counts : List ℕ) (i : ℕ) → count_at (counts ++ 0 ∷ []) i ≡ count_at counts i
+pushed_at [] zero = refl
+pushed_at [] (suc i) = refl
+pushed_at (n ∷ counts) zero = refl
+pushed_at (n ∷ counts) (suc i) = pushed_at counts i
+
+-- no names at the end change nothing
+pub counts_pushed : (counts : List ℕ) → count_at (counts ++ 0 ∷ []) ≡ count_at counts
+counts_pushed counts = λ k i. pushed_at counts i k
+
+-- what has a name has its place
+pub has_place : (counts : List ℕ) (o : Option ℕ) (i : ℕ) → o ≡ Some i → ((k : ℕ) → one_for o k ≤ count_at counts k) → i < length counts
+has_place counts o i is most =
+    elim (cases_lt i (length counts)) [
+      | inl within ↦ within
+      | inr past ↦
+          let none : count_at counts i ≡ 0 = get_or_past counts i 0 past in
+          let one : one_for o i ≡ 1 = ap (λ (p : Option ℕ). one_for p i) is ∙ on_one i in
+          let few = most i in
+          absurd (omega (arith, none, one, few))
+    ]

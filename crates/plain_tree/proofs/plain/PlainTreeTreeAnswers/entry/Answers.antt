@@ -1,0 +1,15 @@
+use Rattle.std.proofs.Common.{◌≡◌, Option, Some, None, ap, sym, ◌∙◌}
+use Rattle.std.specs.Prelude.{option_map}
+use Rattle.posix_calls.specs.Tree.{Node, names_of}
+use Rattle.posix_calls.specs.Asks.{seen}
+use Rattle.posix_calls.specs.Answers.{entry_in}
+use Rattle.plain_tree.specs.Plain.{Stored, tree_of}
+use Rattle.plain_tree.proofs.Answering.{nothing_past}
+use Rattle.plain_tree.proofs.Ordered.{get_nothing}
+use Rattle.plain_tree.proofs.plain.PlainTreeTreeAnswers.entry.Goals as goal
+
+pub returns-in-None : goal.returns-in-None
+returns-in-None c =
+    let past : tree_of c.args.self.now.nodes c.args.dir ≡ None = nothing_past c.as_slice.result.now c.args.self.now.nodes c.args.dir (c.as_slice.ensures ∙ ap (λ (s : Stored). s.nodes) c.self.view_is) c.in-None.ensures.lookup.0 in
+    ap Some (sym (get_nothing c.args.name.now))
+    ∙ sym (ap (λ (o : Option Node). Some (entry_in c.args.name.now (option_map (seen (names_of (tree_of c.args.self.now.nodes) c.args.dir)) o))) past)

@@ -1,0 +1,5 @@
+pub mod Ordered
+pub mod Codes
+pub mod Bodies
+pub mod Plain
+pub mod PlainCode

@@ -1,0 +1,158 @@
+-- The state that a plain tree stores.
+use Rattle.std.specs.Prelude.{◌≡◌, ◌≢◌, ◌⊎◌, length, true, ℕ, zero, suc, ◌<◌, ◌≤◌, ◌==◌, List, [], get_or, Option, Some, None, if◌then◌else◌}
+use Rattle.std.specs.FinMap as fin
+use Rattle.posix_calls.specs.Tree.{Node, Tree, set_node, entries_of, IsBare, names_of, Descriptors, State, set_descriptor}
+use Rattle.posix_calls.specs.Own.{own_of}
+use Rattle.posix_calls.specs.Deeds.{less_unused, makes, reply_of, state_after}
+use Rattle.posix_calls.specs.Exact.{IsLowest, IsTaken}
+use Rattle.posix_calls.specs.declared.deed.Spot.{Spot}
+use Rattle.posix_calls.specs.declared.deed.Replaced.{Replaced}
+use Rattle.posix_calls.specs.declared.deed.Replaced.TheVariants.{Nothing, OldFile, OldDir}
+use Rattle.posix_calls.specs.declared.deed.Deed.{Deed}
+use Rattle.posix_calls.specs.declared.deed.Deed.TheVariants.{Tell, NewDir, NewFile, OpenFile, CloseFile, Write, Resize, RemoveDir, AddName, DropName, Move}
+use Rattle.posix_calls.specs.WellFormed.{IsWellFormed, IsWithinLimits}
+use Rattle.posix_calls.specs.declared.call.Reply.{Reply}
+use Rattle.posix_calls.specs.declared.call.Reply.TheVariants.{Failed}
+use Rattle.posix_calls.specs.declared.errno.Errno.TheVariants as errno
+use Rattle.posix_calls.specs.declared.limits.TheConstants.{ROOT, MAX_INODE, MAX_DESCRIPTORS, MAX_FILE, MAX_NAMES}
+use Rattle.posix_calls.specs.declared.descriptor.Descriptor.{Descriptor}
+
+-- the tree with these nodes, from inode 0 on
+abbrev pub tree_of : List (Option Node) → Tree
+tree_of nodes i = get_or nodes i None
+
+-- what is open in these rows, of which the first is client 1's
+abbrev pub held_of : List (List (Option Descriptor)) → Descriptors
+held_of rows zero n = None
+held_of rows (suc c) n = own_of (get_or rows c []) n
+
+-- nodes, and rows of descriptors
+pub record Stored : Type 0 where
+  pub nodes : List (Option Node)
+  pub rows : List (List (Option Descriptor))
+
+-- the state that is stored
+abbrev pub state_of : Stored → State
+state_of s = record { tree = tree_of s.nodes; descriptors = held_of s.rows }
+
+-- how many names are stored for each inode, from inode 0 on
+abbrev pub count_at : List ℕ → ℕ → ℕ
+count_at counts i = get_or counts i 0
+
+-- one for the inode that is meant, none for all others
+abbrev pub one_for : Option ℕ → ℕ → ℕ
+one_for None j = 0
+one_for (Some i) j = if i == j then 1 else 0
+
+-- for each inode is stored how many names it has in the whole tree
+abbrev pub IsCounted : List ℕ → List (Option Node) → Type 0
+IsCounted counts nodes = (i : ℕ) → count_at counts i ≡ names_of (tree_of nodes) i
+
+-- the state is well-formed, and within its limits
+abbrev pub IsSound : State → Type 0
+IsSound s = IsWellFormed s × IsWithinLimits s.tree
+
+-- a number that a node can have
+abbrev pub IsInode : ℕ → Type 0
+IsInode i = (ROOT ≤ i) × (i ≤ MAX_INODE)
+
+-- what is put out of its place has no entries
+abbrev pub IsBareReplaced : Tree → Replaced → Type 0
+IsBareReplaced t Nothing = Unit {0}
+IsBareReplaced t (OldFile j) = IsBare (t j)
+IsBareReplaced t (OldDir j) = IsBare (t j)
+
+-- a file that is not used any more goes, and so does an empty directory
+abbrev pub less_put_out : Descriptors → Tree → Replaced → Tree
+less_put_out held t Nothing = t
+less_put_out held t (OldFile j) = less_unused held t j
+less_put_out held t (OldDir j) = set_node t j None
+
+-- the inode under a name
+abbrev pub at_spot : Tree → Spot → Option ℕ
+at_spot t at = fin.get (entries_of (t at.parent)) at.name
+
+-- another inode is at the new name, and has no entries
+abbrev pub IsReplaceable : Tree → Spot → ℕ → ℕ → Type 0
+IsReplaceable t to i j = (i ≢ j) × (at_spot t to ≡ Some j) × IsBare (t j)
+
+-- what is put out of its place is at the new name
+abbrev pub Replaces : Tree → Spot → ℕ → Replaced → Type 0
+Replaces t to i Nothing = at_spot t to ≡ None
+Replaces t to i (OldFile j) = IsReplaceable t to i j
+Replaces t to i (OldDir j) = IsReplaceable t to i j
+
+-- an inode at one name can move to another
+abbrev pub IsMovable : Tree → Spot → Spot → ℕ → Replaced → Type 0
+IsMovable t from to i replaced = (at_spot t from ≡ Some i) × Replaces t to i replaced
+
+-- these nodes and rows as a state
+abbrev pub state_in : List (Option Node) → List (List (Option Descriptor)) → State
+state_in nodes rows = state_of (record { nodes = nodes; rows = rows })
+
+-- ---- deeds
+
+-- a deed that does more than tell
+abbrev pub IsChange : Deed → Type 0
+IsChange (Tell answer) = ⊥
+IsChange _ = Unit {0}
+
+-- no more bytes than a file may have
+abbrev pub IsSmall : Deed → Type 0
+IsSmall (Write i at bytes) = length bytes ≤ MAX_FILE
+IsSmall _ = Unit {0}
+
+-- a deed that closes nothing
+abbrev pub IsNoClose : Deed → Type 0
+IsNoClose (CloseFile i number) = ⊥
+IsNoClose _ = Unit {0}
+
+-- what a deed opens, and its number
+abbrev pub opened_by : ℕ → Deed → Option (ℕ × Descriptor)
+opened_by new (NewFile at number reads writes) = Some (number, record { inode = new; reads = reads; writes = writes })
+opened_by new (OpenFile i empties number reads writes) = Some (number, record { inode = i; reads = reads; writes = writes })
+opened_by new _ = None
+
+-- the descriptors with what a client opens, if it opens anything
+abbrev pub with_opened : Descriptors → ℕ → Option (ℕ × Descriptor) → Descriptors
+with_opened held client None = held
+with_opened held client (Some (number, what)) = set_descriptor held client number (Some what)
+
+-- what is opened has the number of a descriptor
+abbrev pub HasNumber : Option (ℕ × Descriptor) → Type 0
+HasNumber None = Unit {0}
+HasNumber (Some (number, what)) = number < MAX_DESCRIPTORS
+
+-- a name's directory is there, under a number that a node can have
+abbrev pub IsHeld : Tree → Spot → Type 0
+IsHeld t at = IsInode at.parent × (t at.parent ≢ None)
+
+-- names come and go in directories that are there, what is written or goes has no entries, descriptors have numbers, and what moves can move
+abbrev pub IsPlaced : Tree → Deed → Type 0
+IsPlaced t (Tell answer) = Unit {0}
+IsPlaced t (NewDir at) = IsHeld t at
+IsPlaced t (NewFile at number reads writes) = (number < MAX_DESCRIPTORS) × IsHeld t at
+IsPlaced t (OpenFile i empties number reads writes) = (number < MAX_DESCRIPTORS) × IsBare (t i)
+IsPlaced t (CloseFile i number) = IsBare (t i)
+IsPlaced t (Write i at bytes) = IsBare (t i)
+IsPlaced t (Resize i len) = IsBare (t i)
+IsPlaced t (RemoveDir at i) = IsHeld t at × IsBare (t i)
+IsPlaced t (AddName at i) = IsHeld t at
+IsPlaced t (DropName at i) = IsHeld t at × IsBare (t i)
+IsPlaced t (Move from to i is_dir replaced) = IsHeld t from × IsHeld t to × IsMovable t from to i replaced
+
+-- nothing has more names than it may
+abbrev pub HasFewNames : Tree → Type 0
+HasFewNames t = (i : ℕ) → names_of t i ≤ MAX_NAMES
+
+-- a deed that a call can come to
+abbrev pub IsDoable : Tree → Deed → Type 0
+IsDoable t deed = IsSmall deed × HasFewNames t × IsPlaced t deed
+
+-- the deed was done, and a node that it makes has the lowest number that is free
+abbrev pub IsDone : State → ℕ → Deed → Reply → State → Type 0
+IsDone old client deed r after = (new : ℕ) × (makes deed ≡ true → IsLowest old.tree new) × (r ≡ reply_of deed) × (after ≡ state_after client new old deed)
+
+-- memory ran out, or the inode numbers for a new node; nothing changed
+abbrev pub IsDropped : State → Deed → Reply → State → Type 0
+IsDropped old deed r after = ((r ≡ Failed errno.NoMemory) ⊎ ((r ≡ Failed errno.NoSpace) × (makes deed ≡ true) × IsTaken old.tree)) × (after ≡ old)

@@ -1,0 +1,14 @@
+//! A file tree that runs, for programs and tests.
+//!
+//! `PlainTree` holds a tree in memory with the descriptors of its clients, and answers every call as the definitions of
+//! `posix_calls` say: a new node gets the lowest inode number that is free.
+#![tactic(auto)]
+
+mod deeds;
+mod entries;
+mod name_counts;
+mod node;
+mod nodes;
+mod plain;
+
+pub use plain::PlainTree;

@@ -1,0 +1,262 @@
+ghost use Rattle.std.specs.Prelude.{◌≡◌, ◌≤◌, ◌+◌, ◌++◌, ℕ, Option, None, Some, length, take, drop, map, option_map, [], IfOk, OnOk, OnErr};
+ghost use Rattle.std.specs.FinMap as fin;
+ghost use Rattle.posix_calls.specs.Content.{resized, written};
+ghost use Rattle.posix_calls.specs.Tree.{File, Dir, bytes_of, entries_of};
+ghost use Rattle.posix_calls.specs.Asks.{dir_test};
+ghost use Rattle.plain_tree.specs.Bodies.{node_of};
+
+use crate::entries::PlainEntries;
+use posix_calls::{Bytes, Name, Names};
+use std::alloc::{AllocError, Global};
+use std::marker::Model;
+
+/// What stands at an inode, if anything does. Contracts see it as a node.
+#[derive(Debug, Drop)]
+pub struct PlainNode {
+    body: PlainBody,
+}
+
+/// What is in a node.
+#[derive(Debug, Drop)]
+pub enum PlainBody {
+    Nothing,
+    File(Vec<u8>),
+    Directory(PlainEntries),
+}
+
+impl Model for PlainNode {
+    ghost use Rattle.std.specs.Prelude.{Option};
+    ghost use Rattle.std.specs.Coded.{coded_option};
+    ghost use Rattle.posix_calls.specs.Tree.{Node};
+    ghost use Rattle.plain_tree.specs.Codes.{node_code};
+
+    ghost Value = { Option Node };
+
+    ghost coded = { coded_option node_code };
+
+    ghost use Rattle.plain_tree.specs.Bodies.{node_of};
+
+    ghost view = { λ n. node_of n.body };
+}
+
+impl PlainNode {
+    /// Nothing.
+    pub fn nothing() -> Self
+        ensures { result ≡ None }
+    {
+        PlainNode {
+            body: PlainBody::Nothing,
+        }
+    }
+
+    /// A file with no bytes.
+    pub fn file(alloc: Global) -> Self
+        ensures { result ≡ Some (File []) }
+    {
+        PlainNode {
+            body: PlainBody::File(Vec::new(alloc)),
+        }
+    }
+
+    /// A directory with no entries.
+    pub fn directory(alloc: Global) -> Self
+        ensures { result ≡ Some (Dir fin.empty) }
+    {
+        PlainNode {
+            body: PlainBody::Directory(PlainEntries::new(alloc)),
+        }
+    }
+
+    /// Whether it is a directory.
+    pub fn is_dir(&self) -> Option<bool>
+        ensures { result ≡ option_map dir_test self.now }
+    {
+        match &self.body {
+            PlainBody::Nothing => None,
+            PlainBody::File(_) => Some(false),
+            PlainBody::Directory(_) => Some(true),
+        }
+    }
+
+    /// The inode under a name of a directory.
+    #[tactic(auto, using(crate::proofs::Ordered::where_nothing_is))]
+    pub fn entry(&self, name: &[u8]) -> Option<u32>
+        ensures { result ≡ fin.get (entries_of self.now) name.now }
+    {
+        match &self.body {
+            PlainBody::Nothing | PlainBody::File(_) => None,
+            PlainBody::Directory(entries) => entries.get(name),
+        }
+    }
+
+    /// How many entries a directory has.
+    #[tactic(auto, using(crate::proofs::Ordered::where_nothing_is))]
+    pub fn entry_count(&self) -> u32
+        ensures { result ≡ fin.len (entries_of self.now) }
+    {
+        match &self.body {
+            PlainBody::Nothing | PlainBody::File(_) => 0,
+            PlainBody::Directory(entries) => entries.len(),
+        }
+    }
+
+    /// The names in a directory, in the order of their bytes.
+    #[tactic(auto, using(crate::proofs::Ordered::where_nothing_is))]
+    pub fn names(&self, alloc: Global) -> Result<Names, AllocError>
+        ensures { IfOk result (λ names. names ≡ map (λ e. e.0) (fin.entries (entries_of self.now))) }
+    {
+        match &self.body {
+            PlainBody::Nothing | PlainBody::File(_) => Ok(Names::from_vec(Vec::new(alloc))),
+            PlainBody::Directory(entries) => entries.names(alloc),
+        }
+    }
+
+    /// How many bytes a file has.
+    pub fn size(&self) -> u64
+        ensures { result ≡ length (bytes_of self.now) }
+    {
+        match &self.body {
+            PlainBody::File(bytes) => bytes.len() as u64,
+            _ => 0,
+        }
+    }
+
+    /// Up to `count` bytes of a file from an offset on.
+    pub fn read(&self, alloc: Global, at: u64, count: u64) -> Result<Bytes, AllocError>
+        ensures { IfOk result (λ bytes. bytes ≡ take count (drop at (bytes_of self.now))) }
+    {
+        match &self.body {
+            PlainBody::File(bytes) => Bytes::copy_of(
+                alloc,
+                range(bytes, at as usize, count as usize),
+            ),
+            _ => Ok(Bytes::from_vec(Vec::new(alloc))),
+        }
+    }
+
+    /// Puts an inode under a name of a directory; what is none becomes one. Where there is no memory for it, the node stays.
+    pub fn enter(&mut self, alloc: Global, name: Name, inode: u32) -> Result<(), AllocError>
+        ensures ok { OnOk result (self.new ≡ Some (Dir (fin.insert (entries_of self.old) name inode))) }
+        ensures err { OnErr result (self.new ≡ self.old) }
+    {
+        enter(alloc, &mut self.body, name, inode)
+    }
+
+    /// Takes a name out of a directory; what is none becomes one.
+    pub fn leave(&mut self, alloc: Global, name: &[u8])
+        ensures { self.new ≡ Some (Dir (fin.remove (entries_of self.old) name.now)) }
+    {
+        leave(alloc, &mut self.body, name);
+    }
+
+    /// Puts bytes into a file at an offset; what is none becomes one. Where there is no memory for it, the node stays.
+    pub fn write(&mut self, alloc: Global, at: u64, bytes: &[u8]) -> Result<(), AllocError>
+        ensures ok { OnOk result (self.new ≡ Some (File (written at bytes.now (bytes_of self.old)))) }
+        ensures err { OnErr result (self.new ≡ self.old) }
+    {
+        write(alloc, &mut self.body, at, bytes)
+    }
+
+    /// Cuts or grows a file to a length; what is none becomes one. Where there is no memory for it, the node stays.
+    pub fn resize(&mut self, alloc: Global, len: u64) -> Result<(), AllocError>
+        ensures ok { OnOk result (self.new ≡ Some (File (resized len (bytes_of self.old)))) }
+        ensures err { OnErr result (self.new ≡ self.old) }
+    {
+        resize(alloc, &mut self.body, len)
+    }
+}
+
+fn range(bytes: &[u8], at: usize, count: usize) -> &[u8]
+    ensures { result.now ≡ take count (drop at bytes.now) }
+{
+    let rest = &bytes[at.min(bytes.len())..];
+    &rest[..count.min(rest.len())]
+}
+
+fn enter(alloc: Global, body: &mut PlainBody, name: Name, inode: u32) -> Result<(), AllocError>
+    ensures ok { OnOk result (node_of body.new ≡ Some (Dir (fin.insert (entries_of (node_of body.old)) name inode))) }
+    ensures err { OnErr result (node_of body.new ≡ node_of body.old) }
+{
+    match body {
+        PlainBody::Directory(entries) => entries.put(name, inode),
+        _ => {
+            let mut entries = PlainEntries::new(alloc);
+            entries.put(name, inode)?;
+            *body = PlainBody::Directory(entries);
+            Ok(())
+        }
+    }
+}
+
+fn leave(alloc: Global, body: &mut PlainBody, name: &[u8])
+    ensures { node_of body.new ≡ Some (Dir (fin.remove (entries_of (node_of body.old)) name.now)) }
+{
+    match body {
+        PlainBody::Directory(entries) => entries.remove(name),
+        _ => {
+            let mut entries = PlainEntries::new(alloc);
+            entries.remove(name);
+            *body = PlainBody::Directory(entries);
+        }
+    }
+}
+
+fn write(alloc: Global, body: &mut PlainBody, at: u64, bytes: &[u8]) -> Result<(), AllocError>
+    ensures ok { OnOk result (node_of body.new ≡ Some (File (written at bytes.now (bytes_of (node_of body.old))))) }
+    ensures err { OnErr result (node_of body.new ≡ node_of body.old) }
+{
+    match body {
+        PlainBody::File(file) => write_at(file, at, bytes),
+        _ => {
+            let mut file = Vec::new(alloc);
+            write_at(&mut file, at, bytes)?;
+            *body = PlainBody::File(file);
+            Ok(())
+        }
+    }
+}
+
+fn resize(alloc: Global, body: &mut PlainBody, len: u64) -> Result<(), AllocError>
+    ensures ok { OnOk result (node_of body.new ≡ Some (File (resized len (bytes_of (node_of body.old))))) }
+    ensures err { OnErr result (node_of body.new ≡ node_of body.old) }
+{
+    match body {
+        PlainBody::File(file) => resize_to(file, len),
+        _ => {
+            let mut file = Vec::new(alloc);
+            resize_to(&mut file, len)?;
+            *body = PlainBody::File(file);
+            Ok(())
+        }
+    }
+}
+
+fn resize_to(file: &mut Vec<u8>, len: u64) -> Result<(), AllocError>
+    ensures ok { OnOk result (file.new.items ≡ resized len file.old.items) }
+    ensures err { OnErr result (file.new.items ≡ file.old.items) }
+{
+    file.resize(len as usize, 0)
+}
+
+// A file that would pass the end of all numbers finds no memory.
+fn write_at(file: &mut Vec<u8>, at: u64, bytes: &[u8]) -> Result<(), AllocError>
+    ensures ok { OnOk result (file.new.items ≡ written at bytes.now file.old.items) }
+    ensures err { OnErr result (file.new.items ≡ file.old.items) }
+{
+    let start = at as usize;
+    let Some(end) = start.checked_add(bytes.len()) else {
+        return Err(AllocError);
+    };
+    if file.len() < end {
+        file.resize(end, 0)?;
+    }
+    overwrite(file, start, bytes);
+    Ok(())
+}
+
+fn overwrite(file: &mut [u8], start: usize, bytes: &[u8])
+    requires { start + length bytes.now ≤ length file.old }
+    ensures { file.new ≡ take start file.old ++ bytes.now ++ drop (start + length bytes.now) file.old }
+{
+    file[start..start + bytes.len()].copy_from_slice(bytes);
+}

@@ -1,0 +1,297 @@
+ghost use Rattle.std.specs.Prelude.{◌≡◌, ◌≤◌, ◌<◌, ◌-◌, ℕ, [], Option, None, Some, length, OnOk, OnErr, get_or, MatchOption, IsTrue, ◌↔◌};
+ghost use Rattle.posix_calls.specs.Content.{resized, written};
+ghost use Rattle.posix_calls.specs.Tree.{File, bytes_of, set_node, any_up_to, refers_to, names_of, is_open, IsBare};
+ghost use Rattle.posix_calls.specs.Deeds.{entered, left, less_unused};
+ghost use Rattle.posix_calls.specs.Own.{own_of};
+ghost use Rattle.posix_calls.specs.Exact.{IsLowest, IsTaken};
+ghost use Rattle.plain_tree.specs.Plain.{tree_of, held_of, at_spot, IsInode};
+ghost use Rattle.posix_calls.specs.declared.limits.TheConstants.{MAX_NAMES};
+
+use crate::name_counts::{make_counts, name_came, name_count, name_went};
+use crate::node::PlainNode;
+use posix_calls::{
+    Descriptor, MAX_CLIENTS, MAX_DESCRIPTORS, MAX_INODE, OwnDescriptors, ROOT, Spot,
+};
+use std::alloc::{AllocError, Global};
+use std::marker::Model;
+
+/// The nodes of a tree, and how many names each inode has in it, so that nothing has to count them. Contracts see the list of
+/// the nodes, from inode 0 on.
+#[derive(Drop)]
+pub struct PlainNodes {
+    nodes: Vec<PlainNode>,
+    counts: Vec<u32>,
+}
+
+impl Model for PlainNodes {
+    ghost use Rattle.std.specs.Prelude.{List, Option};
+    ghost use Rattle.std.specs.Coded.{coded_list, coded_option};
+    ghost use Rattle.posix_calls.specs.Tree.{Node};
+    ghost use Rattle.plain_tree.specs.Codes.{node_code};
+    ghost use Rattle.plain_tree.specs.Plain.{IsCounted};
+
+    ghost Value = { List (Option Node) };
+
+    ghost coded = { coded_list (coded_option node_code) };
+
+    ghost view = { λ p. p.nodes.items };
+
+    ghost invariant = { λ p. IsCounted p.counts.items p.nodes.items };
+}
+
+impl PlainNodes {
+    /// No nodes.
+    pub fn new(alloc: Global) -> Self
+        ensures { result ≡ [] }
+    {
+        PlainNodes {
+            nodes: Vec::new(alloc),
+            counts: Vec::new(alloc),
+        }
+    }
+
+    /// The nodes, from inode 0 on.
+    pub fn as_slice(&self) -> &[PlainNode]
+        ensures { result.now ≡ self.now }
+    {
+        &self.nodes
+    }
+
+    /// How many names an inode has.
+    pub fn name_count(&self, inode: u32) -> u32
+        ensures { result ≡ names_of (tree_of self.now) inode }
+    {
+        name_count(&self.counts, inode)
+    }
+
+    /// Places for all inodes up to this one, with nothing in those that are new.
+    pub fn make_room(&mut self, inode: u32) -> Result<(), AllocError>
+        ensures tree { tree_of self.new ≡ tree_of self.old }
+        ensures room { OnOk result (inode < length self.new) }
+        ensures longer { length self.old ≤ length self.new }
+    {
+        make_room(&mut self.nodes, inode)
+    }
+
+    /// Puts a node with no entries at an inode, in place of one with none.
+    pub fn put(&mut self, inode: u32, node: PlainNode)
+        requires room { inode < length self.old }
+        requires before { IsBare (tree_of self.old inode) }
+        requires after { IsBare node }
+        ensures tree { tree_of self.new ≡ set_node (tree_of self.old) inode node }
+        ensures kept { length self.new ≡ length self.old }
+    {
+        put_node(&mut self.nodes, inode, node);
+    }
+
+    /// Takes away what stands at an inode, where that has no entries.
+    pub fn clear(&mut self, inode: u32)
+        requires { IsBare (tree_of self.old inode) }
+        ensures tree { tree_of self.new ≡ set_node (tree_of self.old) inode None }
+        ensures kept { length self.new ≡ length self.old }
+    {
+        clear(&mut self.nodes, inode);
+    }
+
+    /// Puts an inode under a name, in place of what is there. Where there is no memory for it, the tree stays as it was.
+    pub fn enter(&mut self, alloc: Global, at: Spot, inode: u32) -> Result<(), AllocError>
+        requires place { IsInode at.parent }
+        requires few { names_of (tree_of self.old) inode ≤ MAX_NAMES }
+        ensures ok { OnOk result (tree_of self.new ≡ entered (tree_of self.old) at inode) }
+        ensures err { OnErr result (tree_of self.new ≡ tree_of self.old) }
+        ensures longer { length self.old ≤ length self.new }
+    {
+        let before = entry_in(&self.nodes, &at);
+        make_counts(&mut self.counts, inode)?;
+        enter(alloc, &mut self.nodes, at, inode)?;
+        name_went(&mut self.counts, before);
+        name_came(&mut self.counts, inode);
+        Ok(())
+    }
+
+    /// Takes a name out.
+    pub fn leave(&mut self, alloc: Global, at: &Spot)
+        requires room { at.now.parent < length self.old }
+        requires place { IsInode at.now.parent }
+        ensures tree { tree_of self.new ≡ left (tree_of self.old) at.now }
+        ensures kept { length self.new ≡ length self.old }
+    {
+        let before = entry_in(&self.nodes, at);
+        leave(alloc, &mut self.nodes, at);
+        name_went(&mut self.counts, before);
+    }
+
+    /// Puts bytes into a file. Where there is no memory for it, the tree stays as it was.
+    pub fn write(
+        &mut self,
+        alloc: Global,
+        inode: u32,
+        at: u64,
+        bytes: &[u8],
+    ) -> Result<(), AllocError>
+        requires { IsBare (tree_of self.old inode) }
+        ensures ok { OnOk result (tree_of self.new ≡ set_node (tree_of self.old) inode (Some (File (written at bytes.now (bytes_of (tree_of self.old inode)))))) }
+        ensures err { OnErr result (tree_of self.new ≡ tree_of self.old) }
+    {
+        write(alloc, &mut self.nodes, inode, at, bytes)
+    }
+
+    /// Cuts or grows a file. Where there is no memory for it, the tree stays as it was.
+    pub fn resize(&mut self, alloc: Global, inode: u32, len: u64) -> Result<(), AllocError>
+        requires { IsBare (tree_of self.old inode) }
+        ensures ok { OnOk result (tree_of self.new ≡ set_node (tree_of self.old) inode (Some (File (resized len (bytes_of (tree_of self.old inode)))))) }
+        ensures err { OnErr result (tree_of self.new ≡ tree_of self.old) }
+    {
+        resize(alloc, &mut self.nodes, inode, len)
+    }
+
+    /// Takes a file away that has no name, and that nobody has open.
+    pub fn drop_unused(&mut self, rows: &[OwnDescriptors], inode: u32)
+        requires { IsBare (tree_of self.old inode) }
+        ensures tree { tree_of self.new ≡ less_unused (held_of rows.now) (tree_of self.old) inode }
+        ensures kept { length self.new ≡ length self.old }
+    {
+        if self.name_count(inode) == 0 && !is_open(rows, inode) {
+            self.clear(inode);
+        }
+    }
+}
+
+fn make_room(nodes: &mut Vec<PlainNode>, inode: u32) -> Result<(), AllocError>
+    ensures tree { tree_of nodes.new.items ≡ tree_of nodes.old.items }
+    ensures room { OnOk result (inode < length nodes.new.items) }
+    ensures longer { length nodes.old.items ≤ length nodes.new.items }
+{
+    for _ in nodes.len()..inode as usize + 1 {
+        nodes.push(PlainNode::nothing())?;
+    }
+    Ok(())
+}
+
+fn put_node(nodes: &mut Vec<PlainNode>, inode: u32, node: PlainNode)
+    requires { inode < length nodes.old.items }
+    ensures tree { tree_of nodes.new.items ≡ set_node (tree_of nodes.old.items) inode node }
+    ensures kept { length nodes.new.items ≡ length nodes.old.items }
+{
+    nodes[inode as usize] = node;
+}
+
+fn clear(nodes: &mut Vec<PlainNode>, inode: u32)
+    ensures tree { tree_of nodes.new.items ≡ set_node (tree_of nodes.old.items) inode None }
+    ensures kept { length nodes.new.items ≡ length nodes.old.items }
+{
+    if (inode as usize) < nodes.len() {
+        put_node(nodes, inode, PlainNode::nothing());
+    }
+}
+
+fn enter(alloc: Global, nodes: &mut Vec<PlainNode>, at: Spot, inode: u32) -> Result<(), AllocError>
+    ensures ok { OnOk result (tree_of nodes.new.items ≡ entered (tree_of nodes.old.items) at inode) }
+    ensures err { OnErr result (tree_of nodes.new.items ≡ tree_of nodes.old.items) }
+    ensures longer { length nodes.old.items ≤ length nodes.new.items }
+{
+    make_room(nodes, at.parent)?;
+    nodes[at.parent as usize].enter(alloc, at.name, inode)
+}
+
+fn leave(alloc: Global, nodes: &mut Vec<PlainNode>, at: &Spot)
+    requires { at.now.parent < length nodes.old.items }
+    ensures tree { tree_of nodes.new.items ≡ left (tree_of nodes.old.items) at.now }
+    ensures kept { length nodes.new.items ≡ length nodes.old.items }
+{
+    nodes[at.parent as usize].leave(alloc, at.name.as_slice());
+}
+
+fn write(
+    alloc: Global,
+    nodes: &mut Vec<PlainNode>,
+    inode: u32,
+    at: u64,
+    bytes: &[u8],
+) -> Result<(), AllocError>
+    ensures ok { OnOk result (tree_of nodes.new.items ≡ set_node (tree_of nodes.old.items) inode (Some (File (written at bytes.now (bytes_of (tree_of nodes.old.items inode)))))) }
+    ensures err { OnErr result (tree_of nodes.new.items ≡ tree_of nodes.old.items) }
+{
+    make_room(nodes, inode)?;
+    nodes[inode as usize].write(alloc, at, bytes)
+}
+
+fn resize(alloc: Global, nodes: &mut Vec<PlainNode>, inode: u32, len: u64) -> Result<(), AllocError>
+    ensures ok { OnOk result (tree_of nodes.new.items ≡ set_node (tree_of nodes.old.items) inode (Some (File (resized len (bytes_of (tree_of nodes.old.items inode)))))) }
+    ensures err { OnErr result (tree_of nodes.new.items ≡ tree_of nodes.old.items) }
+{
+    make_room(nodes, inode)?;
+    nodes[inode as usize].resize(alloc, len)
+}
+
+// The inode under a name.
+fn entry_in(nodes: &[PlainNode], at: &Spot) -> Option<u32>
+    ensures { result ≡ at_spot (tree_of nodes.now) at.now }
+{
+    match nodes.get(at.parent as usize) {
+        Some(node) => node.entry(at.name.as_slice()),
+        None => None,
+    }
+}
+
+/// Whether some client has an inode open.
+pub fn is_open(rows: &[OwnDescriptors], inode: u32) -> bool
+    ensures { result ≡ is_open (held_of rows.now) inode }
+{
+    for client in 0..MAX_CLIENTS {
+        if is_open_by(rows, client as usize, inode) {
+            return true;
+        }
+    }
+    false
+}
+
+fn is_open_by(rows: &[OwnDescriptors], row: usize, inode: u32) -> bool
+    ensures { result ≡ any_up_to MAX_DESCRIPTORS (λ n. refers_to inode (own_of (get_or rows.now row []) (n - 1))) }
+{
+    match rows.get(row) {
+        Some(own) => has_open(own, inode),
+        None => false,
+    }
+}
+
+fn has_open(own: &OwnDescriptors, inode: u32) -> bool
+    ensures { result ≡ any_up_to MAX_DESCRIPTORS (λ n. refers_to inode (own_of own.now (n - 1))) }
+{
+    for number in 0..MAX_DESCRIPTORS {
+        if refers_to(own.get(number), inode) {
+            return true;
+        }
+    }
+    false
+}
+
+fn refers_to(what: Option<Descriptor>, inode: u32) -> bool
+    ensures { result ≡ refers_to inode what }
+{
+    match what {
+        Some(descriptor) => descriptor.inode == inode,
+        None => false,
+    }
+}
+
+/// The lowest number for a new node.
+pub fn lowest_free(nodes: &[PlainNode]) -> Option<u32>
+    ensures { MatchOption result (IsTaken (tree_of nodes.now)) (λ i. IsLowest (tree_of nodes.now) i) }
+{
+    for inode in ROOT + 1..MAX_INODE + 1 {
+        if is_free(nodes, inode) {
+            return Some(inode);
+        }
+    }
+    None
+}
+
+fn is_free(nodes: &[PlainNode], inode: u32) -> bool
+    ensures { IsTrue result ↔ (tree_of nodes.now inode ≡ None) }
+{
+    match nodes.get(inode as usize) {
+        Some(node) => node.is_dir().is_none(),
+        None => true,
+    }
+}

@@ -1,0 +1,365 @@
+ghost use Rattle.std.specs.Prelude.{◌≡◌, ◌⊎◌, ◌≤◌, ◌<◌, ℕ, true, Ok, Some, length, option_map, IfOk, OnOk, OnErr, MatchOption, None};
+ghost use Rattle.posix_calls.specs.Tree.{opening, empty_tree};
+ghost use Rattle.posix_calls.specs.Asks.{view_of, whole};
+ghost use Rattle.posix_calls.specs.Answers.{description_of};
+ghost use Rattle.posix_calls.specs.Deeds.{Step, makes, reply_of, state_after, tree_after};
+ghost use Rattle.posix_calls.specs.Exact.{IsAnswered, IsGivenUp, IsLowest, IsTaken};
+ghost use Rattle.plain_tree.specs.Plain.{tree_of, held_of, state_of, state_in, opened_by, IsChange, IsNoClose, IsSmall, IsDoable, IsDone, IsDropped};
+ghost use Rattle.posix_calls.specs.declared.call.Reply.TheVariants.{Failed};
+
+use crate::deeds::{close_at, drop_name, empty_if, make, move_name, open_if, remove_dir};
+use crate::node::PlainNode;
+use crate::nodes::{PlainNodes, lowest_free};
+use posix_calls::{
+    Bytes, Call, Deed, Description, Descriptor, Errno, MAX_CLIENTS, Names, NoDeed, OwnDescriptors,
+    ROOT, Reply, TreeAnswers, decide,
+};
+use std::alloc::{AllocError, Global};
+use std::marker::Model;
+
+/// A file tree that runs, with the descriptors of its clients, for programs and tests.
+#[derive(Drop)]
+pub struct PlainTree {
+    alloc: Global,
+    nodes: PlainNodes,
+    rows: Vec<OwnDescriptors>,
+}
+
+impl Model for PlainTree {
+    ghost use Rattle.std.specs.Prelude.{◌≡◌, length};
+    ghost use Rattle.plain_tree.specs.Plain.{Stored, state_in, IsSound};
+    ghost use Rattle.plain_tree.specs.PlainCode.{stored_code};
+
+    ghost Value = { Stored };
+
+    ghost coded = { stored_code };
+
+    ghost view = { λ p. record { nodes = p.nodes; rows = p.rows.items } };
+
+    ghost invariant = { λ p. (length p.rows.items ≡ 8) × IsSound (state_in p.nodes p.rows.items) };
+}
+
+impl PlainTree {
+    /// The empty tree: a root with no entry, of which nothing is open.
+    pub fn new(alloc: Global) -> Result<Self, AllocError>
+        ensures { IfOk result (λ tree. state_of tree ≡ opening) }
+    {
+        let nodes = root_alone(alloc)?;
+        let rows = no_descriptors(alloc, MAX_CLIENTS)?;
+        Ok(PlainTree { alloc, nodes, rows })
+    }
+
+    /// Does what a client asks, and answers it. A client outside 1 to 8 is answered `Invalid`. A new node gets the lowest
+    /// inode number from 2 on that is free; where none is free, the call is answered `NoSpace`. `NoMemory` may stand in place of
+    /// any answer. A call that is answered `Failed` leaves the tree and all descriptors as they were.
+    pub fn ask(&mut self, client: u32, call: &Call) -> Reply
+        ensures step { Step (state_of self.old) client call.now result (state_of self.new) }
+        ensures exact { IsAnswered (state_of self.old) client call.now result (state_of self.new) ⊎ IsGivenUp (state_of self.old) client call.now result (state_of self.new) }
+        ensures refused { (errno : Errno) → result ≡ Failed errno → state_of self.new ≡ state_of self.old }
+    {
+        if client == 0 || client > MAX_CLIENTS {
+            return Reply::Failed {
+                errno: Errno::Invalid,
+            };
+        }
+        match decide(self.alloc, self, &self.rows[client as usize - 1], call) {
+            Ok(deed) => carry_out(self.alloc, &mut self.nodes, &mut self.rows, client, deed),
+            Err(NoDeed::Refused { errno }) => Reply::Failed { errno },
+            Err(NoDeed::Memory) => Reply::Failed {
+                errno: Errno::NoMemory,
+            },
+            Err(NoDeed::Lacks { .. }) => unreachable!(),
+        }
+    }
+}
+
+/// All of the tree is known.
+impl TreeAnswers for PlainTree {
+    ghost part = { λ s. whole (view_of (tree_of s.nodes)) };
+
+    fn is_dir(&self, inode: u32) -> Option<Option<bool>> {
+        match self.nodes.as_slice().get(inode as usize) {
+            Some(node) => Some(node.is_dir()),
+            None => Some(None),
+        }
+    }
+
+    fn entry(&self, dir: u32, name: &[u8]) -> Option<Option<u32>> {
+        match self.nodes.as_slice().get(dir as usize) {
+            Some(node) => Some(node.entry(name)),
+            None => Some(None),
+        }
+    }
+
+    fn entry_count(&self, dir: u32) -> Option<u32> {
+        match self.nodes.as_slice().get(dir as usize) {
+            Some(node) => Some(node.entry_count()),
+            None => Some(0),
+        }
+    }
+
+    fn names(&self, alloc: Global, dir: u32) -> Result<Option<Names>, AllocError> {
+        match self.nodes.as_slice().get(dir as usize) {
+            Some(node) => Ok(Some(node.names(alloc)?)),
+            None => Ok(Some(Names::from_vec(Vec::new(alloc)))),
+        }
+    }
+
+    fn file_size(&self, inode: u32) -> Option<u64> {
+        match self.nodes.as_slice().get(inode as usize) {
+            Some(node) => Some(node.size()),
+            None => Some(0),
+        }
+    }
+
+    fn file_names(&self, inode: u32) -> Option<u32> {
+        match self.nodes.as_slice().get(inode as usize) {
+            Some(node) if node.is_dir() == Some(false) => Some(self.nodes.name_count(inode)),
+            _ => Some(0),
+        }
+    }
+
+    fn read(
+        &self,
+        alloc: Global,
+        inode: u32,
+        at: u64,
+        count: u64,
+    ) -> Result<Option<Bytes>, AllocError> {
+        match self.nodes.as_slice().get(inode as usize) {
+            Some(node) => Ok(Some(node.read(alloc, at, count)?)),
+            None => Ok(Some(Bytes::from_vec(Vec::new(alloc)))),
+        }
+    }
+
+    fn describe(&self, inode: u32) -> Option<Option<Description>> {
+        Some(describe(&self.nodes, inode))
+    }
+}
+
+fn describe(nodes: &PlainNodes, inode: u32) -> Option<Description>
+    ensures { result ≡ description_of ((view_of (tree_of nodes.now)).node inode) }
+{
+    let node = nodes.as_slice().get(inode as usize)?;
+    match node.is_dir() {
+        None => None,
+        Some(true) => Some(Description::Dir {
+            entries: node.entry_count(),
+        }),
+        Some(false) => Some(Description::File {
+            size: node.size(),
+            names: nodes.name_count(inode),
+        }),
+    }
+}
+
+fn root_alone(alloc: Global) -> Result<PlainNodes, AllocError>
+    ensures { IfOk result (λ nodes. tree_of nodes ≡ empty_tree) }
+{
+    let mut nodes = PlainNodes::new(alloc);
+    nodes.make_room(ROOT)?;
+    nodes.put(ROOT, PlainNode::directory(alloc));
+    Ok(nodes)
+}
+
+fn no_descriptors(alloc: Global, clients: u32) -> Result<Vec<OwnDescriptors>, AllocError>
+    ensures none { IfOk result (λ rows. held_of rows.items ≡ (λ c n. None)) }
+    ensures all { IfOk result (λ rows. length rows.items ≡ clients) }
+{
+    let mut rows = Vec::new(alloc);
+    for _ in 0..clients {
+        rows.push(OwnDescriptors::new())?;
+    }
+    Ok(rows)
+}
+
+// Carries a deed out, and answers the call.
+fn carry_out(
+    alloc: Global,
+    nodes: &mut PlainNodes,
+    rows: &mut Vec<OwnDescriptors>,
+    client: u32,
+    deed: Deed,
+) -> Reply
+    requires low { 0 < client }
+    requires high { client ≤ length rows.old.items }
+    requires doable { IsDoable (tree_of nodes.old) deed }
+    ensures done { IsDone (state_in nodes.old rows.old.items) client deed result (state_in nodes.new rows.new.items) ⊎ IsDropped (state_in nodes.old rows.old.items) deed result (state_in nodes.new rows.new.items) }
+    ensures kept { length rows.new.items ≡ length rows.old.items }
+{
+    match deed {
+        Deed::Tell { answer } => answer,
+        deed => change(alloc, nodes, rows, client, deed),
+    }
+}
+
+// Carries out a deed that changes something.
+fn change(
+    alloc: Global,
+    nodes: &mut PlainNodes,
+    rows: &mut Vec<OwnDescriptors>,
+    client: u32,
+    deed: Deed,
+) -> Reply
+    requires low { 0 < client }
+    requires high { client ≤ length rows.old.items }
+    requires doable { IsDoable (tree_of nodes.old) deed }
+    requires change { IsChange deed }
+    ensures done { IsDone (state_in nodes.old rows.old.items) client deed result (state_in nodes.new rows.new.items) ⊎ IsDropped (state_in nodes.old rows.old.items) deed result (state_in nodes.new rows.new.items) }
+    ensures kept { length rows.new.items ≡ length rows.old.items }
+{
+    let reply = reply_to(&deed);
+    let Some(inode) = new_inode(nodes.as_slice(), &deed) else {
+        return Reply::Failed {
+            errno: Errno::NoSpace,
+        };
+    };
+    match apply(alloc, nodes, rows, client, inode, deed) {
+        Ok(()) => reply,
+        Err(_) => Reply::Failed {
+            errno: Errno::NoMemory,
+        },
+    }
+}
+
+// What a change is answered.
+fn reply_to(deed: &Deed) -> Reply
+    requires change { IsChange deed.now }
+    requires small { IsSmall deed.now }
+    ensures { result ≡ reply_of deed.now }
+{
+    match deed {
+        Deed::NewFile { descriptor, .. } => Reply::Opened {
+            descriptor: *descriptor,
+        },
+        Deed::OpenFile { descriptor, .. } => Reply::Opened {
+            descriptor: *descriptor,
+        },
+        Deed::Write { bytes, .. } => Reply::Wrote {
+            count: bytes.len() as u32,
+        },
+        _ => Reply::Done,
+    }
+}
+
+// The number of the node that a deed makes; what makes none needs none.
+fn new_inode(nodes: &[PlainNode], deed: &Deed) -> Option<u32>
+    ensures { MatchOption result ((makes deed.now ≡ true) × IsTaken (tree_of nodes.now)) (λ i. makes deed.now ≡ true → IsLowest (tree_of nodes.now) i) }
+{
+    if makes_node(deed) {
+        return lowest_free(nodes);
+    }
+    Some(0)
+}
+
+fn makes_node(deed: &Deed) -> bool
+    ensures { result ≡ makes deed.now }
+{
+    match deed {
+        Deed::NewDir { .. } => true,
+        Deed::NewFile { .. } => true,
+        _ => false,
+    }
+}
+
+// Carries a deed out, where a new node gets this number. Where there is no memory for it, all stays as it was.
+fn apply(
+    alloc: Global,
+    nodes: &mut PlainNodes,
+    rows: &mut Vec<OwnDescriptors>,
+    client: u32,
+    new: u32,
+    deed: Deed,
+) -> Result<(), AllocError>
+    requires low { 0 < client }
+    requires high { client ≤ length rows.old.items }
+    requires doable { IsDoable (tree_of nodes.old) deed }
+    requires lowest { makes deed ≡ true → IsLowest (tree_of nodes.old) new }
+    ensures ok { OnOk result (state_in nodes.new rows.new.items ≡ state_after client new (state_in nodes.old rows.old.items) deed) }
+    ensures err { OnErr result (state_in nodes.new rows.new.items ≡ state_in nodes.old rows.old.items) }
+    ensures kept { length rows.new.items ≡ length rows.old.items }
+{
+    match deed {
+        Deed::CloseFile { inode, descriptor } => {
+            close_at(rows, client, descriptor);
+            nodes.drop_unused(rows, inode);
+            Ok(())
+        }
+        deed => {
+            let opened = opened_by(&deed, new);
+            apply_to_tree(alloc, nodes, rows, new, deed)?;
+            open_if(rows, client, opened);
+            Ok(())
+        }
+    }
+}
+
+// What a deed opens, and its number.
+fn opened_by(deed: &Deed, new: u32) -> Option<(u32, Descriptor)>
+    ensures { result ≡ opened_by new deed.now }
+{
+    match deed {
+        Deed::NewFile {
+            descriptor,
+            reads,
+            writes,
+            ..
+        } => Some((
+            *descriptor,
+            Descriptor {
+                inode: new,
+                reads: *reads,
+                writes: *writes,
+            },
+        )),
+        Deed::OpenFile {
+            inode,
+            descriptor,
+            reads,
+            writes,
+            ..
+        } => Some((
+            *descriptor,
+            Descriptor {
+                inode: *inode,
+                reads: *reads,
+                writes: *writes,
+            },
+        )),
+        _ => None,
+    }
+}
+
+// Carries out what a deed that closes nothing does to the tree.
+fn apply_to_tree(
+    alloc: Global,
+    nodes: &mut PlainNodes,
+    rows: &[OwnDescriptors],
+    new: u32,
+    deed: Deed,
+) -> Result<(), AllocError>
+    requires stays { IsNoClose deed }
+    requires doable { IsDoable (tree_of nodes.old) deed }
+    requires lowest { makes deed ≡ true → IsLowest (tree_of nodes.old) new }
+    ensures ok { OnOk result (tree_of nodes.new ≡ tree_after (held_of rows.now) new (tree_of nodes.old) deed) }
+    ensures err { OnErr result (tree_of nodes.new ≡ tree_of nodes.old) }
+{
+    match deed {
+        Deed::NewDir { at } => make(alloc, nodes, at, new, PlainNode::directory(alloc)),
+        Deed::NewFile { at, .. } => make(alloc, nodes, at, new, PlainNode::file(alloc)),
+        Deed::OpenFile { inode, empties, .. } => empty_if(alloc, nodes, inode, empties),
+        Deed::Write { inode, at, bytes } => nodes.write(alloc, inode, at, bytes.as_slice()),
+        Deed::Resize { inode, len } => nodes.resize(alloc, inode, len),
+        Deed::RemoveDir { at, inode } => remove_dir(alloc, nodes, &at, inode),
+        Deed::AddName { at, inode } => nodes.enter(alloc, at, inode),
+        Deed::DropName { at, inode } => drop_name(alloc, nodes, rows, &at, inode),
+        Deed::Move {
+            from,
+            to,
+            inode,
+            replaced,
+            ..
+        } => { move_name(alloc, nodes, rows, &from, to, inode, replaced) }
+        _ => Ok(()),
+    }
+}

@@ -1,0 +1,27 @@
+-- Steps of a tree that gives each new node the lowest number that is free.
+use Rattle.std.specs.Prelude.{◌≡◌, ◌≢◌, ◌⊎◌, true, ℕ, ◌<◌, ◌≤◌, None, Ok}
+use Rattle.posix_calls.specs.Tree.{Tree, State}
+use Rattle.posix_calls.specs.Deeds.{IsFree, Follows, answer, makes}
+use Rattle.posix_calls.specs.declared.deed.Deed.{Deed}
+use Rattle.posix_calls.specs.declared.call.Call.{Call}
+use Rattle.posix_calls.specs.declared.call.Reply.{Reply}
+use Rattle.posix_calls.specs.declared.call.Reply.TheVariants.{Failed}
+use Rattle.posix_calls.specs.declared.errno.Errno.TheVariants as errno
+use Rattle.posix_calls.specs.declared.limits.TheConstants.{ROOT, MAX_INODE}
+
+-- the lowest number for a new node
+pub record IsLowest (t : Tree) (i : ℕ) : Type 0 where
+  pub free : IsFree t i
+  pub lowest : (j : ℕ) → ROOT < j → j < i → t j ≢ None
+
+-- no number is left for a new node
+abbrev pub IsTaken : Tree → Type 0
+IsTaken t = (i : ℕ) → ROOT < i → i ≤ MAX_INODE → t i ≢ None
+
+-- the call was answered, and a node that it makes has the lowest number that is free
+abbrev pub IsAnswered : State → ℕ → Call → Reply → State → Type 0
+IsAnswered old client call r after = (new : ℕ) × ((deed : Deed) → answer old client call ≡ Ok deed → makes deed ≡ true → IsLowest old.tree new) × Follows old client new (answer old client call) r after
+
+-- memory ran out, or the inode numbers for the node that the call makes; nothing changed
+abbrev pub IsGivenUp : State → ℕ → Call → Reply → State → Type 0
+IsGivenUp old client call r after = ((r ≡ Failed errno.NoMemory) ⊎ ((r ≡ Failed errno.NoSpace) × ((deed : Deed) × (answer old client call ≡ Ok deed) × (makes deed ≡ true)) × IsTaken old.tree)) × (after ≡ old)
