@@ -1,9 +1,6 @@
-//! Tests of the programs' runs in `workload_cli`: what they print of words, scripts and streams.
+//! Tests of the programs' runs in `workload_cli` over inputs and outputs that fail, and of when what was printed is flushed. What
+//! the runs print is told by the rows of `script_rows`.
 #![tactic(auto)]
 
-#[cfg(test)]
-mod first;
-#[cfg(test)]
-mod scripts;
 #[cfg(test)]
 mod streams;
