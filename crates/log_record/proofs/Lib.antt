@@ -2,3 +2,5 @@ pub mod Fields
 pub mod Effects
 pub mod Records
 pub mod Loops
+pub mod Extends
+pub mod Lengths

@@ -1,6 +1,7 @@
-ghost use Rattle.std.specs.Prelude.{◌≡◌, ◌≤◌, ◌↔◌, ◌++◌, ◌∷◌, length, IfOk, OnOk, IsTrue, true};
-ghost use Rattle.std.specs.List.{All};
+ghost use Rattle.std.specs.Prelude.{◌≡◌, ◌≤◌, ◌↔◌, ◌++◌, ◌∷◌, ◌*◌, length, IfOk, OnOk, OnErr, IsTrue, true};
+ghost use Rattle.std.specs.List.{All, AllByRecursion, flat_map};
 ghost use Rattle.file_graph.specs.declared.effect.Effect.TheVariants as effect;
+ghost use Rattle.log_record.specs.Outcome.{Extends};
 ghost use Rattle.log_record.specs.Grammar.{u32 as bytes_4, u64 as bytes_8, kind_byte, effect_bytes, spelling, Fits, fits, IsRecord};
 
 use crate::effect_ref::lend;
@@ -23,6 +24,45 @@ impl Record {
         }
         all_fit(effects)
     }
+
+    /// How many bytes its spelling has.
+    #[tactic(auto, using(crate::proofs::Lengths::lengths))]
+    pub fn spelled_len(&self) -> usize
+        requires { IsRecord self.now }
+        ensures { result ≡ length (spelling self.now) }
+    {
+        5 + effects_len(self.effects.as_slice())
+    }
+}
+
+fn effects_len(effects: &[Effect]) -> usize
+    requires few { length effects.now ≤ MAX_EFFECTS }
+    requires fit { AllByRecursion Fits effects.now }
+    ensures is { result ≡ length (flat_map effect_bytes effects.now) }
+    ensures short { result ≤ 65553 * length effects.now }
+{
+    let mut len = 0;
+    for effect in effects {
+        len += effect_len(effect);
+    }
+    len
+}
+
+#[tactic(auto, using(crate::proofs::Lengths::lengths))]
+fn effect_len(effect: &Effect) -> usize
+    requires { Fits effect.now }
+    ensures is { result ≡ length (effect_bytes effect.now) }
+    ensures short { result ≤ 65553 }
+{
+    match effect {
+        Effect::Make { .. } => 6,
+        Effect::Enter { name, .. } => 11 + name.as_slice().len(),
+        Effect::Leave { name, .. } => 6 + name.as_slice().len(),
+        Effect::Names { .. } => 9,
+        Effect::Size { .. } => 13,
+        Effect::Bytes { bytes, .. } => 17 + bytes.len(),
+        Effect::Drop { .. } => 5,
+    }
 }
 
 fn all_fit(effects: &[Effect]) -> bool
@@ -36,33 +76,57 @@ pub fn write_record(alloc: Global, entry: &Record) -> Result<Vec<u8>, AllocError
     requires { IsRecord entry.now }
     ensures { IfOk result (λ bytes. bytes.items ≡ spelling entry.now) }
 {
-    let effects = entry.effects.as_slice();
-    let mut out = Vec::with_capacity(alloc, room_for(effects))?;
-    push_u32(&mut out, entry.units)?;
-    out.push(effects.len() as u8)?;
-    for effect in effects {
-        push_effect(&mut out, effect)?;
-    }
+    let mut out = Vec::with_capacity(alloc, entry.spelled_len())?;
+    write_behind(&mut out, entry)?;
     Ok(out)
 }
 
-// Room enough for the spelling of most records, so that the bytes are not moved while they are written.
-fn room_for(effects: &[Effect]) -> usize {
-    let mut room = 5usize;
-    for effect in effects {
-        room = room.saturating_add(match effect {
-            Effect::Enter { name, .. } => name.as_slice().len().saturating_add(11),
-            Effect::Leave { name, .. } => name.as_slice().len().saturating_add(6),
-            Effect::Bytes { bytes, .. } => bytes.len().saturating_add(17),
-            _ => 13,
-        });
+/// Puts the one spelling of a record behind what stands in `out`. Where memory runs out, `out` is as it was.
+#[tactic(auto, unfolding(crate::specs::Outcome::Extends))]
+pub fn write_behind(out: &mut Vec<u8>, entry: &Record) -> Result<(), AllocError>
+    requires { IsRecord entry.now }
+    ensures written { OnOk result (out.new.items ≡ out.old.items ++ spelling entry.now) }
+    ensures refused { OnErr result (out.new.items ≡ out.old.items) }
+{
+    let begin = out.len();
+    match push_record(out, entry) {
+        Ok(()) => Ok(()),
+        Err(error) => {
+            out.truncate(begin);
+            Err(error)
+        }
     }
-    room
+}
+
+#[tactic(auto, using(std::proofs::lemmas::List::append_assoc, crate::proofs::Extends::extending))]
+fn push_record(out: &mut Vec<u8>, entry: &Record) -> Result<(), AllocError>
+    requires { IsRecord entry.now }
+    ensures written { OnOk result (out.new.items ≡ out.old.items ++ spelling entry.now) }
+    ensures extends { Extends out.old.items out.new.items }
+{
+    out.reserve(entry.spelled_len())?;
+    push_u32(out, entry.units)?;
+    let effects = entry.effects.as_slice();
+    out.push(effects.len() as u8)?;
+    push_effects(out, effects)
+}
+
+#[tactic(auto, using(std::proofs::lemmas::List::append_assoc, crate::proofs::Extends::extending))]
+fn push_effects(out: &mut Vec<u8>, effects: &[Effect]) -> Result<(), AllocError>
+    requires { AllByRecursion Fits effects.now }
+    ensures written { OnOk result (out.new.items ≡ out.old.items ++ flat_map effect_bytes effects.now) }
+    ensures extends { Extends out.old.items out.new.items }
+{
+    for effect in effects {
+        push_effect(out, effect)?;
+    }
+    Ok(())
 }
 
 fn push_effect(out: &mut Vec<u8>, effect: &Effect) -> Result<(), AllocError>
     requires { Fits effect.now }
-    ensures { OnOk result (out.new.items ≡ out.old.items ++ effect_bytes effect.now) }
+    ensures written { OnOk result (out.new.items ≡ out.old.items ++ effect_bytes effect.now) }
+    ensures extends { Extends out.old.items out.new.items }
 {
     match effect {
         Effect::Make { inode, kind } => push_make(out, *inode, *kind),
@@ -80,9 +144,10 @@ fn push_effect(out: &mut Vec<u8>, effect: &Effect) -> Result<(), AllocError>
     }
 }
 
-#[tactic(auto, using(std::proofs::lemmas::List::append_assoc))]
+#[tactic(auto, using(std::proofs::lemmas::List::append_assoc, crate::proofs::Extends::extending))]
 fn push_make(out: &mut Vec<u8>, inode: u32, kind: Kind) -> Result<(), AllocError>
-    ensures { OnOk result (out.new.items ≡ out.old.items ++ effect_bytes (effect.Make inode kind)) }
+    ensures written { OnOk result (out.new.items ≡ out.old.items ++ effect_bytes (effect.Make inode kind)) }
+    ensures extends { Extends out.old.items out.new.items }
 {
     out.push(MAKE)?;
     push_u32(out, inode)?;
@@ -90,7 +155,7 @@ fn push_make(out: &mut Vec<u8>, inode: u32, kind: Kind) -> Result<(), AllocError
     Ok(())
 }
 
-#[tactic(auto, using(std::proofs::lemmas::List::append_assoc))]
+#[tactic(auto, using(std::proofs::lemmas::List::append_assoc, crate::proofs::Extends::extending))]
 fn push_enter(
     out: &mut Vec<u8>,
     directory: u32,
@@ -99,7 +164,8 @@ fn push_enter(
     name: &[u8],
 ) -> Result<(), AllocError>
     requires { length name.now ≤ 64 }
-    ensures { OnOk result (out.new.items ≡ out.old.items ++ effect_bytes (effect.Enter directory inode kind name.now)) }
+    ensures written { OnOk result (out.new.items ≡ out.old.items ++ effect_bytes (effect.Enter directory inode kind name.now)) }
+    ensures extends { Extends out.old.items out.new.items }
 {
     out.push(ENTER)?;
     push_u32(out, directory)?;
@@ -110,10 +176,11 @@ fn push_enter(
     Ok(())
 }
 
-#[tactic(auto, using(std::proofs::lemmas::List::append_assoc))]
+#[tactic(auto, using(std::proofs::lemmas::List::append_assoc, crate::proofs::Extends::extending))]
 fn push_leave(out: &mut Vec<u8>, directory: u32, name: &[u8]) -> Result<(), AllocError>
     requires { length name.now ≤ 64 }
-    ensures { OnOk result (out.new.items ≡ out.old.items ++ effect_bytes (effect.Leave directory name.now)) }
+    ensures written { OnOk result (out.new.items ≡ out.old.items ++ effect_bytes (effect.Leave directory name.now)) }
+    ensures extends { Extends out.old.items out.new.items }
 {
     out.push(LEAVE)?;
     push_u32(out, directory)?;
@@ -122,9 +189,10 @@ fn push_leave(out: &mut Vec<u8>, directory: u32, name: &[u8]) -> Result<(), Allo
     Ok(())
 }
 
-#[tactic(auto, using(std::proofs::lemmas::List::append_assoc))]
+#[tactic(auto, using(std::proofs::lemmas::List::append_assoc, crate::proofs::Extends::extending))]
 fn push_names(out: &mut Vec<u8>, inode: u32, names: u32) -> Result<(), AllocError>
-    ensures { OnOk result (out.new.items ≡ out.old.items ++ effect_bytes (effect.Names inode names)) }
+    ensures written { OnOk result (out.new.items ≡ out.old.items ++ effect_bytes (effect.Names inode names)) }
+    ensures extends { Extends out.old.items out.new.items }
 {
     out.push(NAMES)?;
     push_u32(out, inode)?;
@@ -132,9 +200,10 @@ fn push_names(out: &mut Vec<u8>, inode: u32, names: u32) -> Result<(), AllocErro
     Ok(())
 }
 
-#[tactic(auto, using(std::proofs::lemmas::List::append_assoc))]
+#[tactic(auto, using(std::proofs::lemmas::List::append_assoc, crate::proofs::Extends::extending))]
 fn push_size(out: &mut Vec<u8>, inode: u32, size: u64) -> Result<(), AllocError>
-    ensures { OnOk result (out.new.items ≡ out.old.items ++ effect_bytes (effect.Size inode size)) }
+    ensures written { OnOk result (out.new.items ≡ out.old.items ++ effect_bytes (effect.Size inode size)) }
+    ensures extends { Extends out.old.items out.new.items }
 {
     out.push(SIZE)?;
     push_u32(out, inode)?;
@@ -142,10 +211,11 @@ fn push_size(out: &mut Vec<u8>, inode: u32, size: u64) -> Result<(), AllocError>
     Ok(())
 }
 
-#[tactic(auto, using(std::proofs::lemmas::List::append_assoc))]
+#[tactic(auto, using(std::proofs::lemmas::List::append_assoc, crate::proofs::Extends::extending))]
 fn push_bytes(out: &mut Vec<u8>, inode: u32, at: u64, bytes: &[u8]) -> Result<(), AllocError>
     requires { length bytes.now ≤ 65536 }
-    ensures { OnOk result (out.new.items ≡ out.old.items ++ effect_bytes (effect.Bytes inode at bytes.now)) }
+    ensures written { OnOk result (out.new.items ≡ out.old.items ++ effect_bytes (effect.Bytes inode at bytes.now)) }
+    ensures extends { Extends out.old.items out.new.items }
 {
     out.push(BYTES)?;
     push_u32(out, inode)?;
@@ -155,18 +225,20 @@ fn push_bytes(out: &mut Vec<u8>, inode: u32, at: u64, bytes: &[u8]) -> Result<()
     Ok(())
 }
 
-#[tactic(auto, using(std::proofs::lemmas::List::append_assoc))]
+#[tactic(auto, using(std::proofs::lemmas::List::append_assoc, crate::proofs::Extends::extending))]
 fn push_drop(out: &mut Vec<u8>, inode: u32) -> Result<(), AllocError>
-    ensures { OnOk result (out.new.items ≡ out.old.items ++ effect_bytes (effect.Drop inode)) }
+    ensures written { OnOk result (out.new.items ≡ out.old.items ++ effect_bytes (effect.Drop inode)) }
+    ensures extends { Extends out.old.items out.new.items }
 {
     out.push(DROP)?;
     push_u32(out, inode)?;
     Ok(())
 }
 
-#[tactic(auto, unfolding(crate::specs::Grammar::u32))]
+#[tactic(auto, using(crate::proofs::Extends::extending), unfolding(crate::specs::Grammar::u32))]
 fn push_u32(out: &mut Vec<u8>, n: u32) -> Result<(), AllocError>
-    ensures { OnOk result (out.new.items ≡ out.old.items ++ bytes_4 n) }
+    ensures written { OnOk result (out.new.items ≡ out.old.items ++ bytes_4 n) }
+    ensures extends { Extends out.old.items out.new.items }
 {
     let mut bytes = [0; 4];
     LittleEndian::write_u32(&mut bytes, n);
@@ -174,9 +246,10 @@ fn push_u32(out: &mut Vec<u8>, n: u32) -> Result<(), AllocError>
     Ok(())
 }
 
-#[tactic(auto, unfolding(crate::specs::Grammar::u64))]
+#[tactic(auto, using(crate::proofs::Extends::extending), unfolding(crate::specs::Grammar::u64))]
 fn push_u64(out: &mut Vec<u8>, n: u64) -> Result<(), AllocError>
-    ensures { OnOk result (out.new.items ≡ out.old.items ++ bytes_8 n) }
+    ensures written { OnOk result (out.new.items ≡ out.old.items ++ bytes_8 n) }
+    ensures extends { Extends out.old.items out.new.items }
 {
     let mut bytes = [0; 8];
     LittleEndian::write_u64(&mut bytes, n);
