@@ -1,0 +1,5 @@
+pub mod History
+pub mod Noted
+pub mod Left
+pub mod LeftLaws
+pub mod Ram

@@ -1,0 +1,86 @@
+// A medium in memory that keeps nothing of a call.
+ghost use Rattle.std.specs.Prelude.{◌≡◌, ◌≤◌, ◌+◌, ◌∷◌, ℕ, length, IsErrOf, OnOk, OnErr};
+ghost use Rattle.tier_device.specs.declared.media.Tier.{Tier};
+ghost use Rattle.tier_device.specs.declared.media.Tier.TheVariants.{Fast, Block, Slow};
+ghost use Rattle.tier_device.specs.Rows.{row};
+ghost use Rattle.long_media.specs.Left.{shown_now};
+
+use crate::past::{Note, Past};
+use tier_device::{Media, MediaError, Tier, Tiers};
+
+/// A medium in memory. It keeps the bytes of its tiers, and nothing of a call once that has returned: its past, of which the
+/// clauses speak, stands in the proof alone. It never fails.
+#[derive(Debug, Drop)]
+pub struct RamMedia {
+    tiers: Tiers,
+    past: Past,
+    ghost shows: { (t : Tier) → row tiers t ≡ shown_now past.history t },
+}
+
+impl RamMedia {
+    ghost use Rattle.long_media.specs.Ram.{ram_seen, ram_moment, IsAtRest};
+
+    /// A medium at rest that holds these bytes, at moment 0.
+    pub fn of_bytes(fast: Vec<u8>, block: Vec<u8>, slow: Vec<u8>) -> Self
+        ensures fast { ram_seen result Fast ≡ fast.items }
+        ensures block { ram_seen result Block ≡ block.items }
+        ensures slow { ram_seen result Slow ≡ slow.items }
+        ensures at_rest { IsAtRest result }
+        ensures clock { ram_moment result ≡ 0 }
+    {
+        let tiers = Tiers::new(fast, block, slow);
+        let past = Past::of(&tiers);
+        RamMedia { tiers, past }
+    }
+
+    /// The bytes of a tier.
+    pub fn bytes(&self, tier: Tier) -> &[u8]
+        ensures { result.now ≡ ram_seen self.now tier }
+    {
+        self.tiers.bytes(tier)
+    }
+}
+
+impl Media for RamMedia {
+    ghost use Rattle.long_media.specs.Ram.{ram_seen, ram_moment, ram_left, ram_seen_now, ram_sized};
+
+    ghost seen = { ram_seen };
+
+    ghost moment = { ram_moment };
+
+    ghost left = { ram_left };
+
+    ghost faults = { λ _. 0 };
+
+    ghost seen_now = { ram_seen_now };
+
+    ghost sized = { ram_sized };
+
+    fn size(&self, tier: Tier) -> usize {
+        self.bytes(tier).len()
+    }
+
+    fn read(&mut self, tier: Tier, at: usize, out: &mut [u8]) -> Result<(), MediaError> {
+        let bytes = self.bytes(tier);
+        if bytes.len() < at || bytes.len() - at < out.len() {
+            return Err(MediaError::OutOfRange);
+        }
+        out.copy_from_slice(&bytes[at..at + out.len()]);
+        Ok(())
+    }
+
+    fn write(&mut self, tier: Tier, at: usize, bytes: &[u8]) -> Result<(), MediaError> {
+        let size = self.bytes(tier).len();
+        if size < at || size - at < bytes.len() {
+            return Err(MediaError::OutOfRange);
+        }
+        self.tiers.overwrite(tier, at, bytes);
+        self.past = self.past.then(&Note::Write { tier, at, bytes });
+        Ok(())
+    }
+
+    fn fence(&mut self, tier: Tier) -> Result<(), MediaError> {
+        self.past = self.past.then(&Note::Fence { tier });
+        Ok(())
+    }
+}
