@@ -12,7 +12,7 @@ use Rattle.posix_calls.specs.declared.call.Call.{Call}
 use Rattle.file_graph.specs.Graph.{Graph, Node, subjects, is_among, acted, after_effect, after_effects, touches}
 use Rattle.file_graph.specs.declared.effect.Effect.{Effect}
 use Rattle.file_graph.specs.declared.effect.Effect.TheVariants as effect
-use Rattle.file_graph.proofs.Sums.{untouched}
+use Rattle.file_graph.proofs.Touches.{untouched}
 use Rattle.call_effects.specs.Effects.{effects_by, effects_of, stored_at, recounted}
 use Rattle.call_effects.specs.Wholes.{IsSound}
 use Rattle.call_effects.specs.Fits.{IsNew}

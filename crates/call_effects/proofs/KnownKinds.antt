@@ -9,7 +9,7 @@ use Rattle.std.proofs.lemmas.Bool.Decides.{eqb_tells}
 use Rattle.posix_calls.specs.Content.{Entries}
 use Rattle.posix_calls.specs.Tree.{Descriptors}
 use Rattle.posix_calls.proofs.Counts.{order}
-use Rattle.posix_calls.proofs.Open.{any_there}
+use Rattle.posix_calls.proofs.Sums.{any_there}
 use Rattle.file_graph.specs.Graph.{Graph, Node, DirBody}
 use Rattle.file_graph.specs.declared.effect.Kind.{Kind}
 use Rattle.file_graph.specs.declared.effect.Kind.TheVariants as kind

@@ -7,7 +7,7 @@ use Rattle.posix_calls.specs.Tree.{Descriptors}
 use Rattle.posix_calls.specs.declared.errno.Errno.{Errno}
 use Rattle.posix_calls.specs.Asks.{Seen, Asks, Gives, Refuses, IsDir, Look, Part, Found, Known, Lacks, IsBeyond, run_part}
 use Rattle.posix_calls.proofs.Parts.{lacks_is_left}
-use Rattle.posix_calls.proofs.Open.{any_is, any_there}
+use Rattle.posix_calls.proofs.Sums.{any_is, any_there}
 use Rattle.file_graph.specs.Graph.{Graph, Node}
 use Rattle.file_graph.specs.declared.effect.Kind.{Kind}
 use Rattle.file_graph.specs.declared.effect.Kind.TheVariants as kind

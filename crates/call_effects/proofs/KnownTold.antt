@@ -15,7 +15,7 @@ use Rattle.posix_calls.specs.Tree.{Descriptors}
 use Rattle.posix_calls.specs.Asks.{IsPart}
 use Rattle.posix_calls.proofs.Counts.{order}
 use Rattle.posix_calls.proofs.Directory.{names_same}
-use Rattle.posix_calls.proofs.Open.{any_is}
+use Rattle.posix_calls.proofs.Sums.{any_is}
 use Rattle.file_graph.specs.Graph.{Graph, Node, FileBody, DirBody}
 use Rattle.file_graph.specs.declared.effect.Kind.{Kind}
 use Rattle.file_graph.specs.declared.effect.Kind.TheVariants as kind

@@ -10,7 +10,7 @@ use Rattle.posix_calls.proofs.Counts.{order}
 use Rattle.posix_calls.proofs.Sums.{one_changes, all_zero}
 use Rattle.file_graph.specs.Graph.{Graph, Node, FileBody, DirBody, after_effect, after_effects, touches, subjects, is_among, acted, in_directory, body_cost, cost}
 use Rattle.file_graph.specs.Units.{rise, growth}
-use Rattle.file_graph.proofs.Sums.{untouched}
+use Rattle.file_graph.proofs.Touches.{untouched}
 use Rattle.file_graph.specs.declared.effect.Kind.{Kind}
 use Rattle.file_graph.specs.declared.effect.Kind.TheVariants as kind
 use Rattle.file_graph.specs.declared.effect.Effect.{Effect}

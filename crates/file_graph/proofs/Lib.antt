@@ -1,6 +1,3 @@
 pub mod Charges
-pub mod Places
-pub mod Removals
 pub mod Maps
-pub mod Sums
-pub mod Writes
+pub mod Touches

@@ -5,5 +5,5 @@ use Rattle.file_graph.specs.Graph.{Body, FileBody, DirBody}
 
 -- a body without where it lies in memory
 abbrev pub body_of : PlainBody → Body
-body_of (plain.File bytes) = FileBody bytes.items
+body_of (plain.File bytes) = FileBody bytes
 body_of (plain.Directory entries) = DirBody entries

@@ -7,6 +7,7 @@ ghost use Rattle.file_graph.specs.Bodies.{body_of};
 
 use crate::effect::{Effect, Kind};
 use crate::entries::{PlainEntries, PlainEntry};
+use node_bodies::FileBytes;
 use posix_calls::{Name, UNIT_BYTES, UNIT_ENTRIES};
 use std::alloc::{AllocError, Global};
 use std::marker::Model;
@@ -21,7 +22,7 @@ pub struct PlainNode {
 /// What is in a node.
 #[derive(Debug, Drop)]
 pub enum PlainBody {
-    File(Vec<u8>),
+    File(FileBytes),
     Directory(PlainEntries),
 }
 
@@ -44,7 +45,7 @@ impl PlainNode {
         ensures { result ≡ record { names = names; body = empty_body kind } }
     {
         let body = match kind {
-            Kind::File => PlainBody::File(Vec::new(alloc)),
+            Kind::File => PlainBody::File(FileBytes::new(alloc)),
             Kind::Directory => PlainBody::Directory(PlainEntries::new(alloc)),
         };
         PlainNode { names, body }
@@ -88,10 +89,9 @@ impl PlainNode {
     {
         match &self.body {
             PlainBody::File(bytes) => 1
-                + (bytes.len() as u64 + (UNIT_BYTES as u64 - 1)) / UNIT_BYTES as u64,
+                + (bytes.len() + (UNIT_BYTES as u64 - 1)) / UNIT_BYTES as u64,
             PlainBody::Directory(entries) => 1
-                + (entries.as_slice().len() as u64 + (UNIT_ENTRIES as u64 - 1))
-                    / UNIT_ENTRIES as u64,
+                + (entries.len() as u64 + (UNIT_ENTRIES as u64 - 1)) / UNIT_ENTRIES as u64,
         }
     }
 
@@ -107,7 +107,7 @@ impl PlainNode {
         ensures { option_map (λ s. s.now) result ≡ file_bytes (Some self.now) }
     {
         match &self.body {
-            PlainBody::File(bytes) => Some(bytes),
+            PlainBody::File(bytes) => Some(bytes.as_slice()),
             PlainBody::Directory(_) => None,
         }
     }
@@ -135,7 +135,7 @@ fn put_entry(
 {
     match body {
         PlainBody::File(_) => Ok(()),
-        PlainBody::Directory(entries) => entries.put(alloc, name, inode, kind),
+        PlainBody::Directory(entries) => entries.put(name.copy(alloc)?, (inode, kind)),
     }
 }
 
@@ -144,7 +144,7 @@ fn remove_entry(body: &mut PlainBody, name: &Name)
 {
     match body {
         PlainBody::File(_) => {}
-        PlainBody::Directory(entries) => entries.remove(name),
+        PlainBody::Directory(entries) => entries.remove(name.as_slice()),
     }
 }
 
@@ -153,17 +153,9 @@ fn resize(body: &mut PlainBody, size: u64) -> Result<(), AllocError>
     ensures err { OnErr result (body_of body.new ≡ body_of body.old) }
 {
     match body {
-        PlainBody::File(file) => set_len(file, size),
+        PlainBody::File(file) => file.resize(size),
         PlainBody::Directory(_) => Ok(()),
     }
-}
-
-fn set_len(file: &mut Vec<u8>, size: u64) -> Result<(), AllocError>
-    ensures ok { OnOk result (file.new.items ≡ resized size file.old.items) }
-    ensures err { OnErr result (file.new.items ≡ file.old.items) }
-{
-    file.resize(size as usize, 0)?;
-    Ok(())
 }
 
 fn put_bytes(body: &mut PlainBody, at: u64, bytes: &[u8]) -> Result<(), AllocError>
@@ -171,30 +163,7 @@ fn put_bytes(body: &mut PlainBody, at: u64, bytes: &[u8]) -> Result<(), AllocErr
     ensures err { OnErr result (body_of body.new ≡ body_of body.old) }
 {
     match body {
-        PlainBody::File(file) => write_at(file, at, bytes),
+        PlainBody::File(file) => file.write(at, bytes),
         PlainBody::Directory(_) => Ok(()),
     }
-}
-
-// A file that would pass the end of all numbers finds no memory.
-fn write_at(file: &mut Vec<u8>, at: u64, bytes: &[u8]) -> Result<(), AllocError>
-    ensures ok { OnOk result (file.new.items ≡ written at bytes.now file.old.items) }
-    ensures err { OnErr result (file.new.items ≡ file.old.items) }
-{
-    let start = at as usize;
-    let Some(end) = start.checked_add(bytes.len()) else {
-        return Err(AllocError);
-    };
-    if file.len() < end {
-        file.resize(end, 0)?;
-    }
-    overwrite(file, start, bytes);
-    Ok(())
-}
-
-fn overwrite(file: &mut [u8], start: usize, bytes: &[u8])
-    requires { start + length bytes.now ≤ length file.old }
-    ensures { file.new ≡ take start file.old ++ bytes.now ++ drop (start + length bytes.now) file.old }
-{
-    file[start..start + bytes.len()].copy_from_slice(bytes);
 }

@@ -1,6 +1,9 @@
 -- Nodes as a call sees them, and who knows them all.
-use Rattle.std.proofs.Common.{◌≡◌, ℕ, List, Option, Some, None, false, length, ltb, refl, ap, sym, ◌∙◌}
+use Rattle.std.proofs.Common.{◌≡◌, ℕ, List, [], Option, Some, None, false, length, ltb, refl, ap, sym, ◌∙◌}
 use Rattle.std.specs.Prelude.{option_map}
+use Rattle.std.specs.FinMap as fin
+use Rattle.posix_calls.proofs.Counts.{order}
+use Rattle.posix_calls.proofs.Directory.{entries-empty}
 use Rattle.posix_calls.specs.Tree.{Node, File, Dir, entries_of}
 use Rattle.posix_calls.specs.Asks.{Asks, Gives, Refuses, IsDir, Look, View, Found, Known, Lacks, run, run_part, seen, whole}
 use Rattle.posix_calls.specs.Walk.{entries_seen}
@@ -34,3 +37,16 @@ known_of v q r e = same (run v q) r (sym (whole_knows v q) ∙ e)
 
 pub nothing_past : (nodes held : List (Option Node)) (i : ℕ) → nodes ≡ held → false ≡ ltb i (length nodes) → tree_of held i ≡ None
 nothing_past nodes held i same past = ap (λ (ns : List (Option Node)). tree_of ns i) (sym same) ∙ get_or_past nodes i None (ltb-false i (length nodes) (sym past))
+
+-- ---- a directory with no entries
+
+pub get_nothing : (q : List ℕ) → fin.get (fin.empty {X = ℕ} {R = order}) q ≡ None
+get_nothing q = fin.get-empty order q
+
+pub count_nothing : fin.len (fin.empty {X = ℕ} {R = order}) ≡ 0
+count_nothing = fin.len-empty order ℕ
+
+pub list_nothing : fin.entries (fin.empty {X = ℕ} {R = order}) ≡ []
+list_nothing = entries-empty ℕ
+
+pub ruleset where_nothing_is = (get_nothing, count_nothing, list_nothing)

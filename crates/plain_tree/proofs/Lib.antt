@@ -1,5 +1,3 @@
-pub mod Ordered
-pub mod Writes
 pub mod Slots
 pub mod Moves
 pub mod Made
@@ -8,5 +6,4 @@ pub mod Carried
 pub mod Doable
 pub mod Answering
 pub mod Asking
-pub mod Scans
 pub mod Tallies

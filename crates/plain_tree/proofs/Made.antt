@@ -6,13 +6,13 @@ use Rattle.posix_calls.specs.Deeds.{entered, IsFree}
 use Rattle.plain_tree.specs.Plain.{IsHeld}
 use Rattle.posix_calls.specs.declared.deed.Spot.{Spot}
 use Rattle.std.specs.Prelude.{Some}
-use Rattle.plain_tree.proofs.Slots.{node_off}
+use Rattle.posix_calls.proofs.Changes.{set_other}
 use Rattle.plain_tree.proofs.Moves.{set_swap}
 
 pub named_after : (t : Tree) (at : Spot) (i : ℕ) (x : Option Node) → at.parent ≢ i → set_node (entered t at i) i x ≡ entered (set_node t i x) at i
 named_after t at i x apart =
     set_swap t at.parent i (Some (Dir (fin.insert (entries_of (t at.parent)) at.name i))) x apart
-    ∙ ap (λ (o : Option Node). set_node (set_node t i x) at.parent (Some (Dir (fin.insert (entries_of o) at.name i)))) (sym (node_off t i at.parent x apart))
+    ∙ ap (λ (o : Option Node). set_node (set_node t i x) at.parent (Some (Dir (fin.insert (entries_of o) at.name i)))) (sym (set_other t i at.parent x apart))
 
 -- the number of a new node is not that of its directory
 pub new_apart : (t : Tree) (at : Spot) (i : ℕ) → IsHeld t at → IsFree t i → at.parent ≢ i

@@ -1,8 +1,8 @@
 -- A name that is put in before the old one is taken out.
-use Rattle.std.proofs.Common.{◌≡◌, ◌≢◌, ℕ, List, [], ◌∷◌, Option, Some, None, refl, sym, ap, ◌∙◌, inl, inr, arith, cond, ◌==◌, ◌&&◌, true, false, Bool, not, ◌+◌, T}
+use Rattle.std.proofs.Common.{◌≡◌, ◌≢◌, ℕ, List, [], ◌∷◌, Option, Some, None, refl, sym, ap, ◌∙◌, inl, inr, arith, cond, if◌then◌else◌, ◌==◌, ◌&&◌, true, false, Bool, not, ◌+◌, T}
 use Rattle.std.proofs.lemmas.List.Sums.{sum_by-cons}
 use Rattle.std.specs.Prelude.{count_by}
-use Rattle.std.specs.Ordering.{is_eq}
+use Rattle.std.specs.Ordering.{eq_by_cmp}
 use Rattle.std.specs.declared.cmp.Ordering.TheVariants.{Less, Equal, Greater}
 use Rattle.std.specs.Cmp.Lexicographic.{nat_list_cmp_total}
 use Rattle.std.specs.FinMap as fin
@@ -13,13 +13,15 @@ use Rattle.posix_calls.specs.Content.{Entries}
 use Rattle.posix_calls.specs.Tree.{Node, Tree, Dir, set_node, entries_of, names_in, names_of, sum_up_to, is_open, Descriptors}
 use Rattle.posix_calls.specs.Deeds.{entered, left, less_replaced}
 use Rattle.plain_tree.specs.Plain.{less_put_out, at_spot, IsMovable}
-use Rattle.plain_tree.specs.Ordered.{without}
+use Rattle.node_bodies.specs.Named.{without}
 use Rattle.posix_calls.specs.declared.deed.Spot.{Spot}
 use Rattle.posix_calls.specs.declared.deed.Replaced.{Replaced}
 use Rattle.posix_calls.specs.declared.deed.Replaced.TheVariants.{Nothing, OldFile, OldDir}
 use Rattle.posix_calls.specs.declared.limits.TheConstants.{MAX_INODE}
-use Rattle.plain_tree.proofs.Slots.{node_here, node_off}
-use Rattle.plain_tree.proofs.Ordered.{names_cmp, entries-remove, without_below, below_less, below_tied}
+use Rattle.posix_calls.proofs.Directory.{names_same}
+use Rattle.posix_calls.proofs.Counts.{order, counted, counted_is, counted_insert, alike, put_back}
+use Rattle.posix_calls.proofs.Counts as counts
+use Rattle.posix_calls.proofs.Changes.{set_there, set_other, off_one}
 
 -- ---- nodes that are set
 
@@ -37,36 +39,6 @@ set_swap t i j x y apart = λ k d. swap_at t i j x y d apart k
 
 -- ---- entries that are put in and taken out
 
-abbrev same_entries : (m n : Entries ℕ) → ((q : List ℕ) → fin.get m q ≡ fin.get n q) → m ≡ n
-same_entries m n = fin.same_map nat_list_cmp_total (fin.slice_cmp-IsAntisymmetric fin.nat_cmp-IsAntisymmetric) m n
-
-abbrev is_same : List ℕ → List ℕ → Bool
-is_same a b = is_eq (names_cmp a b)
-
-overwritten_at : (same : Bool) (i : ℕ) (o : Option ℕ) → cond same (Some i) (cond same None o) ≡ cond same (Some i) o
-overwritten_at true i o = refl
-overwritten_at false i o = refl
-
--- a name that is put in again
-overwritten : (e : Entries ℕ) (b : List ℕ) (i : ℕ) → fin.insert (fin.remove e b) b i ≡ fin.insert e b i
-overwritten e b i =
-    same_entries _ _
-    (λ q. fin.get-insert nat_list_cmp_total (fin.remove e b) b i q
-    ∙ ap (cond (is_same q b) (Some i)) (fin.get-remove nat_list_cmp_total e b q)
-    ∙ overwritten_at (is_same q b) i (fin.get e q)
-    ∙ sym (fin.get-insert nat_list_cmp_total e b i q))
-
-both_same : (q a b : List ℕ) → is_same q a ≡ true → is_same q b ≡ true → a ≡ b
-both_same q a b x y = sym (same_name q a x) ∙ same_name q b y
-  where
-    same_name : (p r : List ℕ) → is_same p r ≡ true → p ≡ r
-    same_name p r e = fin.slice_cmp-IsAntisymmetric fin.nat_cmp-IsAntisymmetric p r (tied (names_cmp p r) e)
-      where
-        tied : (o : _) → is_eq o ≡ true → o ≡ Equal
-        tied Less f = absurd (cc)
-        tied Equal f = refl
-        tied Greater f = absurd (cc)
-
 crossed_at : (x y : Bool) (i : ℕ) (o : Option ℕ) → (x ≡ true → y ≡ true → ⊥) → cond x None (cond y (Some i) o) ≡ cond y (Some i) (cond x None o)
 crossed_at true true i o apart = absurd (apart refl refl)
 crossed_at true false i o apart = refl
@@ -75,11 +47,11 @@ crossed_at false y i o apart = refl
 -- another name is taken out
 crossed : (e : Entries ℕ) (a b : List ℕ) (i : ℕ) → a ≢ b → fin.remove (fin.insert e b i) a ≡ fin.insert (fin.remove e a) b i
 crossed e a b i apart =
-    same_entries _ _
+    fin.same_map nat_list_cmp_total names_same _ _
     (λ q. fin.get-remove nat_list_cmp_total (fin.insert e b i) a q
-    ∙ ap (cond (is_same q a) None) (fin.get-insert nat_list_cmp_total e b i q)
-    ∙ crossed_at (is_same q a) (is_same q b) i (fin.get e q) (λ x y. apart (both_same q a b x y))
-    ∙ ap (cond (is_same q b) (Some i)) (sym (fin.get-remove nat_list_cmp_total e a q))
+    ∙ ap (cond (eq_by_cmp order q a) None) (fin.get-insert nat_list_cmp_total e b i q)
+    ∙ crossed_at (eq_by_cmp order q a) (eq_by_cmp order q b) i (fin.get e q) (λ x y. apart (sym (alike q a x) ∙ alike q b y))
+    ∙ ap (cond (eq_by_cmp order q b) (Some i)) (sym (fin.get-remove nat_list_cmp_total e a q))
     ∙ sym (fin.get-insert nat_list_cmp_total (fin.remove e a) b i q))
 
 -- ---- names that move
@@ -103,37 +75,37 @@ swapped t from to i apart =
           let p = to.parent in
           let e : Entries ℕ = entries_of (t p) in
           ap (λ n. set_node (entered t to i) n (less_name (entered t to i n) from.name)) same
-          ∙ ap (λ (o : Option Node). set_node (entered t to i) p (less_name o from.name)) (node_here t p p (with_name (t p) to.name i) refl)
+          ∙ ap (λ (o : Option Node). set_node (entered t to i) p (less_name o from.name)) (set_there t p (with_name (t p) to.name i))
           ∙ set_twice t p _ _
           ∙ ap (λ (m : Entries ℕ). set_node t p (Some (Dir m))) (crossed e from.name to.name i (apart same))
           ∙ sym (set_twice t p (less_name (t p) from.name) (with_name (less_name (t p) from.name) to.name i))
-          ∙ sym (ap (λ (o : Option Node). set_node (set_node t p (less_name (t p) from.name)) p (with_name o to.name i)) (node_here t p p (less_name (t p) from.name) refl))
+          ∙ sym (ap (λ (o : Option Node). set_node (set_node t p (less_name (t p) from.name)) p (with_name o to.name i)) (set_there t p (less_name (t p) from.name)))
           ∙ sym (ap (λ n. entered (set_node t n (less_name (t n) from.name)) to i) same)
       | inr other ↦
           let q = from.parent in
           let p = to.parent in
-          ap (λ (o : Option Node). set_node (entered t to i) q (less_name o from.name)) (node_off t p q (with_name (t p) to.name i) other)
+          ap (λ (o : Option Node). set_node (entered t to i) q (less_name o from.name)) (set_other t p q (with_name (t p) to.name i) other)
           ∙ set_swap t p q (with_name (t p) to.name i) (less_name (t q) from.name) (λ e. other (sym e))
-          ∙ sym (ap (λ (o : Option Node). set_node (left t from) p (with_name o to.name i)) (node_off t q p (less_name (t q) from.name) (λ e. other (sym e))))
+          ∙ sym (ap (λ (o : Option Node). set_node (left t from) p (with_name o to.name i)) (set_other t q p (less_name (t q) from.name) (λ e. other (sym e))))
     ]
 
 -- a name that was taken out first
 pub renewed : (t : Tree) (to : Spot) (i : ℕ) → entered (left t to) to i ≡ entered t to i
 renewed t to i =
     let p = to.parent in
-    ap (λ (o : Option Node). set_node (left t to) p (with_name o to.name i)) (node_here t p p (less_name (t p) to.name) refl)
+    ap (λ (o : Option Node). set_node (left t to) p (with_name o to.name i)) (set_there t p (less_name (t p) to.name))
     ∙ set_twice t p _ _
-    ∙ ap (λ (m : Entries ℕ). set_node t p (Some (Dir m))) (overwritten (entries_of (t p)) to.name i)
+    ∙ ap (λ (m : Entries ℕ). set_node t p (Some (Dir m))) (put_back (entries_of (t p)) to.name i)
 
 -- another node goes before or after
 left_apart : (t : Tree) (at : Spot) (j : ℕ) → j ≢ at.parent → left (set_node t j None) at ≡ set_node (left t at) j None
 left_apart t at j apart =
-    ap (λ (o : Option Node). set_node (set_node t j None) at.parent (less_name o at.name)) (node_off t j at.parent None (λ e. apart (sym e)))
+    ap (λ (o : Option Node). set_node (set_node t j None) at.parent (less_name o at.name)) (set_other t j at.parent None (λ e. apart (sym e)))
     ∙ set_swap t j at.parent None (less_name (t at.parent) at.name) apart
 
 entered_apart : (t : Tree) (at : Spot) (i j : ℕ) → j ≢ at.parent → entered (set_node t j None) at i ≡ set_node (entered t at i) j None
 entered_apart t at i j apart =
-    ap (λ (o : Option Node). set_node (set_node t j None) at.parent (with_name o at.name i)) (node_off t j at.parent None (λ e. apart (sym e)))
+    ap (λ (o : Option Node). set_node (set_node t j None) at.parent (with_name o at.name i)) (set_other t j at.parent None (λ e. apart (sym e)))
     ∙ set_swap t j at.parent None (with_name (t at.parent) at.name i) apart
 
 kept : (t : Tree) (from to : Spot) (i : ℕ) → AreApart from to → left (entered t to i) from ≡ entered (left (left t to) from) to i
@@ -149,58 +121,24 @@ gone t from to i j apart off_from off_to =
 
 -- ---- names that are counted
 
-abbrev counted : ℕ → List (List ℕ × ℕ) → ℕ
-counted j es = count_by (λ e. e.1 == j) es
-
-one_more : (j : ℕ) (e : List ℕ × ℕ) (es : List (List ℕ × ℕ)) → counted j (e ∷ es) ≡ cond (e.1 == j) 1 0 + counted j es
-one_more j e es = sum_by-cons (λ x. cond (x.1 == j) 1 0) e es
-
-not_one : (j : ℕ) (b : List ℕ) (i : ℕ) (es : List (List ℕ × ℕ)) → (i == j) ≡ false → counted j ((b, i) ∷ es) ≡ counted j es
-not_one j b i es apart =
-    let one : counted j ((b, i) ∷ es) ≡ cond (i == j) 1 0 + counted j es = one_more j (b, i) es in
-    let zero_here : ℕ = 0 in let off : cond (i == j) 1 0 ≡ zero_here = ap (λ t. cond t 1 0) apart in
-    omega (arith, one, off)
-
-count_put : (b : List ℕ) (i j : ℕ) (es : List (List ℕ × ℕ)) → (i == j) ≡ false → fin.is_sorted names_cmp es ≡ true → counted j (fin.put names_cmp b i es) ≡ counted j (without b es)
-count_put b i j [] apart order = ap (λ t. 0 + cond t 1 0) apart
-count_put b i j (e ∷ es) apart order =
-    let parts = and_parts (below_all names_cmp e.0 es) (fin.is_sorted names_cmp es) order in
-    elim (names_cmp b e.0) as (λ r. names_cmp b e.0 ≡ r → counted j (by_order r ((b, i) ∷ e ∷ es) ((e.0, i) ∷ es) (e ∷ fin.put names_cmp b i es)) ≡ counted j (cond (not (is_eq r)) (e ∷ without b es) (without b es))) [
-      | Less ↦ λ p.
-          not_one j b i (e ∷ es) apart
-          ∙ ap (λ (xs : List (List ℕ × ℕ)). counted j (e ∷ xs)) (sym (without_below b es (below_less b e.0 p es parts.0)))
-      | Equal ↦ λ p.
-          not_one j e.0 i es apart
-          ∙ ap (counted j) (sym (without_below b es (below_tied b e.0 p es parts.0)))
-      | Greater ↦ λ p.
-          one_more j e (fin.put names_cmp b i es) ∙ ap (λ n. cond (e.1 == j) 1 0 + n) (count_put b i j es apart parts.1) ∙ sym (one_more j e (without b es))
-    ] refl
-
-from_T : (b : Bool) → T b → b ≡ true
-from_T true h = refl
-from_T false h = absurd h
-
-no_match : (i j : ℕ) → i ≢ j → (i == j) ≡ false
-no_match i j apart = grind (arith, nat_tests)
-
+-- a name of another inode that is put in counts as one that is taken out
 put_in_one : (o : Option Node) (b : List ℕ) (i j : ℕ) → i ≢ j → names_in j (with_name o b i) ≡ names_in j (less_name o b)
 put_in_one o b i j apart =
     let e : Entries ℕ = entries_of o in
-    ap (counted j) (fin.entries-insert nat_list_cmp_total e b i)
-    ∙ count_put b i j (fin.entries e) (no_match i j apart) (from_T _ (fin.entries_sorted e))
-    ∙ ap (counted j) (sym (entries-remove e b))
+    let more : counted j (fin.insert (fin.remove e b) b i) ≡ counted j (fin.remove e b) + (if i == j then 1 else 0) = counted_insert j (fin.remove e b) b i (counts.gone e b) in
+    let none : (if i == j then 1 else 0) ≡ 0 = off_one i j (λ e. apart (sym e)) in
+    let same : counted j (fin.insert (fin.remove e b) b i) ≡ counted j (fin.insert e b i) = ap (counted j) (put_back e b i) in
+    let count : counted j (fin.insert e b i) ≡ counted j (fin.remove e b) = omega (arith, more, none, same) in
+    counted_is j (fin.insert e b i) ∙ count ∙ sym (counted_is j (fin.remove e b))
 
 put_in_at : (t : Tree) (to : Spot) (i j d : ℕ) → i ≢ j → names_in j (entered t to i d) ≡ names_in j (left t to d)
-put_in_at t to i j d apart =
-    elim (cases_eq d to.parent) [
-      | inl same ↦
-          ap (names_in j) (node_here t to.parent d (with_name (t to.parent) to.name i) same)
-          ∙ put_in_one (t to.parent) to.name i j apart
-          ∙ sym (ap (names_in j) (node_here t to.parent d (less_name (t to.parent) to.name) same))
-      | inr other ↦ ap (names_in j) (node_off t to.parent d (with_name (t to.parent) to.name i) other ∙ sym (node_off t to.parent d (less_name (t to.parent) to.name) other))
-    ]
+put_in_at t to i j d apart = either (d == to.parent) (with_name (t to.parent) to.name i) (less_name (t to.parent) to.name) (put_in_one (t to.parent) to.name i j apart)
+  where
+    either : (b : Bool) (x y : Option Node) → names_in j x ≡ names_in j y → names_in j (if b then x else t d) ≡ names_in j (if b then y else t d)
+    either true x y same = same
+    either false x y same = refl
 
--- a name of another inode that is put in counts as one that is taken out
+-- so it does in the whole tree
 same_names : (t : Tree) (to : Spot) (i j : ℕ) → i ≢ j → names_of (entered t to i) j ≡ names_of (left t to) j
 unfolding names_of
 same_names t to i j apart = ap (sum_up_to MAX_INODE) (λ k d. put_in_at t to i j d apart k)
@@ -209,7 +147,7 @@ same_names t to i j apart = ap (sum_up_to MAX_INODE) (λ k d. put_in_at t to i j
 
 pub off_parent : (t : Tree) (at : Spot) (j n : ℕ) → at_spot t at ≡ Some n → entries_of (t j) ≡ fin.empty → j ≢ at.parent
 off_parent t at j n there empty same =
-    let nothing : fin.get (entries_of (t at.parent)) at.name ≡ None = ap (λ (m : ℕ). fin.get (entries_of (t m)) at.name) (sym same) ∙ ap (λ (e : Entries ℕ). fin.get e at.name) empty ∙ fin.get-empty names_cmp at.name in
+    let nothing : fin.get (entries_of (t at.parent)) at.name ≡ None = ap (λ (m : ℕ). fin.get (entries_of (t m)) at.name) (sym same) ∙ ap (λ (e : Entries ℕ). fin.get e at.name) empty ∙ fin.get-empty order at.name in
     absurd (cc)
 
 spots_apart : (t : Tree) (from to : Spot) (i : ℕ) (o : Option ℕ) → at_spot t from ≡ Some i → at_spot t to ≡ o → Some i ≢ o → AreApart from to

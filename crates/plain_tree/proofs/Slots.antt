@@ -4,13 +4,8 @@ use Rattle.std.proofs.lemmas.Bool.{cases_eq}
 use Rattle.std.proofs.lemmas.Bool.Decides.{nat_tests}
 use Rattle.std.proofs.lemmas.List.{get_or-set_same, get_or-set_other, get_or_past, get_or_default}
 use Rattle.posix_calls.specs.Tree.{Node, Tree, set_node}
+use Rattle.posix_calls.proofs.Changes.{set_there, set_other}
 use Rattle.plain_tree.specs.Plain.{tree_of}
-
-pub node_here : (t : Tree) (i j : ℕ) (x : Option Node) → j ≡ i → set_node t i x j ≡ x
-node_here t i j x e = grind (arith, nat_tests)
-
-pub node_off : (t : Tree) (i j : ℕ) (x : Option Node) → j ≢ i → set_node t i x j ≡ t j
-node_off t i j x ne = grind (arith, nat_tests)
 
 pushed_at : (nodes : List (Option Node)) (i : ℕ) → tree_of (nodes ++ None ∷ []) i ≡ tree_of nodes i
 pushed_at [] zero = refl
@@ -22,11 +17,14 @@ pushed_at (x ∷ nodes) (suc i) = pushed_at nodes i
 pub tree_pushed : (nodes : List (Option Node)) → tree_of (nodes ++ None ∷ []) ≡ tree_of nodes
 tree_pushed nodes = λ k i. pushed_at nodes i k
 
+there : (t : Tree) (j i : ℕ) (x : Option Node) → j ≡ i → x ≡ set_node t i x j
+there t j i x same = sym (set_there t i x) ∙ ap (set_node t i x) (sym same)
+
 set_at : (nodes : List (Option Node)) (i : ℕ) (x : Option Node) (j : ℕ) → i < length nodes → tree_of (set nodes i x) j ≡ set_node (tree_of nodes) i x j
 set_at nodes i x j within =
     elim (cases_eq j i) [
-      | inl same ↦ ap (λ (n : ℕ). get_or (set nodes i x) n None) same ∙ get_or-set_same nodes i x None within ∙ sym (node_here (tree_of nodes) i j x same)
-      | inr apart ↦ get_or-set_other nodes i j x None apart ∙ sym (node_off (tree_of nodes) i j x apart)
+      | inl same ↦ ap (λ (n : ℕ). get_or (set nodes i x) n None) same ∙ get_or-set_same nodes i x None within ∙ there (tree_of nodes) j i x same
+      | inr apart ↦ get_or-set_other nodes i j x None apart ∙ sym (set_other (tree_of nodes) i j x apart)
     ]
 
 -- what is put in a place is at that inode
@@ -36,8 +34,8 @@ tree_set nodes i x within = λ k j. set_at nodes i x j within k
 past_at : (nodes : List (Option Node)) (i j : ℕ) → length nodes ≤ i → tree_of nodes j ≡ set_node (tree_of nodes) i None j
 past_at nodes i j past =
     elim (cases_eq j i) [
-      | inl same ↦ get_or_past nodes j None (omega arith) ∙ sym (node_here (tree_of nodes) i j None same)
-      | inr apart ↦ sym (node_off (tree_of nodes) i j None apart)
+      | inl same ↦ get_or_past nodes j None (omega arith) ∙ there (tree_of nodes) j i None same
+      | inr apart ↦ sym (set_other (tree_of nodes) i j None apart)
     ]
 
 -- past the end there is nothing to take away

@@ -17,7 +17,7 @@ use Rattle.posix_calls.proofs.Sums.{names_of-set_node, all_zero}
 use Rattle.posix_calls.proofs.Counts.{counted, counted_is, counted_empty, absent}
 use Rattle.posix_calls.proofs.Changes.{in_node, set_alike, entered_names, left_names, left_here, on_one, set_other, set_there}
 use Rattle.plain_tree.proofs.Moves.{renewed, off_parent}
-use Rattle.plain_tree.proofs.Ordered.{get_nothing}
+use Rattle.plain_tree.proofs.Answering.{get_nothing}
 use Rattle.std.proofs.lemmas.Bool.Decides.{eqb_tells}
 
 -- ---- how many there are

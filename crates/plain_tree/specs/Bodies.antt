@@ -7,5 +7,5 @@ use Rattle.posix_calls.specs.Tree.{Node, File, Dir}
 -- a body without where it lies in memory
 abbrev pub node_of : PlainBody → Option Node
 node_of plain.Nothing = None
-node_of (plain.File bytes) = Some (File bytes.items)
+node_of (plain.File bytes) = Some (File bytes)
 node_of (plain.Directory entries) = Some (Dir entries)

@@ -1,4 +1,3 @@
-pub mod Ordered
 pub mod Codes
 pub mod Bodies
 pub mod Plain

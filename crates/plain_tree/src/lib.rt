@@ -5,7 +5,6 @@
 #![tactic(auto)]
 
 mod deeds;
-mod entries;
 mod name_counts;
 mod node;
 mod nodes;

@@ -1,11 +1,11 @@
-ghost use Rattle.std.specs.Prelude.{◌≡◌, ◌≤◌, ◌+◌, ◌++◌, ℕ, Option, None, Some, length, take, drop, map, option_map, [], IfOk, OnOk, OnErr};
+ghost use Rattle.std.specs.Prelude.{◌≡◌, ℕ, Option, None, Some, length, take, drop, map, option_map, [], IfOk, OnOk, OnErr};
 ghost use Rattle.std.specs.FinMap as fin;
 ghost use Rattle.posix_calls.specs.Content.{resized, written};
 ghost use Rattle.posix_calls.specs.Tree.{File, Dir, bytes_of, entries_of};
 ghost use Rattle.posix_calls.specs.Asks.{dir_test};
 ghost use Rattle.plain_tree.specs.Bodies.{node_of};
 
-use crate::entries::PlainEntries;
+use node_bodies::{FileBytes, NameMap};
 use posix_calls::{Bytes, Name, Names};
 use std::alloc::{AllocError, Global};
 use std::marker::Model;
@@ -20,8 +20,8 @@ pub struct PlainNode {
 #[derive(Debug, Drop)]
 pub enum PlainBody {
     Nothing,
-    File(Vec<u8>),
-    Directory(PlainEntries),
+    File(FileBytes),
+    Directory(NameMap<u32>),
 }
 
 impl Model for PlainNode {
@@ -54,7 +54,7 @@ impl PlainNode {
         ensures { result ≡ Some (File []) }
     {
         PlainNode {
-            body: PlainBody::File(Vec::new(alloc)),
+            body: PlainBody::File(FileBytes::new(alloc)),
         }
     }
 
@@ -63,7 +63,7 @@ impl PlainNode {
         ensures { result ≡ Some (Dir fin.empty) }
     {
         PlainNode {
-            body: PlainBody::Directory(PlainEntries::new(alloc)),
+            body: PlainBody::Directory(NameMap::new(alloc)),
         }
     }
 
@@ -79,18 +79,18 @@ impl PlainNode {
     }
 
     /// The inode under a name of a directory.
-    #[tactic(auto, using(crate::proofs::Ordered::where_nothing_is))]
+    #[tactic(auto, using(crate::proofs::Answering::where_nothing_is))]
     pub fn entry(&self, name: &[u8]) -> Option<u32>
         ensures { result ≡ fin.get (entries_of self.now) name.now }
     {
         match &self.body {
             PlainBody::Nothing | PlainBody::File(_) => None,
-            PlainBody::Directory(entries) => entries.get(name),
+            PlainBody::Directory(entries) => entries.get(name).copied(),
         }
     }
 
     /// How many entries a directory has.
-    #[tactic(auto, using(crate::proofs::Ordered::where_nothing_is))]
+    #[tactic(auto, using(crate::proofs::Answering::where_nothing_is))]
     pub fn entry_count(&self) -> u32
         ensures { result ≡ fin.len (entries_of self.now) }
     {
@@ -101,7 +101,7 @@ impl PlainNode {
     }
 
     /// The names in a directory, in the order of their bytes.
-    #[tactic(auto, using(crate::proofs::Ordered::where_nothing_is))]
+    #[tactic(auto, using(crate::proofs::Answering::where_nothing_is))]
     pub fn names(&self, alloc: Global) -> Result<Names, AllocError>
         ensures { IfOk result (λ names. names ≡ map (λ e. e.0) (fin.entries (entries_of self.now))) }
     {
@@ -116,7 +116,7 @@ impl PlainNode {
         ensures { result ≡ length (bytes_of self.now) }
     {
         match &self.body {
-            PlainBody::File(bytes) => bytes.len() as u64,
+            PlainBody::File(bytes) => bytes.len(),
             _ => 0,
         }
     }
@@ -126,10 +126,7 @@ impl PlainNode {
         ensures { IfOk result (λ bytes. bytes ≡ take count (drop at (bytes_of self.now))) }
     {
         match &self.body {
-            PlainBody::File(bytes) => Bytes::copy_of(
-                alloc,
-                range(bytes, at as usize, count as usize),
-            ),
+            PlainBody::File(bytes) => Bytes::copy_of(alloc, bytes.range(at, count)),
             _ => Ok(Bytes::from_vec(Vec::new(alloc))),
         }
     }
@@ -166,13 +163,6 @@ impl PlainNode {
     }
 }
 
-fn range(bytes: &[u8], at: usize, count: usize) -> &[u8]
-    ensures { result.now ≡ take count (drop at bytes.now) }
-{
-    let rest = &bytes[at.min(bytes.len())..];
-    &rest[..count.min(rest.len())]
-}
-
 fn enter(alloc: Global, body: &mut PlainBody, name: Name, inode: u32) -> Result<(), AllocError>
     ensures ok { OnOk result (node_of body.new ≡ Some (Dir (fin.insert (entries_of (node_of body.old)) name inode))) }
     ensures err { OnErr result (node_of body.new ≡ node_of body.old) }
@@ -180,7 +170,7 @@ fn enter(alloc: Global, body: &mut PlainBody, name: Name, inode: u32) -> Result<
     match body {
         PlainBody::Directory(entries) => entries.put(name, inode),
         _ => {
-            let mut entries = PlainEntries::new(alloc);
+            let mut entries = NameMap::new(alloc);
             entries.put(name, inode)?;
             *body = PlainBody::Directory(entries);
             Ok(())
@@ -194,7 +184,7 @@ fn leave(alloc: Global, body: &mut PlainBody, name: &[u8])
     match body {
         PlainBody::Directory(entries) => entries.remove(name),
         _ => {
-            let mut entries = PlainEntries::new(alloc);
+            let mut entries = NameMap::new(alloc);
             entries.remove(name);
             *body = PlainBody::Directory(entries);
         }
@@ -206,10 +196,10 @@ fn write(alloc: Global, body: &mut PlainBody, at: u64, bytes: &[u8]) -> Result<(
     ensures err { OnErr result (node_of body.new ≡ node_of body.old) }
 {
     match body {
-        PlainBody::File(file) => write_at(file, at, bytes),
+        PlainBody::File(file) => file.write(at, bytes),
         _ => {
-            let mut file = Vec::new(alloc);
-            write_at(&mut file, at, bytes)?;
+            let mut file = FileBytes::new(alloc);
+            file.write(at, bytes)?;
             *body = PlainBody::File(file);
             Ok(())
         }
@@ -221,42 +211,12 @@ fn resize(alloc: Global, body: &mut PlainBody, len: u64) -> Result<(), AllocErro
     ensures err { OnErr result (node_of body.new ≡ node_of body.old) }
 {
     match body {
-        PlainBody::File(file) => resize_to(file, len),
+        PlainBody::File(file) => file.resize(len),
         _ => {
-            let mut file = Vec::new(alloc);
-            resize_to(&mut file, len)?;
+            let mut file = FileBytes::new(alloc);
+            file.resize(len)?;
             *body = PlainBody::File(file);
             Ok(())
         }
     }
-}
-
-fn resize_to(file: &mut Vec<u8>, len: u64) -> Result<(), AllocError>
-    ensures ok { OnOk result (file.new.items ≡ resized len file.old.items) }
-    ensures err { OnErr result (file.new.items ≡ file.old.items) }
-{
-    file.resize(len as usize, 0)
-}
-
-// A file that would pass the end of all numbers finds no memory.
-fn write_at(file: &mut Vec<u8>, at: u64, bytes: &[u8]) -> Result<(), AllocError>
-    ensures ok { OnOk result (file.new.items ≡ written at bytes.now file.old.items) }
-    ensures err { OnErr result (file.new.items ≡ file.old.items) }
-{
-    let start = at as usize;
-    let Some(end) = start.checked_add(bytes.len()) else {
-        return Err(AllocError);
-    };
-    if file.len() < end {
-        file.resize(end, 0)?;
-    }
-    overwrite(file, start, bytes);
-    Ok(())
-}
-
-fn overwrite(file: &mut [u8], start: usize, bytes: &[u8])
-    requires { start + length bytes.now ≤ length file.old }
-    ensures { file.new ≡ take start file.old ++ bytes.now ++ drop (start + length bytes.now) file.old }
-{
-    file[start..start + bytes.len()].copy_from_slice(bytes);
 }

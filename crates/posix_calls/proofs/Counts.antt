@@ -72,7 +72,8 @@ pub put_back : {X : Type 0} (m : Entries X) (name : List ℕ) (v : X) → fin.in
 put_back m name v = fin.same_map nat_list_cmp_total names_same _ _ (λ q.
     fin.get-insert nat_list_cmp_total (fin.remove m name) name v q ∙ ap (cond (eq_by_cmp order q name) (Some v)) (fin.get-remove nat_list_cmp_total m name q) ∙ again (eq_by_cmp order q name) (Some v) None (fin.get m q) ∙ sym (fin.get-insert nat_list_cmp_total m name v q))
 
-alike : (q name : List ℕ) → eq_by_cmp order q name ≡ true → q ≡ name
+-- names that compare as equal are one
+pub alike : (q name : List ℕ) → eq_by_cmp order q name ≡ true → q ≡ name
 alike q name e = elim (order q name) as (λ o. order q name ≡ o → is_eq o ≡ true → q ≡ name) [
   | Less ↦ λ is t. absurd (cc)
   | Equal ↦ λ is t. names_same q name is

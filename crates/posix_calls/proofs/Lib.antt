@@ -2,7 +2,6 @@ pub mod Components
 pub mod Answers
 pub mod Steps
 pub mod Parts
-pub mod Walks
 pub mod Directory
 pub mod Rows
 mod Orders
@@ -28,5 +27,5 @@ pub mod Readings
 pub mod Passing
 pub mod Bounds
 pub mod Chain
+pub mod Walks
 pub mod Places
-pub mod Walking

@@ -6,36 +6,7 @@ use Rattle.std.proofs.lemmas.Bool.Decides.{eqb_tells}
 use Rattle.std.proofs.Math.Decide.{dec_le}
 use Rattle.posix_calls.specs.Tree.{Descriptors, set_own, with_own, is_open, any_up_to, refers_to}
 use Rattle.posix_calls.specs.declared.descriptor.Descriptor.{Descriptor}
-
-or_true : (b : Bool) → (b || true) ≡ true
-or_true true = refl
-or_true false = refl
-
--- one that passes is found
-pub any_there : (m k : ℕ) (p : ℕ → Bool) → 1 ≤ k → k ≤ m → p k ≡ true → any_up_to m p ≡ true
-unfolding any_up_to
-any_there zero k p low high is = absurd (omega arith)
-any_there (suc m) k p low high is =
-    elim (dec_le k m) [
-      | yes inside ↦ ap (λ b. p (suc m) || b) (any_there m k p low inside is) ∙ or_true (p (suc m))
-      | no outside ↦ let last : k ≡ suc m = omega arith in ap (λ b. b || any_up_to m p) (ap p (sym last) ∙ is)
-    ]
-
--- a number that passes
-pub record IsOne (m : ℕ) (p : ℕ → Bool) : Type 0 where
-  pub k : ℕ
-  pub low : 1 ≤ k
-  pub high : k ≤ m
-  pub passes : p k ≡ true
-
--- what is found passes
-pub any_is : (m : ℕ) (p : ℕ → Bool) → any_up_to m p ≡ true → IsOne m p
-unfolding any_up_to
-any_is zero p e = absurd (cc)
-any_is (suc m) p e = elim (p (suc m)) as (λ b. p (suc m) ≡ b → (b || any_up_to m p) ≡ true → IsOne (suc m) p) [
-  | true ↦ λ is found. record { k = suc m; low = omega arith; high = omega arith; passes = is }
-  | false ↦ λ is found. let r = any_is m p found in let h = r.high in record { k = r.k; low = r.low; high = omega (arith, h); passes = r.passes }
-] refl e
+use Rattle.posix_calls.proofs.Sums.{IsOne, any_there, any_is}
 
 -- what is open at a number of a client is open
 pub open_there : (d : Descriptors) (c n : ℕ) (o : Descriptor) → 1 ≤ c → c ≤ 8 → n < 32 → d c n ≡ Some o → is_open d o.inode ≡ true

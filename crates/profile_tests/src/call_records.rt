@@ -218,7 +218,8 @@ fn compare_kinds(graph: &PlainGraph, inode: u32) -> Result<(), Fail> {
         return Ok(());
     };
     for entry in entries {
-        if graph.entries(entry.inode).is_some() != (entry.kind == Kind::Directory) {
+        let (inode, kind) = entry.value;
+        if graph.entries(inode).is_some() != (kind == Kind::Directory) {
             return Err(Fail::new("an entry of another kind"));
         }
     }

@@ -80,7 +80,7 @@ fn entries_stand_in_order_and_are_replaced(rt: HostRuntime) -> Result<(), Fail> 
     apply(&mut graph, entered(alloc, 5, b"b"))?;
     let mut inodes = Vec::new(alloc);
     for entry in graph.entries(ROOT).ok_or("a directory")? {
-        inodes.push(entry.inode)?;
+        inodes.push(entry.value.0)?;
     }
     assert_eq!(rt;
         names_of_root(alloc, &graph)?.as_slice(),

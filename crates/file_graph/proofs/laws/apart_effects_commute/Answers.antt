@@ -1,4 +1,4 @@
-use Rattle.file_graph.proofs.Sums.{effects_commute}
+use Rattle.file_graph.proofs.Touches.{effects_commute}
 use Rattle.file_graph.proofs.laws.apart_effects_commute.Goals as goal
 
 pub returns : goal.returns

@@ -2,8 +2,7 @@ use Rattle.std.proofs.Common.{◌≡◌, Option, None, ap, sym, ◌∙◌, refl}
 use Rattle.std.specs.FinMap as fin
 use Rattle.posix_calls.specs.Tree.{Node, entries_of}
 use Rattle.plain_tree.specs.Plain.{tree_of}
-use Rattle.plain_tree.proofs.Answering.{nothing_past}
-use Rattle.plain_tree.proofs.Ordered.{get_nothing}
+use Rattle.plain_tree.proofs.Answering.{nothing_past, get_nothing}
 use Rattle.plain_tree.proofs.nodes.entry_in.Goals as goal
 
 pub returns-in-None : goal.returns-in-None

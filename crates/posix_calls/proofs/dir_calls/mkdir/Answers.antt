@@ -1,6 +1,6 @@
 use Rattle.std.proofs.Common.{sym, ◌∙◌}
 use Rattle.posix_calls.proofs.Chain.{exits, gives, bind_gives, bind_stops, passes, fails}
-use Rattle.posix_calls.proofs.Walking.{bind_place, bind_place_stops}
+use Rattle.posix_calls.proofs.Walks.{bind_place, bind_place_stops}
 use Rattle.posix_calls.specs.Decide.{mkdir}
 use Rattle.posix_calls.proofs.dir_calls.mkdir.Goals as goal
 

@@ -2,7 +2,7 @@ use Rattle.std.proofs.Common.{sym, ◌∙◌}
 use Rattle.posix_calls.specs.Walk.{bytes_seen}
 use Rattle.posix_calls.specs.Answers.{size_in}
 use Rattle.posix_calls.proofs.Chain.{exits, gives_as, bind_gives, bind_stops, passes, fails, bind_look, bind_look_lacks, same_if, apart_if}
-use Rattle.posix_calls.proofs.Walking.{bind_place, bind_place_stops}
+use Rattle.posix_calls.proofs.Walks.{bind_place, bind_place_stops}
 use Rattle.posix_calls.specs.Decide.{truncate}
 use Rattle.posix_calls.proofs.file_calls.truncate.Goals as goal
 

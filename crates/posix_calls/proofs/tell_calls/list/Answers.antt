@@ -2,7 +2,7 @@ use Rattle.std.proofs.Common.{sym, ◌∙◌, ap}
 use Rattle.posix_calls.specs.Walk.{entries_seen}
 use Rattle.posix_calls.specs.Answers.{listed_in}
 use Rattle.posix_calls.proofs.Chain.{exits, gives_as, bind_gives, bind_stops, passes, fails, bind_look, bind_look_lacks}
-use Rattle.posix_calls.proofs.Walking.{bind_place, bind_place_stops}
+use Rattle.posix_calls.proofs.Walks.{bind_place, bind_place_stops}
 use Rattle.posix_calls.specs.Decide.{list_path}
 use Rattle.posix_calls.specs.declared.deed.Deed.TheVariants as deed
 use Rattle.posix_calls.specs.declared.call.Reply.TheVariants as reply

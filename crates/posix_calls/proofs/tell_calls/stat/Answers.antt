@@ -1,7 +1,7 @@
 use Rattle.std.proofs.Common.{sym, ◌∙◌, ap, Some}
 use Rattle.posix_calls.specs.Answers.{description_of}
 use Rattle.posix_calls.proofs.Chain.{exits, bind_gives, bind_stops, look_seen, look_lacks, file_told, dir_told, nothing_told}
-use Rattle.posix_calls.proofs.Walking.{bind_place, bind_place_stops}
+use Rattle.posix_calls.proofs.Walks.{bind_place, bind_place_stops}
 use Rattle.posix_calls.specs.Decide.{stat}
 use Rattle.posix_calls.proofs.tell_calls.stat.Goals as goal
 

@@ -1,7 +1,7 @@
 use Rattle.std.proofs.Common.{sym, ◌∙◌, ap, nat_le}
 use Rattle.posix_calls.specs.Walk.{names_seen}
 use Rattle.posix_calls.proofs.Chain.{exits, gives, bind_gives, bind_stops, passes, fails, bind_look, bind_look_lacks}
-use Rattle.posix_calls.proofs.Walking.{bind_place, bind_place_stops}
+use Rattle.posix_calls.proofs.Walks.{bind_place, bind_place_stops}
 use Rattle.posix_calls.specs.Decide.{link}
 use Rattle.posix_calls.proofs.two_path_calls.link.Goals as goal
 

@@ -1,4 +1,4 @@
-use Rattle.posix_calls.proofs.Walking.{last_name_is}
+use Rattle.posix_calls.proofs.Walks.{last_name_is}
 use Rattle.posix_calls.proofs.walk.spot.Goals as goal
 
 pub returns-clause-spot : goal.returns-clause-spot

@@ -1,7 +1,7 @@
 use Rattle.std.proofs.Common.{◌+◌, ◌-◌, length, take, drop, sym, ◌∙◌}
 use Rattle.posix_calls.specs.Answers.{entry_in, count_in}
 use Rattle.posix_calls.proofs.Chain.{exits}
-use Rattle.posix_calls.proofs.Walking.{walked_first, walked_stops, walked_on, walked_lacks, walked_lands, walked_next, walked_last, lands_at_root, split_last}
+use Rattle.posix_calls.proofs.Walks.{walked_first, walked_stops, walked_on, walked_lacks, walked_lands, walked_next, walked_last, lands_at_root, split_last}
 use Rattle.posix_calls.proofs.walk.walk.Goals as goal
 
 pub returns-in_default-clause-tells : goal.returns-in_default-clause-tells

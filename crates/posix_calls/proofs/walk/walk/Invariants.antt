@@ -1,5 +1,5 @@
 use Rattle.std.proofs.Common.{[], ◌∷◌, ◌++◌, drop}
-use Rattle.posix_calls.proofs.Walking.{Walked}
+use Rattle.posix_calls.proofs.Walks.{Walked}
 use Rattle.posix_calls.proofs.walk.walk.Given as goal
 
 abbrev pub invariant-loop-name : goal.invariant-loop-name

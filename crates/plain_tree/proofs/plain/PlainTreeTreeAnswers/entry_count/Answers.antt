@@ -4,8 +4,7 @@ use Rattle.posix_calls.specs.Tree.{Node, names_of}
 use Rattle.posix_calls.specs.Asks.{seen}
 use Rattle.posix_calls.specs.Answers.{count_in}
 use Rattle.plain_tree.specs.Plain.{Stored, tree_of}
-use Rattle.plain_tree.proofs.Answering.{nothing_past}
-use Rattle.plain_tree.proofs.Ordered.{count_nothing}
+use Rattle.plain_tree.proofs.Answering.{nothing_past, count_nothing}
 use Rattle.plain_tree.proofs.plain.PlainTreeTreeAnswers.entry_count.Goals as goal
 
 pub returns-in-None : goal.returns-in-None
