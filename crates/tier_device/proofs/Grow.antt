@@ -6,8 +6,7 @@ use Rattle.std.proofs.lemmas.List.{take_all, take-append-le}
 use Rattle.std.proofs.lemmas.Bool.{cases_Bool, and_from, and_left, le-leb, cond-true, cond-false, MatchBool-at_true, MatchBool-at_false}
 use Rattle.tier_device.specs.declared.media.Tier.{Tier}
 use Rattle.tier_device.specs.declared.media.Tier.TheVariants.{Fast, Block, Slow}
-use Rattle.tier_device.specs.declared.record.DeviceCall.{DeviceCall}
-use Rattle.tier_device.specs.declared.record.DeviceCall.TheVariants.{Write, Fence}
+use Rattle.tier_device.specs.DeviceCall.{DeviceCall, Write, Fence}
 use Rattle.tier_device.specs.Media.{overwritten, Torn, Puts, Keeps, Tears, TearsAll, Settles}
 use Rattle.tier_device.specs.Record.{same_tier, hits, shown, Leaves, replayed, LeftAfter}
 use Rattle.tier_device.specs.RecordLaws.{replayed_left}

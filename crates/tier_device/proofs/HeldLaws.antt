@@ -1,23 +1,25 @@
 -- What a stop leaves is told by the calls up to the tier's last fence and those after it, and is one of the contents that may be left.
-use Rattle.std.proofs.Common.{◌≡◌, ◌≢◌, ◌⊎◌, inl, inr, ℕ, zero, suc, ◌+◌, ◌-◌, ◌<◌, ◌≤◌, List, [], ◌∷◌, ◌++◌, length, take, drop, get_or, Bool, true, false, cond, refl, sym, ◌∙◌, ap, subst, arith, Some, rules}
+use Rattle.std.proofs.Common.{◌≡◌, inl, inr, ℕ, zero, suc, ◌+◌, ◌-◌, ◌<◌, ◌≤◌, List, [], ◌∷◌, ◌++◌, length, take, drop, get_or, Bool, true, false, cond, refl, sym, ◌∙◌, ap, subst, arith, Some, append_assoc}
 use Rattle.std.specs.Prelude.{slice_get, replicate, nat_le, ◌&&◌}
 use native.Mathlib.Numerals.{unary_clauses}
 use Rattle.std.specs.Bool.{MatchBool}
-use Rattle.std.proofs.Math.Seq.{take-suc, drop-cons}
+use Rattle.std.proofs.Math.Seq.{take-suc}
 use Rattle.std.proofs.lemmas.List.{take-append-drop, length-replicate}
 use Rattle.std.proofs.lemmas.Option.{get_or_from_slice_get}
-use Rattle.std.proofs.lemmas.Bool.{cases_Bool, MatchBool-at_true, cond-true, cond-false}
+use Rattle.std.proofs.lemmas.Bool.{cases_Bool}
 use Rattle.tier_device.specs.declared.media.Tier.{Tier}
-use Rattle.tier_device.specs.declared.media.Tier.TheVariants.{Fast, Block, Slow}
 use Rattle.tier_device.specs.declared.fill.Fill.{Fill}
 use Rattle.tier_device.specs.declared.fill.Fill.TheVariants.{Old, New, Byte}
-use Rattle.tier_device.specs.declared.record.DeviceCall.{DeviceCall}
-use Rattle.tier_device.specs.declared.record.DeviceCall.TheVariants.{Write, Fence}
+use Rattle.tier_device.specs.DeviceCall.{DeviceCall, Write, Fence}
 use Rattle.tier_device.specs.Media.{overwritten, Torn}
 use Rattle.tier_device.specs.Record.{same_tier, hits, shown, Leaves, replayed, LeftAfter}
 use Rattle.tier_device.specs.RecordLaws.{torn_overwritten, length-overwritten, length-shown, hit_fits}
-use Rattle.tier_device.specs.Held.{spoiled, spoilt, spoilt_all, held, NoFence}
-use Rattle.tier_device.proofs.Grow.{same_self, not_same, cases_Tier}
+use Rattle.tier_device.specs.declared.record.Entry.{Entry}
+use Rattle.tier_device.specs.declared.record.Entry.TheVariants as entry
+use Rattle.tier_device.specs.CallLog.{calls_of, total_len}
+use Rattle.tier_device.specs.Held.{spoiled, spoilt, spoilt_all, held, NoFence, NoFenceIn}
+use Rattle.tier_device.proofs.CallLogs.{calls_of-append}
+use Rattle.tier_device.proofs.Grow.{same_self, not_same}
 
 held_unfenced : (fill : Fill) (tier : Tier) (seen kept : List ℕ) (xs : List DeviceCall) → NoFence tier xs → held fill tier seen kept xs ≡ spoilt_all fill tier kept xs
 held_unfenced fill tier seen kept [] free = refl
@@ -25,6 +27,9 @@ held_unfenced fill tier seen kept (Write t at bytes ∷ xs) free = held_unfenced
 held_unfenced fill tier seen kept (Fence t ∷ xs) free =
     let other : same_tier t tier ≡ false = not_same t tier (λ e. free.0 (ap Fence (sym e))) in
     subst (λ (b : Bool). held fill tier seen (cond b seen kept) xs ≡ spoilt_all fill tier kept xs) (sym other) (held_unfenced fill tier seen kept xs free.1)
+
+fence_of : (t tier : Tier) → Fence t ≡ Fence tier → t ≡ tier
+fence_of t tier e = cc
 
 held_fenced : (fill : Fill) (tier : Tier) (seen kept : List ℕ) (front back : List DeviceCall) → held fill tier seen kept (front ++ Fence tier ∷ back) ≡ held fill tier (replayed tier seen front) (replayed tier seen front) back
 held_fenced fill tier seen kept [] back = subst (λ (b : Bool). held fill tier seen (cond b seen kept) back ≡ held fill tier seen seen back) (sym (same_self tier)) refl
@@ -35,21 +40,29 @@ replayed_fence : (tier : Tier) (seen : List ℕ) (xs : List DeviceCall) → repl
 replayed_fence tier seen [] = refl
 replayed_fence tier seen (x ∷ xs) = replayed_fence tier (shown tier seen x) xs
 
+no_fence : (tier : Tier) (es : List Entry) (w : List ℕ) → NoFenceIn tier es → NoFence tier (calls_of es w)
+no_fence tier [] w free = tt
+no_fence tier (entry.Write t at n ∷ es) w free = ((λ e. cc), no_fence tier es (drop n w) free.1)
+no_fence tier (entry.Fence t ∷ es) w free = ((λ e. free.0 (ap entry.Fence (fence_of t tier e))), no_fence tier es (drop 0 w) free.1)
+
 -- the calls up to the last fence are shown, and those after it spoil
-pub held_cut : (fill : Fill) (tier : Tier) (first : List ℕ) (calls : List DeviceCall) (k : ℕ) → k ≤ length calls → (0 < k → slice_get calls (k - 1) ≡ Some (Fence tier)) → NoFence tier (drop k calls) → spoilt_all fill tier (replayed tier first (take k calls)) (drop k calls) ≡ held fill tier first first calls
-held_cut fill tier first calls zero within last free = sym (held_unfenced fill tier first first calls free)
-held_cut fill tier first calls (suc j) within last free =
-    let last_fence : slice_get calls (suc j - 1) ≡ Some (Fence tier) = last (omega arith) in
-    let here : get_or calls j (Fence tier) ≡ Fence tier = get_or_from_slice_get calls j (Fence tier) (Fence tier) (simp unary_clauses at last_fence) in
-    let front : take (suc j) calls ≡ take j calls ++ Fence tier ∷ [] = take-suc calls j (Fence tier) (omega arith) ∙ ap (λ x. take j calls ++ x ∷ []) here in
-    let rest : drop j calls ≡ Fence tier ∷ drop (suc j) calls = drop-cons calls j (Fence tier) (omega arith) ∙ ap (λ x. x ∷ drop (suc j) calls) here in
-    let whole : take j calls ++ Fence tier ∷ drop (suc j) calls ≡ calls = ap (λ (l : List DeviceCall). take j calls ++ l) (sym rest) ∙ take-append-drop j calls in
-    let seen = replayed tier first (take j calls) in
-    ap (λ (l : List DeviceCall). spoilt_all fill tier (replayed tier first l) (drop (suc j) calls)) front
-    ∙ ap (λ (l : List ℕ). spoilt_all fill tier l (drop (suc j) calls)) (replayed_fence tier first (take j calls))
-    ∙ sym (held_unfenced fill tier seen seen (drop (suc j) calls) free)
-    ∙ sym (held_fenced fill tier first first (take j calls) (drop (suc j) calls))
-    ∙ ap (λ (l : List DeviceCall). held fill tier first first l) whole
+pub held_cut : (fill : Fill) (tier : Tier) (first w : List ℕ) (es : List Entry) (k : ℕ) → k ≤ length es → (0 < k → slice_get es (k - 1) ≡ Some (entry.Fence tier)) → NoFenceIn tier (drop k es)
+    → spoilt_all fill tier (replayed tier first (calls_of (take k es) w)) (calls_of (drop k es) (drop (total_len (take k es)) w)) ≡ held fill tier first first (calls_of es w)
+held_cut fill tier first w es zero within last free = sym (held_unfenced fill tier first first (calls_of es w) (no_fence tier es w free))
+held_cut fill tier first w es (suc j) within last free =
+    let last_fence : slice_get es (suc j - 1) ≡ Some (entry.Fence tier) = last (omega arith) in
+    let here : get_or es j (entry.Fence tier) ≡ entry.Fence tier = get_or_from_slice_get es j (entry.Fence tier) (entry.Fence tier) (simp unary_clauses at last_fence) in
+    let front : take (suc j) es ≡ take j es ++ entry.Fence tier ∷ [] = take-suc es j (entry.Fence tier) (omega arith) ∙ ap (λ x. take j es ++ x ∷ []) here in
+    let mine : calls_of (take (suc j) es) w ≡ calls_of (take j es) w ++ Fence tier ∷ [] = ap (λ (x : List Entry). calls_of x w) front ∙ calls_of-append (take j es) (entry.Fence tier ∷ []) w in
+    let back = calls_of (drop (suc j) es) (drop (total_len (take (suc j) es)) w) in
+    let whole : (calls_of (take j es) w ++ Fence tier ∷ []) ++ back ≡ calls_of es w =
+    ap (λ (x : List DeviceCall). x ++ back) (sym mine) ∙ sym (calls_of-append (take (suc j) es) (drop (suc j) es) w) ∙ ap (λ (x : List Entry). calls_of x w) (take-append-drop (suc j) es) in
+    let seen = replayed tier first (calls_of (take j es) w) in
+    ap (λ (l : List DeviceCall). spoilt_all fill tier (replayed tier first l) back) mine
+    ∙ ap (λ (l : List ℕ). spoilt_all fill tier l back) (replayed_fence tier first (calls_of (take j es) w))
+    ∙ sym (held_unfenced fill tier seen seen back (no_fence tier (drop (suc j) es) (drop (total_len (take (suc j) es)) w) free))
+    ∙ sym (held_fenced fill tier first first (calls_of (take j es) w) back)
+    ∙ ap (held fill tier first first) (sym (append_assoc (calls_of (take j es) w) (Fence tier ∷ []) back) ∙ whole)
 
 length-spoiled : (fill : Fill) (kept : List ℕ) (at : ℕ) (bytes : List ℕ) → at + length bytes ≤ length kept → length (spoiled fill kept at bytes) ≡ length kept
 length-spoiled Old kept at bytes le = refl

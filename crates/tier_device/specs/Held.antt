@@ -1,8 +1,9 @@
 -- What a tier holds after a stop, by what each byte that was written and not fenced then holds.
 use Rattle.std.specs.Prelude.{◌≢◌, ℕ, List, [], ◌∷◌, length, if◌then◌else◌, replicate}
 use Rattle.tier_device.specs.declared.media.Tier.{Tier}
-use Rattle.tier_device.specs.declared.record.DeviceCall.{DeviceCall}
-use Rattle.tier_device.specs.declared.record.DeviceCall.TheVariants.{Write, Fence}
+use Rattle.tier_device.specs.DeviceCall.{DeviceCall, Write, Fence}
+use Rattle.tier_device.specs.declared.record.Entry.{Entry}
+use Rattle.tier_device.specs.declared.record.Entry.TheVariants as entry
 use Rattle.tier_device.specs.declared.fill.Fill.{Fill}
 use Rattle.tier_device.specs.declared.fill.Fill.TheVariants.{Old, New, Byte}
 use Rattle.tier_device.specs.Media.{overwritten}
@@ -34,3 +35,8 @@ spoilt_all fill tier kept (x ∷ xs) = spoilt_all fill tier (spoilt fill tier ke
 abbrev pub NoFence : Tier → List DeviceCall → Type 0
 NoFence tier [] = Unit {0}
 NoFence tier (x ∷ xs) = (x ≢ Fence tier) × NoFence tier xs
+
+-- the same of a log's entries
+abbrev pub NoFenceIn : Tier → List Entry → Type 0
+NoFenceIn tier [] = Unit {0}
+NoFenceIn tier (e ∷ es) = (e ≢ entry.Fence tier) × NoFenceIn tier es

@@ -1,5 +1,7 @@
 pub mod Media
 pub mod Rows
+pub mod DeviceCall
+pub mod CallLog
 pub mod Record
 pub mod RecordLaws
 pub mod Held

@@ -14,15 +14,15 @@ memory_seen m = row m.tiers
 
 -- how many calls it has in its record
 abbrev pub memory_moment : MemMedia → ℕ
-memory_moment m = length m.calls.items
+memory_moment m = length m.calls
 
 -- what a stop may leave of a tier after the first calls of the record
 abbrev pub memory_left : MemMedia → ℕ → Tier → List ℕ → Type 0
-memory_left m moment tier c = LeftAfter tier (row m.first tier) (λ d. d ≡ row m.first tier) (take moment m.calls.items) c
+memory_left m moment tier c = LeftAfter tier (row m.first tier) (λ d. d ≡ row m.first tier) (take moment m.calls) c
 
 -- what a tier holds after a stop now, by what each byte that was written and not fenced then holds
 abbrev pub memory_held : Fill → MemMedia → Tier → List ℕ
-memory_held fill m tier = held fill tier (row m.first tier) (row m.first tier) m.calls.items
+memory_held fill m tier = held fill tier (row m.first tier) (row m.first tier) m.calls
 
 -- a stop now leaves what a read gives, and nothing else
 abbrev pub IsAtRest : MemMedia → Type 0

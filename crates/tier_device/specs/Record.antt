@@ -2,8 +2,7 @@
 use Rattle.std.specs.Prelude.{◌≡◌, ℕ, ◌+◌, List, [], ◌∷◌, length, Bool, true, false, if◌then◌else◌, ◌&&◌, nat_le, MatchBool}
 use Rattle.tier_device.specs.declared.media.Tier.{Tier}
 use Rattle.tier_device.specs.declared.media.Tier.TheVariants.{Fast, Block, Slow}
-use Rattle.tier_device.specs.declared.record.DeviceCall.{DeviceCall}
-use Rattle.tier_device.specs.declared.record.DeviceCall.TheVariants.{Write, Fence}
+use Rattle.tier_device.specs.DeviceCall.{DeviceCall, Write, Fence}
 use Rattle.tier_device.specs.Media.{overwritten, Torn}
 
 abbrev pub same_tier : Tier → Tier → Bool

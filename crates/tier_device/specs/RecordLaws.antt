@@ -5,8 +5,7 @@ use Rattle.std.proofs.Common.{sym, ◌∙◌, ap, subst, inl, inr, arith, length
 use Rattle.std.proofs.lemmas.List.{take_at, drop_at, length-take-le, length-drop}
 use Rattle.std.proofs.lemmas.Bool.{cases_Bool, and_parts, leb-true, MatchBool-at_true, MatchBool-at_false}
 use Rattle.tier_device.specs.declared.media.Tier.{Tier}
-use Rattle.tier_device.specs.declared.record.DeviceCall.{DeviceCall}
-use Rattle.tier_device.specs.declared.record.DeviceCall.TheVariants.{Write, Fence}
+use Rattle.tier_device.specs.DeviceCall.{DeviceCall, Write, Fence}
 use Rattle.tier_device.specs.Media.{overwritten, Torn}
 use Rattle.tier_device.specs.Record.{same_tier, hits, shown, Leaves, replayed, LeftAfter}
 

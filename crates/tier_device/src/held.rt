@@ -1,12 +1,13 @@
 // The content that a stop leaves, by what unfenced bytes hold after it.
 ghost use Rattle.std.specs.Prelude.{◌≡◌, ◌≤◌, ◌<◌, ◌+◌, ◌-◌, length, drop, IfOk, Some, slice_get, IsTrue, ◌↔◌};
-ghost use Rattle.tier_device.specs.declared.record.DeviceCall.TheVariants.{Fence};
+ghost use Rattle.tier_device.specs.declared.record.Entry.TheVariants as entry;
+ghost use Rattle.tier_device.specs.CallLog.{calls_of, call_of, len_of, total_len};
 ghost use Rattle.tier_device.specs.Record.{shown, replayed};
-ghost use Rattle.tier_device.specs.Held.{spoiled, spoilt, spoilt_all, held, NoFence};
+ghost use Rattle.tier_device.specs.Held.{spoiled, spoilt, spoilt_all, held, NoFenceIn};
 
 use crate::Tier;
 use crate::fill::Fill;
-use crate::record::DeviceCall;
+use crate::record::Entry;
 use crate::tiers::overwrite;
 use std::alloc::{AllocError, Global};
 
@@ -14,28 +15,31 @@ use std::alloc::{AllocError, Global};
 pub(crate) fn held_after(
     alloc: Global,
     first: &[u8],
-    calls: &[DeviceCall],
+    entries: &[Entry],
+    written: &[u8],
     tier: Tier,
     fill: Fill,
 ) -> Result<Vec<u8>, AllocError>
-    ensures { IfOk result (λ bytes. bytes.items ≡ held fill tier first.now first.now calls.now) }
+    requires { total_len entries.now ≤ length written.now }
+    ensures { IfOk result (λ bytes. bytes.items ≡ held fill tier first.now first.now (calls_of entries.now written.now)) }
 {
-    let fenced = fenced_calls(calls, tier);
     let mut bytes = first.to_vec(alloc)?;
-    show_all(&mut bytes, tier, &calls[..fenced]);
-    spoil_all(&mut bytes, tier, fill, &calls[fenced..]);
+    let (fenced, unfenced) = entries.split_at(fenced_calls(entries, tier));
+    let used = show_all(&mut bytes, tier, fenced, written);
+    let (_, rest) = written.split_at(used);
+    spoil_all(&mut bytes, tier, fill, unfenced, rest);
     Ok(bytes)
 }
 
 // How many calls there are up to the last fence of the tier.
-fn fenced_calls(calls: &[DeviceCall], tier: Tier) -> usize
-    ensures within { result ≤ length calls.now }
-    ensures last { (0 < result) → slice_get calls.now (result - 1) ≡ Some (Fence tier) }
-    ensures none_later { NoFence tier (drop result calls.now) }
+fn fenced_calls(entries: &[Entry], tier: Tier) -> usize
+    ensures within { result ≤ length entries.now }
+    ensures last { (0 < result) → slice_get entries.now (result - 1) ≡ Some (entry.Fence tier) }
+    ensures none_later { NoFenceIn tier (drop result entries.now) }
 {
-    let mut fenced = calls.len();
+    let mut fenced = entries.len();
     'calls: while fenced > 0 {
-        if is_fence(&calls[fenced - 1], tier) {
+        if is_fence(&entries[fenced - 1], tier) {
             return fenced;
         }
         fenced -= 1;
@@ -43,59 +47,67 @@ fn fenced_calls(calls: &[DeviceCall], tier: Tier) -> usize
     0
 }
 
-fn is_fence(call: &DeviceCall, of: Tier) -> bool
-    ensures { IsTrue result ↔ (call.now ≡ Fence of) }
+fn is_fence(call: &Entry, of: Tier) -> bool
+    ensures { IsTrue result ↔ (call.now ≡ entry.Fence of) }
 {
     match call {
-        DeviceCall::Fence { tier } => *tier == of,
-        DeviceCall::Write { .. } => false,
+        Entry::Fence { tier } => *tier == of,
+        Entry::Write { .. } => false,
     }
 }
 
-// What a read gives after these calls.
-fn show_all(bytes: &mut Vec<u8>, tier: Tier, calls: &[DeviceCall])
-    ensures { bytes.new.items ≡ replayed tier bytes.old.items calls.now }
+// What a read gives after these calls; answers how many of the written bytes are theirs.
+fn show_all(bytes: &mut Vec<u8>, tier: Tier, entries: &[Entry], written: &[u8]) -> usize
+    requires { total_len entries.now ≤ length written.now }
+    ensures shown { bytes.new.items ≡ replayed tier bytes.old.items (calls_of entries.now written.now) }
+    ensures used { result ≡ total_len entries.now }
 {
-    for call in calls {
-        show(bytes, tier, call);
+    let mut used = 0;
+    for entry in entries {
+        used += show(bytes, tier, entry, &written[used..]);
     }
+    used
 }
 
-fn show(bytes: &mut Vec<u8>, tier: Tier, call: &DeviceCall)
-    ensures { bytes.new.items ≡ shown tier bytes.old.items call.now }
+fn show(bytes: &mut Vec<u8>, tier: Tier, entry: &Entry, written: &[u8]) -> usize
+    requires { len_of entry.now ≤ length written.now }
+    ensures shown { bytes.new.items ≡ shown tier bytes.old.items (call_of entry.now written.now) }
+    ensures used { result ≡ len_of entry.now }
 {
-    if let DeviceCall::Write {
-        tier: written,
-        at,
-        bytes: new,
-    } = call
-    {
-        if *written == tier && fits(bytes.len(), *at, new.as_slice().len()) {
-            overwrite(bytes, *at, new.as_slice());
+    match *entry {
+        Entry::Fence { .. } => 0,
+        Entry::Write { tier: to, at, len } => {
+            if to == tier && fits(bytes.len(), at, len) {
+                overwrite(bytes, at, &written[..len]);
+            }
+            len
         }
     }
 }
 
 // What these calls leave, with no fence of the tier among them.
-fn spoil_all(bytes: &mut Vec<u8>, tier: Tier, fill: Fill, calls: &[DeviceCall])
-    ensures { bytes.new.items ≡ spoilt_all fill tier bytes.old.items calls.now }
+fn spoil_all(bytes: &mut Vec<u8>, tier: Tier, fill: Fill, entries: &[Entry], written: &[u8])
+    requires { total_len entries.now ≤ length written.now }
+    ensures { bytes.new.items ≡ spoilt_all fill tier bytes.old.items (calls_of entries.now written.now) }
 {
-    for call in calls {
-        spoil(bytes, tier, fill, call);
+    let mut used = 0;
+    for entry in entries {
+        used += spoil(bytes, tier, fill, entry, &written[used..]);
     }
 }
 
-fn spoil(bytes: &mut Vec<u8>, tier: Tier, fill: Fill, call: &DeviceCall)
-    ensures { bytes.new.items ≡ spoilt fill tier bytes.old.items call.now }
+fn spoil(bytes: &mut Vec<u8>, tier: Tier, fill: Fill, entry: &Entry, written: &[u8]) -> usize
+    requires { len_of entry.now ≤ length written.now }
+    ensures spoilt { bytes.new.items ≡ spoilt fill tier bytes.old.items (call_of entry.now written.now) }
+    ensures used { result ≡ len_of entry.now }
 {
-    if let DeviceCall::Write {
-        tier: written,
-        at,
-        bytes: new,
-    } = call
-    {
-        if *written == tier && fits(bytes.len(), *at, new.as_slice().len()) {
-            spoil_range(bytes, fill, *at, new.as_slice());
+    match *entry {
+        Entry::Fence { .. } => 0,
+        Entry::Write { tier: to, at, len } => {
+            if to == tier && fits(bytes.len(), at, len) {
+                spoil_range(bytes, fill, at, &written[..len]);
+            }
+            len
         }
     }
 }

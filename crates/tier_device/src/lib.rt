@@ -18,6 +18,5 @@ pub use fault::FaultMedia;
 pub use fill::Fill;
 pub use media::{Media, MediaError, Tier};
 pub use memory::MemMedia;
-pub use record::{DeviceCall, Written};
 pub use stop::StopMedia;
 pub use tiers::Tiers;

@@ -1,14 +1,13 @@
 // A medium in memory, which keeps a record of its calls.
-ghost use Rattle.std.specs.Prelude.{◌≡◌, ◌≤◌, ◌+◌, ◌++◌, [], ◌∷◌, IfOk, OnOk, OnErr, ℕ, length, take};
+ghost use Rattle.std.specs.Prelude.{◌≡◌, IfOk};
 ghost use Rattle.tier_device.specs.declared.media.Tier.{Tier};
 ghost use Rattle.tier_device.specs.declared.media.Tier.TheVariants.{Fast, Block, Slow};
-ghost use Rattle.tier_device.specs.declared.record.DeviceCall.TheVariants.{Write, Fence};
 ghost use Rattle.tier_device.specs.Rows.{row};
 ghost use Rattle.tier_device.specs.Record.{replayed};
 
 use crate::fill::Fill;
 use crate::held::held_after;
-use crate::record::{DeviceCall, Written};
+use crate::record::CallLog;
 use crate::tiers::Tiers;
 use crate::{Media, MediaError, Tier};
 use std::alloc::{AllocError, Global};
@@ -21,9 +20,9 @@ pub struct MemMedia {
     alloc: Global,
     tiers: Tiers,
     first: Tiers,
-    calls: Vec<DeviceCall>,
+    calls: CallLog,
     faults: u64,
-    ghost replays: { (t : Tier) → row tiers t ≡ replayed t (row first t) calls.items },
+    ghost replays: { (t : Tier) → row tiers t ≡ replayed t (row first t) calls },
 }
 
 impl MemMedia {
@@ -49,7 +48,7 @@ impl MemMedia {
             alloc,
             tiers,
             first,
-            calls: Vec::new(alloc),
+            calls: CallLog::new(alloc),
             faults: 0,
         })
     }
@@ -79,7 +78,15 @@ impl MemMedia {
         ensures held { IfOk result (λ bytes. bytes.items ≡ memory_held fill self.now tier) }
         ensures allowed { IfOk result (λ bytes. memory_left self.now (memory_moment self.now) tier bytes.items) }
     {
-        held_after(self.alloc, self.first.bytes(tier), &self.calls, tier, fill)
+        let (entries, written) = self.calls.parts();
+        held_after(
+            self.alloc,
+            self.first.bytes(tier),
+            entries,
+            written,
+            tier,
+            fill,
+        )
     }
 }
 
@@ -117,7 +124,7 @@ impl Media for MemMedia {
         if size < at || size - at < bytes.len() {
             return Err(MediaError::OutOfRange);
         }
-        match record_write(self.alloc, &mut self.calls, tier, at, bytes) {
+        match self.calls.push_write(tier, at, bytes) {
             Ok(()) => {
                 self.tiers.overwrite(tier, at, bytes);
                 Ok(())
@@ -130,7 +137,7 @@ impl Media for MemMedia {
     }
 
     fn fence(&mut self, tier: Tier) -> Result<(), MediaError> {
-        match record_fence(&mut self.calls, tier) {
+        match self.calls.push_fence(tier) {
             Ok(()) => Ok(()),
             Err(_) => {
                 self.faults = self.faults.saturating_add(1);
@@ -138,28 +145,4 @@ impl Media for MemMedia {
             }
         }
     }
-}
-
-// Where the record can't grow it is as it was.
-fn record_write(
-    alloc: Global,
-    calls: &mut Vec<DeviceCall>,
-    tier: Tier,
-    at: usize,
-    bytes: &[u8],
-) -> Result<(), AllocError>
-    ensures grown { OnOk result (calls.new.items ≡ calls.old.items ++ Write tier at bytes.now ∷ []) }
-    ensures same { OnErr result (calls.new.items ≡ calls.old.items) }
-{
-    let bytes = Written::copy_of(alloc, bytes)?;
-    calls.push(DeviceCall::Write { tier, at, bytes })?;
-    Ok(())
-}
-
-fn record_fence(calls: &mut Vec<DeviceCall>, tier: Tier) -> Result<(), AllocError>
-    ensures grown { OnOk result (calls.new.items ≡ calls.old.items ++ Fence tier ∷ []) }
-    ensures same { OnErr result (calls.new.items ≡ calls.old.items) }
-{
-    calls.push(DeviceCall::Fence { tier })?;
-    Ok(())
 }

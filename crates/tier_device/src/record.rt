@@ -1,49 +1,82 @@
 // The record that a medium in memory keeps of its calls.
-ghost use Rattle.std.specs.Prelude.{◌≡◌, List, ℕ, IfOk};
+ghost use Rattle.std.specs.Prelude.{◌≡◌, ◌++◌, ◌∷◌, [], List, ℕ, length, OnOk, OnErr};
+ghost use Rattle.tier_device.specs.DeviceCall.{Write, Fence};
 
 use crate::Tier;
 use std::alloc::{AllocError, Global};
 use std::marker::Model;
 
-/// The bytes of one write. Contracts see them as their list.
+/// One call that moved the clock. The bytes of a write stand in the log, behind those of the writes before it.
+#[derive(Clone, Copy, Debug, PartialEq, Eq)]
+pub(crate) enum Entry {
+    Write { tier: Tier, at: usize, len: usize },
+    Fence { tier: Tier },
+}
+
+/// The calls that moved the clock, in their order. The bytes of all writes stand in one vector, so a call takes no block of
+/// memory of its own. Contracts see the list of the calls.
 #[derive(Debug, Drop)]
-pub struct Written {
+pub(crate) struct CallLog {
+    entries: Vec<Entry>,
     bytes: Vec<u8>,
 }
 
-impl Model for Written {
-    ghost Value = { List ℕ };
+impl Model for CallLog {
+    ghost use Rattle.std.specs.Prelude.{◌≡◌, List, length};
+    ghost use Rattle.tier_device.specs.DeviceCall.{DeviceCall};
 
-    ghost view = { λ w. w.bytes.items };
+    ghost Value = { List DeviceCall };
+
+    ghost use Rattle.tier_device.specs.CallLog.{calls_of, total_len};
+
+    ghost view = { λ l. calls_of l.entries.items l.bytes.items };
+
+    ghost invariant = { λ l. total_len l.entries.items ≡ length l.bytes.items };
 }
 
-impl Written {
-    /// A copy of these bytes.
-    pub fn copy_of(alloc: Global, bytes: &[u8]) -> Result<Self, AllocError>
-        ensures { IfOk result (λ copy. copy ≡ bytes.now) }
+impl CallLog {
+    ghost use Rattle.tier_device.specs.CallLog.{calls_of, total_len};
+
+    /// No calls.
+    pub fn new(alloc: Global) -> Self
+        ensures { result ≡ [] }
     {
-        Ok(Written {
-            bytes: bytes.to_vec(alloc)?,
-        })
+        CallLog {
+            entries: Vec::new(alloc),
+            bytes: Vec::new(alloc),
+        }
     }
 
-    /// The bytes as a slice.
-    pub fn as_slice(&self) -> &[u8]
-        ensures { result.now ≡ self.now }
+    /// Adds a write. Where memory runs out the log is as it was.
+    pub fn push_write(&mut self, tier: Tier, at: usize, bytes: &[u8]) -> Result<(), AllocError>
+        ensures grown { OnOk result (self.new ≡ self.old ++ Write tier at bytes.now ∷ []) }
+        ensures same { OnErr result (self.new ≡ self.old) }
     {
-        &self.bytes
+        self.bytes.extend_from_slice(bytes)?;
+        let len = bytes.len();
+        match self.entries.push(Entry::Write { tier, at, len }) {
+            Ok(()) => Ok(()),
+            Err(_) => {
+                self.bytes.truncate(self.bytes.len() - len);
+                Err(AllocError)
+            }
+        }
     }
-}
 
-/// One call that moved the clock.
-#[derive(Debug, Drop)]
-pub enum DeviceCall {
-    Write {
-        tier: Tier,
-        at: usize,
-        bytes: Written,
-    },
-    Fence {
-        tier: Tier,
-    },
+    /// Adds a fence. Where memory runs out the log is as it was.
+    pub fn push_fence(&mut self, tier: Tier) -> Result<(), AllocError>
+        ensures grown { OnOk result (self.new ≡ self.old ++ Fence tier ∷ []) }
+        ensures same { OnErr result (self.new ≡ self.old) }
+    {
+        self.entries.push(Entry::Fence { tier })?;
+        Ok(())
+    }
+
+    /// What it is made of: an entry for each call, and the bytes of all writes.
+    pub fn parts(&self) -> (&[Entry], &[u8])
+        ensures calls { calls_of result.0.now result.1.now ≡ self.now }
+        ensures bytes { total_len result.0.now ≡ length result.1.now }
+    {
+        (&self.entries, &self.bytes)
+    }
 }

@@ -1,6 +1,10 @@
-use Rattle.std.proofs.Common.{◌≡◌, drop}
+use Rattle.std.proofs.Common.{◌≡◌, ◌+◌, drop}
 use Rattle.tier_device.specs.Record.{replayed}
+use Rattle.tier_device.specs.CallLog.{calls_of, total_len}
 use Rattle.tier_device.proofs.held.show_all.Given as goal
 
-abbrev pub invariant-loop-call : goal.invariant-loop-call
-invariant-loop-call l = replayed l.tier l.bytes.items (drop l.call-index l.calls) ≡ replayed l.tier l.fn.bytes.items l.calls
+abbrev pub invariant-loop-entry : goal.invariant-loop-entry
+invariant-loop-entry l = record {
+  so_far : replayed l.tier l.bytes.items (calls_of (drop l.entry-index l.entries) (drop l.used l.written)) ≡ replayed l.tier l.fn.bytes.items (calls_of l.entries l.written);
+  used : l.used + total_len (drop l.entry-index l.entries) ≡ total_len l.entries;
+}

@@ -1,11 +1,12 @@
-use Rattle.std.proofs.Common.{◌≡◌, List, ℕ, length, take, refl, sym, ◌∙◌, ap, subst, arith, rules, Vec}
+use Rattle.std.proofs.Common.{◌≡◌, List, ℕ, length, refl, sym, ◌∙◌, subst, arith, rules}
 use Rattle.std.proofs.lemmas.List.{take_all}
 use Rattle.std.proofs.lemmas.Result.{IfOk-weaker}
 use Rattle.tier_device.specs.Rows.{row}
 use Rattle.tier_device.specs.Record.{LeftAfter}
+use Rattle.tier_device.specs.CallLog.{calls_of}
 use Rattle.tier_device.specs.Held.{held}
 use Rattle.tier_device.specs.Memory.{memory_left, memory_moment, memory_held}
-use Rattle.tier_device.specs.declared.record.DeviceCall.{DeviceCall}
+use Rattle.tier_device.specs.DeviceCall.{DeviceCall}
 use Rattle.tier_device.proofs.HeldLaws.{held_left}
 use Rattle.tier_device.proofs.memory.MemMedia.tier_after_stop.Goals as goal
 
@@ -14,11 +15,11 @@ returns-clause-allowed c =
     let m = c.args.self.now in
     let t = c.args.tier in
     let first = row m.first t in
-    let calls = m.calls.items in
+    let calls = m.calls in
     let Before : List ℕ → Type 0 = λ d. d ≡ first in
     let now : LeftAfter t first Before calls (held c.args.fill t first first calls) = held_left c.args.fill t first first Before calls refl refl in
     let at_moment : memory_left m (memory_moment m) t (memory_held c.args.fill m t) =
     subst (λ (xs : List DeviceCall). LeftAfter t first Before xs (held c.args.fill t first first calls)) (sym (take_all (length calls) calls (omega arith))) now in
     let shown : c.bytes.result.now ≡ first = search rules in
-    let is_slice : c.deref.result.now ≡ calls = search rules in
-    IfOk-weaker c.held_after.result _ _ (λ bytes same. subst (memory_left m (memory_moment m) t) (sym (same ∙ (λ k. held c.args.fill t (shown k) (shown k) (is_slice k)))) at_moment) c.held_after.ensures
+    let is_log : calls_of c.parts.result.0.now c.parts.result.1.now ≡ calls = c.parts.ensures.calls in
+    IfOk-weaker c.held_after.result _ _ (λ bytes same. subst (memory_left m (memory_moment m) t) (sym (same ∙ (λ k. held c.args.fill t (shown k) (shown k) (is_log k)))) at_moment) c.held_after.ensures
