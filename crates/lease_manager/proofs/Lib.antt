@@ -4,3 +4,4 @@ pub mod Opens
 pub mod Steps
 pub mod Seats
 pub mod PassFacts
+pub mod Waiting

@@ -71,7 +71,8 @@ begins = record {
   whole = blank;
   lawful = record {
     wide = length-replicate {A = ℕ} 1152 0;
-    shown = λ i lt. subst (λ (n : ℕ). Shows n (λ c. mode_at (blank c) i)) (sym (get_or-replicate {A = ℕ} 1152 i 0 0 (omega arith))) (free_word (λ c. mode_at (blank c) i) (λ c. get_or-replicate 1024 i Free Free lt));
+    leases = λ i lt. subst (λ (n : ℕ). Shows n (λ c. mode_at (blank c) i)) (sym (get_or-replicate {A = ℕ} 1152 i 0 0 (omega arith))) (free_word (λ c. mode_at (blank c) i) (λ c. get_or-replicate 1024 i Free Free lt));
+    steps = record { history = []; legal = tt; listed = λ c. refl; waiting = λ w ge lt. get_or-replicate {A = ℕ} 1152 w 0 0 lt };
   };
   carried = one;
 }

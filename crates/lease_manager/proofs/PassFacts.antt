@@ -1,24 +1,34 @@
 -- What a pass keeps when its own part changes.
-use Rattle.std.proofs.Common.{◌≡◌, ◌≢◌, ℕ, ◌≤◌, List, get_or, set, replicate, sym, ap, ◌∙◌, subst, set-set, lt_of_not-le}
+use Rattle.std.proofs.Common.{◌≡◌, ◌≢◌, ℕ, ◌<◌, ◌≤◌, List, get_or, set, replicate, sym, ap, ◌∙◌, subst, set-set, lt_of_not-le, arith}
 use Rattle.std.proofs.lemmas.List.{set-get_or, get_or_past, get_or-replicate, length-replicate}
 use mathlib.Core.Logic.{dite}
 use native.Mathlib.Decide.{dec_le}
 use Rattle.lease_manager.specs.declared.view.LeaseMode.{LeaseMode}
 use Rattle.lease_manager.specs.declared.view.LeaseMode.TheVariants.{Free, Trying}
 use Rattle.lease_manager.specs.declared.view.Event.{Event}
+use Rattle.lease_manager.specs.declared.view.Event.TheVariants.{Gave}
 use Rattle.lease_manager.specs.declared.view.Part.{Part}
-use Rattle.lease_manager.specs.Parts.{mode_at, put_mode, put_event, blank, IsSettled}
+use Rattle.lease_manager.specs.Parts.{mode_at, put_mode, put_event, put_free, blank, IsSettled}
+use Rattle.lease_manager.specs.Passes.{AreHeld}
 
 free_not_trying : Free ≢ Trying
 free_not_trying e = absurd (cc)
 
+-- a list of one value has it everywhere
+all_one : {A : Type 0} → (x : A) (n i : ℕ) → get_or (replicate n x) i x ≡ x
+all_one x n i = dite (dec_le n i) (λ past. get_or_past (replicate n x) i x (subst (λ (l : ℕ). l ≤ i) (sym (length-replicate n x)) past)) (λ h. get_or-replicate n i x x (lt_of_not-le h))
+
 -- a client that holds nothing is settled
 pub settled_blank : (p : Part) (k : ℕ) → p ≡ blank k → IsSettled p
-settled_blank p k is = subst IsSettled (sym is) (λ i e. free_not_trying (sym (all_free 1024 i) ∙ e))
-  where
-    all_free : (n i : ℕ) → get_or (replicate n Free) i Free ≡ Free
-    all_free n i = dite (dec_le n i) (λ past. get_or_past (replicate n Free) i Free (subst (λ (l : ℕ). l ≤ i) (sym (length-replicate n Free)) past)) (λ h. get_or-replicate n i Free Free (lt_of_not-le h))
+settled_blank p k is = subst IsSettled (sym is) (λ i e. free_not_trying (sym (all_one Free 1024 i) ∙ e))
 
--- a client that had no mark, and took its failed try out, stands as it did, but for the event
-pub tried_in_vain : (p : Part) (i : ℕ) (e : Event) → mode_at p i ≡ Free → put_mode (put_event (put_mode p i Trying) e) i Free ≡ put_event p e
-tried_in_vain p i e free = ap (λ (l : List LeaseMode). record (put_event p e) { modes = l }) (set-set p.modes i Trying Free ∙ ap (set p.modes i) (sym free) ∙ set-get_or p.modes i Free)
+not_some : (x : ℕ) → x ≡ 0 → 0 < x → ⊥
+not_some x is lt = omega arith
+
+-- where no record is counted, all that have records are held
+pub held_none : (modes : List LeaseMode) (records : List ℕ) (n : ℕ) → records ≡ replicate n 0 → AreHeld modes records
+held_none modes records n is = subst (AreHeld modes) (sym is) (λ i some. absurd (not_some _ (all_one {A = ℕ} 0 n i) some))
+
+-- a client that had no mark, and took its failed try out, stands as it did, but for the two steps
+pub tried_in_vain : (p : Part) (i : ℕ) (e : Event) → mode_at p i ≡ Free → put_free (put_event (put_mode p i Trying) e) i ≡ put_event (put_event p e) (Gave i)
+tried_in_vain p i e free = ap (λ (l : List LeaseMode). record (put_event (put_event p e) (Gave i)) { modes = l }) (set-set p.modes i Trying Free ∙ ap (set p.modes i) (sym free) ∙ set-get_or p.modes i Free)

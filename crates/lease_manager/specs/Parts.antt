@@ -1,10 +1,12 @@
 -- One client's part of what seats carry.
-use Rattle.std.specs.Prelude.{◌≢◌, ℕ, ◌<◌, List, [], ◌∷◌, ◌++◌, slice_index_or, slice_set, replicate}
+use Rattle.std.specs.Prelude.{◌≡◌, ◌≢◌, ℕ, ◌<◌, List, [], ◌∷◌, slice_index_or, slice_set, replicate}
 use Rattle.lease_manager.specs.declared.view.LeaseMode.{LeaseMode}
 use Rattle.lease_manager.specs.declared.view.LeaseMode.TheVariants.{Free, Trying}
 use Rattle.lease_manager.specs.declared.view.Event.{Event}
+use Rattle.lease_manager.specs.declared.view.Event.TheVariants.{Took, Gave}
 use Rattle.lease_manager.specs.declared.view.Part.{Part}
 use Rattle.lease_manager.specs.Marks.{MayMeet}
+use Rattle.lease_manager.specs.History.{Entry, steps_by, MayFollow, IsHistory}
 
 abbrev pub place_of : Part → ℕ
 place_of p = p.place
@@ -17,11 +19,19 @@ mode_at p i = slice_index_or p.modes i Free
 abbrev pub put_mode : Part → ℕ → LeaseMode → Part
 put_mode p i mode = record p { modes = slice_set p.modes i mode }
 
--- the part with one event more
+-- the part with one step more. The newest stands first
 abbrev pub put_event : Part → Event → Part
-put_event p e = record p { events = p.events ++ e ∷ [] }
+put_event p e = record p { events = e ∷ p.events }
 
--- the part of the client at place k that holds nothing and has met with nothing
+-- the part, which took this lease of the word i, or raised its lease to it
+abbrev pub put_lease : Part → ℕ → LeaseMode → Part
+put_lease p i mode = put_event (put_mode p i mode) (Took i mode)
+
+-- the part, which took its marks out of the word i
+abbrev pub put_free : Part → ℕ → Part
+put_free p i = put_event (put_mode p i Free) (Gave i)
+
+-- the part of the client at place k that holds nothing and has made no step
 abbrev pub blank : ℕ → Part
 blank k = record { place = k; modes = replicate 1024 Free; events = [] }
 
@@ -49,3 +59,11 @@ blanks = blank 0 ∷ blank 1 ∷ blank 2 ∷ blank 3 ∷ blank 4 ∷ blank 5 ∷
 -- these are two clients, and of each inode one writes and the other holds nothing, or neither writes
 abbrev pub AreCompatible : Part → Part → Type 0
 AreCompatible p q = (p.place ≢ q.place) × ((i : ℕ) → i < 1024 → MayMeet (mode_at p i) (mode_at q i))
+
+-- there is one history of all clients' steps in which the client's are these, and this step comes right after it
+abbrev pub Continues : Part → Event → Type 0
+Continues p e = (older : List Entry) × IsHistory older × (steps_by p.place older ≡ p.events) × MayFollow older p.place e
+
+-- there is one history of all clients' steps, in which each of these parts has the steps of its client
+abbrev pub ShareHistory : (Part → Type 0) → Type 0
+ShareHistory Among = (history : List Entry) × IsHistory history × ((p : Part) → Among p → steps_by p.place history ≡ p.events)

@@ -1,12 +1,13 @@
 -- A pass as its callers see it.
-use Rattle.std.specs.Prelude.{◌≡◌, ℕ, ◌+◌, List, [], ◌∷◌, slice_get, slice_index, slice_set, replicate, Some}
+use Rattle.std.specs.Prelude.{◌≡◌, ℕ, ◌+◌, ◌<◌, List, [], ◌∷◌, length, slice_get, slice_index, slice_index_or, slice_set, replicate, Some}
 use Rattle.atomic_table.specs.Seated.{TableId}
 use Rattle.lease_manager.specs.declared.view.LeaseMode.{LeaseMode}
+use Rattle.lease_manager.specs.declared.view.LeaseMode.TheVariants.{Free, Writing}
 use Rattle.lease_manager.specs.declared.view.Event.{Event}
-use Rattle.lease_manager.specs.declared.view.Event.TheVariants.{Refused}
+use Rattle.lease_manager.specs.declared.view.Event.TheVariants.{Refused, Gave}
 use Rattle.lease_manager.specs.declared.view.Part.{Part}
-use Rattle.lease_manager.specs.Words.{lease_place}
-use Rattle.lease_manager.specs.Parts.{mode_at, put_mode, put_event, blank}
+use Rattle.lease_manager.specs.Words.{IsInode, lease_place}
+use Rattle.lease_manager.specs.Parts.{mode_at, put_lease, put_free, put_event, blank}
 
 -- which table it belongs to, what its client's part is, and how many records it counts by the place of each inode
 pub record PassView : Type 0 where
@@ -26,11 +27,19 @@ lease_of p ino = mode_at p.part (lease_place ino)
 abbrev pub records_of : PassView → ℕ → ℕ
 records_of p ino = slice_index p.records (lease_place ino)
 
--- the pass, with that lease of the inode
-abbrev pub with_lease : PassView → ℕ → LeaseMode → PassView
-with_lease p ino mode = record p { part = put_mode p.part (lease_place ino) mode }
+-- how many steps on the words the client has made
+abbrev pub steps_of : PassView → ℕ
+steps_of p = length p.part.events
 
--- the pass, with one event more
+-- the pass, with that lease of the inode, by one step more
+abbrev pub with_lease : PassView → ℕ → LeaseMode → PassView
+with_lease p ino mode = record p { part = put_lease p.part (lease_place ino) mode }
+
+-- the pass with no lease of the inode, by one step more
+abbrev pub without_lease : PassView → ℕ → PassView
+without_lease p ino = record p { part = put_free p.part (lease_place ino) }
+
+-- the pass, with one step more
 abbrev pub with_event : PassView → Event → PassView
 with_event p e = record p { part = put_event p.part e }
 
@@ -38,9 +47,21 @@ with_event p e = record p { part = put_event p.part e }
 abbrev pub refused_at : PassView → ℕ → ℕ → PassView
 refused_at p ino found = with_event p (Refused (lease_place ino) found)
 
+-- the pass, which was refused at that number and took its read mark out again, and holds what it held
+abbrev pub tried_at : PassView → ℕ → ℕ → PassView
+tried_at p ino found = with_event (refused_at p ino found) (Gave (lease_place ino))
+
 -- the pass, which counts so many records on the inode
 abbrev pub with_records : PassView → ℕ → ℕ → PassView
 with_records p ino count = record p { records = slice_set p.records (lease_place ino) count }
+
+-- where there are records, at the place of each inode, the lease is the write lease
+abbrev pub AreHeld : List LeaseMode → List ℕ → Type 0
+AreHeld modes records = (i : ℕ) → 0 < slice_index records i → slice_index_or modes i Free ≡ Writing
+
+-- the pass counts records only on inodes that it holds for writing
+abbrev pub CountsHeld : PassView → Type 0
+CountsHeld p = (ino : ℕ) → IsInode ino → 0 < records_of p ino → lease_of p ino ≡ Writing
 
 -- a pass of the client at place k of that table, which holds nothing
 abbrev pub fresh : TableId → ℕ → PassView

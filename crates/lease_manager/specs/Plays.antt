@@ -1,12 +1,12 @@
 -- What each kind of step tells: the seat after it, from the seat before it and the number that it found.
 use Rattle.std.specs.Prelude.{◌≡◌, ℕ, ◌<◌, ◌≤◌, ◌==◌, List, [], ◌∷◌, MatchBool}
 use Rattle.atomic_table.specs.Table.{Step}
-use Rattle.lease_manager.specs.declared.view.LeaseMode.TheVariants.{Free, Reading, Writing, Trying}
+use Rattle.lease_manager.specs.declared.view.LeaseMode.TheVariants.{Reading, Writing, Trying}
 use Rattle.lease_manager.specs.declared.view.Event.TheVariants.{Refused, Looked, Asked, Heard}
 use Rattle.lease_manager.specs.declared.view.Part.{Part}
 use Rattle.lease_manager.specs.Marks.{ShowsOther, ShowsWriter, ShowsOwn}
 use Rattle.lease_manager.specs.Book.{Holds}
-use Rattle.lease_manager.specs.Parts.{mode_at, put_mode, put_event, own_part, other_parts, AreCompatible}
+use Rattle.lease_manager.specs.Parts.{mode_at, put_mode, put_event, put_lease, put_free, own_part, other_parts, AreCompatible, Continues, ShareHistory}
 use Rattle.lease_manager.specs.Law.{SeatState}
 
 -- the seat with another part of its own client
@@ -14,20 +14,20 @@ abbrev pub with_own : SeatState → Part → SeatState
 with_own me p = (p ∷ other_parts me.0, me.1)
 
 -- the exchange to the own write mark won, or it found another client's mark
-abbrev pub Took : Step (Unit {0}) → SeatState → ℕ → SeatState → Type 0
-Took st me found me' = MatchBool (found == st.first)
-    (me' ≡ with_own me (put_mode (own_part me.0) st.word Writing))
+abbrev pub Exchanged : Step (Unit {0}) → SeatState → ℕ → SeatState → Type 0
+Exchanged st me found me' = MatchBool (found == st.first)
+    (me' ≡ with_own me (put_lease (own_part me.0) st.word Writing))
     ((me' ≡ with_own me (put_event (own_part me.0) (Refused st.word found))) × ShowsOther (own_part me.0).place found)
 
 -- the read mark was put: it is a lease where the word showed no write mark, and else a failed try
 abbrev pub Tried : Step (Unit {0}) → SeatState → ℕ → SeatState → Type 0
 Tried st me found me' =
-    (found < 256 → me' ≡ with_own me (put_mode (own_part me.0) st.word Reading))
+    (found < 256 → me' ≡ with_own me (put_lease (own_part me.0) st.word Reading))
     × (256 ≤ found → (me' ≡ with_own me (put_event (put_mode (own_part me.0) st.word Trying) (Refused st.word found))) × ShowsWriter (own_part me.0).place found)
 
 -- the own marks were taken out
-abbrev pub Gave : Step (Unit {0}) → SeatState → ℕ → SeatState → Type 0
-Gave st me found me' = me' ≡ with_own me (put_mode (own_part me.0) st.word Free)
+abbrev pub TookOut : Step (Unit {0}) → SeatState → ℕ → SeatState → Type 0
+TookOut st me found me' = me' ≡ with_own me (put_free (own_part me.0) st.word)
 
 -- a lease word was read: it shows the own marks
 abbrev pub Saw : Step (Unit {0}) → SeatState → ℕ → SeatState → Type 0
@@ -37,15 +37,15 @@ Saw st me found me' = (me' ≡ with_own me (put_event (own_part me.0) (Looked st
 abbrev pub DidAsk : Step (Unit {0}) → SeatState → ℕ → SeatState → Type 0
 DidAsk st me found me' = me' ≡ with_own me (put_event (own_part me.0) (Asked st.word st.first))
 
--- an asked word was emptied
+-- an asked word was emptied: the hearing comes right after a history in which the own steps are
 abbrev pub DidHear : Step (Unit {0}) → SeatState → ℕ → SeatState → Type 0
-DidHear st me found me' = me' ≡ with_own me (put_event (own_part me.0) (Heard st.word found))
+DidHear st me found me' = (me' ≡ with_own me (put_event (own_part me.0) (Heard st.word found))) × Continues (own_part me.0) (Heard st.word found)
 
 -- any two of these parts that are clients' are compatible
 abbrev pub AllCompatible : List Part → Type 0
 AllCompatible [] = Unit {0}
 AllCompatible (p ∷ ps) = ((q : Part) → Holds ps q → p.place < 8 → q.place < 8 → AreCompatible p q) × AllCompatible ps
 
--- nothing changed, and the clients on this seat are compatible
+-- nothing changed, and the clients on this seat are compatible and have one history
 abbrev pub Met : Step (Unit {0}) → SeatState → ℕ → SeatState → Type 0
-Met st me found me' = (me' ≡ me) × AllCompatible me.0
+Met st me found me' = (me' ≡ me) × AllCompatible me.0 × ShareHistory (Holds me.0)

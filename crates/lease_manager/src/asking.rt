@@ -2,7 +2,8 @@
 ghost use Rattle.std.specs.Prelude.{◌≡◌, ◌+◌, ◌-◌, ◌/◌, ◌<◌};
 ghost use Rattle.lease_manager.specs.declared.view.Event.TheVariants.{Asked, Heard};
 ghost use Rattle.lease_manager.specs.Words.{IsInode, IsClient, asked_word, asked_bit};
-ghost use Rattle.lease_manager.specs.Passes.{with_event, client_of};
+ghost use Rattle.lease_manager.specs.Parts.{Continues};
+ghost use Rattle.lease_manager.specs.Passes.{steps_of, with_event, client_of};
 
 use crate::layout::{INODES, ROWS, bit_of_asking, word_of_asking};
 use crate::pass::Pass;
@@ -10,28 +11,30 @@ use crate::rule::{Asks, Hears};
 use crate::table::Leases;
 
 impl Leases {
-    /// Asks a client to give an inode back. It is a hint: nothing is promised of what that client does.
+    /// Asks a client to give an inode back, by one `fetch_or` of the inode's bit in the client's word: the bit is set until
+    /// that client hears it. It is a hint: nothing is promised of what that client does.
     pub fn ask_back(&self, pass: &mut Pass, ino: u32, client: u32)
         requires table { pass.old.table ≡ self.now }
         requires inode { IsInode ino }
         requires client { IsClient client }
-        ensures { pass.new ≡ with_event pass.old (Asked (asked_word client ((ino - 1) / 64)) (asked_bit ino)) }
+        ensures asked { pass.new ≡ with_event pass.old (Asked (asked_word client ((ino - 1) / 64)) (asked_bit ino)) }
+        ensures step { steps_of pass.new ≡ steps_of pass.old + 1 }
     {
         let word = word_of_asking(client, ino);
         let bit = bit_of_asking(ino);
-        self.table
-            .shared
-            .fetch_or::<Asks>(&mut pass.seat, word, bit);
+        self.words().fetch_or::<Asks>(&mut pass.seat, word, bit);
     }
 
-    /// What this client was asked for since the last such call, in one row of 64 inodes, 0 to 15: bit b of row r is
-    /// inode 64 r + b + 1. The row is emptied.
+    /// What this client was asked for since it last heard this row of 64 inodes, 0 to 15: bit b of row r is inode
+    /// 64 r + b + 1. The row is emptied, by one swap of its word with 0, so that no question is heard twice.
     pub fn asked_back(&self, pass: &mut Pass, row: u32) -> u64
         requires table { pass.old.table ≡ self.now }
         requires row { row < 16 }
-        ensures { pass.new ≡ with_event pass.old (Heard (asked_word (client_of pass.old) row) result) }
+        ensures heard { pass.new ≡ with_event pass.old (Heard (asked_word (client_of pass.old) row) result) }
+        ensures history { Continues pass.old.part (Heard (asked_word (client_of pass.old) row) result) }
+        ensures step { steps_of pass.new ≡ steps_of pass.old + 1 }
     {
         let word = (INODES + ROWS * pass.place + row) as usize;
-        self.table.shared.swap::<Hears>(&mut pass.seat, word, 0)
+        self.words().swap::<Hears>(&mut pass.seat, word, 0)
     }
 }

@@ -1,16 +1,18 @@
 // Records on an inode are counted, so that a write lease is not given while one is undigested.
 ghost use Rattle.std.specs.Prelude.{◌≡◌, ◌+◌, ◌-◌, ◌^◌, ◌<◌, ◌≤◌};
+ghost use Rattle.lease_manager.specs.declared.view.LeaseMode.TheVariants.{Writing};
 ghost use Rattle.lease_manager.specs.Words.{IsInode};
-ghost use Rattle.lease_manager.specs.Passes.{records_of, with_records};
+ghost use Rattle.lease_manager.specs.Passes.{lease_of, records_of, with_records};
 
 use crate::layout::lease_word;
 use crate::pass::Pass;
 use crate::table::Leases;
 
 impl Leases {
-    /// Counts one more record on an inode. It makes no step on the table.
+    /// Counts one more record on an inode, which the client holds for writing. It makes no step on the table.
     pub fn note(&self, pass: &mut Pass, ino: u32)
         requires inode { IsInode ino }
+        requires held { lease_of pass.old ino ≡ Writing }
         requires room { records_of pass.old ino + 1 < 2 ^ 64 }
         ensures noted { pass.new ≡ with_records pass.old ino (records_of pass.old ino + 1) }
         ensures count { records_of pass.new ino ≡ records_of pass.old ino + 1 }

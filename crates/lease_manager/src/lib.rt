@@ -6,6 +6,7 @@
 
 mod asking;
 mod counting;
+mod history;
 mod layout;
 mod meeting;
 mod pass;
@@ -16,7 +17,8 @@ mod taking;
 mod tests;
 mod view;
 
+pub use history::questions;
 pub use layout::{CLIENTS, INODES, ROWS, WORDS};
 pub use pass::{Busy, Pass};
-pub use table::Leases;
+pub use table::{Leases, Opened};
 pub use view::{Event, LeaseMode, Part};

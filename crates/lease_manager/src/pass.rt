@@ -1,9 +1,9 @@
 // What one client knows and holds.
 ghost use Rattle.std.specs.Prelude.{◌≡◌, ◌≢◌, ◌+◌, ◌<◌, ◌≤◌, [], ◌∷◌, length, IfOk};
-ghost use Rattle.lease_manager.specs.declared.view.LeaseMode.TheVariants.{Trying};
+ghost use Rattle.lease_manager.specs.declared.view.LeaseMode.TheVariants.{Writing, Trying};
 ghost use Rattle.lease_manager.specs.Words.{IsInode, IsClient};
 ghost use Rattle.lease_manager.specs.Parts.{blank, own_part, other_parts, IsSettled};
-ghost use Rattle.lease_manager.specs.Passes.{PassView, fresh, client_of, lease_of, records_of};
+ghost use Rattle.lease_manager.specs.Passes.{PassView, fresh, client_of, lease_of, records_of, AreHeld, CountsHeld};
 
 use crate::layout::INODES;
 use crate::view::{LeaseMode, View};
@@ -30,7 +30,7 @@ impl Model for Pass {
     ghost view = { λ p. record { table = p.seat.table_id; part = own_part p.seat.me.0; records = p.counts.items } };
 
     // The client's own part is the first that its seat carries, and now the only one. The modes at run time are those of
-    // the part, one for each inode, and no failed try is being taken out.
+    // the part, one for each inode, and no failed try is being taken out. What has records is held for writing.
     ghost invariant = { λ p. (p.seat.me ≡ (own_part p.seat.me.0 ∷ other_parts p.seat.me.0, []))
         × (other_parts p.seat.me.0 ≡ [])
         × ((own_part p.seat.me.0).place ≡ p.place)
@@ -38,7 +38,8 @@ impl Model for Pass {
         × ((own_part p.seat.me.0).modes ≡ p.modes.items)
         × (length p.modes.items ≡ 1024)
         × (length p.counts.items ≡ 1024)
-        × IsSettled (own_part p.seat.me.0) };
+        × IsSettled (own_part p.seat.me.0)
+        × AreHeld p.modes.items p.counts.items };
 }
 
 impl Pass {
@@ -74,10 +75,18 @@ impl Pass {
         self.modes[(ino - 1) as usize]
     }
 
+    /// The pass counts records only on inodes that it holds for writing. It tells this, and does nothing.
+    pub fn counts_held(&self)
+        ensures { CountsHeld self.now }
+    {
+        let _ = &self.counts;
+    }
+
     /// How many undigested records the pass counts on an inode.
     pub fn records(&self, ino: u32) -> u64
         requires { IsInode ino }
-        ensures { result ≡ records_of self.now ino }
+        ensures count { result ≡ records_of self.now ino }
+        ensures held { 0 < result → lease_of self.now ino ≡ Writing }
     {
         self.counts[(ino - 1) as usize]
     }

@@ -2,7 +2,8 @@
 use crate::view::View;
 use atomic_table::{Join, Play, Split, TableRule};
 
-/// Each lease word shows the marks of the clients' modes, and no lease stands beside another's write lease.
+/// Each lease word shows the marks of the clients' modes, and no lease stands beside another's write lease. Each asked word
+/// has what was asked since it was last heard, in one history of all steps.
 pub struct Rule;
 
 impl TableRule<(), View, ()> for Rule {
@@ -18,9 +19,9 @@ impl TableRule<(), View, ()> for Rule {
 pub struct Takes;
 
 impl Play<(), View> for Takes {
-    ghost use Rattle.lease_manager.specs.Plays.{Took};
+    ghost use Rattle.lease_manager.specs.Plays.{Exchanged};
 
-    ghost then = { Took };
+    ghost then = { Exchanged };
 }
 
 /// A read try.
@@ -36,9 +37,9 @@ impl Play<(), View> for Tries {
 pub struct Gives;
 
 impl Play<(), View> for Gives {
-    ghost use Rattle.lease_manager.specs.Plays.{Gave};
+    ghost use Rattle.lease_manager.specs.Plays.{TookOut};
 
-    ghost then = { Gave };
+    ghost then = { TookOut };
 }
 
 /// A look at a lease word.

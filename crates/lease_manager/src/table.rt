@@ -1,57 +1,113 @@
 // The words that all clients share.
-ghost use Rattle.std.specs.Prelude.{◌≡◌, ◌<◌, map, [], IfOk};
-ghost use Rattle.atomic_table.specs.Seated.{TableId};
+ghost use Rattle.std.specs.Prelude.{◌≡◌, ◌+◌, ◌<◌, map, replicate, [], IfOk};
+ghost use Rattle.std.specs.Arc.{arc_value};
 ghost use Rattle.lease_manager.specs.declared.view.Event.TheVariants.{Looked};
 ghost use Rattle.lease_manager.specs.Words.{IsInode, lease_place};
 ghost use Rattle.lease_manager.specs.Marks.{ShowsOwn};
 ghost use Rattle.lease_manager.specs.Parts.{blanks};
-ghost use Rattle.lease_manager.specs.Passes.{lease_of, with_event, fresh, places, BelongTo};
+ghost use Rattle.lease_manager.specs.Passes.{lease_of, steps_of, with_event, fresh, places, BelongTo};
 
 use crate::layout::{CLIENTS, WORDS, lease_word};
 use crate::pass::Pass;
 use crate::rule::{FirstStays, Looks, Rule};
 use crate::view::View;
-use atomic_table::{Seat, Table};
+use atomic_table::{Seat, Shared, Table};
 use std::alloc::{AllocError, Global};
 use std::marker::Model;
+use std::sync::Arc;
 
-/// The table of lease words. Contracts see which table it is.
+type Words = Table<(), View, (), Rule, Global>;
+
+/// A handle on the table of lease words. Contracts see which table it is. The words go with the last handle.
 #[derive(Drop)]
 pub struct Leases {
-    pub(crate) table: Table<(), View, (), Rule, Global>,
+    table: Arc<Words, Global>,
 }
 
 impl Model for Leases {
+    ghost use Rattle.std.specs.Prelude.{◌≡◌};
+    ghost use Rattle.std.specs.Arc.{arc_value};
+    ghost use Rattle.atomic_table.specs.Seated.{TableId};
+
     ghost Value = { TableId };
 
-    ghost view = { λ t. t.table.shared.table_id };
+    ghost view = { λ t. (arc_value t.table).shared.table_id };
 
-    ghost invariant = { λ t. t.table.shared.table_id.words ≡ 1152 };
+    ghost invariant = { λ t. (arc_value t.table).shared.table_id.words ≡ 1152 };
+}
+
+/// What a new table begins with.
+#[derive(Drop)]
+pub struct Opened {
+    /// A handle for whoever is no client.
+    pub leases: Leases,
+    /// A handle for each client.
+    pub handles: Vec<Leases>,
+    /// A pass for each client, in the order of their numbers.
+    pub passes: Vec<Pass>,
 }
 
 // A table of words that are 0, and a seat that carries all clients.
-fn empty(alloc: Global) -> Result<(Table<(), View, (), Rule, Global>, Seat<(), View>), AllocError>
+fn empty(alloc: Global) -> Result<(Words, Seat<(), View>), AllocError>
     ensures { IfOk result (λ t. (t.0.shared.table_id.words ≡ 1152) × (t.1.table_id ≡ t.0.shared.table_id) × (t.1.me ≡ (blanks, []))) }
 {
     let words = [0u64; WORDS];
     Table::of_words(alloc, &words, &())
 }
 
+// A pass for each client, cut off from the seat that carries all of them.
+fn passes(alloc: Global, table: &Words, mut rest: Seat<(), View>) -> Result<Vec<Pass>, AllocError>
+    requires table { (rest.table_id ≡ table.now.shared.table_id) × (table.now.shared.table_id.words ≡ 1152) }
+    requires all { rest.me ≡ (blanks, []) }
+    ensures { IfOk result (λ v. v.items ≡ map (fresh table.now.shared.table_id) places) }
+{
+    let mut passes = Vec::new(alloc);
+    for place in 0..CLIENTS {
+        let others = table.shared.split_seat::<FirstStays>(&mut rest);
+        passes.push(Pass::new(alloc, rest, place)?)?;
+        rest = others;
+    }
+    Ok(passes)
+}
+
 impl Leases {
-    /// A new table, and a pass for each of its eight clients, in the order of their numbers. No client holds anything.
-    /// It is the only call that takes memory, and refuses only where there is none.
-    pub fn open(alloc: Global) -> Result<(Leases, Vec<Pass>), AllocError>
-        ensures fresh { IfOk result (λ r. r.1.items ≡ map (fresh r.0) places) }
-        ensures table { IfOk result (λ r. BelongTo r.0 r.1.items) }
+    /// A new table, in whose words all are free, with a pass for each of its eight clients and handles for them and one more.
+    /// It is the only call that takes memory.
+    pub fn open(alloc: Global) -> Result<Opened, AllocError>
+        ensures fresh { IfOk result (λ r. r.passes.items ≡ map (fresh r.leases) places) }
+        ensures table { IfOk result (λ r. BelongTo r.leases r.passes.items) }
+        ensures handles { IfOk result (λ r. r.handles.items ≡ replicate 8 r.leases) }
     {
-        let (table, mut rest) = empty(alloc)?;
-        let mut passes = Vec::new(alloc);
-        for place in 0..CLIENTS {
-            let others = table.shared.split_seat::<FirstStays>(&mut rest);
-            passes.push(Pass::new(alloc, rest, place)?)?;
-            rest = others;
+        let (table, rest) = empty(alloc)?;
+        let passes = passes(alloc, &table, rest)?;
+        let leases = Leases {
+            table: Arc::new(alloc, table)?,
+        };
+        let handles = leases.handles(alloc)?;
+        Ok(Opened {
+            leases,
+            handles,
+            passes,
+        })
+    }
+
+    // A handle for each client.
+    fn handles(&self, alloc: Global) -> Result<Vec<Leases>, AllocError>
+        ensures { IfOk result (λ v. v.items ≡ replicate 8 self.now) }
+    {
+        let mut handles = Vec::new(alloc);
+        for _ in 0..CLIENTS {
+            let table = Arc::try_clone(&self.table)?;
+            handles.push(Leases { table })?;
         }
-        Ok((Leases { table }, passes))
+        Ok(handles)
+    }
+
+    // The words, for single steps.
+    pub(crate) fn words(&self) -> &Shared<(), View, (), Rule>
+        ensures { (result.now.table_id ≡ self.now) × (result.now.table_id.words ≡ 1152) }
+    {
+        &self.table.shared
     }
 
     /// Reads the word of an inode, by one load. The word shows the client's write mark exactly where its pass holds
@@ -61,17 +117,16 @@ impl Leases {
         requires table { pass.old.table ≡ self.now }
         requires inode { IsInode ino }
         ensures found { pass.new ≡ with_event pass.old (Looked (lease_place ino) result) }
+        ensures step { steps_of pass.new ≡ steps_of pass.old + 1 }
         ensures own { ShowsOwn (lease_of pass.old ino) pass.old.part.place result }
     {
-        self.table
-            .shared
-            .load::<Looks>(&mut pass.seat, lease_word(ino))
+        self.words().load::<Looks>(&mut pass.seat, lease_word(ino))
     }
 
     /// A word, by its place. It is a hint for tests: it may have changed once it is read.
     pub fn word(&self, place: usize) -> u64
         requires { place < 1152 }
     {
-        self.table.shared.peek(place)
+        self.words().peek(place)
     }
 }

@@ -3,7 +3,7 @@ ghost use Rattle.atomic_table.specs.Seated.{TableId};
 ghost use Rattle.lease_manager.specs.Words.{IsInode, IsClient};
 ghost use Rattle.lease_manager.specs.Passes.{BelongTo};
 
-use crate::{Busy, CLIENTS, INODES, LeaseMode, Leases, Pass};
+use crate::{Busy, CLIENTS, INODES, LeaseMode, Leases, Opened, Pass};
 use std::alloc::{AllocError, Global};
 use std::test::Fail;
 
@@ -11,7 +11,11 @@ use std::test::Fail;
 fn three(alloc: Global) -> Result<(Leases, Pass, Pass, Pass), AllocError>
     ensures { IfOk result (λ r. (r.1.table ≡ r.0) × (r.2.table ≡ r.0) × (r.3.table ≡ r.0)) }
 {
-    let (leases, mut passes) = Leases::open(alloc)?;
+    let Opened {
+        leases,
+        mut passes,
+        ..
+    } = Leases::open(alloc)?;
     passes.truncate(3);
     let third = passes.remove(2);
     let second = passes.remove(1);
@@ -89,7 +93,7 @@ fn a_lease_is_taken_and_counted(rt: HostRuntime) -> Result<(), Fail> {
     );
     assert!(rt; write(&leases, &mut one, 1024) == Some(Err(Busy(0x200))));
     assert!(rt; one.lease(1024) == LeaseMode::Free && two.lease(1024) == LeaseMode::Writing);
-    if two.records(1024) == 0 {
+    if two.records(1024) == 0 && two.lease(1024) == LeaseMode::Writing {
         leases.note(&mut two, 1024);
         leases.note(&mut two, 1024);
         leases.clean(&mut two, 1024, 1);
@@ -151,7 +155,11 @@ fn meet_at(leases: &Leases, passes: &mut [Pass], first: usize, second: usize)
 
 #[test]
 fn any_two_clients_meet(rt: HostRuntime) -> Result<(), Fail> {
-    let (leases, mut passes) = Leases::open(rt.alloc())?;
+    let Opened {
+        leases,
+        mut passes,
+        ..
+    } = Leases::open(rt.alloc())?;
     let all = passes.as_mut_slice();
     for second in 1..all.len() {
         for first in 0..second {

@@ -11,10 +11,14 @@ pub enum LeaseMode {
     Trying,
 }
 
-/// What a step of a client found or asked, with the place of the word. Some steps take a lease, and those are in the modes.
+/// A step of a client on one word, with the place of that word. Each step is one event.
 pub enum Event {
+    /// A lease was taken, or a read lease raised to the write lease: the client stands so from then on.
+    Took(u64, LeaseMode),
     /// A take or a raise was refused, at this number.
     Refused(u64, u64),
+    /// The client's marks were taken out of a lease word.
+    Gave(u64),
     /// A lease word was read, and had this number.
     Looked(u64, u64),
     /// These bits were put into an asked word.
@@ -23,12 +27,13 @@ pub enum Event {
     Heard(u64, u64),
 }
 
-/// One client's part: how it stands to each inode, and what its steps have met with so far.
+/// One client's part: how it stands to each inode, and which steps it has made so far.
 pub struct Part {
     /// The client's number less 1.
     pub place: u64,
     /// Inode i stands at i - 1.
     pub modes: LinkedList<LeaseMode>,
+    /// The newest stands first.
     pub events: LinkedList<Event>,
 }
 

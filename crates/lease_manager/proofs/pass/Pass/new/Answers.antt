@@ -4,7 +4,7 @@ use Rattle.lease_manager.specs.declared.view.LeaseMode.TheVariants.{Free}
 use Rattle.lease_manager.specs.declared.view.Part.{Part}
 use Rattle.lease_manager.specs.Law.{SeatState}
 use Rattle.lease_manager.specs.Parts.{own_part, other_parts}
-use Rattle.lease_manager.proofs.PassFacts.{settled_blank}
+use Rattle.lease_manager.proofs.PassFacts.{settled_blank, held_none}
 use Rattle.lease_manager.proofs.pass.Pass.new.Goals as goal
 
 pub invariant_of-result : goal.invariant_of-result
@@ -22,6 +22,7 @@ invariant_of-result c =
       ap length modes ∙ length-replicate 1024 Free,
       ap length counts ∙ length-replicate {A = ℕ} 1024 0,
       settled_blank _ _ own,
+      held_none _ _ 1024 counts,
     )
 
 pub returns : goal.returns

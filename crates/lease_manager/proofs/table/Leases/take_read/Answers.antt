@@ -1,10 +1,10 @@
 use Rattle.std.proofs.Common.{◌≡◌, ℕ, ◌^◌, ◌<◌, List, ◌∷◌, arith, length, length-set, refl, sym, ap, ◌∙◌, subst}
-use Rattle.lease_manager.specs.declared.view.LeaseMode.TheVariants.{Free, Trying}
-use Rattle.lease_manager.specs.declared.view.Event.TheVariants.{Refused}
+use Rattle.lease_manager.specs.declared.view.LeaseMode.TheVariants.{Trying}
+use Rattle.lease_manager.specs.declared.view.Event.TheVariants.{Refused, Gave}
 use Rattle.lease_manager.specs.declared.view.Part.{Part}
 use Rattle.lease_manager.specs.Words.{both_marks}
 use Rattle.lease_manager.specs.Law.{SeatState}
-use Rattle.lease_manager.specs.Parts.{mode_at, put_mode, put_event, own_part, other_parts, IsSettled}
+use Rattle.lease_manager.specs.Parts.{mode_at, put_mode, put_event, put_free, own_part, other_parts, IsSettled}
 use Rattle.lease_manager.specs.Passes.{PassView, lease_of, with_event}
 use Rattle.lease_manager.proofs.Steps.{tries_at, gives_at}
 use Rattle.lease_manager.proofs.PassFacts.{tried_in_vain}
@@ -13,12 +13,12 @@ use Rattle.lease_manager.proofs.table.Leases.take_read.Goals as goal
 pub fetch_or-found-requires : goal.fetch_or-found-requires
 fetch_or-found-requires c =
     let i = c.pass.invariant in
-    let wide = c.self.invariant in
+    let wide = c.words-shared.ensures.1 in
     let inode = c.requires.inode in
     let word = c.lease_word-word.ensures in
     let me = c.pass.inside.seat.me in
     let free = ap (mode_at (own_part me.0)) word ∙ ap (λ (p : PassView). lease_of p c.args.ino) c.pass.view_is ∙ c.requires.free in (
-      ap (λ (p : PassView). p.table) c.pass.view_is ∙ c.requires.table ∙ sym c.self.view_is,
+      ap (λ (p : PassView). p.table) c.pass.view_is ∙ c.requires.table ∙ sym c.words-shared.ensures.0,
       omega arith,
       tries_at _ _ _ me (own_part me.0) (other_parts me.0) i.0 c.bit-read.result (omega arith) (subst (λ (k : ℕ). k < 8) (sym i.2) i.3) (ap length i.4 ∙ i.5)
           (c.bit-read.ensures ∙ ap (λ (k : ℕ). 2 ^ k) (sym i.2)) free,
@@ -27,7 +27,7 @@ fetch_or-found-requires c =
 pub fetch_and-requires : goal.fetch_and-requires
 fetch_and-requires c =
     let i = c.pass.invariant in
-    let wide = c.self.invariant in
+    let wide = c.words-shared.ensures.1 in
     let inode = c.requires.inode in
     let word = c.lease_word-word.ensures in
     let me = c.pass.inside.seat.me in
@@ -36,7 +36,7 @@ fetch_and-requires c =
     let trying : Part = put_event (put_mode (own_part me.0) at Trying) (Refused at found) in
     let tried = c.fetch_or-found.ensures.2.1 c.if-found-lt-LOWEST_WRITE_MARK.false in
     let bare = ap (λ (m : SeatState). m.1) i.0 in (
-      c.fetch_or-found.ensures.0 ∙ ap (λ (p : PassView). p.table) c.pass.view_is ∙ c.requires.table ∙ sym c.self.view_is,
+      c.fetch_or-found.ensures.0 ∙ ap (λ (p : PassView). p.table) c.pass.view_is ∙ c.requires.table ∙ sym c.words-shared.ensures.0,
       omega arith,
       gives_at _ _ _ c.fetch_or-found.new.seat.me trying (other_parts me.0) (tried.0 ∙ ap (λ (l : List (ℕ × Unit {0})). (trying ∷ other_parts me.0, l)) bare) _ c.marks-others.result (omega arith)
           (subst (λ (k : ℕ). k < 8) (sym i.2) i.3) (length-set _ _ _ ∙ ap length i.4 ∙ i.5) refl
@@ -53,10 +53,10 @@ returns-clause-refused c =
     let tried = c.fetch_or-found.ensures.2.1 c.if-found-lt-LOWEST_WRITE_MARK.false in
     let gave = c.fetch_and.ensures in
     let table = gave.0 ∙ c.fetch_or-found.ensures.0 in
-    let own = ap (λ (m : SeatState). own_part m.0) gave.2 ∙ ap (λ (m : SeatState). put_mode (own_part m.0) at Free) tried.0 ∙ tried_in_vain (own_part me.0) at (Refused at found) free in
-    let same : ◌≡◌ {A = PassView} (record { table = c.fetch_and.new.seat.table_id; part = own_part c.fetch_and.new.seat.me.0; records = c.pass.inside.counts.items }) (record { table = c.pass.inside.seat.table_id; part = put_event (own_part me.0) (Refused at found); records = c.pass.inside.counts.items })
+    let own = ap (λ (m : SeatState). own_part m.0) gave.2 ∙ ap (λ (m : SeatState). put_free (own_part m.0) at) tried.0 ∙ tried_in_vain (own_part me.0) at (Refused at found) free in
+    let same : ◌≡◌ {A = PassView} (record { table = c.fetch_and.new.seat.table_id; part = own_part c.fetch_and.new.seat.me.0; records = c.pass.inside.counts.items }) (record { table = c.pass.inside.seat.table_id; part = put_event (put_event (own_part me.0) (Refused at found)) (Gave at); records = c.pass.inside.counts.items })
     = λ k. record { table = table k; part = own k; records = c.pass.inside.counts.items } in
-    same ∙ (λ k. with_event (c.pass.view_is k) (Refused (word k) found))
+    same ∙ (λ k. with_event (with_event (c.pass.view_is k) (Refused (word k) found)) (Gave (word k)))
 
 pub invariant_of-pass-2 : goal.invariant_of-pass-2
 invariant_of-pass-2 c =
@@ -69,7 +69,7 @@ invariant_of-pass-2 c =
     let tried = c.fetch_or-found.ensures.2.1 c.if-found-lt-LOWEST_WRITE_MARK.false in
     let gave = c.fetch_and.ensures in
     let first = ap (λ (m : SeatState). own_part m.0) gave.2 in
-    let own = first ∙ ap (λ (m : SeatState). put_mode (own_part m.0) at Free) tried.0 ∙ tried_in_vain (own_part me.0) at (Refused at found) free in
+    let own = first ∙ ap (λ (m : SeatState). put_free (own_part m.0) at) tried.0 ∙ tried_in_vain (own_part me.0) at (Refused at found) free in
     let others = ap (λ (m : SeatState). other_parts m.0) gave.2 in
     let others_before = ap (λ (m : SeatState). other_parts m.0) tried.0 in
     let bare = ap (λ (m : SeatState). m.1) tried.0 ∙ ap (λ (m : SeatState). m.1) i.0 in
@@ -83,4 +83,5 @@ invariant_of-pass-2 c =
       i.5,
       i.6,
       subst IsSettled (sym own) i.7,
+      i.8,
     )

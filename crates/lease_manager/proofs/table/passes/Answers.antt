@@ -6,10 +6,10 @@ use Rattle.lease_manager.specs.Parts.{first_part, other_parts}
 use Rattle.lease_manager.specs.Passes.{PassView, places, fresh}
 use Rattle.lease_manager.proofs.Opens.{next_blank, next_place}
 use Rattle.lease_manager.proofs.Seats.{splits_first}
-use Rattle.lease_manager.proofs.table.Leases.open.Goals as goal
+use Rattle.lease_manager.proofs.table.passes.Goals as goal
 
 pub split_seat-others-requires : goal.split_seat-others-requires
-split_seat-others-requires c = let w = c.in_ok-table.ensures.0 in (c.loop-place.invariant.0, omega arith, splits_first _ _)
+split_seat-others-requires c = let w = c.requires.table.1 in (c.loop-place.invariant.0, omega arith, splits_first _ _)
 
 pub new-requires : goal.new-requires
 new-requires c =
@@ -24,7 +24,7 @@ loop-place-preserved c =
     let at = next_blank c.loop-place.place (search rules) in
     let v = ap (λ (m : SeatState). m.0) i.1 ∙ at in
     let e = c.split_seat-others.ensures in
-    let z : TableId = c.in_ok-table.table.shared.table_id in
+    let z : TableId = c.args.table.now.shared.table_id in
     let now : ℕ = c.loop-place.place in
     let longer : map (fresh z) (take now places) ++ fresh z now ∷ [] ≡ map (fresh z) (take (now + 1) places) = sym (ap (map (fresh z)) (next_place now (search rules)) ∙ map-append (fresh z) (take now places) (now ∷ [])) in
     let one = c.in_ok-new.ensures ∙ ap (λ (y : TableId). fresh y now) (e.0 ∙ i.0) in (
