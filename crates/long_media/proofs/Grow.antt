@@ -26,7 +26,7 @@ past_kept h k e grown =
       keeps = λ m t c le l. subst (λ (es : List Event). LeftAfter t (row h.first t) es c) (sym (drop_one e h.events m le)) l;
     })
 
-to_grown : (h k : History) (e : Event) → k ≡ and_then h e → (t : Tier) (c : List ℕ) → LeftAfter t (row h.first t) (e ∷ h.events) c → LeftAt k (length k.events) t c
+pub to_grown : (h k : History) (e : Event) → k ≡ and_then h e → (t : Tier) (c : List ℕ) → LeftAfter t (row h.first t) (e ∷ h.events) c → LeftAt k (length k.events) t c
 to_grown h k e grown t c l = at_now k t c (subst (λ (x : History). LeftNow x t c) (sym grown) l)
 
 of_grown : (h k : History) (e : Event) → k ≡ and_then h e → (t : Tier) (c : List ℕ) → LeftAt k (length k.events) t c → LeftAfter t (row h.first t) (e ∷ h.events) c

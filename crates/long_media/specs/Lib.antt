@@ -3,3 +3,8 @@ pub mod Noted
 pub mod Left
 pub mod LeftLaws
 pub mod Ram
+pub mod Place
+pub mod Pending
+pub mod Cover
+pub mod Mirrored
+pub mod File

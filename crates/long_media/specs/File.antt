@@ -1,0 +1,38 @@
+-- A medium over a file, as the device model sees it.
+use Rattle.std.specs.Prelude.{◌≡◌, ◌≤◌, ℕ, List, length, Bool}
+use Rattle.tier_device.specs.declared.media.Tier.{Tier}
+use Rattle.tier_device.specs.Media.{AtRest}
+use Rattle.tier_device.specs.Rows.{row}
+use Rattle.long_media.specs.declared.file.FileMedia.{FileMedia}
+use Rattle.long_media.specs.Left.{LeftAt, LeftNow}
+use Rattle.long_media.specs.LeftLaws.{history_seen_now, history_sized}
+
+-- what a read gives of a tier, until a call has failed
+abbrev pub file_seen : FileMedia → Tier → List ℕ
+file_seen m = row m.inner.tiers
+
+-- how many writes and fences it has had
+abbrev pub file_moment : FileMedia → ℕ
+file_moment m = length m.inner.past.history.events
+
+-- what a stop may leave of a tier after the first calls
+abbrev pub file_left : FileMedia → ℕ → Tier → List ℕ → Type 0
+file_left m = LeftAt m.inner.past.history
+
+-- what a stop now may leave of a tier, by what the system was given and the syncs that it answered with success
+abbrev pub kept_by_system : FileMedia → Tier → List ℕ → Type 0
+kept_by_system m = LeftNow m.inner.host.past.history
+
+-- whether a call of it has failed
+abbrev pub file_failed : FileMedia → Bool
+file_failed m = m.inner.host.failed
+
+-- a stop now leaves what a read gives, and nothing else
+abbrev pub IsAtRest : FileMedia → Type 0
+IsAtRest m = (t : Tier) → AtRest (file_seen m) (file_left m (file_moment m)) t
+
+pub file_seen_now : (m : FileMedia) (t : Tier) → file_left m (file_moment m) t (file_seen m t)
+file_seen_now m t = history_seen_now m.inner.past.history (row m.inner.tiers) m.inner.shows t
+
+pub file_sized : (m : FileMedia) (k : ℕ) (t : Tier) (c : List ℕ) → k ≤ file_moment m → file_left m k t c → length c ≡ length (file_seen m t)
+file_sized m k t c _ left = history_sized m.inner.past.history (row m.inner.tiers) m.inner.shows k t c left

@@ -1,0 +1,129 @@
+// A medium over a file of the operating system, with a mirror in memory.
+ghost use Rattle.std.specs.Prelude.{◌≡◌, ◌≤◌, ◌<◌, ◌+◌, ◌^◌, ◌++◌, List, ℕ, length, take, drop, IfOk, OnOk, OnErr, IsErrOf, true, false};
+ghost use Rattle.tier_device.specs.declared.media.Tier.{Tier};
+ghost use Rattle.tier_device.specs.declared.media.MediaError.TheVariants.{OutOfRange};
+ghost use Rattle.tier_device.specs.Rows.{row};
+ghost use Rattle.tier_device.specs.Media.{overwritten, Puts, Keeps, Tears, TearsAll, Settles, HasCause, InRange};
+ghost use Rattle.long_media.specs.Cover.{Fails};
+ghost use Rattle.long_media.specs.Place.{total};
+ghost use Rattle.long_media.specs.Mirrored.{mirrored_failed};
+
+use crate::mirrored::Mirrored;
+use std::fs::File;
+use tier_device::{Media, MediaError, Tier, Tiers};
+
+/// A medium whose tiers lie in a file, the fast one first. Reads come from a mirror in memory; a write goes to the mirror and to
+/// the file, and a fence ends with the file's data synced, where anything of the tier was written since the last sync.
+/// After a write or a sync that failed each call in range is a device fault, until the file is opened again: the system may
+/// have dropped what it was given.
+#[derive(Debug, Drop)]
+pub struct FileMedia {
+    inner: Mirrored,
+    faults: u64,
+    ghost told: { mirrored_failed inner ≡ true → 0 < faults },
+}
+
+impl FileMedia {
+    ghost use Rattle.long_media.specs.File.{file_seen, file_left, file_moment, file_failed, kept_by_system, IsAtRest};
+
+    // The medium over an open file that was synced, of which a read gives these tiers.
+    pub(crate) fn of(file: File, tiers: Tiers) -> Self
+        requires fits { total tiers < 2 ^ 63 }
+        ensures seen { (t : Tier) → file_seen result t ≡ row tiers t }
+        ensures at_rest { IsAtRest result }
+        ensures clock { file_moment result ≡ 0 }
+        ensures faults { result.faults ≡ 0 }
+        ensures works { file_failed result ≡ false }
+    {
+        FileMedia {
+            inner: Mirrored::of(file, tiers),
+            faults: 0,
+        }
+    }
+
+    /// The bytes of a tier, as the mirror has them.
+    pub fn bytes(&self, tier: Tier) -> &[u8]
+        ensures { result.now ≡ file_seen self.now tier }
+    {
+        self.inner.tiers.bytes(tier)
+    }
+
+    /// Whether a write or a sync has failed, so that each call in range is a device fault.
+    pub fn is_failed(&self) -> bool
+        ensures { result ≡ file_failed self.now }
+    {
+        self.inner.is_failed()
+    }
+
+    /// Each content that a stop may leave of the file, by what the system was given and the syncs that it answered with success,
+    /// is one that the device model allows.
+    pub fn is_covered(&self)
+        ensures { (t : Tier) (c : List ℕ) → kept_by_system self.now t c → ∥ file_left self.now (file_moment self.now) t c ∥₁ }
+    {
+    }
+}
+
+impl Media for FileMedia {
+    ghost use Rattle.long_media.specs.File.{file_seen, file_moment, file_left, file_seen_now, file_sized, file_failed};
+
+    ghost seen = { file_seen };
+
+    ghost moment = { file_moment };
+
+    ghost left = { file_left };
+
+    ghost faults = { λ m. m.faults };
+
+    ghost seen_now = { file_seen_now };
+
+    ghost sized = { file_sized };
+
+    fn size(&self, tier: Tier) -> usize {
+        self.bytes(tier).len()
+    }
+
+    fn read(&mut self, tier: Tier, at: usize, out: &mut [u8]) -> Result<(), MediaError> {
+        let size = self.bytes(tier).len();
+        if size < at || size - at < out.len() {
+            return Err(MediaError::OutOfRange);
+        }
+        if self.inner.is_failed() {
+            self.faults = self.faults.saturating_add(1);
+            return Err(MediaError::DeviceFault);
+        }
+        out.copy_from_slice(&self.bytes(tier)[at..at + out.len()]);
+        Ok(())
+    }
+
+    fn write(&mut self, tier: Tier, at: usize, bytes: &[u8]) -> Result<(), MediaError> {
+        let size = self.bytes(tier).len();
+        if size < at || size - at < bytes.len() {
+            return Err(MediaError::OutOfRange);
+        }
+        if self.inner.is_failed() {
+            self.faults = self.faults.saturating_add(1);
+            return Err(MediaError::DeviceFault);
+        }
+        match self.inner.write(tier, at, bytes) {
+            Ok(()) => Ok(()),
+            Err(_) => {
+                self.faults = self.faults.saturating_add(1);
+                Err(MediaError::DeviceFault)
+            }
+        }
+    }
+
+    fn fence(&mut self, tier: Tier) -> Result<(), MediaError> {
+        if self.inner.is_failed() {
+            self.faults = self.faults.saturating_add(1);
+            return Err(MediaError::DeviceFault);
+        }
+        match self.inner.fence(tier) {
+            Ok(()) => Ok(()),
+            Err(_) => {
+                self.faults = self.faults.saturating_add(1);
+                Err(MediaError::DeviceFault)
+            }
+        }
+    }
+}
