@@ -6,14 +6,13 @@
 #![tactic(auto)]
 
 mod effect;
-mod entries;
 mod laws;
 mod node;
 mod plain;
 
 pub use effect::{Effect, Effects, Kind};
-pub use entries::PlainEntry;
 pub use laws::{
     apart_effects_commute, charge_rises_by_growth_at_most, effect_changes_its_subjects,
 };
+pub use node::PlainEntry;
 pub use plain::PlainGraph;

@@ -1,4 +1,4 @@
-ghost use Rattle.std.specs.Prelude.{◌≡◌, ◌≤◌, ◌<◌, ◌^◌, ◌+◌, ◌++◌, length, take, drop, false, Some, OnOk, OnErr, option_map};
+ghost use Rattle.std.specs.Prelude.{◌≡◌, ◌<◌, ◌^◌, false, Some, OnOk, OnErr, option_map};
 ghost use Rattle.std.specs.FinMap as fin;
 ghost use Rattle.posix_calls.specs.Content.{resized, written};
 ghost use Rattle.file_graph.specs.Graph.{acted, empty_body, in_file, in_directory, file_bytes, directory_entries, cost};
@@ -6,11 +6,13 @@ ghost use Rattle.file_graph.specs.Plain.{pairs, is_drop};
 ghost use Rattle.file_graph.specs.Bodies.{body_of};
 
 use crate::effect::{Effect, Kind};
-use crate::entries::{PlainEntries, PlainEntry};
-use node_bodies::FileBytes;
+use node_bodies::{FileBytes, NameMap, NamedEntry};
 use posix_calls::{Name, UNIT_BYTES, UNIT_ENTRIES};
 use std::alloc::{AllocError, Global};
 use std::marker::Model;
+
+/// An entry of a directory: at its name the inode there, and its kind.
+pub type PlainEntry = NamedEntry<(u32, Kind)>;
 
 /// A node with its bytes or its entries. Contracts see it as a node of a graph.
 #[derive(Debug, Drop)]
@@ -23,7 +25,7 @@ pub struct PlainNode {
 #[derive(Debug, Drop)]
 pub enum PlainBody {
     File(FileBytes),
-    Directory(PlainEntries),
+    Directory(NameMap<(u32, Kind)>),
 }
 
 impl Model for PlainNode {
@@ -46,7 +48,7 @@ impl PlainNode {
     {
         let body = match kind {
             Kind::File => PlainBody::File(FileBytes::new(alloc)),
-            Kind::Directory => PlainBody::Directory(PlainEntries::new(alloc)),
+            Kind::Directory => PlainBody::Directory(NameMap::new(alloc)),
         };
         PlainNode { names, body }
     }

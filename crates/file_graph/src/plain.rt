@@ -6,8 +6,7 @@ ghost use Rattle.file_graph.specs.Plain.{pairs, is_drop, units_at};
 ghost use Rattle.file_graph.specs.Units.{charge};
 
 use crate::effect::{Effect, Kind};
-use crate::entries::PlainEntry;
-use crate::node::PlainNode;
+use crate::node::{PlainEntry, PlainNode};
 use posix_calls::{MAX_INODE, ROOT};
 use std::alloc::{AllocError, Global};
 use std::collections::BTreeMap;

@@ -1,30 +1,12 @@
 -- What deeds make of the nodes and the rows of a plain tree.
 use Rattle.std.proofs.Common.{◌≡◌, ◌≢◌, ℕ, List, Option, refl, sym, ap, ◌∙◌, inl, inr, arith}
-use Rattle.std.proofs.lemmas.Bool.{cases_eq}
-use Rattle.std.proofs.lemmas.Bool.Decides.{nat_tests}
 use Rattle.posix_calls.specs.Tree.{Node, Tree, Own, Descriptors, with_own, State}
 use Rattle.posix_calls.specs.Deeds.{tree_after, own_after, held_after, state_after}
+use Rattle.posix_calls.proofs.Steps.{with_same}
 use Rattle.plain_tree.specs.Plain.{tree_of, held_of, state_in, with_opened, opened_by, HasNumber, IsPlaced}
 use Rattle.posix_calls.specs.declared.deed.Deed.{Deed}
 use Rattle.posix_calls.specs.declared.deed.Deed.TheVariants.{Tell, NewDir, NewFile, OpenFile, CloseFile, Write, Resize, RemoveDir, AddName, DropName, Move}
 use Rattle.posix_calls.specs.declared.descriptor.Descriptor.{Descriptor}
-
-same_own_at : (held : Descriptors) (client c n : ℕ) → with_own held client (held client) c n ≡ held c n
-same_own_at held client c n =
-    elim (cases_eq c client) [
-      | inl same ↦ own_here held client c n (held client) same ∙ ap (λ (k : ℕ). held k n) (sym same)
-      | inr apart ↦ own_off held client c n (held client) apart
-    ]
-  where
-    own_here : (held : Descriptors) (client c n : ℕ) (own : Own) → c ≡ client → with_own held client own c n ≡ own n
-    own_here held client c n own e = grind (arith, nat_tests)
-
-    own_off : (held : Descriptors) (client c n : ℕ) (own : Own) → c ≢ client → with_own held client own c n ≡ held c n
-    own_off held client c n own ne = grind (arith, nat_tests)
-
--- a client's own descriptors are what it has
-pub same_own : (held : Descriptors) (client : ℕ) → with_own held client (held client) ≡ held
-same_own held client = λ k c n. same_own_at held client c n k
 
 pub same_state : (t u : Tree) (h k : Descriptors) → t ≡ u → h ≡ k → ◌≡◌ {A = State} (record { tree = t; descriptors = h }) (record { tree = u; descriptors = k })
 same_state t u h k p q = λ i. record { tree = p i; descriptors = q i }
@@ -39,7 +21,7 @@ carried nodes nodes' rows rows' client new deed held tree =
 pub quiet : (nodes nodes' : List (Option Node)) (rows : List (List (Option Descriptor))) (client new : ℕ) (deed : Deed) → own_after new (held_of rows client) deed ≡ held_of rows client
     → tree_of nodes' ≡ tree_after (held_of rows) new (tree_of nodes) deed → state_in nodes' rows ≡ state_after client new (state_in nodes rows) deed
 quiet nodes nodes' rows client new deed own tree =
-    carried nodes nodes' rows rows client new deed (sym (ap (with_own (held_of rows) client) own ∙ same_own (held_of rows) client)) tree
+    carried nodes nodes' rows rows client new deed (sym (ap (with_own (held_of rows) client) own ∙ with_same (held_of rows) client)) tree
 
 pub unchanged : (nodes nodes' : List (Option Node)) (rows : List (List (Option Descriptor))) → tree_of nodes' ≡ tree_of nodes → state_in nodes' rows ≡ state_in nodes rows
 unchanged nodes nodes' rows tree = same_state _ _ _ _ tree refl
@@ -55,17 +37,17 @@ carried_as nodes nodes' rows rows' client new deed known is held tree = carried 
 
 -- what a deed that closes nothing makes of the descriptors
 pub opened_held : (held : Descriptors) (client new : ℕ) (deed : Deed) → ((i number : ℕ) → deed ≡ CloseFile i number → ⊥) → with_opened held client (opened_by new deed) ≡ held_after client new held deed
-opened_held held client new (Tell answer) closes = sym (same_own held client)
-opened_held held client new (NewDir at) closes = sym (same_own held client)
+opened_held held client new (Tell answer) closes = sym (with_same held client)
+opened_held held client new (NewDir at) closes = sym (with_same held client)
 opened_held held client new (NewFile at number reads writes) closes = refl
 opened_held held client new (OpenFile i empties number reads writes) closes = refl
 opened_held held client new (CloseFile i number) closes = absurd (closes i number refl)
-opened_held held client new (Write i at bytes) closes = sym (same_own held client)
-opened_held held client new (Resize i len) closes = sym (same_own held client)
-opened_held held client new (RemoveDir at i) closes = sym (same_own held client)
-opened_held held client new (AddName at i) closes = sym (same_own held client)
-opened_held held client new (DropName at i) closes = sym (same_own held client)
-opened_held held client new (Move from to i is_dir replaced) closes = sym (same_own held client)
+opened_held held client new (Write i at bytes) closes = sym (with_same held client)
+opened_held held client new (Resize i len) closes = sym (with_same held client)
+opened_held held client new (RemoveDir at i) closes = sym (with_same held client)
+opened_held held client new (AddName at i) closes = sym (with_same held client)
+opened_held held client new (DropName at i) closes = sym (with_same held client)
+opened_held held client new (Move from to i is_dir replaced) closes = sym (with_same held client)
 
 -- what is opened matters to no tree
 pub opened_tree : (held : Descriptors) (client new : ℕ) (t : Tree) (deed : Deed) → tree_after held new t deed ≡ tree_after (with_opened held client (opened_by new deed)) new t deed

@@ -7,15 +7,16 @@ use Rattle.posix_calls.specs.Tree.{Node, Tree, set_node}
 use Rattle.posix_calls.proofs.Changes.{set_there, set_other}
 use Rattle.plain_tree.specs.Plain.{tree_of}
 
-pushed_at : (nodes : List (Option Node)) (i : ℕ) → tree_of (nodes ++ None ∷ []) i ≡ tree_of nodes i
-pushed_at [] zero = refl
-pushed_at [] (suc i) = refl
-pushed_at (x ∷ nodes) zero = refl
-pushed_at (x ∷ nodes) (suc i) = pushed_at nodes i
+-- the default at the end changes nothing
+pub pushed_at : {A : Type 0} (xs : List A) (d : A) (i : ℕ) → get_or (xs ++ d ∷ []) i d ≡ get_or xs i d
+pushed_at [] d zero = refl
+pushed_at [] d (suc i) = refl
+pushed_at (x ∷ xs) d zero = refl
+pushed_at (x ∷ xs) d (suc i) = pushed_at xs d i
 
 -- nothing at the end changes nothing
 pub tree_pushed : (nodes : List (Option Node)) → tree_of (nodes ++ None ∷ []) ≡ tree_of nodes
-tree_pushed nodes = λ k i. pushed_at nodes i k
+tree_pushed nodes = λ k i. pushed_at nodes None i k
 
 there : (t : Tree) (j i : ℕ) (x : Option Node) → j ≡ i → x ≡ set_node t i x j
 there t j i x same = sym (set_there t i x) ∙ ap (set_node t i x) (sym same)

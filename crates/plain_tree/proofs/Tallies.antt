@@ -15,23 +15,13 @@ use Rattle.posix_calls.specs.declared.deed.Spot.{Spot}
 use Rattle.posix_calls.specs.declared.limits.TheConstants.{MAX_INODE}
 use Rattle.posix_calls.proofs.Sums.{names_of-set_node, all_zero}
 use Rattle.posix_calls.proofs.Counts.{counted, counted_is, counted_empty, absent}
-use Rattle.posix_calls.proofs.Changes.{in_node, set_alike, entered_names, left_names, left_here, on_one, set_other, set_there}
+use Rattle.posix_calls.proofs.Changes.{in_node, bare_names, entered_names, left_names, left_here, on_one, set_other, set_there}
+use Rattle.plain_tree.proofs.Slots.{pushed_at}
 use Rattle.plain_tree.proofs.Moves.{renewed, off_parent}
 use Rattle.plain_tree.proofs.Answering.{get_nothing}
 use Rattle.std.proofs.lemmas.Bool.Decides.{eqb_tells}
 
 -- ---- how many there are
-
-names_in_bare : (k : ℕ) (o : Option Node) → IsBare o → names_in k o ≡ 0
-names_in_bare k o bare = in_node k o ∙ ap (counted k) bare ∙ counted_empty k
-
-bare_at : (t : Tree) (i : ℕ) (x : Option Node) → IsBare (t i) → IsBare x → (k d : ℕ) → names_in k (set_node t i x d) ≡ names_in k (t d)
-bare_at t i x was is k d = set_alike (names_in k) t i x (names_in_bare k x is ∙ sym (names_in_bare k (t i) was)) d
-
--- what has no entries comes and goes without a name
-pub bare_names : (t : Tree) (i : ℕ) (x : Option Node) → IsBare (t i) → IsBare x → (k : ℕ) → names_of (set_node t i x) k ≡ names_of t k
-unfolding names_of
-bare_names t i x was is k = ap (sum_up_to MAX_INODE) (λ j d. bare_at t i x was is k d j)
 
 less_none : (t : Tree) (at : Spot) → IsInode at.parent → at_spot t at ≡ None → (k : ℕ) → names_of (left t at) k + 0 ≡ names_of t k
 less_none t at place none k =
@@ -146,15 +136,9 @@ module _ (counts made : List ℕ) (old : Nodes) (at : Spot) (o : Option ℕ) (wa
 
 -- ---- the counts in their list
 
-pushed_at : (counts : List ℕ) (i : ℕ) → count_at (counts ++ 0 ∷ []) i ≡ count_at counts i
-pushed_at [] zero = refl
-pushed_at [] (suc i) = refl
-pushed_at (n ∷ counts) zero = refl
-pushed_at (n ∷ counts) (suc i) = pushed_at counts i
-
 -- no names at the end change nothing
 pub counts_pushed : (counts : List ℕ) → count_at (counts ++ 0 ∷ []) ≡ count_at counts
-counts_pushed counts = λ k i. pushed_at counts i k
+counts_pushed counts = λ k i. pushed_at counts 0 i k
 
 -- what has a name has its place
 pub has_place : (counts : List ℕ) (o : Option ℕ) (i : ℕ) → o ≡ Some i → ((k : ℕ) → one_for o k ≤ count_at counts k) → i < length counts

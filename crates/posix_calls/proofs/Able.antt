@@ -61,7 +61,7 @@ same_le a b e = omega (arith, e)
 
 -- a node without entries is changed for another
 pub lesser_set : (t : Tree) (i : ℕ) (x : Option Node) → AreNodesWithin t → IsBare (t i) → IsBare x → 1 ≤ i → i ≤ 1024 → IsNodeWithin x → IsLesser t (set_node t i x)
-lesser_set t i x nodes bare new low high within = record { nodes = set_within t i x nodes within; names = λ k. same_le (names_of (set_node t i x) k) (names_of t k) (bare_names t i x bare new k low high) }
+lesser_set t i x nodes bare new low high within = record { nodes = set_within t i x nodes within; names = λ k. same_le (names_of (set_node t i x) k) (names_of t k) (bare_names t i x bare new k) }
 
 pub lesser_unused : (t : Tree) (held : Descriptors) (i : ℕ) → AreNodesWithin t → IsBare (t i) → 1 ≤ i → i ≤ 1024 → IsLesser t (less_unused held t i)
 lesser_unused t held i nodes bare low high = if_unused (names_of t i == 0 && not (is_open held i)) where
@@ -98,7 +98,7 @@ within_made s at i x fine within room few free low high new small =
       entries = λ j. (nodes j).entries;
       names = λ k.
           let change = entered_names made at i (bare_same t i (Some x) bare new at ∙ room.none) range.0 range.1 k in
-          let same = bare_names t i (Some x) bare new k (omega (arith, low)) high in
+          let same = bare_names t i (Some x) bare new k in
           let had = within.names k in
           elim (eqb_tells k i) [
             | inl it ↦

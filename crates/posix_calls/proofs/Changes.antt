@@ -5,7 +5,8 @@ use Rattle.std.proofs.lemmas.Bool.{eq-eqb}
 use Rattle.std.specs.Prelude.{option_map}
 use Rattle.std.specs.FinMap as fin
 use Rattle.posix_calls.specs.Content.{Entries}
-use Rattle.posix_calls.specs.Tree.{Tree, Node, File, Dir, set_node, entries_of, names_of, names_in}
+use Rattle.posix_calls.specs.Tree.{Tree, Node, File, Dir, set_node, entries_of, names_of, names_in, sum_up_to}
+use Rattle.posix_calls.specs.declared.limits.TheConstants.{MAX_INODE}
 use Rattle.posix_calls.specs.Asks.{dir_test}
 use Rattle.posix_calls.specs.declared.deed.Spot.{Spot}
 use Rattle.posix_calls.specs.Deeds.{entered, left}
@@ -75,12 +76,12 @@ module _ (t : Tree) (i : ℕ) (x : Option Node) (bare : IsBare (t i)) (new : IsB
   pub bare_same : (at : Spot) → entry (set_node t i x) at ≡ entry t at
   bare_same at = ap (λ m. fin.get m at.name) (bare_entries at.parent)
 
-  pub bare_names : (k : ℕ) → 1 ≤ i → i ≤ 1024 → names_of (set_node t i x) k ≡ names_of t k
-  bare_names k low high =
-      let change = names_of-set_node t i k x low high in
-      let before : names_in k (t i) ≡ 0 = in_node k (t i) ∙ ap (counted k) bare ∙ counted_empty k in
-      let after : names_in k x ≡ 0 = in_node k x ∙ ap (counted k) new ∙ counted_empty k in
-      omega (arith, change, before, after)
+  bare_at : (k d : ℕ) → names_in k (set_node t i x d) ≡ names_in k (t d)
+  bare_at k d = set_alike (names_in k) t i x (in_node k x ∙ ap (counted k) (new ∙ sym bare) ∙ sym (in_node k (t i))) d
+
+  pub bare_names : (k : ℕ) → names_of (set_node t i x) k ≡ names_of t k
+  unfolding names_of
+  bare_names k = ap (sum_up_to MAX_INODE) (λ j d. bare_at k d j)
 
 -- ---- a name comes
 

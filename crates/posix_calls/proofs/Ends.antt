@@ -12,7 +12,7 @@ nameless = record { tree = set_node empty_tree 2 (Some (File (97 ∷ []))); desc
 
 nameless_names : names_of nameless.tree 2 ≡ 0
 unfolding nameless
-nameless_names = bare_names empty_tree 2 (Some (File (97 ∷ []))) refl refl 2 (lit≤ tt) (lit≤ tt) ∙ no_names 2
+nameless_names = bare_names empty_tree 2 (Some (File (97 ∷ []))) refl refl 2 ∙ no_names 2
 
 -- it goes where that is closed
 closed_goes : (state_after 1 0 nameless (CloseFile 2 0)).tree 2 ≡ None

@@ -55,14 +55,14 @@ written_fine s i bytes fine is =
     })
     (record {
       kinds = λ j off. ap (option_map dir_test) (set_other t i j x off);
-      names = λ j off. bare_names t i x bare refl j range.0 range.1;
+      names = λ j off. bare_names t i x bare refl j;
       opens = λ j off e. e;
     })
     (record {
       none = λ none. absurd (let clash : None ≡ Some false = sym (ap (option_map dir_test) none) ∙ here in cc);
       one_name = λ dir. absurd (not_both (set_node t i x i) here dir);
       used = λ file. elim (fine.used i is) [
-        | inl named ↦ inl (subst (λ n. 0 < n) (sym (bare_names t i x bare refl i range.0 range.1)) named)
+        | inl named ↦ inl (subst (λ n. 0 < n) (sym (bare_names t i x bare refl i)) named)
         | inr at ↦ inr at
       ];
     })
@@ -150,7 +150,7 @@ unused_fine s t held i fine other tree reached holds beside is =
           let un = unused_true (names_of t i) (is_open held i) unused in
           let range = range_of t i false tree is in
           let bare = bare_file (t i) is in
-          let names = λ (j : ℕ). bare_names t i None bare refl j range.0 range.1 in
+          let names = λ (j : ℕ). bare_names t i None bare refl j in
           let gone : set_node t i None i ≡ None = set_there t i None in
           well_formed s (set_node t i None) held i fine other
           (tree_set t i None tree other range.0 range.1)

@@ -54,7 +54,7 @@ removed_fine s at i fine is dir bare =
     let range = range_of t i true tree dir in
     let apart : i ≢ at.parent = λ same. bare_entry (t i) at.name i bare (ap (λ k. entry t (record { parent = k; name = at.name })) same ∙ is) in
     let bare_then : IsBare (left t at i) = ap entries_of (set_other t at.parent i _ apart) ∙ bare in
-    let names = λ (j : ℕ). bare_names (left t at) i None bare_then refl j range.0 range.1 in
+    let names = λ (j : ℕ). bare_names (left t at) i None bare_then refl j in
     let gone : set_node (left t at) i None i ≡ None = set_there (left t at) i None in
     well_formed s (set_node (left t at) i None) s.descriptors i fine other
     (tree_set (left t at) i None (tree_left t at tree parent) other range.0 range.1)
@@ -126,7 +126,7 @@ made_fine s at i x fine room free low high new =
     let none : entry made at ≡ None = bare_same t i (Some x) bare new at ∙ room.none in
     let kinds = λ (j : ℕ) (off : j ≢ i). entered_kind made at i parent j ∙ ap (option_map dir_test) (set_other t i j (Some x) off) in
     let range = range_of t at.parent true tree room.directory in
-    let names = λ (j : ℕ). entered_names made at i none range.0 range.1 j ∙ ap (λ n. n + cond (i == j) 1 0) (bare_names t i (Some x) bare new j (omega (arith, low)) high) in
+    let names = λ (j : ℕ). entered_names made at i none range.0 range.1 j ∙ ap (λ n. n + cond (i == j) 1 0) (bare_names t i (Some x) bare new j) in
     let had = fine.entries i free in
     let one : names_of (entered made at i) i ≡ 1 = let change = names i in let there = on_one i in omega (arith, change, there, had) in
     well_formed s (entered made at i) s.descriptors i fine other

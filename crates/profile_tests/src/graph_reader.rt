@@ -49,7 +49,7 @@ impl GraphReader {
         self.kinds.push(inode)?;
         if let Some(entries) = self.graph.entries(inode) {
             for entry in entries {
-                self.kinds.push(entry.inode)?;
+                self.kinds.push(entry.value.0)?;
             }
         }
         Ok(())
