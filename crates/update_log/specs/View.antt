@@ -14,8 +14,8 @@ pub record RegionView (M : Type 0) : Type 0 where
   -- where the next record's gate stands
   pub end : ℕ
   pub stage : Stage
-  -- of the record that is begun
-  pub payload : List ℕ
+  -- the record that is begun and not appended, if there is one
+  pub begun : Option Record
 
 -- the bytes before the next gate
 abbrev pub front_of : {M : Type 0} → (M → Tier → List ℕ) → RegionView M → List ℕ
@@ -29,6 +29,7 @@ header_of seen v = header (front_of seen v)
 abbrev pub records_of : {M : Type 0} → (M → Tier → List ℕ) → RegionView M → List Record
 records_of seen v = spelled (before_gate (front_of seen v))
 
+-- the record that a payload spells, at the stages where one is begun
 abbrev pub begun_in : Stage → List ℕ → Option Record
 begun_in stages.Resting payload = None
 begun_in stages.Foreign payload = None
@@ -40,7 +41,7 @@ begun_in stages.Failed payload = record_of payload
 
 -- the record that is begun and not appended, if there is one
 abbrev pub begun_of : {M : Type 0} → RegionView M → Option Record
-begun_of v = begun_in v.stage v.payload
+begun_of v = v.begun
 
 -- A content with this header and these records, with the begun one after them or without it.
 pub record WithOrWithout (head : List ℕ) (rs : List Record) (begun : Option Record) (content : List ℕ) : Type 0 where

@@ -17,7 +17,7 @@ use crate::front::{read_before_gate, read_front};
 use crate::scan::{end_of, records_in, stage_at};
 use crate::stage::{Progress, Stage};
 use byteorder::{ByteOrder, LittleEndian};
-use log_record::{Record, write_record, written_is_read};
+use log_record::{Record, write_behind, written_is_read};
 use std::alloc::{AllocError, Global};
 use std::marker::Model;
 use tier_device::{Media, Tier};
@@ -37,14 +37,14 @@ pub struct Region<M: Media> {
 }
 
 impl<M: Media> Model for Region<M> {
-    ghost use Rattle.update_log.specs.View.{RegionView};
+    ghost use Rattle.update_log.specs.View.{RegionView, begun_in};
     ghost use Rattle.tier_device.specs.declared.media.Tier.TheVariants.{Fast};
 
     ghost Value = { RegionView M };
 
     ghost use Rattle.update_log.specs.Stage.{IsSound, payload_in};
 
-    ghost view = { λ r. record { media = r.media; end = r.end; stage = r.stage; payload = payload_in r.body.items } };
+    ghost view = { λ r. record { media = r.media; end = r.end; stage = r.stage; begun = begun_in r.stage (payload_in r.body.items) } };
 
     ghost invariant = { λ r. IsSound r.end r.stage r.body.items (M.seen r.media Fast) (M.left r.media (M.moment r.media) Fast) };
 }
@@ -98,8 +98,8 @@ impl<M: Media> Region<M> {
 
     /// Begins to append a record. It makes no device call.
     ///
-    /// Refused, with nothing changed, are a record that leaves no place for the gate behind it (`RegionFull`), and a want of
-    /// memory, which may come before that.
+    /// Refused, with nothing changed, are a record that leaves no place for the gate behind it (`RegionFull`), and then a want
+    /// of memory.
     pub fn begin(&mut self, entry: &Record) -> Result<(), RegionError>
         requires ready { self.old.stage ≡ stages.Resting }
         requires fits { IsRecord entry.now }
@@ -110,21 +110,18 @@ impl<M: Media> Region<M> {
 
         ensures room { OnOk result (self.old.end + 5 + length (spelling entry.now) + 1 ≤ REGION_SIZE) }
         ensures full { IsErrOf result RegionFull → REGION_SIZE < self.old.end + 5 + length (spelling entry.now) + 1 }
+        ensures memory { IsErrOf result Memory → self.old.end + 5 + length (spelling entry.now) + 1 ≤ REGION_SIZE }
         ensures only { IfErr result (λ e. (e ≡ RegionFull) ⊎ (e ≡ Memory)) }
         ensures refused { OnErr result (self.new ≡ self.old) }
     {
-        let payload = match write_record(self.alloc, entry) {
-            Ok(payload) => payload,
-            Err(_) => return Err(RegionError::Memory),
-        };
         written_is_read();
+        let len = entry.spelled_len();
         let left = REGION_SIZE - self.end;
-        if left < 6 || left - 6 < payload.len() {
+        if left < 6 || left - 6 < len {
             return Err(RegionError::RegionFull);
         }
-        match bytes_behind_gate(self.alloc, &payload) {
-            Ok(body) => {
-                self.body = body;
+        match write_body(&mut self.body, entry) {
+            Ok(()) => {
                 self.stage = Stage::Begun;
                 Ok(())
             }
@@ -201,7 +198,7 @@ impl<M: Media> Region<M> {
     /// The records that are appended, in their order. It reads them from the medium, and changes nothing.
     pub fn records(&mut self) -> Result<Vec<Record>, RegionError>
         ensures found { IfOk result (λ found. found.items ≡ records_of M.seen self.old) }
-        ensures same { (self.new.end ≡ self.old.end) × (self.new.stage ≡ self.old.stage) × (self.new.payload ≡ self.old.payload) }
+        ensures same { (self.new.end ≡ self.old.end) × (self.new.stage ≡ self.old.stage) × (begun_of self.new ≡ begun_of self.old) }
         ensures seen { (t : Tier) → M.seen self.new.media t ≡ M.seen self.old.media t }
         ensures clock { M.moment self.new.media ≡ M.moment self.old.media }
         ensures past { Keeps (M.moment self.old.media) (M.moment self.new.media) (M.left self.old.media) (M.left self.new.media) }
@@ -250,16 +247,19 @@ impl<M: Media> Region<M> {
     }
 }
 
-// The length of a payload, the payload, and a closed gate.
-fn bytes_behind_gate(alloc: Global, payload: &[u8]) -> Result<Vec<u8>, AllocError>
-    requires { length payload.now < 262144 }
-    ensures { IfOk result (λ body. body.items ≡ behind_gate payload.now) }
+// The length of a record's payload, the payload, and a closed gate, in place of what stood in the buffer.
+fn write_body(body: &mut Vec<u8>, entry: &Record) -> Result<(), AllocError>
+    requires fits { IsRecord entry.now }
+    requires short { length (spelling entry.now) < 262144 }
+    ensures { OnOk result (body.new.items ≡ behind_gate (spelling entry.now)) }
 {
+    let len = entry.spelled_len();
     let mut size = [0; 4];
-    LittleEndian::write_u32(&mut size, payload.len() as u32);
-    let mut body = Vec::with_capacity(alloc, payload.len() + 5)?;
+    LittleEndian::write_u32(&mut size, len as u32);
+    body.clear();
+    body.reserve(len + 5)?;
     body.extend_from_slice(&size)?;
-    body.extend_from_slice(payload)?;
+    write_behind(body, entry)?;
     body.push(CLOSED)?;
-    Ok(body)
+    Ok(())
 }

@@ -5,7 +5,7 @@ use Rattle.update_log.specs.declared.stage.Stage.TheVariants as stages
 use Rattle.update_log.specs.Frames.{before_gate, spelled, joined}
 use Rattle.update_log.specs.Stage.{IsAppending, payload_in, BeforeOrAfter}
 use Rattle.update_log.specs.Calls.{payloads_after, end_after}
-use Rattle.update_log.specs.View.{RegionView, WithOrWithout, header_of, records_of, begun_of}
+use Rattle.update_log.specs.View.{RegionView, begun_in, WithOrWithout, header_of, records_of, begun_of}
 use Rattle.update_log.proofs.Views.{since_one, shows_either, begun_appending, next_resting, spelled_more}
 use Rattle.update_log.proofs.region.Region.step.Goals as goal
 
@@ -52,6 +52,6 @@ returns-in-Ok-clause-appended g c done =
     c.end_after-self-inside.ensures ∙ ap (λ (b : List ℕ). end_after s.stage s.end b) (again ∙ sym same) in
     let more : payloads_after s.stage ps (payload_in c.deref.result.now) ≡ ps ++ payload ∷ [] =
     (λ k. payloads_after (last k) ps (payload_in (same k))) in
-    let all : spelled (before_gate (take c.end_after-self-inside.result seen')) ≡ joined (spelled ps) (begun_of (record { media = s.media; end = s.end; stage = s.stage; payload = payload })) =
+    let all : spelled (before_gate (take c.end_after-self-inside.result seen')) ≡ joined (spelled ps) (begun_of (record { media = s.media; end = s.end; stage = s.stage; begun = begun_in s.stage payload })) =
     ap (λ n. spelled (before_gate (take n seen'))) at_end ∙ ap spelled (moved.payloads_are ∙ more) ∙ spelled_more ps payload ∙ ap (joined (spelled ps)) (sym (begun_appending s.stage payload appending)) in
     subst (λ (v : RegionView _). spelled (before_gate (take c.end_after-self-inside.result seen')) ≡ joined (records_of m.seen v) (begun_of v)) c.self.view_is all
