@@ -14,6 +14,7 @@ mod geometry;
 mod kinds;
 mod laws;
 mod marks;
+mod numbers;
 mod places;
 mod reading;
 mod slot;
@@ -32,6 +33,7 @@ pub use laws::{
     marks_are_spelled, slot_is_read, slot_is_spelled, super_is_read, super_is_spelled,
 };
 pub use marks::{CLIENTS, Mark, Marks};
+pub use numbers::{format_has_its_bytes, format_has_its_limits, format_has_its_places};
 pub use places::{
     BLOCK, FIRST_IMAGE_BLOCK, FIRST_NODE_BLOCK, FIRST_SLOT_BLOCK, GATE_BLOCK, HEAD_BLOCK,
     MARKS_BLOCK, MAX_DATA_BLOCKS, MAX_IMAGES, MAX_UNITS, MIN_UNITS, SLOT_SIZE, SLOTS_IN_BLOCK,
