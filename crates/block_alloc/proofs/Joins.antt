@@ -126,7 +126,7 @@ apart_front run front rest s apart =
     let tail = all_right P (blocks_of front) (run_blocks s ++ blocks_of rest) (subst (AllByRecursion P) (flat_map-append run_blocks front (s ∷ rest)) apart) in
     (all_left P (run_blocks s) (blocks_of rest) tail, all_right P (run_blocks s) (blocks_of rest) tail)
 
-normal_tail : (low end : ℕ) (front rest : List Run) (s : Run) → IsNormal low end (front ++ s ∷ rest) → IsNormal low end (front ++ s ∷ []) × IsNormal (s.first + s.count + 1) end rest
+pub normal_tail : (low end : ℕ) (front rest : List Run) (s : Run) → IsNormal low end (front ++ s ∷ rest) → IsNormal low end (front ++ s ∷ []) × IsNormal (s.first + s.count + 1) end rest
 normal_tail low end [] rest s is = ((is.0, is.1, is.2, tt), is.3)
 normal_tail low end (x ∷ xs) rest s is = let t = normal_tail (x.first + x.count + 1) end xs rest s is.3 in ((is.0, is.1, is.2, t.0), t.1)
 
@@ -257,7 +257,7 @@ length-run r = length-range_with_len r.first r.count
 
 -- ---- a run apart from others
 
-all_append : {X : Type 0} (P : X → Type 0) (xs ys : List X) → AllByRecursion P xs → AllByRecursion P ys → AllByRecursion P (xs ++ ys)
+pub all_append : {X : Type 0} (P : X → Type 0) (xs ys : List X) → AllByRecursion P xs → AllByRecursion P ys → AllByRecursion P (xs ++ ys)
 all_append P [] ys all_x all_y = all_y
 all_append P (x ∷ xs) ys all_x all_y = (all_x.0, all_append P xs ys all_x.1 all_y)
 

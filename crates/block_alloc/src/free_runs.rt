@@ -1,9 +1,9 @@
-ghost use Rattle.std.specs.Prelude.{◌≡◌, ◌+◌, ◌<◌, ◌≤◌, ◌^◌, length, take, drop, IfOk, IfErr, OnOk, OnErr, IsOk, ◌⊎◌, ◌↔◌, IsTrue};
-ghost use Rattle.block_alloc.specs.Runs.{run_blocks, blocks_of, unused, PutIn};
+ghost use Rattle.std.specs.Prelude.{◌≡◌, ◌+◌, ◌<◌, ◌≤◌, ◌^◌, length, take, drop, IfOk, IsErrOf, OnOk, OnErr, IsOk, ◌⊎◌, ◌↔◌, IsTrue};
+ghost use Rattle.block_alloc.specs.Runs.{run_blocks, blocks_of, unused, IsNormal, PutIn};
 ghost use Rattle.block_alloc.specs.Value.{IsUsed, InOrder, SamePool};
-ghost use Rattle.block_alloc.specs.declared.fault.AllocFault.TheVariants.{NoBlock, Memory};
+ghost use Rattle.block_alloc.specs.declared.error.AllocatorError.TheVariants.{NoBlock, Memory};
 
-use crate::fault::AllocFault;
+use crate::error::AllocatorError;
 use crate::runs::{Run, are_apart, count_of, drop_front, front_of, put_in, split_of, unused_runs};
 use std::alloc::{AllocError, Global};
 use std::marker::Model;
@@ -53,32 +53,35 @@ impl FreeRuns {
         })
     }
 
-    /// How many blocks are free.
+    /// How many blocks are free. Those that are free always rise strictly, within the range.
     pub fn free(&self) -> u32
-        ensures { result ≡ length self.now.free }
+        ensures count { result ≡ length self.now.free }
+        ensures ordered { InOrder self.now }
     {
         self.free
     }
 
-    /// Takes the lowest free blocks, as one run or several. NoBlock exactly where fewer are free, Memory where the answer found
-    /// no room: nothing has changed then.
-    pub fn take(&mut self, count: u32) -> Result<Vec<Run>, AllocFault>
+    /// Takes the lowest free blocks, as one run or several, which do not touch one another. `NoBlock` exactly where fewer are free, `Memory` where the
+    /// answer found no room: nothing has changed then.
+    pub fn take(&mut self, count: u32) -> Result<Vec<Run>, AllocatorError>
+        // Each run has a block or more, and between two of them stands a block that is of neither.
+        ensures apart { IfOk result (λ runs. IsNormal self.old.first self.old.end runs.items) }
         ensures taken { IfOk result (λ runs. blocks_of runs.items ≡ take count self.old.free) }
         ensures enough { OnOk result (count ≤ length self.old.free) }
         ensures rest { OnOk result (self.new.free ≡ drop count self.old.free) }
         ensures ordered { OnOk result (InOrder self.new) }
         ensures room { OnOk result (self.old.room ≤ self.new.room) }
         ensures pool { SamePool self.old self.new }
-        ensures few { IfErr result (λ e. e ≡ NoBlock → length self.old.free < count) }
+        ensures few { IsErrOf result NoBlock ↔ (length self.old.free < count) }
         ensures err { OnErr result (self.new ≡ self.old) }
     {
         if self.free < count {
-            return Err(AllocFault::NoBlock);
+            return Err(AllocatorError::NoBlock);
         }
         let split = split_of(&self.runs, count);
         let taken = match front_of(self.alloc, &self.runs, split) {
             Ok(taken) => taken,
-            Err(_) => return Err(AllocFault::Memory),
+            Err(_) => return Err(AllocatorError::Memory),
         };
         drop_front(&mut self.runs, split);
         self.free -= count;
@@ -95,7 +98,8 @@ impl FreeRuns {
         self.runs.reserve(runs)
     }
 
-    /// Whether a run may be given: it lies within the pool, has a block or more, and none of its blocks is free.
+    /// Whether a run may be given: it lies within the pool, has a block or more, and none of its blocks is free. It looks at a
+    /// few runs only, by bisection.
     pub fn is_used(&self, run: Run) -> bool
         ensures { IsTrue result ↔ IsUsed self.now run }
     {
@@ -106,7 +110,7 @@ impl FreeRuns {
             && are_apart(&self.runs, run)
     }
 
-    /// Gives back a run of blocks, none of which is free. It succeeds where there is room for a run; else memory may be refused,
+    /// Gives back a run of blocks, none of which is free. Its place is found by bisection. It succeeds where there is room for a run; else memory may be refused,
     /// and then nothing has changed.
     pub fn give(&mut self, run: Run) -> Result<(), AllocError>
         requires { IsUsed self.old run }

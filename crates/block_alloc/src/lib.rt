@@ -1,10 +1,10 @@
 //! The free blocks of a pool, kept as runs.
 #![tactic(auto)]
 
-mod fault;
+mod error;
 mod free_runs;
 mod runs;
 
-pub use fault::AllocFault;
+pub use error::AllocatorError;
 pub use free_runs::FreeRuns;
 pub use runs::Run;

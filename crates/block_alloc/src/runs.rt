@@ -46,7 +46,8 @@ pub fn front_of(alloc: Global, runs: &[Run], split: Split) -> Result<Vec<Run>, A
     requires part { (r : Run) → split.whole < length runs.now → split.left < (slice_index_or runs.now split.whole r).count }
     requires none { length runs.now ≤ split.whole → split.left ≡ 0 }
     requires few { length runs.now < 2 ^ 60 }
-    ensures { IfOk result (λ v. blocks_of v.items ≡ take (length (blocks_of (take split.whole runs.now)) + split.left) (blocks_of runs.now)) }
+    ensures blocks { IfOk result (λ v. blocks_of v.items ≡ take (length (blocks_of (take split.whole runs.now)) + split.left) (blocks_of runs.now)) }
+    ensures normal { IfOk result (λ v. (low end : ℕ) → IsNormal low end runs.now → IsNormal low end v.items) }
 {
     let mut front = Vec::with_capacity(alloc, split.whole + 1)?;
     front.extend_from_slice(&runs[..split.whole])?;
@@ -145,17 +146,12 @@ pub fn count_of(runs: &[Run]) -> u32
 
 // How many runs end before a block, with another block between.
 fn place_of(runs: &[Run], block: u32) -> usize
+    requires { IsNormal 0 4294967295 runs.now }
     ensures within { result ≤ length runs.now }
     ensures before { EndsBefore block (take result runs.now) }
     ensures next { (r : Run) → result < length runs.now → block ≤ (slice_index_or runs.now result r).first + (slice_index_or runs.now result r).count }
 {
-    'runs: for place in 0..runs.len() {
-        let run = runs[place];
-        if block <= run.first || block - run.first <= run.count {
-            return place;
-        }
-    }
-    runs.len()
+    runs.partition_point(|run| run.first as u64 + (run.count as u64) < block as u64)
 }
 
 // Makes one run of the run at a place and the next, where that follows at once.
@@ -257,15 +253,6 @@ pub fn put_in(runs: &mut Vec<Run>, run: Run) -> Result<(), AllocError>
     insert_run(runs, place, run)
 }
 
-// Whether two runs have a block in common.
-fn overlap(one: Run, other: Run) -> bool
-    requires one { one.first + one.count < 2 ^ 32 }
-    requires other { other.first + other.count < 2 ^ 32 }
-    ensures { IsTrue result ↔ ((other.first < one.first + one.count) × (one.first < other.first + other.count)) }
-{
-    other.first < one.first + one.count && one.first < other.first + other.count
-}
-
 /// Whether a run has no block in common with the runs.
 pub fn are_apart(runs: &[Run], run: Run) -> bool
     requires some { 0 < run.count }
@@ -273,11 +260,6 @@ pub fn are_apart(runs: &[Run], run: Run) -> bool
     requires normal { IsNormal 0 4294967295 runs.now }
     ensures { IsTrue result ↔ Apart run (blocks_of runs.now) }
 {
-    'runs: for place in 0..runs.len() {
-        let other = runs[place];
-        if overlap(run, other) {
-            return false;
-        }
-    }
-    true
+    let place = place_of(runs, run.first + 1);
+    !begins_before(runs, place, run.first + run.count)
 }

@@ -1,13 +1,14 @@
 -- Directory blocks, both ways.
-use Rattle.std.proofs.Common.{◌≡◌, ℕ, ◌-◌, ◌*◌, ◌^◌, ◌<◌, ◌≤◌, true, leb, ◌&&◌, List, [], ◌∷◌, ◌++◌, length, take, drop, Some, refl, sym, ap, subst, ◌∙◌, append_assoc, arith}
+use Rattle.std.proofs.Common.{◌≡◌, ℕ, ◌-◌, ◌*◌, ◌^◌, ◌<◌, ◌≤◌, Bool, true, leb, eqb, ◌&&◌, List, [], ◌∷◌, ◌++◌, length, take, drop, Some, refl, sym, ap, subst, ◌∙◌, append_assoc, arith}
 use Rattle.std.specs.List.{flat_map, list_all}
+use Rattle.std.specs.Prelude.{not}
 use Rattle.std.proofs.lemmas.Bool.{and_from, leb-true, le-leb}
 use Rattle.std.proofs.lemmas.List.{length-append, length-take, take_at, drop_at, take-append-drop}
 use Rattle.posix_calls.specs.Name.{is_name}
 use Rattle.layout.specs.declared.directory.DirEntry.{DirEntry}
 use Rattle.layout.specs.Places.{is_inode}
-use Rattle.layout.specs.Bytes.{AreBytes, u32, zeros, filled, byte_at, run_at, number_at, text_at, items_at, are_zero}
-use Rattle.layout.specs.Directory.{EntryList, kind_byte, entry_text, entries_text, entries_spelling, fits_entry, fits_entries, kind_at, front_of, fields_at, entry_at, head_at, entries_at, entries_of}
+use Rattle.layout.specs.Bytes.{AreBytes, u32, zeros, filled, byte_at, run_at, number_at, text_at, items_at, are_zero, within}
+use Rattle.layout.specs.Directory.{EntryList, kind_byte, entry_text, entries_text, entries_spelling, fits_entry, are_distinct, fits_entries, kind_at, front_of, fields_at, entry_at, head_at, entries_at, entries_of}
 use Rattle.layout.proofs.Limits.{and_parts}
 use Rattle.layout.proofs.Fields.{Takes, Takes-then, bind_some, test_some, some_is, text_takes, text_again, u32_takes, u32_again, u32_long, byte_takes, run_takes, run_again, kind_takes, kind_again}
 use Rattle.layout.proofs.Blocks.{zeros_are_zero, are_zero_zeros, within_parts, within_again, filled_from, filled_long}
@@ -49,6 +50,20 @@ front_again n m name long le =
 
 -- ---- entries
 
+pub record EntryFits (e : DirEntry) : Type 0 where
+  pub inode : is_inode e.inode ≡ true
+  pub name : is_name e.name ≡ true
+
+pub entry_fits : (e : DirEntry) → fits_entry e ≡ true → EntryFits e
+entry_fits e fit =
+    let p = and_parts (is_inode e.inode && not (eqb e.inode 1)) (is_name e.name) fit in
+    let q = and_parts (is_inode e.inode) (not (eqb e.inode 1)) p.0 in
+    record { inode = q.0; name = p.1 }
+
+-- the entries of a block, whatever their names
+abbrev pub fits_list : EntryList → Bool
+fits_list v = is_inode v.owner && leb (length v.entries) 56 && list_all fits_entry v.entries
+
 fields_take : (bytes : List ℕ) (x : DirEntry × List ℕ) → AreBytes bytes → fields_at bytes ≡ Some x → Takes bytes (entry_text x.0) x.1
 unfolding fields_at
 fields_take bytes x are e =
@@ -87,18 +102,18 @@ inode_small i is =
     let few : i ≤ 1024 = leb-true _ _ p.1 in
     omega (arith, few)
 
-entry_again : (e : DirEntry) (rest : List ℕ) → fits_entry e ≡ true → entry_at (entry_text e ++ rest) ≡ Some (e, rest)
+pub entry_again : (e : DirEntry) (rest : List ℕ) → fits_entry e ≡ true → entry_at (entry_text e ++ rest) ≡ Some (e, rest)
 unfolding entry_at fields_at
 entry_again e rest fit =
-    let p = and_parts (is_inode e.inode) (is_name e.name) fit in
-    let short = short_name e.name p.1 in
+    let p = entry_fits e fit in
+    let short = short_name e.name p.name in
     let field : List ℕ = filled 64 e.name in
     let long : length field ≡ 64 = filled_long 64 e.name short in
     let tail1 : List ℕ = length e.name ∷ 0 ∷ 0 ∷ (field ++ rest) in
     let tail0 : List ℕ = kind_byte e.kind ∷ tail1 in
     let flat : entry_text e ++ rest ≡ u32 e.inode ++ tail0 = append_assoc (u32 e.inode) (kind_byte e.kind ∷ length e.name ∷ 0 ∷ 0 ∷ field) rest in
     ap entry_at flat
-    ∙ rw (u32_again e.inode tail0 (inode_small e.inode p.0), kind_again e.kind tail1, run_again 64 field rest long, front_again (length e.name) 64 e.name refl short, fit) refl
+    ∙ rw (u32_again e.inode tail0 (inode_small e.inode p.inode), kind_again e.kind tail1, run_again 64 field rest long, front_again (length e.name) 64 e.name refl short, fit) refl
 
 entry_read : IsRead entry_at entry_text fits_entry
 entry_read = record { takes = entry_takes; again = entry_again }
@@ -145,7 +160,7 @@ head_again owner count rest is few =
 
 -- ---- lists of entries
 
-entries_take : (bytes : List ℕ) (x : EntryList × List ℕ) → AreBytes bytes → entries_at bytes ≡ Some x → Takes bytes (entries_text x.0) x.1 × (fits_entries x.0 ≡ true)
+entries_take : (bytes : List ℕ) (x : EntryList × List ℕ) → AreBytes bytes → entries_at bytes ≡ Some x → Takes bytes (entries_text x.0) x.1 × (fits_list x.0 ≡ true)
 unfolding entries_at
 entries_take bytes x are e =
     let h = bind_some (head_at bytes) _ x e in
@@ -156,24 +171,23 @@ entries_take bytes x are e =
     let counted : Takes bytes (head_text h.0.0.0 (length s.0.0) ++ flat_map entry_text s.0.0) s.0.1 = subst (λ (n : ℕ). Takes bytes (head_text h.0.0.0 n ++ flat_map entry_text s.0.0) s.0.1) (sym t1.long) both in
     let few : is_inode h.0.0.0 && leb (length s.0.0) 56 ≡ true = ap (λ (n : ℕ). is_inode h.0.0.0 && leb n 56) t1.long ∙ t0.1 in
     let made : EntryList × List ℕ = (record { owner = h.0.0.0; entries = s.0.0 }, s.0.1) in
-    subst (λ (y : EntryList × List ℕ). Takes bytes (entries_text y.0) y.1 × (fits_entries y.0 ≡ true)) (some_is made x s.2) (counted, and_from _ _ few t1.all_fit)
+    subst (λ (y : EntryList × List ℕ). Takes bytes (entries_text y.0) y.1 × (fits_list y.0 ≡ true)) (some_is made x s.2) (counted, and_from _ _ few t1.all_fit)
 
 pub entry_text_long : (e : DirEntry) → length e.name ≤ 64 → length (entry_text e) ≡ 72
 entry_text_long e short = omega (arith, length-append (u32 e.inode) (kind_byte e.kind ∷ length e.name ∷ 0 ∷ 0 ∷ filled 64 e.name), u32_long e.inode, filled_long 64 e.name short)
 
-entry_texts_long : (es : List DirEntry) → list_all fits_entry es ≡ true → length (flat_map entry_text es) ≡ 72 * length es
+pub entry_texts_long : (es : List DirEntry) → list_all fits_entry es ≡ true → length (flat_map entry_text es) ≡ 72 * length es
 entry_texts_long [] fit = refl
 entry_texts_long (e ∷ es) fit =
     let p = and_parts (fits_entry e) (list_all fits_entry es) fit in
-    let q = and_parts (is_inode e.inode) (is_name e.name) p.0 in
-    omega (arith, length-append (entry_text e) (flat_map entry_text es), entry_text_long e (short_name e.name q.1), entry_texts_long es p.1)
+    omega (arith, length-append (entry_text e) (flat_map entry_text es), entry_text_long e (short_name e.name (entry_fits e p.0).name), entry_texts_long es p.1)
 
-record ListFits (v : EntryList) : Type 0 where
-  owner : is_inode v.owner ≡ true
-  few : leb (length v.entries) 56 ≡ true
-  each : list_all fits_entry v.entries ≡ true
+pub record ListFits (v : EntryList) : Type 0 where
+  pub owner : is_inode v.owner ≡ true
+  pub few : leb (length v.entries) 56 ≡ true
+  pub each : list_all fits_entry v.entries ≡ true
 
-list_fits : (v : EntryList) → fits_entries v ≡ true → ListFits v
+pub list_fits : (v : EntryList) → fits_list v ≡ true → ListFits v
 list_fits v fit =
     let p = and_parts _ (list_all fits_entry v.entries) fit in
     let q = and_parts (is_inode v.owner) (leb (length v.entries) 56) p.0 in
@@ -187,18 +201,30 @@ entries_again v rest h =
     ap entries_at flat
     ∙ rw (head_again v.owner (length v.entries) (texts ++ rest) h.owner h.few, items_again entry_at entry_text fits_entry entry_read v.entries rest h.each) refl
 
-pub entries_of_takes : (block : List ℕ) (v : EntryList) → AreBytes block → entries_of block ≡ Some v → (fits_entries v ≡ true) × (block ≡ entries_spelling v)
-unfolding entries_of
-entries_of_takes block v are e =
+pub list_takes : (block : List ℕ) (v : EntryList) → AreBytes block → within 4096 entries_at block ≡ Some v → (fits_list v ≡ true) × (block ≡ entries_spelling v)
+list_takes block v are e =
     let p = within_parts 4096 entries_at block v e in
     let t = entries_take block (v, p.0) are p.2 in
     (t.1, filled_from 4096 block (entries_text v) p.0 p.1 t.0 p.3)
 
-pub entries_of_again : (v : EntryList) → fits_entries v ≡ true → entries_of (entries_spelling v) ≡ Some v
-unfolding entries_of
-entries_of_again v fit =
+pub list_again : (v : EntryList) → fits_list v ≡ true → within 4096 entries_at (entries_spelling v) ≡ Some v
+list_again v fit =
     let h = list_fits v fit in
     let few : length v.entries ≤ 56 = leb-true _ _ h.few in
     let texts = flat_map entry_text v.entries in
     let long : length (entries_text v) ≤ 4096 = omega (arith, length-append (head_text v.owner (length v.entries)) texts, head_text_long v.owner (length v.entries), entry_texts_long v.entries h.each, few) in
     within_again 4096 entries_at (entries_text v) v long (entries_again v _ h)
+
+pub entries_of_takes : (block : List ℕ) (v : EntryList) → AreBytes block → entries_of block ≡ Some v → (fits_entries v ≡ true) × (block ≡ entries_spelling v)
+unfolding entries_of
+entries_of_takes block v are e =
+    let f = bind_some (within 4096 entries_at block) _ v e in
+    let t = test_some (are_distinct f.0.entries) f.0 v f.2 in
+    let p = list_takes block f.0 are f.1 in
+    subst (λ (y : EntryList). (fits_entries y ≡ true) × (block ≡ entries_spelling y)) t.1 (and_from _ _ p.0 t.0, p.1)
+
+pub entries_of_again : (v : EntryList) → fits_entries v ≡ true → entries_of (entries_spelling v) ≡ Some v
+unfolding entries_of
+entries_of_again v fit =
+    let p = and_parts (fits_list v) (are_distinct v.entries) fit in
+    rw (list_again v p.0, p.1) refl

@@ -1,5 +1,6 @@
 -- Fields of one kind, one after the other: both ways, and as a loop reads them.
 use Rattle.std.proofs.Common.{◌≡◌, ℕ, zero, suc, ◌+◌, ◌-◌, ◌<◌, ◌≤◌, Bool, true, List, [], ◌∷◌, ◌++◌, length, take, get_or, Option, Some, None, refl, sym, ap, subst, ◌∙◌, append_assoc, arith}
+use Rattle.std.specs.Prelude.{option_map}
 use Rattle.std.specs.List.{flat_map, list_all}
 use Rattle.std.proofs.lemmas.Bool.{and_from}
 use Rattle.std.proofs.lemmas.List.{append-nil, take_more}
@@ -43,6 +44,16 @@ module _ {A : Type 0} (field : Field A) (text : A → List ℕ) (fit : A → Boo
       let p = and_parts (fit x) (list_all fit xs) h in
       ap (items_at field (suc (length xs))) (append_assoc (text x) (flat_map text xs) rest)
       ∙ rw (is.again x (flat_map text xs ++ rest) p.0, items_again xs rest p.1) refl
+
+-- what each value of a field passes, all values of a list do
+pub items_pass : {A : Type 0} (field : Field A) (p : A → Bool) → ((bytes : List ℕ) (x : A × List ℕ) → field bytes ≡ Some x → p x.0 ≡ true) → (n : ℕ) (bytes : List ℕ) (x : List A × List ℕ) → items_at field n bytes ≡ Some x → list_all p x.0 ≡ true
+unfolding items_at
+items_pass {A = A} field p each zero bytes x e = subst (λ (y : List A × List ℕ). list_all p y.0 ≡ true) (some_is ([], bytes) x e) refl
+items_pass {A = A} field p each (suc n) bytes x e =
+    let a = bind_some (field bytes) _ x e in
+    let b = bind_some (items_at field n a.0.1) _ x a.2 in
+    let made : List A × List ℕ = (a.0.0 ∷ b.0.0, b.0.1) in
+    subst (λ (y : List A × List ℕ). list_all p y.0 ≡ true) (some_is made x b.2) (and_from _ _ (each bytes a.0 a.1) (items_pass field p each n a.0.1 b.0 b.1))
 
 -- ---- a loop that writes one after the other
 
@@ -97,3 +108,47 @@ module _ {A : Type 0} (field : Field A) where
       same : (read : Option (List A × List ℕ)) → with_front [] read ≡ read
       same (Some x) = refl
       same None = refl
+
+-- ---- a loop that passes over one after the other
+
+abbrev behind : {A : Type 0} → Option (A × List ℕ) → Option (List ℕ)
+behind read = option_map (λ x. x.1) read
+
+module _ {A : Type 0} (field : Field A) where
+  behind_more : (e : A) (read : Option (List A × List ℕ)) → behind (read >>= λ x. Some (e ∷ x.0, x.1)) ≡ behind read
+  behind_more e (Some x) = refl
+  behind_more e None = refl
+
+  some_behind : (o : Option (A × List ℕ)) (after : List ℕ) → behind o ≡ Some after → (e : A) × (o ≡ Some (e, after))
+  some_behind (Some x) after h = (x.0, ap (λ (r : List ℕ). Some (x.0, r)) (some_is x.1 after h))
+  some_behind None after h = absurd cc
+
+  none_behind : (o : Option (A × List ℕ)) → behind o ≡ None → o ≡ None
+  none_behind (Some x) h = absurd cc
+  none_behind None h = refl
+
+  pub passes : (count i : ℕ) (bytes after : List ℕ) (total : Option (List ℕ)) → i < count → option_map (λ x. x.1) (field bytes) ≡ Some after
+      → option_map (λ x. x.1) (items_at field (count - i) bytes) ≡ total → option_map (λ x. x.1) (items_at field (count - (i + 1)) after) ≡ total
+  unfolding items_at
+  passes count i bytes after total lt h so_far =
+      let k : count - i ≡ suc (count - (i + 1)) = omega arith in
+      let e = some_behind (field bytes) after h in
+      let one : behind (items_at field (count - i) bytes) ≡ behind (items_at field (count - (i + 1)) after) = rw (k, e.1) (behind_more e.0 (items_at field (count - (i + 1)) after)) in
+      sym one ∙ so_far
+
+  pub stops : (count i : ℕ) (bytes : List ℕ) (total : Option (List ℕ)) → i < count → option_map (λ x. x.1) (field bytes) ≡ None
+      → option_map (λ x. x.1) (items_at field (count - i) bytes) ≡ total → total ≡ None
+  unfolding items_at
+  stops count i bytes total lt h so_far =
+      let k : count - i ≡ suc (count - (i + 1)) = omega arith in
+      let none : field bytes ≡ None = none_behind (field bytes) h in
+      let one : behind (items_at field (count - i) bytes) ≡ None = rw (k, none) refl in
+      sym so_far ∙ one
+
+  pub at_end : (count i : ℕ) (bytes : List ℕ) (total : Option (List ℕ)) → count ≤ i
+      → option_map (λ x. x.1) (items_at field (count - i) bytes) ≡ total → total ≡ Some bytes
+  unfolding items_at
+  at_end count i bytes total le so_far =
+      let k : count - i ≡ 0 = omega arith in
+      let one : behind (items_at field (count - i) bytes) ≡ Some bytes = rw k refl in
+      sym so_far ∙ one

@@ -1,9 +1,12 @@
+mod Apart
 mod Blocks
+mod DirPlaces
 mod DirectoryLaws
 mod ExtentLaws
 mod Fields
 mod Items
 mod Limits
 mod MarksLaws
+mod Pairs
 mod SlotLaws
 mod Supers

@@ -1,5 +1,5 @@
 -- Fields of a structure: the bytes of each, and how it is read at the front of bytes.
-use Rattle.std.specs.Prelude.{ℕ, zero, suc, ◌+◌, ◌-◌, ◌<◌, ◌==◌, Bool, nat_le, List, [], ◌∷◌, ◌++◌, length, take, drop, replicate, slice_index, Option, Some, None, if◌then◌else◌}
+use Rattle.std.specs.Prelude.{ℕ, zero, suc, ◌+◌, ◌-◌, ◌<◌, ◌==◌, Bool, true, ◌&&◌, nat_le, List, [], ◌∷◌, ◌++◌, length, take, drop, replicate, slice_index, Option, Some, None, if◌then◌else◌}
 use Rattle.std.specs.List.{list_all}
 use Rattle.byteorder.specs.Endian.{little_bytes, little_number}
 
@@ -71,3 +71,8 @@ are_zero bytes = list_all (λ b. b == 0) bytes
 -- the value of a field in so many bytes, where those behind it are zero
 abbrev pub within : {A : Type 0} → ℕ → Field A → List ℕ → Option A
 within n field bytes = if length bytes == n then (field bytes >>= λ x. if are_zero x.1 then Some x.0 else None) else None
+
+-- whether a test holds of each element and each later one
+abbrev pub all_pairs : {A : Type 0} → (A → A → Bool) → List A → Bool
+all_pairs test [] = true
+all_pairs test (x ∷ xs) = list_all (test x) xs && all_pairs test xs

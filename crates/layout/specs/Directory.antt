@@ -1,7 +1,8 @@
 -- Directory blocks: entries of a directory.
-use Rattle.std.specs.Prelude.{◌==◌, ◌&&◌, nat_le, Bool, List, [], ◌∷◌, ◌++◌, length, take, drop, ℕ, Option, Some, None, if◌then◌else◌}
+use Rattle.std.specs.Prelude.{◌≡◌, ◌≤◌, ◌==◌, ◌&&◌, true, not, nat_le, unwrap_or, slice_set, Bool, List, [], ◌∷◌, ◌++◌, length, take, drop, ℕ, Option, Some, None, if◌then◌else◌}
 use Rattle.std.specs.List.{flat_map, list_all}
-use Rattle.posix_calls.specs.declared.limits.TheConstants.{MAX_NAME}
+use Rattle.std.specs.Str.{bytes_eq}
+use Rattle.posix_calls.specs.declared.limits.TheConstants.{MAX_NAME, ROOT}
 use Rattle.posix_calls.specs.Name.{is_name}
 use Rattle.layout.specs.declared.places.TheConstants.{BLOCK}
 use Rattle.layout.specs.declared.directory.TheConstants.{MAX_IN_BLOCK, FIRST_ENTRY_AT, HEAD_GAP}
@@ -10,7 +11,7 @@ use Rattle.file_graph.specs.declared.effect.Kind.{Kind}
 use Rattle.file_graph.specs.declared.effect.Kind.TheVariants as kind
 use Rattle.layout.specs.declared.directory.DirEntry.{DirEntry}
 use Rattle.layout.specs.Places.{is_inode}
-use Rattle.layout.specs.Bytes.{◌>>=◌, Field, u32, zeros, filled, number_at, byte_at, run_at, text_at, items_at, are_zero, within}
+use Rattle.layout.specs.Bytes.{◌>>=◌, Field, u32, zeros, filled, number_at, byte_at, run_at, text_at, items_at, are_zero, within, all_pairs}
 
 -- a directory, and entries of it
 pub record EntryList : Type 0 where
@@ -34,13 +35,21 @@ entries_text v = filled FIRST_ENTRY_AT (u32 v.owner ++ u32 (length v.entries)) +
 abbrev pub entries_spelling : EntryList → List ℕ
 entries_spelling v = filled BLOCK (entries_text v)
 
--- whether an entry names an inode, by a name
+-- whether an entry leads to an inode, by a name; none leads to the root
 abbrev pub fits_entry : DirEntry → Bool
-fits_entry e = is_inode e.inode && is_name e.name
+fits_entry e = is_inode e.inode && not (e.inode == ROOT) && is_name e.name
 
--- whether the entries of a directory are few enough for a block, and each fits
+-- whether two entries have different names
+abbrev pub differ : DirEntry → DirEntry → Bool
+differ a b = not (bytes_eq a.name b.name)
+
+-- whether no two entries have one name
+abbrev pub are_distinct : List DirEntry → Bool
+are_distinct es = all_pairs differ es
+
+-- whether the entries of a directory are few enough for a block, each fits, and no two have one name
 abbrev pub fits_entries : EntryList → Bool
-fits_entries v = is_inode v.owner && nat_le (length v.entries) MAX_IN_BLOCK && list_all fits_entry v.entries
+fits_entries v = is_inode v.owner && nat_le (length v.entries) MAX_IN_BLOCK && list_all fits_entry v.entries && are_distinct v.entries
 
 -- the kind of a node
 abbrev pub kind_at : Field Kind
@@ -83,6 +92,29 @@ entries_at bytes = do
   entries ← items_at entry_at head.0.1 head.1
   Some (record { owner = head.0.0; entries = entries.0 }, entries.1)
 
--- the entries that a block spells
+-- the entries that a block spells, if no two have one name
 unfoldable pub entries_of : List ℕ → Option EntryList
-entries_of bytes = within BLOCK entries_at bytes
+entries_of bytes = do
+  v ← within BLOCK entries_at bytes
+  if are_distinct v.entries then Some v else None
+
+-- the entries that stand in a block, whatever their names; none where it has no such
+unfoldable pub listed : List ℕ → EntryList
+listed bytes = unwrap_or (within BLOCK entries_at bytes) (record { owner = 0; entries = [] })
+
+-- entries stand in the block
+pub record IsListed (bytes : List ℕ) : Type 0 where
+  pub spelled : within BLOCK entries_at bytes ≡ Some (listed bytes)
+  pub few : length (listed bytes).entries ≤ MAX_IN_BLOCK
+  pub long : length bytes ≡ BLOCK
+
+-- a block of entries, no two of one name, and what its head tells
+pub record IsRead (owner count : ℕ) (bytes : List ℕ) : Type 0 where
+  pub list : IsListed bytes
+  pub distinct : are_distinct (listed bytes).entries ≡ true
+  pub owner_is : owner ≡ (listed bytes).owner
+  pub count_is : count ≡ length (listed bytes).entries
+
+-- the entries with another one at a place
+abbrev pub with_entry : EntryList → ℕ → DirEntry → EntryList
+with_entry v index e = record { owner = v.owner; entries = slice_set v.entries index e }

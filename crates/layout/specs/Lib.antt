@@ -7,3 +7,4 @@ pub mod Marks
 pub mod Places
 pub mod Slot
 pub mod Super
+pub mod Rows

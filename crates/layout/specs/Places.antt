@@ -3,7 +3,9 @@ use Rattle.std.specs.Prelude.{ℕ, ◌+◌, ◌*◌, ◌-◌, ◌/◌, ◌%◌, 
 use Rattle.posix_calls.specs.declared.limits.TheConstants.{MAX_INODE}
 use Rattle.tier_device.specs.declared.media.Tier.{Tier}
 use Rattle.tier_device.specs.declared.media.Tier.TheVariants as tiers
-use Rattle.layout.specs.declared.places.TheConstants.{MIN_UNITS, MAX_UNITS, MAX_DATA_BLOCKS, SPARE_BLOCKS, FIRST_SLOT_BLOCK, SLOT_SIZE, SLOTS_IN_BLOCK, MARKS_BLOCK, FIRST_NODE_BLOCK, BASE_NODE_BLOCKS}
+use Rattle.layout.specs.declared.places.TheConstants.{MIN_UNITS, MAX_UNITS, MAX_DATA_BLOCKS, SPARE_BLOCKS, FIRST_SLOT_BLOCK, SLOT_SIZE, SLOTS_IN_BLOCK, MARKS_BLOCK, FIRST_NODE_BLOCK, BASE_NODE_BLOCKS, FILE_BLOCKS, DIRECTORY_BLOCKS}
+use Rattle.layout.specs.declared.geometry.Space.{Space}
+use Rattle.layout.specs.declared.geometry.Space.TheVariants as space
 
 -- the units, and the data blocks of each tier
 pub record Sizes : Type 0 where
@@ -79,3 +81,17 @@ is_journaled s block = nat_le block MARKS_BLOCK || is_node s block
 -- whether the blocks of a tier from a first one on are data blocks
 abbrev pub is_data : Sizes → Tier → ℕ → ℕ → Bool
 is_data s tier first count = nat_le (data_first s tier) first && nat_le (first + count) (tier_blocks s tier)
+
+-- whether the blocks from a first one on lie in the node pool
+abbrev pub are_nodes : Sizes → ℕ → ℕ → Bool
+are_nodes s first count = nat_le FIRST_NODE_BLOCK first && nat_le (first + count) (node_end s)
+
+-- whether the blocks from a first one on may be a node's content: a directory's lie in the node pool, a file's are data blocks
+abbrev pub is_run : Sizes → Space → ℕ → ℕ → Bool
+is_run s space.Nodes first count = are_nodes s first count
+is_run s (space.Data tier) first count = is_data s tier first count
+
+-- how many logical blocks a node has: a directory of 3,584 entries has 64, a file of 1,048,576 bytes has 256
+abbrev pub blocks_in : Space → ℕ
+blocks_in space.Nodes = DIRECTORY_BLOCKS
+blocks_in (space.Data tier) = FILE_BLOCKS

@@ -1,16 +1,15 @@
-ghost use Rattle.std.specs.Prelude.{◌≡◌, ◌≤◌, length, option_map, IfOk};
+ghost use Rattle.std.specs.Prelude.{◌≡◌, ◌≤◌, length, IfOk};
 ghost use Rattle.layout.specs.Answers.{Reads};
-ghost use Rattle.layout.specs.Bytes.{items_at, text_at, zeros};
-ghost use Rattle.layout.specs.Directory.{entries_spelling, head_at, entry_at, entries_of};
-ghost use Rattle.layout.specs.declared.damaged.What.TheVariants as what;
+ghost use Rattle.layout.specs.Directory.{entries_spelling, entries_of};
+ghost use Rattle.layout.specs.declared.error.What.TheVariants as what;
 
-use crate::damaged::{Damaged, DecodeError, What};
-use crate::entry::{entry_of, put_entry};
-use crate::places::{BLOCK, is_inode};
-use crate::reading::{are_zero, text_of, u32_of};
+use crate::dir_entries::DirEntries;
+use crate::entry::{EntryRef, put_entry};
+use crate::error::{LayoutError, What};
+use crate::places::BLOCK;
 use crate::writing::{clear, put_u32};
 use file_graph::Kind;
-use posix_calls::Name;
+use posix_calls::{MAX_NAME, Name};
 use std::alloc::{AllocError, Global};
 use std::marker::Model;
 
@@ -82,19 +81,45 @@ impl DirBlock {
         write_block(block, self.owner, entries);
     }
 
-    /// The entries that a block spells. `Damaged`, with the number of the block, where it spells none; `Memory` says nothing
-    /// of it.
-    pub fn decode(alloc: Global, number: u32, block: &[u8]) -> Result<Self, DecodeError>
+    /// The entries that a block spells, each with a name of its own. `Damaged`, with the number of the block, where it spells
+    /// none; that takes no memory. `Memory` where there was none for what it spells.
+    pub fn decode(alloc: Global, number: u32, block: &[u8]) -> Result<Self, LayoutError>
         ensures { Reads what.DirBlock number result (entries_of block.now) }
     {
-        match block_of(alloc, block)? {
-            Some(found) => Ok(found),
-            None => Err(DecodeError::Damaged(Damaged {
-                what: What::DirBlock,
-                block: number,
-            })),
+        let found = DirEntries::read(number, block)?;
+        let entries = copy_of(alloc, &found)?;
+        Ok(DirBlock {
+            owner: found.owner(),
+            entries,
+        })
+    }
+}
+
+impl DirEntry {
+    ghost use Rattle.layout.specs.Lent.{owned};
+
+    /// The entry, with its name lent.
+    pub fn lent(&self) -> EntryRef<'_>
+        ensures entry { owned result ≡ self.now }
+        ensures short { length result.name.now ≤ MAX_NAME }
+    {
+        EntryRef {
+            inode: self.inode,
+            kind: self.kind,
+            name: self.name.as_slice(),
         }
     }
+}
+
+fn copy_of(alloc: Global, found: &DirEntries<'_>) -> Result<Vec<DirEntry>, AllocError>
+    ensures { IfOk result (λ v. v.items ≡ found.now.entries) }
+{
+    let count = found.len();
+    let mut entries = Vec::with_capacity(alloc, count)?;
+    'entries: for index in 0..count {
+        entries.push(found.entry(index).to_entry(alloc)?)?;
+    }
+    Ok(entries)
 }
 
 fn write_block(block: &mut [u8], owner: u32, entries: &[DirEntry])
@@ -106,66 +131,7 @@ fn write_block(block: &mut [u8], owner: u32, entries: &[DirEntry])
     put_u32(block, 0, owner);
     put_u32(block, 4, entries.len() as u32);
     for index in 0..entries.len() {
-        put_entry(block, FIRST_ENTRY_AT + ENTRY_SIZE * index, &entries[index]);
+        let entry = entries[index].lent();
+        put_entry(block, FIRST_ENTRY_AT + ENTRY_SIZE * index, entry);
     }
-}
-
-#[tactic(auto, unfolding(crate::specs::Directory::entries_of, crate::specs::Directory::entries_at))]
-fn block_of(alloc: Global, block: &[u8]) -> Result<Option<DirBlock>, AllocError>
-    ensures { IfOk result (λ found. found ≡ entries_of block.now) }
-{
-    if block.len() != BLOCK {
-        return Ok(None);
-    }
-    let Some(((owner, count), rest)) = head_of(block) else {
-        return Ok(None);
-    };
-    let Some((entries, rest)) = list_of(alloc, count, rest)? else {
-        return Ok(None);
-    };
-    if !are_zero(rest) {
-        return Ok(None);
-    }
-    Ok(Some(DirBlock { owner, entries }))
-}
-
-#[tactic(auto, unfolding(crate::specs::Directory::head_at))]
-fn head_of(bytes: &[u8]) -> Option<((u32, u32), &[u8])>
-    ensures { option_map (λ x. (x.0, x.1.now)) result ≡ head_at bytes.now }
-{
-    let (owner, rest) = u32_of(bytes)?;
-    let (count, rest) = u32_of(rest)?;
-    let rest = gap_of(rest)?;
-    if !is_inode(owner) || MAX_IN_BLOCK < count as usize {
-        return None;
-    }
-    Some(((owner, count), rest))
-}
-
-// What is behind the zero bytes between the count and the first entry.
-#[tactic(auto, unfolding(crate::specs::Bytes::zeros))]
-fn gap_of(bytes: &[u8]) -> Option<&[u8]>
-    ensures { option_map (λ x. x.now) result ≡ text_at (zeros HEAD_GAP) bytes.now }
-{
-    let gap = [0u8; HEAD_GAP];
-    text_of(&gap, bytes)
-}
-
-fn list_of(
-    alloc: Global,
-    count: u32,
-    bytes: &[u8],
-) -> Result<Option<(Vec<DirEntry>, &[u8])>, AllocError>
-    ensures { IfOk result (λ found. option_map (λ x. (x.0.items, x.1.now)) found ≡ items_at entry_at count bytes.now) }
-{
-    let mut entries = Vec::with_capacity(alloc, count as usize)?;
-    let mut rest = bytes;
-    for _ in 0..count {
-        let Some((entry, after)) = entry_of(alloc, rest)? else {
-            return Ok(None);
-        };
-        entries.push(entry)?;
-        rest = after;
-    }
-    Ok(Some((entries, rest)))
 }

@@ -1,8 +1,9 @@
 // Entries of a directory, at the front of bytes.
-ghost use Rattle.std.specs.Prelude.{◌≡◌, ◌≤◌, ◌+◌, ◌∷◌, [], length, option_map, IfOk};
+ghost use Rattle.std.specs.Prelude.{◌≡◌, ◌≤◌, ◌+◌, ◌∷◌, [], length, option_map, IfOk, true};
 ghost use Rattle.layout.specs.Bytes.{byte_at, run_at, zeros, filled, overwritten};
 ghost use Rattle.layout.specs.Directory.{kind_byte, kind_at, front_of, fields_at, entry_at, entry_text};
 ghost use Rattle.layout.specs.Lent.{owned};
+ghost use Rattle.posix_calls.specs.Name.{is_name};
 
 use crate::directory::DirEntry;
 use crate::kinds::{DIRECTORY, FILE};
@@ -10,23 +11,41 @@ use crate::places::is_inode;
 use crate::reading::{are_zero, text_of, u32_of};
 use crate::writing::{put, put_u32};
 use file_graph::Kind;
-use posix_calls::{MAX_NAME, Name};
+use posix_calls::{MAX_NAME, Name, ROOT};
 use std::alloc::{AllocError, Global};
 
-// An entry whose name lies elsewhere.
-#[derive(Clone, Copy)]
+/// An entry whose name lies elsewhere.
+#[derive(Clone, Copy, Debug, PartialEq, Eq)]
 pub struct EntryRef<'a> {
     pub inode: u32,
     pub kind: Kind,
     pub name: &'a [u8],
 }
 
-pub fn put_entry(block: &mut [u8], at: usize, entry: &DirEntry)
-    requires { at + 72 ≤ length block.old }
-    ensures text { block.new ≡ overwritten at (entry_text entry.now) block.old }
-    ensures short { length entry.now.name ≤ MAX_NAME }
+impl<'a> EntryRef<'a> {
+    /// The entry with a name of its own.
+    pub fn to_entry(self, alloc: Global) -> Result<DirEntry, AllocError>
+        requires { is_name self.name.now ≡ true }
+        ensures { IfOk result (λ e. e ≡ owned self.entry) }
+    {
+        let copy = self.name.to_vec(alloc)?;
+        match Name::from_vec(copy) {
+            Ok(name) => Ok(DirEntry {
+                inode: self.inode,
+                kind: self.kind,
+                name,
+            }),
+            Err(_) => unreachable!(),
+        }
+    }
+}
+
+pub fn put_entry(block: &mut [u8], at: usize, entry: EntryRef<'_>)
+    requires within { at + 72 ≤ length block.old }
+    requires short { length entry.name.now ≤ MAX_NAME }
+    ensures { block.new ≡ overwritten at (entry_text (owned entry.entry)) block.old }
 {
-    let name = entry.name.as_slice();
+    let name = entry.name;
     put_u32(block, at, entry.inode);
     put_tags(block, at + 4, entry.kind, name.len());
     put_name(block, at + 8, name);
@@ -113,7 +132,7 @@ fn front_of(count: usize, field: &[u8]) -> Option<&[u8]>
 }
 
 #[tactic(auto, unfolding(crate::specs::Directory::fields_at))]
-fn fields_of(bytes: &[u8]) -> Option<(EntryRef<'_>, &[u8])>
+pub fn fields_of(bytes: &[u8]) -> Option<(EntryRef<'_>, &[u8])>
     ensures { option_map (λ x. (owned x.0, x.1.now)) result ≡ fields_at bytes.now }
 {
     let (inode, rest) = u32_of(bytes)?;
@@ -125,26 +144,14 @@ fn fields_of(bytes: &[u8]) -> Option<(EntryRef<'_>, &[u8])>
     Some((EntryRef { inode, kind, name }, rest))
 }
 
+// What is behind an entry, where there is one.
 #[tactic(auto, unfolding(crate::specs::Directory::entry_at))]
-pub fn entry_of(alloc: Global, bytes: &[u8]) -> Result<Option<(DirEntry, &[u8])>, AllocError>
-    ensures { IfOk result (λ found. option_map (λ x. (x.0, x.1.now)) found ≡ entry_at bytes.now) }
+pub fn behind_entry(bytes: &[u8]) -> Option<&[u8]>
+    ensures { option_map (λ x. x.now) result ≡ option_map (λ x. x.1) (entry_at bytes.now) }
 {
-    let Some((entry, rest)) = fields_of(bytes) else {
-        return Ok(None);
-    };
-    if !is_inode(entry.inode) {
-        return Ok(None);
+    let (entry, rest) = fields_of(bytes)?;
+    if !is_inode(entry.inode) || entry.inode == ROOT || !Name::is_valid(entry.name) {
+        return None;
     }
-    let copy = entry.name.to_vec(alloc)?;
-    match Name::from_vec(copy) {
-        Ok(name) => {
-            let entry = DirEntry {
-                inode: entry.inode,
-                kind: entry.kind,
-                name,
-            };
-            Ok(Some((entry, rest)))
-        }
-        Err(_) => Ok(None),
-    }
+    Some(rest)
 }

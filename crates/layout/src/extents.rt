@@ -1,18 +1,17 @@
-ghost use Rattle.std.specs.Prelude.{◌≡◌, ◌≤◌, ◌+◌, length, option_map, IfOk};
+ghost use Rattle.std.specs.Prelude.{◌≡◌, ◌≤◌, ◌+◌, length, take, option_map, nat_le, true, IfSome};
 ghost use Rattle.std.specs.List.{list_all};
 ghost use Rattle.layout.specs.Answers.{Reads};
-ghost use Rattle.layout.specs.Bytes.{items_at, overwritten};
-ghost use Rattle.layout.specs.Extents.{extent_text, extents_spelling, is_extent, are_sorted, is_apart, are_apart, is_sound, header_at, extent_at, extents_of};
-ghost use Rattle.layout.specs.declared.damaged.What.TheVariants as what;
+ghost use Rattle.layout.specs.Bytes.{items_at, overwritten, within};
+ghost use Rattle.layout.specs.Extents.{extent_text, extents_spelling, is_extent, are_sorted, are_stepping, are_apart, header_at, extent_at, extents_at, extents_of};
+ghost use Rattle.layout.specs.declared.error.What.TheVariants as what;
 
-use crate::damaged::{Damaged, DecodeError, What};
-use crate::geometry::Geometry;
+use crate::error::{LayoutError, What};
+use crate::geometry::{Geometry, Space};
 use crate::places::{BLOCK, is_inode};
 use crate::reading::{are_zero, u32_of};
 use crate::writing::{clear, put_u32};
-use std::alloc::{AllocError, Global};
+use std::alloc::Global;
 use std::marker::Model;
-use tier_device::Tier;
 
 /// The most extents that a block has.
 pub const MAX_EXTENTS: usize = 340;
@@ -23,10 +22,7 @@ pub const FIRST_EXTENT_AT: usize = 16;
 /// The bytes of an extent.
 pub const EXTENT_SIZE: usize = 12;
 
-/// How many logical blocks have a number.
-pub const LOGICAL_BLOCKS: u64 = 4_294_967_296;
-
-/// A run of logical blocks of a node, and the first of the blocks of a tier that hold them.
+/// A run of logical blocks of a node, and the first of the blocks that hold them.
 #[derive(Clone, Copy, Debug, PartialEq, Eq)]
 pub struct Extent {
     pub logical: u32,
@@ -34,11 +30,12 @@ pub struct Extent {
     pub place: u32,
 }
 
-/// The extents of a node on one tier: at most 340, sorted by their logical blocks, none of which two have in common, nor a
+/// The extents of a node in one space: at most 340, sorted by their logical blocks, none of which two have in common, nor a
 /// place.
 #[derive(Debug, Drop)]
 pub struct ExtentBlock {
     owner: u32,
+    level: u32,
     extents: Vec<Extent>,
 }
 
@@ -47,16 +44,21 @@ impl Model for ExtentBlock {
 
     ghost Value = { ExtentList };
 
-    ghost view = { λ b. record { owner = b.owner; extents = b.extents.items } };
+    ghost view = { λ b. record { owner = b.owner; level = b.level; extents = b.extents.items } };
 }
 
 impl ExtentBlock {
-    /// The extents of an inode.
+    /// The extents of an inode, in a tree of one block.
     pub fn new(owner: u32, extents: Vec<Extent>) -> Self
         ensures owner { result.owner ≡ owner }
+        ensures level { result.level ≡ 0 }
         ensures extents { result.extents ≡ extents.items }
     {
-        ExtentBlock { owner, extents }
+        ExtentBlock {
+            owner,
+            level: 0,
+            extents,
+        }
     }
 
     /// The inode.
@@ -64,6 +66,13 @@ impl ExtentBlock {
         ensures { result ≡ self.now.owner }
     {
         self.owner
+    }
+
+    /// How many levels of extent blocks are below: none in this version, so that each place is a block of content.
+    pub fn level(&self) -> u32
+        ensures { result ≡ self.now.level }
+    {
+        self.level
     }
 
     /// The extents, in their order.
@@ -80,39 +89,55 @@ impl ExtentBlock {
         ensures { block.new ≡ extents_spelling self.now }
     {
         let extents = self.extents.as_slice();
-        write_block(block, self.owner, extents);
+        write_block(block, self.owner, self.level, extents);
     }
 
-    /// The extents that a block spells for a tier. `Damaged`, with the number of the block, where it spells none; `Memory`
-    /// says nothing of it.
+    /// The extents that a block spells for a node whose content lies in that space. `Damaged`, with the number of the block,
+    /// where it spells none; that takes no memory. `Memory` where there was none for what it spells.
     pub fn decode(
         alloc: Global,
         geometry: &Geometry,
-        tier: Tier,
+        space: Space,
         number: u32,
         block: &[u8],
-    ) -> Result<Self, DecodeError>
-        ensures { Reads what.ExtentBlock number result (extents_of geometry.now tier block.now) }
+    ) -> Result<Self, LayoutError>
+        ensures { Reads what.ExtentBlock number result (extents_of geometry.now space block.now) }
     {
-        match block_of(alloc, geometry, tier, block)? {
-            Some(found) => Ok(found),
-            None => Err(DecodeError::Damaged(Damaged {
+        let mut list = blank();
+        let Some(head) = block_of(geometry, space, block, &mut list) else {
+            return Err(LayoutError::Damaged {
                 what: What::ExtentBlock,
                 block: number,
-            })),
-        }
+            });
+        };
+        let extents = list[..head.count].to_vec(alloc)?;
+        Ok(ExtentBlock {
+            owner: head.owner,
+            level: head.level,
+            extents,
+        })
     }
 }
 
-fn write_block(block: &mut [u8], owner: u32, extents: &[Extent])
+// Places for all extents that a block may have.
+fn blank() -> [Extent; MAX_EXTENTS] {
+    let none = Extent {
+        logical: 0,
+        length: 0,
+        place: 0,
+    };
+    [none; MAX_EXTENTS]
+}
+
+fn write_block(block: &mut [u8], owner: u32, level: u32, extents: &[Extent])
     requires long { length block.old ≡ BLOCK }
     requires few { length extents.now ≤ MAX_EXTENTS }
-    ensures { block.new ≡ extents_spelling (record { owner = owner; extents = extents.now }) }
+    ensures { block.new ≡ extents_spelling (record { owner = owner; level = level; extents = extents.now }) }
 {
     clear(block);
     put_u32(block, 0, owner);
     put_u32(block, 4, extents.len() as u32);
-    put_u32(block, 8, 0);
+    put_u32(block, 8, level);
     put_u32(block, 12, 0);
     for index in 0..extents.len() {
         let extent = extents[index];
@@ -129,71 +154,102 @@ fn put_extent(block: &mut [u8], at: usize, extent: Extent)
     put_u32(block, at + 8, extent.place);
 }
 
-#[tactic(auto, unfolding(crate::specs::Extents::extents_of, crate::specs::Extents::extents_at))]
+// What stands in front of the extents.
+#[derive(Clone, Copy)]
+struct Head {
+    owner: u32,
+    count: usize,
+    level: u32,
+}
+
+// The extents that a block spells, in their order at the front of the list.
+#[tactic(auto, unfolding(crate::specs::Extents::extents_of))]
 fn block_of(
-    alloc: Global,
     geometry: &Geometry,
-    tier: Tier,
+    space: Space,
     block: &[u8],
-) -> Result<Option<ExtentBlock>, AllocError>
-    ensures { IfOk result (λ found. found ≡ extents_of geometry.now tier block.now) }
+    list: &mut [Extent; MAX_EXTENTS],
+) -> Option<Head>
+    ensures found { option_map (λ h. record { owner = h.owner; level = h.level; extents = take h.count list.new }) result ≡ extents_of geometry.now space block.now }
+    ensures few { IfSome result (λ h. h.count ≤ MAX_EXTENTS) }
+{
+    let head = within_block(geometry, space, block, list)?;
+    if !is_inode(head.owner) || head.level != 0 || !are_sorted(&list[..head.count]) {
+        return None;
+    }
+    let mut places = *list;
+    if !are_apart(&mut places[..head.count]) {
+        return None;
+    }
+    Some(head)
+}
+
+#[tactic(auto, unfolding(crate::specs::Extents::extents_at))]
+fn within_block(
+    geometry: &Geometry,
+    space: Space,
+    block: &[u8],
+    list: &mut [Extent; MAX_EXTENTS],
+) -> Option<Head>
+    ensures found { option_map (λ h. record { owner = h.owner; level = h.level; extents = take h.count list.new }) result ≡ within BLOCK (extents_at geometry.now space) block.now }
+    ensures few { IfSome result (λ h. h.count ≤ MAX_EXTENTS) }
+    ensures each { IfSome result (λ h. list_all (λ e. nat_le 1 e.length) (take h.count list.new) ≡ true) }
 {
     if block.len() != BLOCK {
-        return Ok(None);
+        return None;
     }
-    let Some(((owner, count), rest)) = header_of(block) else {
-        return Ok(None);
-    };
-    let Some((extents, rest)) = list_of(alloc, geometry, tier, count, rest)? else {
-        return Ok(None);
-    };
+    let (head, rest) = header_of(block)?;
+    let rest = list_of(geometry, space, rest, &mut list[..head.count])?;
     if !are_zero(rest) {
-        return Ok(None);
+        return None;
     }
-    if !is_sound(owner, &extents) {
-        return Ok(None);
-    }
-    Ok(Some(ExtentBlock { owner, extents }))
+    Some(head)
 }
 
 #[tactic(auto, unfolding(crate::specs::Extents::header_at))]
-fn header_of(bytes: &[u8]) -> Option<((u32, u32), &[u8])>
-    ensures { option_map (λ x. (x.0, x.1.now)) result ≡ header_at bytes.now }
+fn header_of(bytes: &[u8]) -> Option<(Head, &[u8])>
+    ensures head { option_map (λ x. (record { owner = x.0.owner; count = x.0.count; level = x.0.level }, x.1.now)) result ≡ header_at bytes.now }
+    ensures few { IfSome result (λ x. x.0.count ≤ MAX_EXTENTS) }
 {
     let (owner, rest) = u32_of(bytes)?;
     let (count, rest) = u32_of(rest)?;
     let (level, rest) = u32_of(rest)?;
     let (gap, rest) = u32_of(rest)?;
-    if level != 0 || gap != 0 || MAX_EXTENTS < count as usize {
+    let count = count as usize;
+    if gap != 0 || MAX_EXTENTS < count {
         return None;
     }
-    Some(((owner, count), rest))
+    Some((
+        Head {
+            owner,
+            count,
+            level,
+        },
+        rest,
+    ))
 }
 
+// As many extents as the list has places, and what is behind them.
 fn list_of<'a>(
-    alloc: Global,
     geometry: &Geometry,
-    tier: Tier,
-    count: u32,
+    space: Space,
     bytes: &'a [u8],
-) -> Result<Option<(Vec<Extent>, &'a [u8])>, AllocError>
-    ensures { IfOk result (λ found. option_map (λ x. (x.0.items, x.1.now)) found ≡ items_at (extent_at geometry.now tier) count bytes.now) }
+    list: &mut [Extent],
+) -> Option<&'a [u8]>
+    ensures { option_map (λ rest. (list.new, rest.now)) result ≡ items_at (extent_at geometry.now space) (length list.old) bytes.now }
 {
-    let mut extents = Vec::with_capacity(alloc, count as usize)?;
     let mut rest = bytes;
-    for _ in 0..count {
-        let Some((extent, after)) = extent_of(geometry, tier, rest) else {
-            return Ok(None);
-        };
-        extents.push(extent)?;
+    for index in 0..list.len() {
+        let (extent, after) = extent_of(geometry, space, rest)?;
+        list[index] = extent;
         rest = after;
     }
-    Ok(Some((extents, rest)))
+    Some(rest)
 }
 
 #[tactic(auto, unfolding(crate::specs::Extents::extent_at))]
-fn extent_of<'a>(geometry: &Geometry, tier: Tier, bytes: &'a [u8]) -> Option<(Extent, &'a [u8])>
-    ensures { option_map (λ x. (x.0, x.1.now)) result ≡ extent_at geometry.now tier bytes.now }
+fn extent_of<'a>(geometry: &Geometry, space: Space, bytes: &'a [u8]) -> Option<(Extent, &'a [u8])>
+    ensures { option_map (λ x. (x.0, x.1.now)) result ≡ extent_at geometry.now space bytes.now }
 {
     let (logical, rest) = u32_of(bytes)?;
     let (length, rest) = u32_of(rest)?;
@@ -203,23 +259,19 @@ fn extent_of<'a>(geometry: &Geometry, tier: Tier, bytes: &'a [u8]) -> Option<(Ex
         length,
         place,
     };
-    if !is_extent(geometry, tier, extent) {
+    if !is_extent(geometry, space, extent) {
         return None;
     }
     Some((extent, rest))
 }
 
-fn is_extent(geometry: &Geometry, tier: Tier, extent: Extent) -> bool
-    ensures { result ≡ is_extent geometry.now tier extent }
+fn is_extent(geometry: &Geometry, space: Space, extent: Extent) -> bool
+    ensures { result ≡ is_extent geometry.now space extent }
 {
-    1 <= extent.length && geometry.is_data(tier, extent.place, extent.length)
-}
-
-// Whether the owner is an inode, and the extents are sorted and apart.
-fn is_sound(owner: u32, extents: &[Extent]) -> bool
-    ensures { result ≡ is_sound (record { owner = owner; extents = extents.now }) }
-{
-    is_inode(owner) && are_sorted(extents) && are_apart(extents)
+    let end = extent.logical as u64 + extent.length as u64;
+    1 <= extent.length
+        && end <= space.blocks() as u64
+        && geometry.is_run(space, extent.place, extent.length)
 }
 
 fn are_sorted(extents: &[Extent]) -> bool
@@ -233,31 +285,29 @@ fn are_sorted(extents: &[Extent]) -> bool
         }
         end = extent.logical as u64 + extent.length as u64;
     }
-    end <= LOGICAL_BLOCKS
+    true
 }
 
-fn are_apart(extents: &[Extent]) -> bool
-    ensures { result ≡ are_apart extents.now }
+// Whether each place begins at or behind the end of the one before.
+fn are_stepping(extents: &[Extent]) -> bool
+    ensures { result ≡ are_stepping 0 extents.now }
 {
+    let mut end = 0u64;
     for index in 0..extents.len() {
         let extent = extents[index];
-        if !is_apart_from(extent, &extents[index + 1..]) {
+        if (extent.place as u64) < end {
             return false;
         }
+        end = extent.place as u64 + extent.length as u64;
     }
     true
 }
 
-fn is_apart_from(extent: Extent, others: &[Extent]) -> bool
-    ensures { result ≡ list_all (is_apart extent) others.now }
+// Whether no two extents have a place in common. It leaves them in the order of their places.
+fn are_apart(extents: &mut [Extent]) -> bool
+    requires { list_all (λ e. nat_le 1 e.length) extents.old ≡ true }
+    ensures { result ≡ are_apart extents.old }
 {
-    others.iter().all(|other| is_apart(extent, *other))
-}
-
-// Whether two extents have no place in common.
-fn is_apart(one: Extent, other: Extent) -> bool
-    ensures { result ≡ is_apart one other }
-{
-    one.place as u64 + one.length as u64 <= other.place as u64
-        || other.place as u64 + other.length as u64 <= one.place as u64
+    extents.sort_unstable_by_key(|extent| extent.place);
+    are_stepping(extents)
 }

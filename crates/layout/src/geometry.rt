@@ -1,12 +1,35 @@
 ghost use Rattle.std.specs.Prelude.{◌≡◌};
-ghost use Rattle.layout.specs.Places.{sizes, allows, geometry_of, IsAllowed, data_blocks, node_blocks, node_end, data_first, tier_blocks, is_node, is_journaled, is_data};
+ghost use Rattle.layout.specs.Places.{sizes, allows, geometry_of, IsAllowed, data_blocks, node_blocks, node_end, data_first, tier_blocks, is_node, are_nodes, is_journaled, is_data, is_run};
 
 use crate::places::{
-    BASE_NODE_BLOCKS, FIRST_NODE_BLOCK, MARKS_BLOCK, MAX_DATA_BLOCKS, MAX_UNITS, MIN_UNITS,
-    SPARE_BLOCKS,
+    BASE_NODE_BLOCKS, DIRECTORY_BLOCKS, FILE_BLOCKS, FIRST_NODE_BLOCK, MARKS_BLOCK,
+    MAX_DATA_BLOCKS, MAX_UNITS, MIN_UNITS, SPARE_BLOCKS,
 };
 use std::marker::Model;
 use tier_device::Tier;
+
+/// Where the blocks of a node's content lie.
+#[derive(Clone, Copy, Debug, PartialEq, Eq)]
+pub enum Space {
+    /// Those of a directory: in the node pool.
+    Nodes,
+    /// Those of a file on one tier: among its data blocks.
+    Data(Tier),
+}
+
+impl Space {
+    ghost use Rattle.layout.specs.Places.{blocks_in};
+
+    /// How many blocks a node has there at most: 64 of a directory, 256 of a file.
+    pub fn blocks(self) -> u32
+        ensures { result ≡ blocks_in self }
+    {
+        match self {
+            Space::Nodes => DIRECTORY_BLOCKS,
+            Space::Data(_) => FILE_BLOCKS,
+        }
+    }
+}
 
 /// How large the shared media are, which decides where everything stands: 2 to 65,536 units, and up to 65,536 data blocks on
 /// each tier, together at least one for each unit and 512 more.
@@ -108,6 +131,24 @@ impl Geometry {
         ensures { result ≡ is_node self.now block }
     {
         FIRST_NODE_BLOCK <= block && block < self.node_end()
+    }
+
+    /// Whether blocks of the fast tier from a first one on all lie in the node pool.
+    pub fn are_nodes(&self, first: u32, count: u32) -> bool
+        ensures { result ≡ are_nodes self.now first count }
+    {
+        let end = first as u64 + count as u64;
+        FIRST_NODE_BLOCK <= first && end <= self.node_end() as u64
+    }
+
+    /// Whether blocks from a first one on may all be a node's content in that space.
+    pub fn is_run(&self, space: Space, first: u32, count: u32) -> bool
+        ensures { result ≡ is_run self.now space first count }
+    {
+        match space {
+            Space::Nodes => self.are_nodes(first, count),
+            Space::Data(tier) => self.is_data(tier, first, count),
+        }
     }
 
     /// Whether a batch may write a block of the fast tier: the superblock, a block of slots, the marks, or one of the node

@@ -8,7 +8,7 @@ ghost use Rattle.layout.specs.Marks.{fits_marks, marks_spelling, marks_of};
 ghost use Rattle.layout.specs.declared.slot.Slot.{Slot};
 ghost use Rattle.layout.specs.Places.{Sizes, IsAllowed};
 ghost use Rattle.layout.specs.Slot.{fits_slot, slot_spelling, slot_of};
-ghost use Rattle.tier_device.specs.declared.media.Tier.{Tier};
+ghost use Rattle.layout.specs.declared.geometry.Space.{Space};
 ghost use Rattle.layout.specs.Extents.{ExtentList, fits_extents, extents_spelling, extents_of};
 ghost use Rattle.layout.specs.Directory.{EntryList, fits_entries, entries_spelling, entries_of};
 ghost use Rattle.layout.specs.Super.{fits_super, super_spelling, super_of};
@@ -45,12 +45,12 @@ pub fn slot_is_spelled()
 
 /// Extents that are written are read again.
 pub fn extents_are_read()
-    ensures { (g : Sizes) (tier : Tier) (v : ExtentList) → IsAllowed g → fits_extents g tier v ≡ true → extents_of g tier (extents_spelling v) ≡ Some v }
+    ensures { (g : Sizes) (space : Space) (v : ExtentList) → IsAllowed g → fits_extents g space v ≡ true → extents_of g space (extents_spelling v) ≡ Some v }
 {}
 
 /// Extents that are read are spelled so.
 pub fn extents_are_spelled()
-    ensures { (g : Sizes) (tier : Tier) (block : List ℕ) (v : ExtentList) → IsAllowed g → AreBytes block → extents_of g tier block ≡ Some v → (fits_extents g tier v ≡ true) × (block ≡ extents_spelling v) }
+    ensures { (g : Sizes) (space : Space) (block : List ℕ) (v : ExtentList) → IsAllowed g → AreBytes block → extents_of g space block ≡ Some v → (fits_extents g space v ≡ true) × (block ≡ extents_spelling v) }
 {}
 
 /// Entries that are written are read again.

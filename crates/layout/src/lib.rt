@@ -5,14 +5,16 @@
 //! are little-endian, and bytes that no field names are zero.
 #![tactic(auto)]
 
-mod damaged;
+mod dir_entries;
 mod directory;
 mod entry;
+mod error;
 mod extents;
 mod geometry;
 mod kinds;
 mod laws;
 mod marks;
+mod numbers;
 mod places;
 mod reading;
 mod slot;
@@ -20,15 +22,18 @@ mod slot_fields;
 mod superblock;
 mod writing;
 
-pub use damaged::{Damaged, DecodeError, What};
+pub use dir_entries::{DirEntries, set_entry};
 pub use directory::{DirBlock, DirEntry, MAX_IN_BLOCK};
+pub use entry::EntryRef;
+pub use error::{LayoutError, What};
 pub use extents::{Extent, ExtentBlock, MAX_EXTENTS};
-pub use geometry::Geometry;
+pub use geometry::{Geometry, Space};
 pub use laws::{
     entries_are_read, entries_are_spelled, extents_are_read, extents_are_spelled, marks_are_read,
     marks_are_spelled, slot_is_read, slot_is_spelled, super_is_read, super_is_spelled,
 };
 pub use marks::{CLIENTS, Mark, Marks};
+pub use numbers::{format_has_its_bytes, format_has_its_limits, format_has_its_places};
 pub use places::{
     BLOCK, FIRST_IMAGE_BLOCK, FIRST_NODE_BLOCK, FIRST_SLOT_BLOCK, GATE_BLOCK, HEAD_BLOCK,
     MARKS_BLOCK, MAX_DATA_BLOCKS, MAX_IMAGES, MAX_UNITS, MIN_UNITS, SLOT_SIZE, SLOTS_IN_BLOCK,

@@ -2,9 +2,9 @@ ghost use Rattle.std.specs.Prelude.{◌≡◌, ◌≤◌, ◌+◌, length, optio
 ghost use Rattle.layout.specs.Answers.{answer};
 ghost use Rattle.layout.specs.Bytes.{items_at, overwritten};
 ghost use Rattle.layout.specs.Marks.{mark_text, marks_spelling, mark_at, marks_at, marks_of};
-ghost use Rattle.layout.specs.declared.damaged.What.TheVariants as what;
+ghost use Rattle.layout.specs.declared.error.What.TheVariants as what;
 
-use crate::damaged::{Damaged, What};
+use crate::error::{LayoutError, What};
 use crate::places::{BLOCK, MARKS_BLOCK};
 use crate::reading::{are_zero, u32_of, u64_of};
 use crate::writing::{clear, put_u32, put_u64};
@@ -47,12 +47,12 @@ impl Marks {
     }
 
     /// The marks that a block spells; `Damaged` where it spells none.
-    pub fn decode(block: &[u8]) -> Result<Self, Damaged>
+    pub fn decode(block: &[u8]) -> Result<Self, LayoutError>
         ensures { result ≡ answer what.Marks MARKS_BLOCK (marks_of block.now) }
     {
         match marks_of(block) {
             Some(found) => Ok(found),
-            None => Err(Damaged {
+            None => Err(LayoutError::Damaged {
                 what: What::Marks,
                 block: MARKS_BLOCK,
             }),

@@ -72,6 +72,12 @@ pub fn slot_byte(inode: u32) -> usize
     SLOT_SIZE * ((inode - 1) % SLOTS_IN_BLOCK) as usize
 }
 
+/// The most blocks that a file has.
+pub const FILE_BLOCKS: u32 = 256;
+
+/// The most blocks of entries that a directory has.
+pub const DIRECTORY_BLOCKS: u32 = 64;
+
 /// Whether a number is an inode's.
 pub fn is_inode(inode: u32) -> bool
     ensures { result ≡ is_inode inode }

@@ -2,9 +2,9 @@ ghost use Rattle.std.specs.Prelude.{◌≡◌, ◌≤◌, length};
 ghost use Rattle.layout.specs.Answers.{answer};
 ghost use Rattle.layout.specs.Places.{slot_block};
 ghost use Rattle.layout.specs.Slot.{slot_fields, slot_spelling, slot_from, slot_of, fits_slot, is_root, are_apart as roots_apart};
-ghost use Rattle.layout.specs.declared.damaged.What.TheVariants as what;
+ghost use Rattle.layout.specs.declared.error.What.TheVariants as what;
 
-use crate::damaged::{Damaged, What};
+use crate::error::{LayoutError, What};
 use crate::geometry::Geometry;
 use crate::kinds::{DIRECTORY, FILE};
 use crate::places::{SLOT_SIZE, slot_block};
@@ -45,14 +45,14 @@ impl Slot {
     }
 
     /// The slot that the bytes of an inode's slot spell; `Damaged` where they spell none.
-    pub fn decode(geometry: &Geometry, inode: u32, bytes: &[u8]) -> Result<Self, Damaged>
+    pub fn decode(geometry: &Geometry, inode: u32, bytes: &[u8]) -> Result<Self, LayoutError>
         requires low { 1 ≤ inode }
         requires high { inode ≤ MAX_INODE }
         ensures { result ≡ answer what.Slot (slot_block inode) (slot_of geometry.now bytes.now) }
     {
         match slot_of(geometry, bytes) {
             Some(found) => Ok(found),
-            None => Err(Damaged {
+            None => Err(LayoutError::Damaged {
                 what: What::Slot,
                 block: slot_block(inode),
             }),

@@ -1,9 +1,9 @@
 ghost use Rattle.std.specs.Prelude.{◌≡◌, length, option_map};
 ghost use Rattle.layout.specs.Answers.{answer};
 ghost use Rattle.layout.specs.Super.{super_spelling, super_at, super_of};
-ghost use Rattle.layout.specs.declared.damaged.What.TheVariants as what;
+ghost use Rattle.layout.specs.declared.error.What.TheVariants as what;
 
-use crate::damaged::{Damaged, What};
+use crate::error::{LayoutError, What};
 use crate::geometry::Geometry;
 use crate::places::{BLOCK, SUPER_BLOCK};
 use crate::reading::{are_zero, text_of, u32_of};
@@ -39,12 +39,12 @@ impl Super {
     }
 
     /// The superblock that a block spells; `Damaged` where it spells none.
-    pub fn decode(block: &[u8]) -> Result<Self, Damaged>
+    pub fn decode(block: &[u8]) -> Result<Self, LayoutError>
         ensures { result ≡ answer what.Super SUPER_BLOCK (super_of block.now) }
     {
         match super_of(block) {
             Some(found) => Ok(found),
-            None => Err(Damaged {
+            None => Err(LayoutError::Damaged {
                 what: What::Super,
                 block: SUPER_BLOCK,
             }),

@@ -1,9 +1,9 @@
-use Rattle.std.proofs.Common.{◌≡◌, ◌+◌, ◌*◌, ◌<◌, ◌≤◌, ℕ, List, [], ◌∷◌, ◌++◌, length, take, get_or, refl, ap, sym, ◌∙◌, arith}
+use Rattle.std.proofs.Common.{◌≡◌, ◌+◌, ◌*◌, ◌<◌, ◌≤◌, ℕ, List, [], ◌∷◌, ◌++◌, length, take, get_or, refl, ap, sym, subst, ◌∙◌, arith}
 use Rattle.std.specs.List.{flat_map}
 use Rattle.std.proofs.lemmas.List.{length-append, append-nil, take_all, take_more}
 use Rattle.std.proofs.lemmas.Grind.{flat_map-append}
 use Rattle.layout.specs.declared.directory.DirEntry.{DirEntry}
-use Rattle.layout.specs.Bytes.{u32, zeros, filled}
+use Rattle.layout.specs.Bytes.{u32, zeros, filled, overwritten}
 use Rattle.layout.specs.Directory.{entry_text}
 use Rattle.layout.proofs.Blocks.{filled_nothing, filled_twice, written_u32}
 use Rattle.layout.proofs.Items.{item_on}
@@ -37,13 +37,16 @@ loop-index-preserved c =
     let entries = c.args.entries.now in
     let x : DirEntry = c.index-entries-index.result in
     let read : x ≡ get_or entries i x = c.index-entries-index.is in
+    let lent = c.lent-entry.ensures.entry in
+    let short : length x.name ≤ 64 = subst (λ (e : DirEntry). length e.name ≤ 64) lent c.lent-entry.ensures.short in
     let head : List ℕ = head_text c.args.owner (length entries) in
     let within : i < length entries = c.loop-index-test.true in
     let texts : List ℕ = flat_map entry_text (take i entries) in
     let long : length (head ++ texts) ≡ 64 + 72 * i = omega (arith, length-append head texts, head_text_long c.args.owner (length entries), c.loop-index.invariant.1) in (
-      c.put_entry.ensures.text
-          ∙ item_on entry_text 4096 (64 + 72 * i) i head entries x x c.loop-index.block c.loop-index.invariant.0 long (omega (arith, within, c.requires.few, entry_text_long x c.put_entry.ensures.short)) within read,
-      longer entries i x within read c.put_entry.ensures.short c.loop-index.invariant.1,
+      c.put_entry.ensures
+          ∙ ap (λ (e : DirEntry). overwritten (64 + 72 * i) (entry_text e) c.loop-index.block) lent
+          ∙ item_on entry_text 4096 (64 + 72 * i) i head entries x x c.loop-index.block c.loop-index.invariant.0 long (omega (arith, within, c.requires.few, entry_text_long x short)) within read,
+      longer entries i x within read short c.loop-index.invariant.1,
     )
 
 pub returns : goal.returns

@@ -1,22 +1,18 @@
-use Rattle.std.proofs.Common.{◌+◌, ◌≤◌, ℕ, List, [], ◌∷◌, ◌++◌, length, ap, sym, ◌∙◌, arith, subst}
+use Rattle.std.proofs.Common.{◌+◌, ◌≤◌, ℕ, List, [], ◌∷◌, ◌++◌, length, ap, ◌∙◌, arith}
 use Rattle.layout.specs.Bytes.{u32, filled, overwritten}
 use Rattle.layout.specs.Directory.{kind_byte}
 use Rattle.layout.proofs.Fields.{u32_long}
 use Rattle.layout.proofs.Blocks.{overwritten_thrice, filled_long}
-use Rattle.layout.proofs.DirectoryLaws.{short_name}
 use Rattle.layout.proofs.entry.put_entry.Goals as goal
 
-pub returns-clause-text : goal.returns-clause-text
-returns-clause-text c =
+pub returns : goal.returns
+returns c =
     let at = c.args.at in
     let old = c.args.block.now in
-    let e = c.args.entry.now in
-    let name = c.as_slice-name.result.now in
-    let short : length name ≤ 64 = subst (λ (n : List ℕ). length n ≤ 64) (sym c.as_slice-name.ensures.bytes) (short_name e.name c.as_slice-name.ensures.name) in
+    let e = c.args.entry in
     let i : List ℕ = u32 e.inode in
-    let tags : List ℕ = kind_byte e.kind ∷ length name ∷ 0 ∷ 0 ∷ [] in
-    let field : List ℕ = filled 64 name in
+    let tags : List ℕ = kind_byte e.kind ∷ length e.name.now ∷ 0 ∷ 0 ∷ [] in
+    let field : List ℕ = filled 64 e.name.now in
     c.put_name.ensures
     ∙ ap (overwritten (at + 8) field) (c.put_tags.ensures ∙ ap (overwritten (at + 4) tags) c.put_u32.ensures)
-    ∙ overwritten_thrice at (at + 4) (at + 8) i tags field old (omega (arith, u32_long e.inode)) (omega arith) (omega (arith, c.requires, filled_long 64 name short))
-    ∙ ap (λ (n : List ℕ). overwritten at (i ++ (kind_byte e.kind ∷ length n ∷ 0 ∷ 0 ∷ filled 64 n)) old) c.as_slice-name.ensures.bytes
+    ∙ overwritten_thrice at (at + 4) (at + 8) i tags field old (omega (arith, u32_long e.inode)) (omega arith) (omega (arith, c.requires, filled_long 64 e.name.now c.requires.short))

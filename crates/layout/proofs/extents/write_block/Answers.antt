@@ -12,14 +12,15 @@ use Rattle.layout.proofs.extents.write_block.Goals as goal
 pub loop-index-init : goal.loop-index-init
 loop-index-init c =
     let owner = c.args.owner in
+    let level = c.args.level in
     let count = length c.args.extents.now in
     let b0 : c.clear.new.bytes ≡ filled 4096 [] = c.clear.ensures ∙ ap zeros c.requires.long ∙ filled_nothing 4096 in
     let w1 = written_u32 4096 0 owner [] c.clear.new.bytes b0 refl (omega arith) in
     let w2 = written_u32 4096 4 count (u32 owner) c.put_u32.new.bytes (c.put_u32.ensures ∙ w1.0) w1.1 (omega arith) in
     let t2 : List ℕ = u32 owner ++ u32 count in
-    let w3 = written_u32 4096 8 0 t2 c.put_u32-2.new.bytes (c.put_u32-2.ensures ∙ w2.0) w2.1 (omega arith) in
-    let w4 = written_u32 4096 12 0 (t2 ++ u32 0) c.put_u32-3.new.bytes (c.put_u32-3.ensures ∙ w3.0) w3.1 (omega arith) in
-    c.put_u32-4.ensures ∙ w4.0 ∙ ap (filled 4096) (append-nil-back (head_text owner count))
+    let w3 = written_u32 4096 8 level t2 c.put_u32-2.new.bytes (c.put_u32-2.ensures ∙ w2.0) w2.1 (omega arith) in
+    let w4 = written_u32 4096 12 0 (t2 ++ u32 level) c.put_u32-3.new.bytes (c.put_u32-3.ensures ∙ w3.0) w3.1 (omega arith) in
+    c.put_u32-4.ensures ∙ w4.0 ∙ ap (filled 4096) (append-nil-back (head_text owner count level))
   where
     append-nil-back : (t : List ℕ) → t ≡ t ++ []
     append-nil-back t = rw append-nil refl
@@ -30,10 +31,10 @@ loop-index-preserved c =
     let extents = c.args.extents.now in
     let zero_extent : Extent = record { logical = 0; length = 0; place = 0 } in
     let x : Extent = get_or extents i zero_extent in
-    let head : List ℕ = head_text c.args.owner (length extents) in
+    let head : List ℕ = head_text c.args.owner (length extents) c.args.level in
     let within : i < length extents = c.loop-index-test.true in
     let so_far : List ℕ = head ++ flat_map extent_text (take i extents) in
-    let long : length so_far ≡ 16 + 12 * i = omega (arith, length-append head (flat_map extent_text (take i extents)), head_text_long c.args.owner (length extents), extent_texts_long (take i extents), length-take i extents, within) in
+    let long : length so_far ≡ 16 + 12 * i = omega (arith, length-append head (flat_map extent_text (take i extents)), head_text_long c.args.owner (length extents) c.args.level, extent_texts_long (take i extents), length-take i extents, within) in
     c.put_extent.ensures
     ∙ item_on extent_text 4096 (16 + 12 * i) i head extents x zero_extent c.loop-index.block c.loop-index.invariant long (omega (arith, within, c.requires.few, extent_text_long x)) within refl
 
@@ -42,5 +43,5 @@ returns c =
     let extents = c.args.extents.now in
     let all = take_all c.loop-index.index extents c.loop-index-test.false in
     c.loop-index.invariant
-    ∙ ap (λ (es : List Extent). filled 4096 (head_text c.args.owner (length extents) ++ flat_map extent_text es)) all
-    ∙ ap (filled 4096) (head_and_extents (record { owner = c.args.owner; extents = extents }))
+    ∙ ap (λ (es : List Extent). filled 4096 (head_text c.args.owner (length extents) c.args.level ++ flat_map extent_text es)) all
+    ∙ ap (filled 4096) (head_and_extents (record { owner = c.args.owner; level = c.args.level; extents = extents }))

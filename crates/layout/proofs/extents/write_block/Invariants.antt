@@ -6,4 +6,4 @@ use Rattle.layout.proofs.ExtentLaws.{head_text}
 use Rattle.layout.proofs.extents.write_block.Given as goal
 
 abbrev pub invariant-loop-index : goal.invariant-loop-index
-invariant-loop-index l = l.block ≡ filled 4096 (head_text l.owner (length l.extents) ++ flat_map extent_text (take l.index l.extents))
+invariant-loop-index l = l.block ≡ filled 4096 (head_text l.owner (length l.extents) l.level ++ flat_map extent_text (take l.index l.extents))

@@ -1,0 +1,96 @@
+//! The numbers of the format, each told once as a number.
+
+ghost use Rattle.std.specs.Prelude.{◌≡◌, ◌++◌, ◌∷◌, [], ℕ, List, true, false, Some, None};
+ghost use Rattle.file_graph.specs.declared.effect.Kind.TheVariants as kind;
+ghost use Rattle.tier_device.specs.declared.media.Tier.TheVariants as tiers;
+ghost use Rattle.layout.specs.declared.geometry.Space.TheVariants as space;
+ghost use Rattle.layout.specs.declared.slot.Slot.TheVariants as slot;
+ghost use Rattle.layout.specs.Bytes.{zeros};
+ghost use Rattle.layout.specs.Places.{sizes, allows, slot_block, slot_byte, node_end, data_first, tier_blocks, blocks_in, is_inode};
+ghost use Rattle.layout.specs.Super.{super_text};
+ghost use Rattle.layout.specs.Slot.{slot_fields, slot_text, fits_slot};
+ghost use Rattle.layout.specs.Marks.{marks_text};
+ghost use Rattle.layout.specs.Extents.{extents_text};
+ghost use Rattle.layout.specs.Directory.{kind_byte, entries_text, fits_entry};
+ghost use Rattle.layout.specs.Rows.{some_sizes, a_super, a_file, a_directory, some_marks, some_extents, some_entries};
+
+use crate::directory::{ENTRY_SIZE, FIRST_ENTRY_AT, MAX_IN_BLOCK};
+use crate::extents::{EXTENT_SIZE, FIRST_EXTENT_AT, MAX_EXTENTS};
+use crate::marks::{CLIENTS, DIGESTS_AT, MARK_SIZE};
+use crate::places::{
+    BASE_NODE_BLOCKS, BLOCK, FIRST_IMAGE_BLOCK, FIRST_NODE_BLOCK, FIRST_SLOT_BLOCK, GATE_BLOCK,
+    HEAD_BLOCK, MARKS_BLOCK, MAX_DATA_BLOCKS, MAX_IMAGES, MAX_UNITS, MIN_UNITS, SLOT_SIZE,
+    SLOTS_IN_BLOCK, SPARE_BLOCKS, SUPER_BLOCK,
+};
+
+/// The blocks at which everything stands.
+pub fn format_has_its_places()
+    ensures block_bytes { BLOCK ≡ 4096 }
+    ensures superblock { SUPER_BLOCK ≡ 0 }
+    ensures slots { FIRST_SLOT_BLOCK ≡ 1 }
+    ensures slots_in_block { SLOTS_IN_BLOCK ≡ 32 }
+    ensures marks { MARKS_BLOCK ≡ 33 }
+    ensures gate { GATE_BLOCK ≡ 34 }
+    ensures head { HEAD_BLOCK ≡ 35 }
+    ensures images { FIRST_IMAGE_BLOCK ≡ 36 }
+    ensures nodes { FIRST_NODE_BLOCK ≡ 292 }
+    ensures base_nodes { BASE_NODE_BLOCKS ≡ 3072 }
+    ensures slot_of_the_root { slot_block 1 ≡ 1 }
+    ensures slot_of_32 { slot_block 32 ≡ 1 }
+    ensures slot_of_33 { slot_block 33 ≡ 2 }
+    ensures slot_of_1024 { slot_block 1024 ≡ 32 }
+    ensures byte_of_the_root { slot_byte 1 ≡ 0 }
+    ensures byte_of_2 { slot_byte 2 ≡ 128 }
+    ensures byte_of_1024 { slot_byte 1024 ≡ 3968 }
+    ensures pool_ends { node_end some_sizes ≡ 5412 }
+    ensures fast_data { data_first some_sizes tiers.Fast ≡ 5412 }
+    ensures block_data { data_first some_sizes tiers.Block ≡ 0 }
+    ensures slow_data { data_first some_sizes tiers.Slow ≡ 0 }
+    ensures fast_blocks { tier_blocks some_sizes tiers.Fast ≡ 5924 }
+    ensures block_blocks { tier_blocks some_sizes tiers.Block ≡ 1025 }
+    ensures slow_blocks { tier_blocks some_sizes tiers.Slow ≡ 1026 }
+{}
+
+/// How much there is of everything.
+pub fn format_has_its_limits()
+    ensures few_units { MIN_UNITS ≡ 2 }
+    ensures many_units { MAX_UNITS ≡ 65536 }
+    ensures data_blocks { MAX_DATA_BLOCKS ≡ 65536 }
+    ensures spare_blocks { SPARE_BLOCKS ≡ 512 }
+    ensures images { MAX_IMAGES ≡ 256 }
+    ensures slot_bytes { SLOT_SIZE ≡ 128 }
+    ensures mark_bytes { MARK_SIZE ≡ 16 }
+    ensures clients { CLIENTS ≡ 8 }
+    ensures digests { DIGESTS_AT ≡ 128 }
+    ensures extents { MAX_EXTENTS ≡ 340 }
+    ensures first_extent { FIRST_EXTENT_AT ≡ 16 }
+    ensures extent_bytes { EXTENT_SIZE ≡ 12 }
+    ensures entries { MAX_IN_BLOCK ≡ 56 }
+    ensures first_entry { FIRST_ENTRY_AT ≡ 64 }
+    ensures entry_bytes { ENTRY_SIZE ≡ 72 }
+    ensures blocks_of_a_file { blocks_in (space.Data tiers.Fast) ≡ 256 }
+    ensures blocks_of_a_directory { blocks_in space.Nodes ≡ 64 }
+    ensures no_inode_0 { is_inode 0 ≡ false }
+    ensures last_inode { is_inode 1024 ≡ true }
+    ensures no_inode_1025 { is_inode 1025 ≡ false }
+    ensures largest_file { fits_slot some_sizes (slot.File 1000 1048576 0 0 0 0) ≡ true }
+    ensures no_larger_file { fits_slot some_sizes (slot.File 1000 1048577 0 0 0 0) ≡ false }
+    ensures no_more_names { fits_slot some_sizes (slot.File 1001 1048576 0 0 0 0) ≡ false }
+    ensures largest_directory { fits_slot some_sizes (slot.Directory 1000 3584 0 0) ≡ true }
+    ensures no_larger_directory { fits_slot some_sizes (slot.Directory 1000 3585 0 0) ≡ false }
+    ensures entry_of_the_root { fits_entry (record { inode = 1; kind = kind.Directory; name = 97 ∷ [] }) ≡ false }
+    ensures entry_of_2 { fits_entry (record { inode = 2; kind = kind.Directory; name = 97 ∷ [] }) ≡ true }
+{}
+
+/// The bytes of a value of each structure, so the tag, the place and the width of each field.
+pub fn format_has_its_bytes()
+    ensures file_kind { kind_byte kind.File ≡ 1 }
+    ensures directory_kind { kind_byte kind.Directory ≡ 2 }
+    ensures superblock { super_text a_super ≡ 83 ∷ 84 ∷ 82 ∷ 65 ∷ 84 ∷ 65 ∷ 70 ∷ 83 ∷ 1 ∷ 0 ∷ 0 ∷ 0 ∷ 0 ∷ 4 ∷ 0 ∷ 0 ∷ 0 ∷ 2 ∷ 0 ∷ 0 ∷ 1 ∷ 4 ∷ 0 ∷ 0 ∷ 2 ∷ 4 ∷ 0 ∷ 0 ∷ [] }
+    ensures free_slot { slot_text (slot_fields slot.Free) ≡ 0 ∷ 0 ∷ 0 ∷ 0 ∷ 0 ∷ 0 ∷ 0 ∷ 0 ∷ 0 ∷ 0 ∷ 0 ∷ 0 ∷ 0 ∷ 0 ∷ 0 ∷ 0 ∷ 0 ∷ 0 ∷ 0 ∷ 0 ∷ 0 ∷ 0 ∷ 0 ∷ 0 ∷ 0 ∷ 0 ∷ 0 ∷ 0 ∷ 0 ∷ 0 ∷ 0 ∷ 0 ∷ 0 ∷ 0 ∷ 0 ∷ 0 ∷ [] }
+    ensures file_slot { slot_text (slot_fields a_file) ≡ 1 ∷ 0 ∷ 0 ∷ 0 ∷ 2 ∷ 0 ∷ 0 ∷ 0 ∷ 52 ∷ 18 ∷ 0 ∷ 0 ∷ 0 ∷ 0 ∷ 0 ∷ 0 ∷ 5 ∷ 0 ∷ 0 ∷ 0 ∷ 0 ∷ 0 ∷ 0 ∷ 0 ∷ 36 ∷ 1 ∷ 0 ∷ 0 ∷ 37 ∷ 1 ∷ 0 ∷ 0 ∷ 44 ∷ 1 ∷ 0 ∷ 0 ∷ [] }
+    ensures directory_slot { slot_text (slot_fields a_directory) ≡ 2 ∷ 0 ∷ 0 ∷ 0 ∷ 1 ∷ 0 ∷ 0 ∷ 0 ∷ 3 ∷ 0 ∷ 0 ∷ 0 ∷ 0 ∷ 0 ∷ 0 ∷ 0 ∷ 9 ∷ 0 ∷ 0 ∷ 0 ∷ 0 ∷ 0 ∷ 0 ∷ 0 ∷ 38 ∷ 1 ∷ 0 ∷ 0 ∷ 0 ∷ 0 ∷ 0 ∷ 0 ∷ 0 ∷ 0 ∷ 0 ∷ 0 ∷ [] }
+    ensures marks { marks_text some_marks ≡ 2 ∷ 0 ∷ 0 ∷ 0 ∷ 0 ∷ 0 ∷ 0 ∷ 0 ∷ 3 ∷ 0 ∷ 0 ∷ 0 ∷ 0 ∷ 0 ∷ 0 ∷ 0 ∷ 4 ∷ 0 ∷ 0 ∷ 0 ∷ 0 ∷ 0 ∷ 0 ∷ 0 ∷ 5 ∷ 0 ∷ 0 ∷ 0 ∷ 0 ∷ 0 ∷ 0 ∷ 0 ∷ 6 ∷ 0 ∷ 0 ∷ 0 ∷ 0 ∷ 0 ∷ 0 ∷ 0 ∷ 7 ∷ 0 ∷ 0 ∷ 0 ∷ 0 ∷ 0 ∷ 0 ∷ 0 ∷ 8 ∷ 0 ∷ 0 ∷ 0 ∷ 0 ∷ 0 ∷ 0 ∷ 0 ∷ 9 ∷ 0 ∷ 0 ∷ 0 ∷ 0 ∷ 0 ∷ 0 ∷ 0 ∷ 10 ∷ 0 ∷ 0 ∷ 0 ∷ 0 ∷ 0 ∷ 0 ∷ 0 ∷ 11 ∷ 0 ∷ 0 ∷ 0 ∷ 0 ∷ 0 ∷ 0 ∷ 0 ∷ 12 ∷ 0 ∷ 0 ∷ 0 ∷ 0 ∷ 0 ∷ 0 ∷ 0 ∷ 13 ∷ 0 ∷ 0 ∷ 0 ∷ 0 ∷ 0 ∷ 0 ∷ 0 ∷ 14 ∷ 0 ∷ 0 ∷ 0 ∷ 0 ∷ 0 ∷ 0 ∷ 0 ∷ 15 ∷ 0 ∷ 0 ∷ 0 ∷ 0 ∷ 0 ∷ 0 ∷ 0 ∷ 8 ∷ 7 ∷ 6 ∷ 5 ∷ 4 ∷ 3 ∷ 2 ∷ 1 ∷ 16 ∷ 0 ∷ 0 ∷ 0 ∷ 0 ∷ 0 ∷ 0 ∷ 0 ∷ 17 ∷ 0 ∷ 0 ∷ 0 ∷ 0 ∷ 0 ∷ 0 ∷ 0 ∷ [] }
+    ensures extents { extents_text some_extents ≡ 5 ∷ 0 ∷ 0 ∷ 0 ∷ 2 ∷ 0 ∷ 0 ∷ 0 ∷ 0 ∷ 0 ∷ 0 ∷ 0 ∷ 0 ∷ 0 ∷ 0 ∷ 0 ∷ 0 ∷ 0 ∷ 0 ∷ 0 ∷ 3 ∷ 0 ∷ 0 ∷ 0 ∷ 36 ∷ 21 ∷ 0 ∷ 0 ∷ 10 ∷ 0 ∷ 0 ∷ 0 ∷ 1 ∷ 0 ∷ 0 ∷ 0 ∷ 44 ∷ 21 ∷ 0 ∷ 0 ∷ [] }
+    ensures entries { entries_text some_entries ≡ (1 ∷ 0 ∷ 0 ∷ 0 ∷ 2 ∷ 0 ∷ 0 ∷ 0 ∷ []) ++ zeros 56 ++ (2 ∷ 0 ∷ 0 ∷ 0 ∷ 2 ∷ 1 ∷ 0 ∷ 0 ∷ 97 ∷ []) ++ zeros 63 ++ (0 ∷ 4 ∷ 0 ∷ 0 ∷ 1 ∷ 3 ∷ 0 ∷ 0 ∷ 98 ∷ 46 ∷ 99 ∷ []) ++ zeros 61 }
+{}
