@@ -1,7 +1,6 @@
 // Why a file gives no medium.
 use std::alloc::AllocError;
-use std::fmt;
-use std::io;
+use std::{fmt, io};
 use thiserror::Error;
 
 /// What is wrong with a file.

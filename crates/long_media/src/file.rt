@@ -59,8 +59,7 @@ impl FileMedia {
     /// is one that the device model allows.
     pub fn is_covered(&self)
         ensures { (t : Tier) (c : List ℕ) → kept_by_system self.now t c → ∥ file_left self.now (file_moment self.now) t c ∥₁ }
-    {
-    }
+    {}
 }
 
 impl Media for FileMedia {

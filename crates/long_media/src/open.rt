@@ -110,10 +110,7 @@ fn opened<R: Files<File = File>>(
     let Some(wanted) = sizes.file_len() else {
         return Err(FileProblem::TooLarge);
     };
-    let file = OpenOptions::new()
-        .read(true)
-        .write(true)
-        .open(files, path)?;
+    let file = OpenOptions::new().read(true).write(true).open(files, path)?;
     lock(&file)?;
     check_len(&file, wanted as u64)?;
     settle(&file)?;
