@@ -27,6 +27,10 @@ kept_by_system m = LeftNow m.inner.host.past.history
 abbrev pub file_failed : FileMedia → Bool
 file_failed m = m.inner.host.failed
 
+-- how many calls of it have failed
+abbrev pub failures : FileMedia → ℕ
+failures m = m.faults
+
 -- a stop now leaves what a read gives, and nothing else
 abbrev pub IsAtRest : FileMedia → Type 0
 IsAtRest m = (t : Tier) → AtRest (file_seen m) (file_left m (file_moment m)) t

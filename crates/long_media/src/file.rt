@@ -24,15 +24,15 @@ pub struct FileMedia {
 }
 
 impl FileMedia {
-    ghost use Rattle.long_media.specs.File.{file_seen, file_left, file_moment, file_failed, kept_by_system, IsAtRest};
+    ghost use Rattle.long_media.specs.File.{file_seen, file_left, file_moment, file_failed, failures, kept_by_system, IsAtRest};
 
     // The medium over an open file that was synced, of which a read gives these tiers.
     pub(crate) fn of(file: File, tiers: Tiers) -> Self
         requires fits { total tiers < 2 ^ 63 }
-        ensures seen { (t : Tier) → file_seen result t ≡ row tiers t }
+        ensures tiers { result.inner.tiers ≡ tiers }
         ensures at_rest { IsAtRest result }
         ensures clock { file_moment result ≡ 0 }
-        ensures faults { result.faults ≡ 0 }
+        ensures faults { failures result ≡ 0 }
         ensures works { file_failed result ≡ false }
     {
         FileMedia {
@@ -59,12 +59,11 @@ impl FileMedia {
     /// is one that the device model allows.
     pub fn is_covered(&self)
         ensures { (t : Tier) (c : List ℕ) → kept_by_system self.now t c → ∥ file_left self.now (file_moment self.now) t c ∥₁ }
-    {
-    }
+    {}
 }
 
 impl Media for FileMedia {
-    ghost use Rattle.long_media.specs.File.{file_seen, file_moment, file_left, file_seen_now, file_sized, file_failed};
+    ghost use Rattle.long_media.specs.File.{file_seen, file_moment, file_left, file_seen_now, file_sized, file_failed, failures};
 
     ghost seen = { file_seen };
 
@@ -72,7 +71,7 @@ impl Media for FileMedia {
 
     ghost left = { file_left };
 
-    ghost faults = { λ m. m.faults };
+    ghost faults = { failures };
 
     ghost seen_now = { file_seen_now };
 
@@ -82,7 +81,16 @@ impl Media for FileMedia {
         self.bytes(tier).len()
     }
 
-    fn read(&mut self, tier: Tier, at: usize, out: &mut [u8]) -> Result<(), MediaError> {
+    fn read(&mut self, tier: Tier, at: usize, out: &mut [u8]) -> Result<(), MediaError>
+        ensures range { InRange (length (file_seen self.old tier)) at (length out.old) result self.old self.new }
+        ensures bytes { OnOk result (out.new ≡ take (length out.old) (drop at (file_seen self.old tier))) }
+        ensures refused { OnErr result (out.new ≡ out.old) }
+        ensures seen { (t : Tier) → file_seen self.new t ≡ file_seen self.old t }
+        ensures clock { file_moment self.new ≡ file_moment self.old }
+        ensures past { Keeps (file_moment self.old) (file_moment self.new) (file_left self.old) (file_left self.new) }
+        ensures cause { HasCause (failures self.old) (failures self.new) result }
+        ensures failed { Fails (file_failed self.old) (file_failed self.new) result }
+    {
         let size = self.bytes(tier).len();
         if size < at || size - at < out.len() {
             return Err(MediaError::OutOfRange);
@@ -95,7 +103,17 @@ impl Media for FileMedia {
         Ok(())
     }
 
-    fn write(&mut self, tier: Tier, at: usize, bytes: &[u8]) -> Result<(), MediaError> {
+    fn write(&mut self, tier: Tier, at: usize, bytes: &[u8]) -> Result<(), MediaError>
+        ensures range { InRange (length (file_seen self.old tier)) at (length bytes.now) result self.old self.new }
+        ensures written { OnOk result (Puts tier (overwritten (file_seen self.old tier) at bytes.now) (file_seen self.old) (file_seen self.new)) }
+        ensures lengths { (t : Tier) → length (file_seen self.new t) ≡ length (file_seen self.old t) }
+        ensures clock { OnOk result (file_moment self.new ≡ file_moment self.old + 1) }
+        ensures past { Keeps (file_moment self.old) (file_moment self.new) (file_left self.old) (file_left self.new) }
+        ensures left { Tears tier at (length bytes.now) (file_left self.old (file_moment self.old)) (file_left self.new (file_moment self.new)) }
+        ensures all_left { OnOk result (TearsAll tier at (length bytes.now) (file_left self.old (file_moment self.old)) (file_left self.new (file_moment self.new))) }
+        ensures cause { HasCause (failures self.old) (failures self.new) result }
+        ensures failed { Fails (file_failed self.old) (file_failed self.new) result }
+    {
         let size = self.bytes(tier).len();
         if size < at || size - at < bytes.len() {
             return Err(MediaError::OutOfRange);
@@ -113,7 +131,17 @@ impl Media for FileMedia {
         }
     }
 
-    fn fence(&mut self, tier: Tier) -> Result<(), MediaError> {
+    fn fence(&mut self, tier: Tier) -> Result<(), MediaError>
+        ensures only { IsErrOf result OutOfRange → ⊥ }
+        ensures seen { OnOk result ((t : Tier) → file_seen self.new t ≡ file_seen self.old t) }
+        ensures lengths { (t : Tier) → length (file_seen self.new t) ≡ length (file_seen self.old t) }
+        ensures clock { OnOk result (file_moment self.new ≡ file_moment self.old + 1) }
+        ensures past { Keeps (file_moment self.old) (file_moment self.new) (file_left self.old) (file_left self.new) }
+        ensures left { (t : Tier) (c : List ℕ) → file_left self.new (file_moment self.new) t c → file_left self.old (file_moment self.old) t c }
+        ensures settled { OnOk result (Settles tier (file_seen self.old) (file_left self.old (file_moment self.old)) (file_left self.new (file_moment self.new))) }
+        ensures cause { HasCause (failures self.old) (failures self.new) result }
+        ensures failed { Fails (file_failed self.old) (file_failed self.new) result }
+    {
         if self.inner.is_failed() {
             self.faults = self.faults.saturating_add(1);
             return Err(MediaError::DeviceFault);

@@ -1,13 +1,18 @@
-//! Two further kinds of medium: one in memory whose past no memory holds, and one over a file.
+//! Two further kinds of medium: `RamMedia`, in memory, whose past no memory holds, and `FileMedia`, over a file of the operating
+//! system.
 #![tactic(auto)]
 
+mod error;
 mod file;
 mod host;
 mod mirrored;
+mod open;
 mod past;
 mod pending;
 mod ram;
 
+pub use error::{FileError, FileProblem};
 pub use file::FileMedia;
+pub use open::Sizes;
 pub use past::Past;
 pub use ram::RamMedia;

@@ -1,5 +1,8 @@
 // A medium in memory that keeps nothing of a call.
-ghost use Rattle.std.specs.Prelude.{◌≡◌, ◌≤◌, ◌+◌, ◌∷◌, ℕ, length, IsErrOf, OnOk, OnErr};
+ghost use Rattle.std.specs.Prelude.{◌≡◌, ◌≤◌, ◌+◌, List, ℕ, length, take, drop, IsOk, IsErrOf, OnOk, OnErr};
+ghost use Rattle.tier_device.specs.declared.media.MediaError.TheVariants.{OutOfRange, DeviceFault};
+ghost use Rattle.tier_device.specs.Media.{overwritten, Puts, Keeps, Tears, TearsAll, Settles, HasCause, InRange};
+ghost use Rattle.long_media.specs.History.{Wrote, Fenced, and_then};
 ghost use Rattle.tier_device.specs.declared.media.Tier.{Tier};
 ghost use Rattle.tier_device.specs.declared.media.Tier.TheVariants.{Fast, Block, Slow};
 ghost use Rattle.tier_device.specs.Rows.{row};
@@ -42,7 +45,7 @@ impl RamMedia {
 }
 
 impl Media for RamMedia {
-    ghost use Rattle.long_media.specs.Ram.{ram_seen, ram_moment, ram_left, ram_seen_now, ram_sized};
+    ghost use Rattle.long_media.specs.Ram.{ram_seen, ram_moment, ram_left, ram_seen_now, ram_sized, ram_history};
 
     ghost seen = { ram_seen };
 
@@ -60,7 +63,17 @@ impl Media for RamMedia {
         self.bytes(tier).len()
     }
 
-    fn read(&mut self, tier: Tier, at: usize, out: &mut [u8]) -> Result<(), MediaError> {
+    fn read(&mut self, tier: Tier, at: usize, out: &mut [u8]) -> Result<(), MediaError>
+        ensures range { InRange (length (ram_seen self.old tier)) at (length out.old) result self.old self.new }
+        ensures bytes { OnOk result (out.new ≡ take (length out.old) (drop at (ram_seen self.old tier))) }
+        ensures refused { OnErr result (out.new ≡ out.old) }
+        ensures seen { (t : Tier) → ram_seen self.new t ≡ ram_seen self.old t }
+        ensures clock { ram_moment self.new ≡ ram_moment self.old }
+        ensures past { Keeps (ram_moment self.old) (ram_moment self.new) (ram_left self.old) (ram_left self.new) }
+        ensures cause { HasCause 0 0 result }
+        ensures never { IsErrOf result DeviceFault → ⊥ }
+        ensures history { ram_history self.new ≡ ram_history self.old }
+    {
         let bytes = self.bytes(tier);
         if bytes.len() < at || bytes.len() - at < out.len() {
             return Err(MediaError::OutOfRange);
@@ -69,7 +82,18 @@ impl Media for RamMedia {
         Ok(())
     }
 
-    fn write(&mut self, tier: Tier, at: usize, bytes: &[u8]) -> Result<(), MediaError> {
+    fn write(&mut self, tier: Tier, at: usize, bytes: &[u8]) -> Result<(), MediaError>
+        ensures range { InRange (length (ram_seen self.old tier)) at (length bytes.now) result self.old self.new }
+        ensures written { OnOk result (Puts tier (overwritten (ram_seen self.old tier) at bytes.now) (ram_seen self.old) (ram_seen self.new)) }
+        ensures lengths { (t : Tier) → length (ram_seen self.new t) ≡ length (ram_seen self.old t) }
+        ensures clock { OnOk result (ram_moment self.new ≡ ram_moment self.old + 1) }
+        ensures past { Keeps (ram_moment self.old) (ram_moment self.new) (ram_left self.old) (ram_left self.new) }
+        ensures left { Tears tier at (length bytes.now) (ram_left self.old (ram_moment self.old)) (ram_left self.new (ram_moment self.new)) }
+        ensures all_left { OnOk result (TearsAll tier at (length bytes.now) (ram_left self.old (ram_moment self.old)) (ram_left self.new (ram_moment self.new))) }
+        ensures cause { HasCause 0 0 result }
+        ensures never { IsErrOf result DeviceFault → ⊥ }
+        ensures history { OnOk result (ram_history self.new ≡ and_then (ram_history self.old) (Wrote tier at bytes.now)) }
+    {
         let size = self.bytes(tier).len();
         if size < at || size - at < bytes.len() {
             return Err(MediaError::OutOfRange);
@@ -79,7 +103,18 @@ impl Media for RamMedia {
         Ok(())
     }
 
-    fn fence(&mut self, tier: Tier) -> Result<(), MediaError> {
+    fn fence(&mut self, tier: Tier) -> Result<(), MediaError>
+        ensures only { IsErrOf result OutOfRange → ⊥ }
+        ensures seen { OnOk result ((t : Tier) → ram_seen self.new t ≡ ram_seen self.old t) }
+        ensures lengths { (t : Tier) → length (ram_seen self.new t) ≡ length (ram_seen self.old t) }
+        ensures clock { OnOk result (ram_moment self.new ≡ ram_moment self.old + 1) }
+        ensures past { Keeps (ram_moment self.old) (ram_moment self.new) (ram_left self.old) (ram_left self.new) }
+        ensures left { (t : Tier) (c : List ℕ) → ram_left self.new (ram_moment self.new) t c → ram_left self.old (ram_moment self.old) t c }
+        ensures settled { OnOk result (Settles tier (ram_seen self.old) (ram_left self.old (ram_moment self.old)) (ram_left self.new (ram_moment self.new))) }
+        ensures cause { HasCause 0 0 result }
+        ensures never { IsOk result }
+        ensures history { ram_history self.new ≡ and_then (ram_history self.old) (Fenced tier) }
+    {
         self.past = self.past.then(&Note::Fence { tier });
         Ok(())
     }
