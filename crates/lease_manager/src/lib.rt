@@ -1,12 +1,12 @@
 //! Leases of inodes, kept in words that all clients share: one writer alone or any readers, in any schedule of threads.
 //!
 //! Each client has a pass. A call changes one word in one atomic step, or in two, and what the pass knows with it.
-//! No call waits, and only `Leases::open` takes memory.
+//! No call waits, and only `Leases::open` takes memory. What the asked words keep is told by `laws`.
 #![tactic(auto)]
 
 mod asking;
 mod counting;
-mod history;
+mod laws;
 mod layout;
 mod meeting;
 mod pass;
@@ -17,7 +17,10 @@ mod taking;
 mod tests;
 mod view;
 
-pub use history::questions;
+pub use laws::{
+    asked_question_waits, heard_question_is_new, only_the_asked_client_hears,
+    waiting_question_was_asked,
+};
 pub use layout::{CLIENTS, INODES, ROWS, WORDS};
 pub use pass::{Busy, Pass};
 pub use table::{Leases, Opened};

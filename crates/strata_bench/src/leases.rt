@@ -4,7 +4,7 @@ ghost use Rattle.lease_manager.specs.declared.view.LeaseMode.TheVariants.{Free};
 ghost use Rattle.lease_manager.specs.Words.{IsInode};
 ghost use Rattle.lease_manager.specs.Passes.{lease_of, records_of};
 
-use lease_manager::{LeaseMode, Leases, Pass};
+use lease_manager::{LeaseMode, Leases, Opened, Pass};
 use std::sync::atomic::AtomicU64;
 use std::sync::atomic::Ordering::SeqCst;
 use std::thread::Threads;
@@ -98,7 +98,11 @@ fn bare_word<R: Clock>(rt: &R) -> io::Result<f64> {
 
 // The time in which one client takes a lease and gives it.
 fn one_client<R: Clock + AllocGlobal>(rt: &R, kind: Kind) -> Result<f64, anyhow::Error> {
-    let (leases, mut passes) = Leases::open(rt.alloc())?;
+    let Opened {
+        leases,
+        mut passes,
+        ..
+    } = Leases::open(rt.alloc())?;
     let start = Instant::now(rt)?;
     if let [first, ..] = passes.as_mut_slice() {
         own_turns(&leases, first, kind);
@@ -111,7 +115,11 @@ fn eight_clients<R: Threads + Sync + Clock + AllocGlobal>(
     rt: &R,
     kind: Kind,
 ) -> Result<f64, anyhow::Error> {
-    let (leases, mut passes) = Leases::open(rt.alloc())?;
+    let Opened {
+        leases,
+        mut passes,
+        ..
+    } = Leases::open(rt.alloc())?;
     let all = &leases;
     let go = move |_: usize, pass: &mut Pass|
         requires { pass.now.table ≡ all.now }

@@ -4,6 +4,7 @@ ghost use Rattle.lease_manager.specs.declared.view.LeaseMode.TheVariants.{Free, 
 ghost use Rattle.lease_manager.specs.Words.{IsInode};
 ghost use Rattle.lease_manager.specs.Passes.{lease_of, records_of};
 
+use crate::client::{Client, clients};
 use crate::witness::Witness;
 use lease_manager::{CLIENTS, INODES, LeaseMode, Leases, Pass, ROWS};
 use std::test::Fail;
@@ -103,15 +104,20 @@ fn go_round(leases: &Leases, witness: &Witness, pass: &mut Pass)
     }
 }
 
+impl Client {
+    fn go_round(&mut self, witness: &Witness) {
+        go_round(&self.leases, witness, &mut self.pass);
+    }
+}
+
 #[test]
 fn eight_threads_leave_no_mark(rt: HostRuntime) -> Result<(), Fail> {
     let witness = Witness::new(rt.alloc())?;
-    let (leases, mut passes) = Leases::open(rt.alloc())?;
-    let (all, words) = (&leases, &witness);
-    let go = |_: usize, pass: &mut Pass|
-        requires { pass.now.table ≡ all.now }
-    { go_round(all, words, pass) };
-    thread::for_each_mut(&rt, passes.as_mut_slice(), 8, &go);
+    let (leases, mut clients) = clients(rt.alloc())?;
+    assert!(rt; clients.len() == 8);
+    let seen = &witness;
+    let go = |_: usize, client: &mut Client| client.go_round(seen);
+    thread::for_each_mut(&rt, clients.as_mut_slice(), 8, &go);
     assert!(rt; witness.faults() == 0);
     for place in 0..1024 {
         assert!(rt; leases.word(place) == 0, "word {place}");

@@ -2,6 +2,10 @@
 #![tactic(auto)]
 
 #[cfg(test)]
+mod client;
+#[cfg(test)]
 mod lease_rounds;
+#[cfg(test)]
+mod question_rounds;
 #[cfg(test)]
 mod witness;
