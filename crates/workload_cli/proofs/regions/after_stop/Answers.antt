@@ -3,7 +3,7 @@ use Rattle.tier_device.specs.declared.media.Tier.TheVariants.{Fast}
 use Rattle.tier_device.specs.declared.stop.StopMedia.{StopMedia}
 use Rattle.tier_device.specs.Memory.{memory_seen, memory_left, memory_moment}
 use Rattle.tier_device.specs.Stop.{medium_of}
-use Rattle.workload_cli.proofs.two_clients.after_stop.Goals as goal
+use Rattle.workload_cli.proofs.regions.after_stop.Goals as goal
 
 pub returns-in-Ok-clause-allowed : goal.returns-in-Ok-clause-allowed
 returns-in-Ok-clause-allowed c =

@@ -1,6 +1,6 @@
 use Rattle.std.proofs.Common.{◌≡◌, drop}
 use Rattle.file_graph.specs.Graph.{graph_of, after_effects}
-use Rattle.workload_cli.proofs.two_clients.apply.Given as goal
+use Rattle.workload_cli.proofs.regions.apply.Given as goal
 
 -- the effects that are still to come lead where all of them do
 abbrev pub invariant-loop-effect : goal.invariant-loop-effect

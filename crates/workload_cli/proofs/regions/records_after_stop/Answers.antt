@@ -1,7 +1,7 @@
 use Rattle.std.proofs.Common.{◌∙◌}
 use Rattle.tier_device.specs.declared.media.Tier.TheVariants.{Fast}
 use Rattle.tier_device.specs.Memory.{memory_seen}
-use Rattle.workload_cli.proofs.two_clients.records_after_stop.Goals as goal
+use Rattle.workload_cli.proofs.regions.records_after_stop.Goals as goal
 
 pub reopen-requires : goal.reopen-requires
 reopen-requires c = c.in_ok-media.ensures.at_rest Fast

@@ -1,7 +1,7 @@
 use Rattle.std.proofs.Common.{rules, ◌≡◌, ◌∙◌, ◌∷◌, ◌+◌, ◌<◌, length, drop, ap, sym}
 use Rattle.std.proofs.lemmas.List.{drop_more}
 use Rattle.file_graph.specs.Graph.{Graph, graph_of, after_effects}
-use Rattle.workload_cli.proofs.two_clients.apply.Goals as goal
+use Rattle.workload_cli.proofs.regions.apply.Goals as goal
 
 pub loop-effect-preserved : goal.loop-effect-preserved
 loop-effect-preserved c =
