@@ -1,8 +1,7 @@
 -- How a number grows by its digits.
-use Rattle.std.proofs.Common.{◌≡◌, ◌∙◌, List, ℕ, ◌+◌, ◌-◌, ◌*◌, ◌<◌, ◌≤◌, ◌^◌, Bool, true, false, ◌&&◌, nat_lt, Option, None, Some, [], ◌∷◌, refl, arith, if◌then◌else◌, length, drop}
+use Rattle.std.proofs.Common.{◌≡◌, ◌∙◌, List, ℕ, ◌+◌, ◌-◌, ◌*◌, ◌<◌, ◌≤◌, ◌^◌, None, Some, [], ◌∷◌, refl, arith, length, drop}
 use Rattle.std.proofs.lemmas.Grind.{common_steps}
-use Rattle.std.specs.List.{list_all}
-use Rattle.script_lines.specs.Script.{is_digit, digit, value_from, number_from, number}
+use Rattle.script_lines.specs.Script.{digit, value_from, number_from, number}
 
 -- further digits make no number less
 pub value_from-at_least : (n : ℕ) (bs : List ℕ) → n ≤ value_from n bs

@@ -1,7 +1,7 @@
 -- How the parts of a text come off from the left.
-use Rattle.std.proofs.Common.{◌≡◌, ◌==◌, All, List, ℕ, ◌+◌, ◌<◌, ◌≤◌, Bool, true, false, Option, None, Some, [], ◌∷◌, refl, arith, length, take, drop}
+use Rattle.std.proofs.Common.{◌≡◌, ◌==◌, All, List, ℕ, ◌+◌, ◌<◌, ◌≤◌, Bool, false, None, Some, [], ◌∷◌, refl, arith, length, take, drop}
 use Rattle.std.proofs.lemmas.Grind.{common_steps}
-use Rattle.std.specs.List.{position, position_or_len, slice_split}
+use Rattle.std.specs.List.{position, position_or_len}
 use Rattle.std.proofs.lemmas.List.Splits.{slice_split_first, slice_split_none}
 use Rattle.std.proofs.lemmas.List.Sums.{fails_before_first}
 use Rattle.script_lines.specs.Script.{parts, one}

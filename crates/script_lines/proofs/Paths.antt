@@ -1,7 +1,7 @@
 -- How the bytes of a path come off from the left.
-use Rattle.std.proofs.Common.{rules, append-nil, ◌≡◌, ◌==◌, List, ℕ, ◌+◌, ◌<◌, ◌≤◌, Bool, true, false, Option, None, Some, [], ◌∷◌, ◌++◌, refl, arith, length, if◌then◌else◌, is_some, option_map, append_assoc}
+use Rattle.std.proofs.Common.{rules, append-nil, ◌≡◌, ◌==◌, List, ℕ, ◌<◌, true, false, Option, None, Some, [], ◌∷◌, ◌++◌, refl, arith, length, if◌then◌else◌, is_some, option_map, append_assoc}
 use Rattle.std.proofs.lemmas.Grind.{common_steps}
-use Rattle.script_lines.specs.Script.{decoded, decoded_first, before, plain, hex_byte}
+use Rattle.script_lines.specs.Script.{decoded, decoded_first, before}
 use Rattle.script_lines.specs.Seen.{or_empty}
 
 -- a path begins with the first byte that it spells

@@ -1,11 +1,10 @@
 -- How runs come off from the left, and their bytes up to a limit.
-use Rattle.std.proofs.Common.{zero, suc, append-nil, ◌≡◌, ◌∙◌, sym, ap, List, ℕ, ◌+◌, ◌-◌, ◌<◌, ◌≤◌, Bool, true, false, Option, None, Some, [], ◌∷◌, ◌++◌, refl, arith, length, take, drop, is_some, option_map, min, append_assoc}
+use Rattle.std.proofs.Common.{zero, suc, append-nil, ◌≡◌, ◌∙◌, ap, List, ℕ, ◌+◌, ◌-◌, ◌≤◌, true, Option, None, Some, [], ◌∷◌, ◌++◌, refl, arith, length, take, is_some, option_map, min, append_assoc}
 use Rattle.std.proofs.Math.ListN.{replicate}
 use Rattle.std.proofs.Math.Seq.{take-append-add}
-use Rattle.std.proofs.lemmas.List.{take-append-le, take-replicate}
 use Rattle.std.proofs.lemmas.Grind.{common_steps}
 use Rattle.std.specs.List.{flat_map}
-use Rattle.script_lines.specs.Script.{◌>>=◌, all_runs, with_first, run_bytes, run, runs, parts}
+use Rattle.script_lines.specs.Script.{all_runs, with_first, run_bytes, run, parts}
 use Rattle.script_lines.specs.Seen.{or_empty}
 use Rattle.script_lines.specs.declared.runs.TheConstants.{MAX_DATA}
 

@@ -1,5 +1,5 @@
 -- What the code has of runs.
-use Rattle.std.specs.Prelude.{◌≡◌, ℕ, List, Option, option_map}
+use Rattle.std.specs.Prelude.{ℕ, List, Option, option_map}
 use denote.Ref.{Bor}
 use Rattle.script_lines.specs.declared.runs.Run.{Run}
 

@@ -1,5 +1,5 @@
 -- The language of scripts: what words, numbers, flags, paths and bytes a line has.
-use Rattle.std.specs.Prelude.{◌≡◌, ℕ, zero, suc, ◌+◌, ◌-◌, ◌*◌, ◌^◌, ◌<◌, ◌≤◌, ◌==◌, Bool, true, false, ◌&&◌, not, nat_le, nat_lt, min, List, [], ◌∷◌, ◌++◌, length, Option, Some, None, if◌then◌else◌, option_map, codes}
+use Rattle.std.specs.Prelude.{ℕ, ◌+◌, ◌-◌, ◌*◌, ◌^◌, ◌==◌, Bool, false, ◌&&◌, not, nat_le, nat_lt, min, List, [], ◌∷◌, length, Option, Some, None, if◌then◌else◌, option_map}
 use Rattle.std.specs.List.{slice_split, list_all, flat_map}
 use Rattle.std.proofs.Math.ListN.{replicate}
 use Rattle.posix_calls.specs.declared.limits.TheConstants.{MAX_CLIENTS}

@@ -1,5 +1,5 @@
 -- What the texts of a line stand for.
-use Rattle.std.specs.Prelude.{◌≡◌, ℕ, List, [], take, Option, Some, None}
+use Rattle.std.specs.Prelude.{ℕ, List, [], take, Option, Some, None}
 use Rattle.posix_calls.specs.declared.call.Call.{Call}
 use Rattle.posix_calls.specs.declared.call.Call.TheVariants as call
 use Rattle.script_lines.specs.declared.runs.TheConstants.{MAX_DATA}

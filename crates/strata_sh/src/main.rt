@@ -2,7 +2,7 @@
 #![tactic(auto)]
 
 use std::env;
-use std::io::{self, BufReader, ErrorKind, LineWriter};
+use std::io::{self, BufReader, BufWriter, ErrorKind};
 use std::process::ExitCode;
 use workload_cli::run_sh;
 
@@ -36,8 +36,7 @@ fn shell(rt: &HostRuntime) -> io::Result<u8> {
         texts.push(word.as_str())?;
     }
     let reader = BufReader::new(alloc, rt.stdin())?;
-    // An answer is written once its line is whole, so that a program can ask line by line.
-    let mut out = LineWriter::new(alloc, rt.stdout())?;
+    let mut out = BufWriter::new(alloc, rt.stdout())?;
     let mut err = rt.stderr();
     Ok(run_sh(alloc, &texts, reader, &mut out, &mut err))
 }

@@ -1,52 +1,86 @@
 -- The two calls of the first path as records, and what records make of a graph.
-use Rattle.std.specs.Prelude.{◌≡◌, ℕ, List, [], ◌∷◌, length, Option, Some, None, codes}
+use Rattle.std.specs.Prelude.{◌≡◌, ℕ, zero, suc, List, [], ◌∷◌, drop, Some, None, Ok, true, codes}
+use Rattle.tier_device.specs.declared.media.Tier.{Tier}
 use Rattle.tier_device.specs.declared.media.Tier.TheVariants.{Fast}
-use Rattle.tier_device.specs.Memory.{memory_left, memory_moment}
+use Rattle.tier_device.specs.Memory.{memory_seen, memory_left, memory_moment}
 use Rattle.tier_device.specs.Stop.{medium_of}
 use Rattle.tier_device.specs.declared.stop.StopMedia.{StopMedia}
 use Rattle.posix_calls.specs.declared.limits.TheConstants.{ROOT}
 use Rattle.posix_calls.specs.declared.call.Call.{Call}
 use Rattle.posix_calls.specs.declared.call.Call.TheVariants as call
 use Rattle.posix_calls.specs.declared.call.Reply.{Reply}
-use Rattle.posix_calls.specs.declared.call.Reply.TheVariants as reply
+use Rattle.posix_calls.specs.declared.deed.Deed.{Deed}
+use Rattle.posix_calls.specs.Tree.{Own, set_own}
+use Rattle.posix_calls.specs.Asks.{run}
+use Rattle.posix_calls.specs.Decide.{decide}
+use Rattle.posix_calls.specs.Deeds.{reply_of}
 use Rattle.file_graph.specs.Graph.{Graph, fresh, after_effects}
-use Rattle.file_graph.specs.declared.effect.Effect.{Effect}
-use Rattle.file_graph.specs.declared.effect.Effect.TheVariants as effect
-use Rattle.file_graph.specs.declared.effect.Kind.{Kind}
 use Rattle.file_graph.specs.declared.effect.Kind.TheVariants as kind
 use Rattle.log_record.specs.declared.format.Record.{Record}
-use Rattle.update_log.specs.Frames.{records}
+use Rattle.update_log.specs.Frames.{records, joined}
+use Rattle.call_effects.specs.Effects.{making}
+use Rattle.call_effects.specs.Known.{stored_view}
+use Rattle.call_effects.specs.Records.{effects_asked, growth_asked}
 use Rattle.workload_cli.specs.declared.two_clients.TheConstants.{FILE, NEW}
 
--- a node of a kind, entered in the root under a name
-abbrev pub made : Kind → ℕ → List ℕ → List Effect
-made k i name = effect.Make i k ∷ effect.Enter ROOT i k name ∷ effect.Names i 1 ∷ []
+-- ---- the calls
 
 -- a root with the empty file `/f`
 abbrev pub opening : Graph
-opening = after_effects fresh (made kind.File FILE (codes "f"))
+opening = after_effects fresh (making FILE kind.File (record { parent = ROOT; name = codes "f" }))
 
--- the record of a write to that file or of a new directory in the root, and what is answered once it is logged
-abbrev pub logged_as : Call → Option (Record × Reply)
-logged_as (call.Pwrite descriptor at bytes) = Some (record { units = 1; effects = effect.Bytes FILE at bytes ∷ [] }, reply.Wrote (length bytes))
-logged_as (call.Mkdir []) = None
-logged_as (call.Mkdir (slash ∷ name)) = Some (record { units = 1; effects = made kind.Directory NEW name }, reply.Done)
-logged_as (call.Open path flags) = None
-logged_as (call.Close descriptor) = None
-logged_as (call.Pread descriptor at count) = None
-logged_as (call.Truncate path length) = None
-logged_as (call.Rmdir path) = None
-logged_as (call.Link old new) = None
-logged_as (call.Unlink path) = None
-logged_as (call.Rename old new) = None
-logged_as (call.List path) = None
-logged_as (call.Stat path) = None
+-- nothing is open
+abbrev pub nothing_open : Own
+nothing_open n = None
+
+-- that file is open for reading and writing under 0
+abbrev pub file_open : Own
+file_open = set_own nothing_open 0 (Some (record { inode = FILE; reads = true; writes = true }))
+
+-- four bytes at the start of it
+abbrev pub first_call : Call
+first_call = call.Pwrite 0 0 (codes "aaaa")
+
+-- the directory `/a`
+abbrev pub second_call : Call
+second_call = call.Mkdir (codes "/a")
+
+-- the record of a client's call over a graph, by its deed, and what the call is answered; a new node gets the number new
+pub record IsLogged (g : Graph) (own : Own) (asked : Call) (new : ℕ) (entry : Record) (told : Reply) : Type 0 where
+  pub deed : Deed
+  pub comes : run (stored_view g) (decide own asked) ≡ Ok deed
+  pub changes : run (stored_view g) (effects_asked new deed) ≡ Ok entry.effects
+  pub grows : run (stored_view g) (growth_asked deed) ≡ Ok entry.units
+  pub answers : told ≡ reply_of deed
+
+-- ---- what is done and what is recovered
 
 -- the graph after records, one after the other
 abbrev pub after_records : Graph → List Record → Graph
 after_records g [] = g
 after_records g (r ∷ rs) = after_records (after_effects g r.effects) rs
 
+-- the first call's record stands behind the old ones of its region, and is done
+pub record IsDone (g after : Graph) (old new : List Record) : Type 0 where
+  pub entry : Record
+  pub told : Reply
+  pub logged : IsLogged g file_open first_call NEW entry told
+  pub appended : new ≡ joined old (Some entry)
+  pub applied : after ≡ after_effects g entry.effects
+
+-- how many records of the first region are done: the first call's, once it is answered, and else none
+abbrev pub IsMark : ℕ → Graph → Graph → List Record → List Record → Type 0
+IsMark zero g after old new = after ≡ g
+IsMark (suc n) g after old new = (n ≡ 0) × IsDone g after old new
+
+-- what reads of a medium give
+abbrev pub stop_seen : StopMedia → Tier → List ℕ
+stop_seen media = memory_seen (medium_of media)
+
 -- these are the records of a content that a stop now may leave
 abbrev pub MayHold : StopMedia → List Record → Type 0
 MayHold media found = (c : List ℕ) × memory_left (medium_of media) (memory_moment (medium_of media)) Fast c × (found ≡ records c)
+
+-- a graph with all records of such a content but the first ones, which were done
+abbrev pub IsRecovered : StopMedia → ℕ → Graph → Graph → Type 0
+IsRecovered media done g after = (found : List Record) × MayHold media found × (after ≡ after_records g (drop done found))

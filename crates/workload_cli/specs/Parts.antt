@@ -10,6 +10,6 @@ use Rattle.workload_cli.specs.declared.script.part.End.TheVariants.{Open, Newlin
 -- a part without a newline moves to the line; the newline behind it, the end of the input and what is too long are told
 abbrev pub Adds : Option (List ℕ) → Option (List ℕ) → List ℕ → List ℕ → End → Type 0
 Adds old new before after Open = (part : List ℕ) × (after ≡ before ++ part) × IsWithinLine part × Consumes old new part
-Adds old new before after Newline = (part : List ℕ) × (after ≡ before ++ part) × IsWithinLine part × Consumes old new (part ++ 10 ∷ [])
+Adds old new before after (Newline more) = (part : List ℕ) × (after ≡ before ++ part) × IsWithinLine part × Consumes old new (part ++ 10 ∷ [])
 Adds old new before after Input = (after ≡ before) × IfSome old (λ bytes. (bytes ≡ []) × (new ≡ Some []))
 Adds old new before after TooLong = (part : List ℕ) × IsWithinLine part × (MAX_LINE < length before + length part) × IfSome old (λ bytes. StartsWith bytes part)

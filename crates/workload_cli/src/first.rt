@@ -1,15 +1,21 @@
 // The program `strata_first`.
-use crate::fault::Fault;
+ghost use Rattle.std.specs.Prelude.{◌≡◌, Ok, true, Some, IfOk, OnOk};
+ghost use Rattle.update_log.specs.Frames.{joined};
+ghost use Rattle.file_graph.specs.Graph.{Graph, graph_of};
+ghost use Rattle.update_log.specs.View.{records_of};
+ghost use Rattle.workload_cli.specs.FirstPath.{nothing_open, file_open, first_call, second_call, IsLogged, stop_seen, IsMark, IsRecovered};
+
 use crate::lines::{write_data, write_names};
 use crate::options::{Stop, first_options};
+use crate::regions::{apply, log, open_region, recover};
+use crate::run_error::RunError;
 use crate::two_clients::{
-    FILE, apply, first_call, first_graph, log, logged, open_region, records_after_stop, replay,
-    second_call,
+    FILE, NEW, first_call, first_descriptors, first_graph, logged, second_call,
 };
 use crate::usage::{tell, tell_fault};
 use file_graph::PlainGraph;
 use log_record::Record;
-use posix_calls::{ROOT, Reply};
+use posix_calls::{OwnDescriptors, ROOT, Reply};
 use std::alloc::Global;
 use std::io::Write;
 use tier_device::StopMedia;
@@ -41,7 +47,7 @@ struct Regions {
     second: Region<StopMedia>,
 }
 
-fn run<O: Write>(alloc: Global, stop: Option<Stop>, out: &mut O) -> Result<(), Fault> {
+fn run<O: Write>(alloc: Global, stop: Option<Stop>, out: &mut O) -> Result<(), RunError> {
     let mut graph = first_graph(alloc)?;
     let mut regions = open_regions(alloc, stop)?;
     let done = ask_both(alloc, &mut regions, &mut graph, out)?;
@@ -49,48 +55,50 @@ fn run<O: Write>(alloc: Global, stop: Option<Stop>, out: &mut O) -> Result<(), F
     write_tree(out, &graph)
 }
 
-fn open_regions(alloc: Global, stop: Option<Stop>) -> Result<Regions, Fault> {
+fn open_regions(alloc: Global, stop: Option<Stop>) -> Result<Regions, RunError> {
     let first = open_region(alloc, stop)?;
     let second = open_region(alloc, stop)?;
     Ok(Regions { first, second })
 }
 
-// Asks both clients' calls, and tells how many records were done.
+// Asks both clients' calls, and tells how many records of the first region are done.
 fn ask_both<O: Write>(
     alloc: Global,
     regions: &mut Regions,
     graph: &mut PlainGraph,
     out: &mut O,
-) -> Result<usize, Fault> {
+) -> Result<usize, RunError> {
     let done = ask_first(alloc, &mut regions.first, graph, out)?;
-    ask_second(alloc, &mut regions.second, out)?;
+    ask_second(alloc, &mut regions.second, graph, out)?;
     writeln!(out, "applied {done}")?;
     Ok(done)
 }
 
-// Does what both regions then hold, but for the first one's records that are done.
+// Does what both regions hold after the stop, but for the first one's records that are done.
 fn recover_both(
     alloc: Global,
     regions: Regions,
     graph: &mut PlainGraph,
     done: usize,
-) -> Result<(), Fault> {
+) -> Result<(), RunError>
+    ensures { OnOk result ((between : Graph) × IsRecovered regions.first.media done (graph_of graph.old) between × IsRecovered regions.second.media 0 between (graph_of graph.new)) }
+{
     let Regions { first, second } = regions;
     recover(alloc, first, graph, done)?;
     recover(alloc, second, graph, 0)
 }
 
-// Logs what client 1 asks, does it where it was answered, and tells how many records were done.
+// Logs what client 1 asks, does it where it was answered, and tells how many records are done.
 fn ask_first<O: Write>(
     alloc: Global,
     region: &mut Region<StopMedia>,
     graph: &mut PlainGraph,
     out: &mut O,
-) -> Result<usize, Fault> {
-    let (entry, reply) = first_asked(alloc)?;
-    let is_answered = log(region, &entry)?;
-    write_reply(out, 1, is_answered, &reply)?;
-    if !is_answered {
+) -> Result<usize, RunError>
+    ensures { IfOk result (λ done. IsMark done (graph_of graph.old) (graph_of graph.new) (records_of stop_seen region.old) (records_of stop_seen region.new)) }
+{
+    let (entry, reply) = first_asked(alloc, graph)?;
+    if !keep(region, &entry, reply, 1, out)? {
         return Ok(0);
     }
     apply(graph, &entry)?;
@@ -101,32 +109,41 @@ fn ask_first<O: Write>(
 fn ask_second<O: Write>(
     alloc: Global,
     region: &mut Region<StopMedia>,
+    graph: &PlainGraph,
     out: &mut O,
-) -> Result<(), Fault> {
-    let (entry, reply) = second_asked(alloc)?;
-    let is_answered = log(region, &entry)?;
-    write_reply(out, 2, is_answered, &reply)
+) -> Result<(), RunError> {
+    let (entry, reply) = second_asked(alloc, graph)?;
+    keep(region, &entry, reply, 2, out)?;
+    Ok(())
 }
 
-fn first_asked(alloc: Global) -> Result<(Record, Reply), Fault> {
+fn first_asked(alloc: Global, graph: &PlainGraph) -> Result<(Record, Reply), RunError>
+    ensures { IfOk result (λ l. IsLogged (graph_of graph.now) file_open first_call NEW l.0 l.1) }
+{
     let call = first_call(alloc)?;
-    logged(alloc, &call)
+    logged(alloc, graph, &first_descriptors(), &call, NEW)
 }
 
-fn second_asked(alloc: Global) -> Result<(Record, Reply), Fault> {
+fn second_asked(alloc: Global, graph: &PlainGraph) -> Result<(Record, Reply), RunError>
+    ensures { IfOk result (λ l. IsLogged (graph_of graph.now) nothing_open second_call NEW l.0 l.1) }
+{
     let call = second_call(alloc)?;
-    logged(alloc, &call)
+    logged(alloc, graph, &OwnDescriptors::new(), &call, NEW)
 }
 
-// Stops a region's medium, and does what it then holds, but for the records that are done.
-fn recover(
-    alloc: Global,
-    region: Region<StopMedia>,
-    graph: &mut PlainGraph,
-    done: usize,
-) -> Result<(), Fault> {
-    let found = records_after_stop(alloc, region)?;
-    replay(graph, &found, done)
+// Logs a client's record, and prints the reply where it was answered; whether it was.
+fn keep<O: Write>(
+    region: &mut Region<StopMedia>,
+    entry: &Record,
+    reply: Reply,
+    client: u8,
+    out: &mut O,
+) -> Result<bool, RunError>
+    ensures { result ≡ Ok true → records_of stop_seen region.new ≡ joined (records_of stop_seen region.old) (Some entry.now) }
+{
+    let is_answered = log(region, entry)?;
+    write_reply(out, client, is_answered, &reply)?;
+    Ok(is_answered)
 }
 
 fn write_reply<O: Write>(
@@ -134,7 +151,7 @@ fn write_reply<O: Write>(
     client: u8,
     is_answered: bool,
     reply: &Reply,
-) -> Result<(), Fault> {
+) -> Result<(), RunError> {
     if !is_answered {
         writeln!(out, "{client} stopped")?;
         return Ok(());
@@ -142,12 +159,12 @@ fn write_reply<O: Write>(
     match reply {
         Reply::Done => writeln!(out, "{client} ok")?,
         Reply::Wrote { count } => writeln!(out, "{client} wrote {count}")?,
-        _ => return Err(Fault::Damaged),
+        _ => return Err(RunError::Damaged),
     }
     Ok(())
 }
 
-fn write_tree<O: Write>(out: &mut O, graph: &PlainGraph) -> Result<(), Fault> {
+fn write_tree<O: Write>(out: &mut O, graph: &PlainGraph) -> Result<(), RunError> {
     let bytes = graph.file(FILE).unwrap_or(&[]);
     write!(out, "/f bytes {} ", bytes.len())?;
     write_data(out, bytes)?;

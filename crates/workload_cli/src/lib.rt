@@ -4,10 +4,11 @@
 //! `run_sh` answers a script of calls, line by line, over a file tree in memory.
 #![tactic(auto)]
 
-mod fault;
 mod first;
 mod lines;
 mod options;
+mod regions;
+mod run_error;
 mod script;
 mod shell;
 mod two_clients;

@@ -2,13 +2,13 @@
 ghost use Rattle.std.specs.Prelude.{◌≡◌, ◌<◌, IfSome, length, option_map};
 ghost use Rattle.workload_cli.specs.Printed.{run_in_front};
 
-use crate::fault::Fault;
+use crate::run_error::RunError;
 use file_graph::PlainEntry;
 use script_lines::{is_plain, run_len};
 use std::io::Write;
 
 /// Bytes as runs of one byte each, `hhxN` joined by `+`, or `-` where there is none.
-pub fn write_data<W: Write>(out: &mut W, bytes: &[u8]) -> Result<(), Fault> {
+pub fn write_data<W: Write>(out: &mut W, bytes: &[u8]) -> Result<(), RunError> {
     let Some((byte, count, behind)) = first_run(bytes) else {
         out.write_all(b"-")?;
         return Ok(());
@@ -37,7 +37,7 @@ fn first_run(bytes: &[u8]) -> Option<(u8, usize, &[u8])>
 }
 
 /// A line of names, each behind a space.
-pub fn write_names<W: Write>(out: &mut W, entries: &[PlainEntry]) -> Result<(), Fault> {
+pub fn write_names<W: Write>(out: &mut W, entries: &[PlainEntry]) -> Result<(), RunError> {
     out.write_all(b"names")?;
     for entry in entries {
         out.write_all(b" ")?;
@@ -48,7 +48,7 @@ pub fn write_names<W: Write>(out: &mut W, entries: &[PlainEntry]) -> Result<(), 
 }
 
 /// A name. Bytes from 0x21 to 0x7e but `%` stand as they are, all others as `%hh`.
-pub fn write_name<W: Write>(out: &mut W, name: &[u8]) -> Result<(), Fault> {
+pub fn write_name<W: Write>(out: &mut W, name: &[u8]) -> Result<(), RunError> {
     for byte in name {
         if is_plain(*byte) {
             out.write_all(&[*byte])?;

@@ -7,9 +7,9 @@ ghost use Rattle.script_lines.specs.Lines.{understood};
 ghost use Rattle.script_lines.specs.Seen.{asked};
 ghost use Rattle.workload_cli.specs.Answering.{IsAnswerTo};
 
-use crate::fault::Fault;
+use crate::run_error::RunError;
 use crate::script::answer::{Answer, write_answer};
-use crate::script::reader::{ScriptLines, Stopped};
+use crate::script::reader::{ScriptError, ScriptLines};
 use crate::usage::{WordsError, tell, tell_fault};
 use clap::Command;
 use plain_tree::PlainTree;
@@ -43,7 +43,7 @@ Example, with what its lines print:
 ///
 /// A line that is unreadable ends the run, with `line N: unreadable` on `err`. Only the line at hand is kept in memory, in
 /// `MAX_LINE` bytes that are taken before the first. Where memory is wanting later, the line is answered `ENOMEM` and the run
-/// goes on.
+/// goes on. What was printed is flushed whenever the reader has nothing at hand, so that no answer waits for more of the script.
 ///
 /// Answers the exit status: 0 at the end, 2 where the words or a line can't be read, 3 after a fault; the last two with a line
 /// on `err`. All that was printed is flushed before.
@@ -59,11 +59,11 @@ pub fn run_sh<'a, R: BufRead + Drop, O: Write, E: Write>(
             let end = run(alloc, reader, out);
             match flushed(end, out) {
                 Ok(()) => 0,
-                Err(Stopped::Unreadable(number)) => {
+                Err(ScriptError::Unreadable(number)) => {
                     let _ = writeln!(err, "line {number}: unreadable");
                     2
                 }
-                Err(Stopped::Fault(fault)) => tell_fault(fault, err),
+                Err(ScriptError::Run(fault)) => tell_fault(fault, err),
             }
         }
         Err(error) => tell(error, out, err),
@@ -80,18 +80,22 @@ fn read_words<'a>(alloc: Global, words: &'a [&'a str]) -> Result<(), WordsError>
 }
 
 // Flushes what was printed. A fault of the run comes before one of the flush.
-fn flushed<O: Write>(end: Result<(), Stopped>, out: &mut O) -> Result<(), Stopped> {
+fn flushed<O: Write>(end: Result<(), ScriptError>, out: &mut O) -> Result<(), ScriptError> {
     let flush = out.flush();
-    if let Err(Stopped::Fault(fault)) = end {
-        return Err(Stopped::Fault(fault));
+    if let Err(ScriptError::Run(fault)) = end {
+        return Err(ScriptError::Run(fault));
     }
     match flush {
         Ok(()) => end,
-        Err(error) => Err(Stopped::Fault(Fault::from(error))),
+        Err(error) => Err(ScriptError::Run(RunError::from(error))),
     }
 }
 
-fn run<R: BufRead + Drop, O: Write>(alloc: Global, reader: R, out: &mut O) -> Result<(), Stopped> {
+fn run<R: BufRead + Drop, O: Write>(
+    alloc: Global,
+    reader: R,
+    out: &mut O,
+) -> Result<(), ScriptError> {
     let mut shell = Shell::new(alloc)?;
     let mut lines = ScriptLines::new(alloc, reader)?;
     answer_all(&mut shell, &mut lines, out)
@@ -101,9 +105,9 @@ fn answer_all<R: BufRead + Drop, O: Write>(
     shell: &mut Shell,
     lines: &mut ScriptLines<R>,
     out: &mut O,
-) -> Result<(), Stopped> {
+) -> Result<(), ScriptError> {
     for _ in 0..u64::MAX {
-        if !lines.read_next()? {
+        if !lines.read_next(out)? {
             return Ok(());
         }
         match shell.answer(lines.line()) {
@@ -111,7 +115,7 @@ fn answer_all<R: BufRead + Drop, O: Write>(
             None => return Err(lines.unreadable()),
         }
     }
-    Err(Stopped::Fault(Fault::Device))
+    Err(ScriptError::Run(RunError::Device))
 }
 
 /// A file tree that answers the lines of a script.
@@ -122,7 +126,7 @@ struct Shell {
 }
 
 impl Shell {
-    fn new(alloc: Global) -> Result<Self, Fault>
+    fn new(alloc: Global) -> Result<Self, RunError>
         ensures { IfOk result (λ shell. state_of shell.tree ≡ opening) }
     {
         let tree = PlainTree::new(alloc)?;

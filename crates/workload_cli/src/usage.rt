@@ -1,5 +1,5 @@
 // What is told of the words of a command line.
-use crate::fault::Fault;
+use crate::run_error::RunError;
 use clap::Error;
 use clap::error::ErrorKind;
 use std::alloc::AllocError;
@@ -46,18 +46,18 @@ pub fn tell<O: Write, E: Write>(error: WordsError, out: &mut O, err: &mut E) -> 
             let _ = writeln!(err, "error: {text}");
             2
         }
-        WordsError::Memory => tell_fault(Fault::Memory, err),
+        WordsError::Memory => tell_fault(RunError::Memory, err),
     }
 }
 
-fn print_help<O: Write>(help: Error, out: &mut O) -> Result<(), Fault> {
+fn print_help<O: Write>(help: Error, out: &mut O) -> Result<(), RunError> {
     write!(out, "{help}")?;
     out.flush()?;
     Ok(())
 }
 
 /// Tells what ended a run before its end, and answers the exit status 3.
-pub fn tell_fault<E: Write>(fault: Fault, err: &mut E) -> u8 {
+pub fn tell_fault<E: Write>(fault: RunError, err: &mut E) -> u8 {
     let _ = writeln!(err, "{fault}");
     3
 }

@@ -1,6 +1,6 @@
 // What the lines of a script are answered.
-use crate::fault::Fault;
 use crate::lines::{write_data, write_name};
+use crate::run_error::RunError;
 use posix_calls::{Bytes, Names, Reply};
 use std::io::Write;
 
@@ -13,14 +13,14 @@ pub enum Answer {
 }
 
 /// Prints an answer: nothing, or a reply as a line.
-pub fn write_answer<W: Write>(out: &mut W, answer: &Answer) -> Result<(), Fault> {
+pub fn write_answer<W: Write>(out: &mut W, answer: &Answer) -> Result<(), RunError> {
     match answer {
         Answer::Silent => Ok(()),
         Answer::Call(reply) => write_reply(out, reply),
     }
 }
 
-fn write_reply<W: Write>(out: &mut W, reply: &Reply) -> Result<(), Fault> {
+fn write_reply<W: Write>(out: &mut W, reply: &Reply) -> Result<(), RunError> {
     match reply {
         Reply::Done => writeln!(out, "ok")?,
         Reply::Opened { descriptor } => writeln!(out, "fd {descriptor}")?,
@@ -34,14 +34,14 @@ fn write_reply<W: Write>(out: &mut W, reply: &Reply) -> Result<(), Fault> {
     Ok(())
 }
 
-fn write_bytes<W: Write>(out: &mut W, bytes: &Bytes) -> Result<(), Fault> {
+fn write_bytes<W: Write>(out: &mut W, bytes: &Bytes) -> Result<(), RunError> {
     write!(out, "bytes {} ", bytes.len())?;
     write_data(out, bytes.as_slice())?;
     out.write_all(b"\n")?;
     Ok(())
 }
 
-fn write_listed<W: Write>(out: &mut W, names: &Names) -> Result<(), Fault> {
+fn write_listed<W: Write>(out: &mut W, names: &Names) -> Result<(), RunError> {
     out.write_all(b"names")?;
     for name in names.as_slice() {
         out.write_all(b" ")?;

@@ -3,7 +3,7 @@ ghost use Rattle.std.specs.Prelude.{◌≡◌, ◌≤◌, ◌<◌, IfOk, length,
 ghost use Rattle.workload_cli.specs.Reading.{IsWithinLine};
 ghost use Rattle.workload_cli.specs.Parts.{Adds};
 
-use crate::fault::Fault;
+use crate::run_error::RunError;
 use std::io::{self, BufRead, ErrorKind};
 
 /// The longest line of a script, in bytes, without its newline.
@@ -12,16 +12,17 @@ pub const MAX_LINE: usize = 1_048_576;
 /// What a part of a line ends with.
 #[derive(Clone, Copy)]
 pub enum End {
-    /// Nothing: the line goes on.
+    /// Nothing: the line goes on, and the reader has no more of it at hand.
     Open,
-    Newline,
+    /// Whether the reader has more at hand behind it.
+    Newline { more: bool },
     Input,
     /// The line is longer than `MAX_LINE`.
     TooLong,
 }
 
 /// Moves what the reader has at hand of a line behind what is there of it.
-pub fn add_part<R: BufRead>(reader: &mut R, line: &mut Vec<u8>) -> Result<End, Fault>
+pub fn add_part<R: BufRead>(reader: &mut R, line: &mut Vec<u8>) -> Result<End, RunError>
     requires { vec_len line.old ≤ MAX_LINE }
     ensures within { vec_len line.new ≤ MAX_LINE }
     ensures adds { IfOk result (Adds (R.remaining reader.old) (R.remaining reader.new) line.old.items line.new.items) }
@@ -39,20 +40,21 @@ pub fn add_part<R: BufRead>(reader: &mut R, line: &mut Vec<u8>) -> Result<End, F
     }
     line.extend_from_slice(&shown[..len])?;
     if len < shown.len() {
+        let more = len + 1 < shown.len();
         reader.consume(len + 1);
-        return Ok(End::Newline);
+        return Ok(End::Newline { more });
     }
     reader.consume(len);
     Ok(End::Open)
 }
 
 // A read that a signal interrupted is tried again.
-fn go_on(error: io::Error) -> Result<End, Fault>
+fn go_on(error: io::Error) -> Result<End, RunError>
     ensures { IfOk result (λ end. end ≡ End.Open) }
 {
     match error.kind() {
         ErrorKind::Interrupted => Ok(End::Open),
-        _ => Err(Fault::from(error)),
+        _ => Err(RunError::from(error)),
     }
 }
 

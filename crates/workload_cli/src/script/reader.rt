@@ -2,27 +2,35 @@
 ghost use Rattle.std.specs.Prelude.{◌≡◌, ℕ, ◌≤◌, true, false, Ok, Err, IfOk, vec_len};
 ghost use Rattle.std.specs.Io.KnownBytes.{IsAtEnd};
 ghost use Rattle.workload_cli.specs.declared.script.part.TheConstants.{MAX_LINE};
-ghost use Rattle.workload_cli.specs.declared.script.reader.Stopped.TheVariants as stops;
+ghost use Rattle.workload_cli.specs.declared.script.reader.ScriptError.TheVariants as stops;
 
-use crate::fault::Fault;
+use crate::run_error::RunError;
 use crate::script::part::{End, MAX_LINE, add_part};
 use std::alloc::Global;
-use std::io::BufRead;
+use std::io::{BufRead, Write};
 
-/// Why a script ends before its last line.
+/// Why a script is not read and answered to its end.
 #[derive(Clone, Copy, Debug, PartialEq, Eq)]
-pub enum Stopped {
+pub enum ScriptError {
     /// The line of this number, from 1 on, can't be read.
     Unreadable(u64),
-    Fault(Fault),
+    Run(RunError),
 }
 
-impl From<Fault> for Stopped {
-    ghost from_gives = { λ fault stopped. stopped ≡ stops.Fault fault };
+impl From<RunError> for ScriptError {
+    ghost from_gives = { λ fault error. error ≡ stops.Run fault };
 
-    fn from(fault: Fault) -> Stopped {
-        Stopped::Fault(fault)
+    fn from(fault: RunError) -> ScriptError {
+        ScriptError::Run(fault)
     }
+}
+
+// Flushes what was written, where it is to.
+fn flush_if<O: Write>(is_dry: bool, out: &mut O) -> Result<(), RunError> {
+    if is_dry {
+        out.flush()?;
+    }
+    Ok(())
 }
 
 /// The lines of a script, of which only the last that was read is kept.
@@ -31,6 +39,8 @@ pub struct ScriptLines<R: BufRead + Drop> {
     reader: R,
     line: Vec<u8>,
     number: u64,
+    // Whether the reader has nothing at hand, so that it may wait for more.
+    is_dry: bool,
     ghost within: { vec_len line ≤ MAX_LINE },
 }
 
@@ -38,7 +48,7 @@ impl<R: BufRead + Drop> ScriptLines<R> {
     ghost use Rattle.workload_cli.specs.Reading.{number_after, LosesLine, BeginsTooLong};
 
     /// The lines of what the reader gives. The memory of the longest line is taken at once, so that none is wanted later.
-    pub fn new(alloc: Global, reader: R) -> Result<Self, Fault>
+    pub fn new(alloc: Global, reader: R) -> Result<Self, RunError>
         ensures reader { IfOk result (λ lines. lines.reader ≡ reader) }
         ensures number { IfOk result (λ lines. lines.number ≡ 0) }
     {
@@ -47,29 +57,35 @@ impl<R: BufRead + Drop> ScriptLines<R> {
             reader,
             line,
             number: 0,
+            is_dry: true,
         })
     }
 
     /// Reads the next line in place of the last, and says whether there is one. What stands behind the last newline is a line
-    /// where it is not empty. A line of more than `MAX_LINE` bytes is unreadable.
-    pub fn read_next(&mut self) -> Result<bool, Stopped>
+    /// where it is not empty. A line of more than `MAX_LINE` bytes is unreadable. Whenever the reader has nothing at hand, what
+    /// was written is flushed first, since it may wait for more.
+    pub fn read_next<O: Write>(&mut self, out: &mut O) -> Result<bool, ScriptError>
         ensures line { result ≡ Ok true → LosesLine (R.remaining self.old.reader) (R.remaining self.new.reader) self.new.line.items }
         ensures end { result ≡ Ok false → IsAtEnd (R.remaining self.old.reader) }
-        ensures too_long { (n : ℕ) → result ≡ Err (Stopped.Unreadable n) → BeginsTooLong (R.remaining self.old.reader) }
-        ensures place { (n : ℕ) → result ≡ Err (Stopped.Unreadable n) → n ≡ self.new.number }
+        ensures too_long { (n : ℕ) → result ≡ Err (ScriptError.Unreadable n) → BeginsTooLong (R.remaining self.old.reader) }
+        ensures place { (n : ℕ) → result ≡ Err (ScriptError.Unreadable n) → n ≡ self.new.number }
         ensures number { self.new.number ≡ number_after self.old.number }
     {
         self.line.clear();
         self.number = self.number.saturating_add(1);
         for _ in 0..u64::MAX {
+            flush_if(self.is_dry, out)?;
             match add_part(&mut self.reader, &mut self.line)? {
-                End::Open => {}
-                End::Newline => return Ok(true),
+                End::Open => self.is_dry = true,
+                End::Newline { more } => {
+                    self.is_dry = !more;
+                    return Ok(true);
+                }
                 End::Input => return Ok(!self.line.is_empty()),
                 End::TooLong => return Err(self.unreadable()),
             }
         }
-        Err(Stopped::Fault(Fault::Device))
+        Err(ScriptError::Run(RunError::Device))
     }
 
     /// The line that was read last, without its newline.
@@ -80,9 +96,9 @@ impl<R: BufRead + Drop> ScriptLines<R> {
     }
 
     /// That the line that was read last can't be read.
-    pub fn unreadable(&self) -> Stopped
-        ensures { result ≡ Stopped.Unreadable self.now.number }
+    pub fn unreadable(&self) -> ScriptError
+        ensures { result ≡ ScriptError.Unreadable self.now.number }
     {
-        Stopped::Unreadable(self.number)
+        ScriptError::Unreadable(self.number)
     }
 }

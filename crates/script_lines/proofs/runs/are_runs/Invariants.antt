@@ -1,4 +1,4 @@
-use Rattle.std.proofs.Common.{◌≡◌, ℕ, ◌+◌, List, Option, Some, None, length, is_some, option_map}
+use Rattle.std.proofs.Common.{◌≡◌, Some, is_some, option_map}
 use Rattle.script_lines.specs.Script.{all_runs}
 use Rattle.script_lines.proofs.RunLaws.{rest_length}
 use Rattle.script_lines.proofs.runs.are_runs.Given as goal

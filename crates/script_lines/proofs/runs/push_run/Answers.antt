@@ -1,4 +1,4 @@
-use Rattle.std.proofs.Common.{arith, min, ◌-◌}
+use Rattle.std.proofs.Common.{arith}
 use Rattle.std.proofs.lemmas.Grind.{common_steps}
 use Rattle.script_lines.specs.declared.runs.TheConstants.{MAX_DATA}
 use Rattle.script_lines.proofs.RunLaws.{filled}

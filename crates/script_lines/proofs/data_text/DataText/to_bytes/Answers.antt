@@ -1,8 +1,6 @@
-use Rattle.std.proofs.Common.{arith, Some, take}
+use Rattle.std.proofs.Common.{arith, Some}
 use Rattle.std.proofs.lemmas.Grind.{common_steps}
 use Rattle.script_lines.specs.Script.{all_runs}
-use Rattle.script_lines.specs.Runs.{pair_of}
-use Rattle.script_lines.specs.declared.runs.TheConstants.{MAX_DATA}
 use Rattle.script_lines.proofs.RunLaws.{cut_behind-with_first, cut_behind-end, cut_behind-whole, cut_behind-never}
 use Rattle.script_lines.proofs.data_text.DataText.to_bytes.Goals as goal
 

@@ -1,4 +1,4 @@
-use Rattle.std.proofs.Common.{◌≡◌, ◌≤◌, ◌++◌, Some, take, length, option_map, vec_len, []}
+use Rattle.std.proofs.Common.{◌≡◌, ◌≤◌, Some, option_map, vec_len, []}
 use Rattle.script_lines.specs.Script.{all_runs}
 use Rattle.script_lines.specs.declared.runs.TheConstants.{MAX_DATA}
 use Rattle.script_lines.proofs.RunLaws.{rest_length, cut_behind}

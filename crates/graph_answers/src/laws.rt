@@ -1,0 +1,10 @@
+//! What holds of every graph.
+ghost use Rattle.posix_calls.specs.Asks.{IsPart};
+ghost use Rattle.file_graph.specs.Graph.{Graph};
+ghost use Rattle.call_effects.specs.Known.{stored_view};
+ghost use Rattle.graph_answers.specs.Whole.{whole_of};
+
+/// What a graph answers is so of the graph as it stands stored.
+pub fn answers_are_of_the_graph()
+    ensures { (g : Graph) → IsPart (whole_of g) (stored_view g) }
+{}

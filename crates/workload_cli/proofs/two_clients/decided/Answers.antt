@@ -1,0 +1,9 @@
+use Rattle.posix_calls.specs.Decide.{decide}
+use Rattle.posix_calls.specs.Own.{own_of}
+use Rattle.file_graph.specs.Graph.{graph_of}
+use Rattle.workload_cli.proofs.Asked.{told_is_run}
+use Rattle.workload_cli.proofs.two_clients.decided.Goals as goal
+
+pub returns-in-Ok : goal.returns-in-Ok
+returns-in-Ok c =
+    told_is_run (graph_of c.args.graph.now) (decide (own_of c.args.own.now) c.args.call.now) c.in-Ok.deed (c.decide.ensures.gives c.in-Ok.deed c.in-Ok.is)
