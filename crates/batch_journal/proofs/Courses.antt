@@ -4,6 +4,10 @@ use Rattle.std.proofs.lemmas.Bool.{cases_lt}
 use Rattle.tier_device.specs.declared.media.Tier.{Tier}
 use Rattle.tier_device.specs.declared.media.Tier.TheVariants.{Fast}
 use Rattle.tier_device.specs.Media.{Rose}
+use Rattle.layout.specs.declared.error.What.{What}
+use Rattle.batch_journal.specs.declared.error.JournalError.{JournalError}
+use Rattle.batch_journal.specs.declared.error.JournalError.TheVariants as errors
+use Rattle.batch_journal.specs.Damage.{OnDamage}
 use Rattle.batch_journal.specs.Course.{Since, Unmoved, TornFrom, BesideFrom}
 use Rattle.batch_journal.specs.Images.{number_at, count_of, images_of}
 use Rattle.batch_journal.specs.Blocks.{is_home}
@@ -112,3 +116,11 @@ any_ok (Err e) p = tt
 
 pub tiers_same : (s s' : Tier → List ℕ) → ((t : Tier) → s' t ≡ s t) → s' ≡ s
 tiers_same s s' reads = λ i t. reads t i
+
+-- ---- refusals for damage
+
+pub on_damage : {P Q : What → ℕ → Type 0} (e : JournalError) → ((w : What) (block : ℕ) → P w block → Q w block) → OnDamage e P → OnDamage e Q
+on_damage errors.DeviceFault f p = tt
+on_damage errors.BatchTooLarge f p = tt
+on_damage (errors.Damaged w block) f p = f w block p
+on_damage errors.Memory f p = tt

@@ -30,6 +30,9 @@ staged_by bytes seen seen' few long size closed is =
 pub gate_torn : (byte : ℕ) (s s' : List ℕ) → 139265 ≤ length s → s' ≡ overwritten s 139264 (byte ∷ []) → Torn 139264 1 s s'
 gate_torn byte s s' le is = subst (λ (x : List ℕ). Torn 139264 1 s x) (sym is) (torn_overwritten s 139264 (byte ∷ []) (omega (arith, le)))
 
+pub gate_byte : (byte : ℕ) (s s' : List ℕ) → 139265 ≤ length s → s' ≡ overwritten s 139264 (byte ∷ []) → gate_of s' ≡ byte ∷ []
+gate_byte byte s s' le is = ap gate_of is ∙ written_gate s byte le
+
 pub gate_now : (byte : ℕ) (s s' : List ℕ) → 139265 ≤ length s → s' ≡ overwritten s 139264 (byte ∷ []) → is_open s' ≡ (byte == 165)
 gate_now byte s s' le is =
     let here : gate_of s' ≡ byte ∷ [] = ap gate_of is ∙ written_gate s byte le in

@@ -23,6 +23,10 @@ rest_of_gate c = slice 139265 4095 c
 abbrev pub is_open : List ℕ → Bool
 is_open c = get_or (gate_of c) 0 0 == 165
 
+-- the gate is 0x00, as a batch leaves it
+abbrev pub IsShutGate : List ℕ → Type 0
+IsShutGate c = gate_of c ≡ 0 ∷ []
+
 -- blocks 35 to 291: head and images
 abbrev pub area_of : List ℕ → List ℕ
 area_of c = slice 143360 1052672 c

@@ -4,3 +4,4 @@ pub mod Volume
 pub mod Course
 pub mod Reading
 pub mod View
+pub mod Damage

@@ -1,3 +1,4 @@
+use layout::What;
 use thiserror::Error;
 
 /// Why a call of a journal was refused.
@@ -7,8 +8,9 @@ pub enum JournalError {
     DeviceFault,
     #[error("the batch has more than 256 images")]
     BatchTooLarge,
-    #[error("the medium holds no journal")]
-    Damaged,
+    /// The medium holds no journal: what should stand in that block of the fast tier does not.
+    #[error("block {block} is damaged")]
+    Damaged { what: What, block: u32 },
     #[error("out of memory")]
     Memory,
 }

@@ -4,10 +4,11 @@ ghost use Rattle.tier_device.specs.declared.media.Tier.{Tier};
 ghost use Rattle.tier_device.specs.declared.media.Tier.TheVariants.{Fast};
 ghost use Rattle.tier_device.specs.Media.{AtRest, LeftSince, Puts, Rose, overwritten};
 ghost use Rattle.batch_journal.specs.Images.{slice};
-ghost use Rattle.batch_journal.specs.Blocks.{home, after_batch, block_of, is_home, AreJournaled, calls_of};
+ghost use Rattle.batch_journal.specs.Blocks.{home, after_batch, block_of, is_home, is_open, IsShutGate, AreJournaled, calls_of};
 ghost use Rattle.batch_journal.specs.Volume.{IsJournal, IsVolume, KeepsGeometry, SameJournal};
 ghost use Rattle.batch_journal.specs.Course.{Since, Unmoved, SameLengths, TornFrom, BeforeOrAfter, OutsideRun, OutsideRunFrom};
-ghost use Rattle.batch_journal.specs.declared.error.JournalError.TheVariants.{DeviceFault, Damaged, BatchTooLarge};
+ghost use Rattle.batch_journal.specs.declared.error.JournalError.TheVariants.{DeviceFault, BatchTooLarge};
+ghost use Rattle.batch_journal.specs.Damage.{OnDamage, Names};
 
 use crate::Batch;
 use crate::calls::{fetch, put, settle};
@@ -54,8 +55,8 @@ impl<M: Media> Journal<M> {
     /// the images on; home block 0 then tells the geometry.
     ///
     /// `Damaged`, with nothing written, where the medium is of no geometry that block 0 tells, or the gate's block or the head
-    /// behind an open gate is not as the format has it. The medium is handed back with each refusal; where the device failed
-    /// or memory ran out, it can be opened as before.
+    /// behind an open gate is not as the format has it; it names which, and the block. The medium is handed back with each
+    /// refusal, untouched but where the device failed, and then it can be opened as before.
     pub fn reopen(alloc: Global, media: M) -> Result<Self, (JournalError, M)>
         requires { AtRest (M.seen media) (M.left media (M.moment media)) Fast }
 
@@ -68,13 +69,17 @@ impl<M: Media> Journal<M> {
         ensures others { IfOk result (λ j. (t : Tier) → t ≢ Fast → M.seen j.media t ≡ M.seen media t) }
         ensures rests { IfOk result (λ j. AtRest (M.seen j.media) (M.left j.media (M.moment j.media)) Fast) }
         ensures calls { IfOk result (λ j. M.moment j.media ≡ M.moment media + calls_of (M.seen media Fast)) }
+        ensures gate_byte { IfOk result (λ j. is_open (M.seen media Fast) ≡ true → IsShutGate (M.seen j.media Fast)) }
         ensures unfailed { IfOk result (λ j. j.failed ≡ false) }
         ensures lengths { IfOk result (λ j. SameLengths (M.seen media) (M.seen j.media)) }
-        ensures faults { IfOk result (λ j. M.faults media ≤ M.faults j.media) }
+        ensures quiet { IfOk result (λ j. M.faults j.media ≡ M.faults media) }
 
-        ensures damaged { IfErr result (λ e. e.0 ≡ Damaged → (g : Sizes) → IsVolume g (M.seen media) → ⊥) }
-        ensures untouched { IfErr result (λ e. e.0 ≡ Damaged → Unmoved (M.moment media) (M.moment e.1) (M.seen media) (M.seen e.1) (M.left media) (M.left e.1)) }
+        ensures damaged { IfErr result (λ e. OnDamage e.0 (λ _ _. (g : Sizes) → IsVolume g (M.seen media) → ⊥)) }
+        ensures named { IfErr result (λ e. OnDamage e.0 (Names (M.seen media))) }
+        ensures untouched { IfErr result (λ e. e.0 ≢ DeviceFault → Unmoved (M.moment media) (M.moment e.1) (M.seen media) (M.seen e.1) (M.left media) (M.left e.1)) }
         ensures fault { IfErr result (λ e. e.0 ≡ DeviceFault → Rose (M.faults media) (M.faults e.1)) }
+        ensures quiet_refused { IfErr result (λ e. e.0 ≢ DeviceFault → M.faults e.1 ≡ M.faults media) }
+        ensures at_most { IfErr result (λ e. M.moment e.1 ≤ M.moment media + calls_of (M.seen media Fast)) }
         ensures only { IfErr result (λ e. e.0 ≢ BatchTooLarge) }
         ensures lengths_refused { IfErr result (λ e. SameLengths (M.seen media) (M.seen e.1)) }
         ensures faults_refused { IfErr result (λ e. M.faults media ≤ M.faults e.1) }
@@ -107,12 +112,15 @@ impl<M: Media> Journal<M> {
         ensures durable { OnOk result (0 < length batch.now → AtRest (M.seen self.new.media) (M.left self.new.media (M.moment self.new.media)) Fast) }
         ensures others { OnOk result ((t : Tier) → t ≢ Fast → M.seen self.new.media t ≡ M.seen self.old.media t) }
         ensures calls { OnOk result (0 < length batch.now → M.moment self.new.media ≡ M.moment self.old.media + length batch.now + 7) }
+        ensures at_most { M.moment self.new.media ≤ M.moment self.old.media + length batch.now + 7 }
+        ensures gate_byte { OnOk result (0 < length batch.now → IsShutGate (M.seen self.new.media Fast)) }
         ensures none { length batch.now ≡ 0 → self.new ≡ self.old }
 
         ensures large { IsErrOf result BatchTooLarge → (256 < length batch.now) × (self.new ≡ self.old) }
         ensures small { self.old.failed ≡ false → 256 < length batch.now → IsErrOf result BatchTooLarge }
         ensures only { IfErr result (λ e. (e ≡ DeviceFault) ⊎ (e ≡ BatchTooLarge)) }
         ensures fault { IsErrOf result DeviceFault → (self.new.failed ≡ true) × ((self.old.failed ≡ true) ⊎ Rose (M.faults self.old.media) (M.faults self.new.media)) }
+        ensures quiet { OnOk result (M.faults self.new.media ≡ M.faults self.old.media) }
         ensures going { OnOk result ((self.old.failed ≡ false) × (self.new.failed ≡ false)) }
         ensures stays_failed { self.old.failed ≡ true → (result ≡ Err DeviceFault) × (self.new ≡ self.old) }
         ensures geometry { self.new.geometry ≡ self.old.geometry }
@@ -149,6 +157,7 @@ impl<M: Media> Journal<M> {
         ensures unmoved { Unmoved (M.moment self.old.media) (M.moment self.new.media) (M.seen self.old.media) (M.seen self.new.media) (M.left self.old.media) (M.left self.new.media) }
         ensures only { IfErr result (λ e. e ≡ DeviceFault) }
         ensures fault { OnErr result ((self.new.failed ≡ true) × ((self.old.failed ≡ true) ⊎ Rose (M.faults self.old.media) (M.faults self.new.media))) }
+        ensures quiet { OnOk result (M.faults self.new.media ≡ M.faults self.old.media) }
         ensures going { OnOk result ((self.old.failed ≡ false) × (self.new.failed ≡ false)) }
         ensures stays_failed { self.old.failed ≡ true → (result ≡ Err DeviceFault) × (self.new ≡ self.old) }
         ensures geometry { self.new.geometry ≡ self.old.geometry }
@@ -166,6 +175,7 @@ impl<M: Media> Journal<M> {
         ensures unmoved { Unmoved (M.moment self.old.media) (M.moment self.new.media) (M.seen self.old.media) (M.seen self.new.media) (M.left self.old.media) (M.left self.new.media) }
         ensures only { IfErr result (λ e. e ≡ DeviceFault) }
         ensures fault { OnErr result ((self.new.failed ≡ true) × ((self.old.failed ≡ true) ⊎ Rose (M.faults self.old.media) (M.faults self.new.media))) }
+        ensures quiet { OnOk result (M.faults self.new.media ≡ M.faults self.old.media) }
         ensures going { OnOk result ((self.old.failed ≡ false) × (self.new.failed ≡ false)) }
         ensures stays_failed { self.old.failed ≡ true → (result ≡ Err DeviceFault) × (self.new ≡ self.old) }
         ensures geometry { self.new.geometry ≡ self.old.geometry }
@@ -200,9 +210,11 @@ impl<M: Media> Journal<M> {
         ensures written { OnOk result (Puts tier (overwritten (M.seen self.old.media tier) (4096 * first) bytes.now) (M.seen self.old.media) (M.seen self.new.media)) }
         ensures outside { OnOk result (OutsideRun first (length bytes.now) (M.seen self.old.media Fast) (M.seen self.new.media Fast)) }
         ensures one_call { OnOk result (M.moment self.new.media ≡ M.moment self.old.media + 1) }
+        ensures at_most { M.moment self.new.media ≤ M.moment self.old.media + 1 }
 
         ensures only { IfErr result (λ e. e ≡ DeviceFault) }
         ensures fault { OnErr result ((self.new.failed ≡ true) × ((self.old.failed ≡ true) ⊎ Rose (M.faults self.old.media) (M.faults self.new.media))) }
+        ensures quiet { OnOk result (M.faults self.new.media ≡ M.faults self.old.media) }
         ensures going { OnOk result ((self.old.failed ≡ false) × (self.new.failed ≡ false)) }
         ensures stays_failed { self.old.failed ≡ true → (result ≡ Err DeviceFault) × (self.new ≡ self.old) }
         ensures geometry { self.new.geometry ≡ self.old.geometry }
@@ -228,9 +240,11 @@ impl<M: Media> Journal<M> {
         ensures rests { OnOk result (AtRest (M.seen self.new.media) (M.left self.new.media (M.moment self.new.media)) tier) }
         ensures seen { OnOk result ((t : Tier) → M.seen self.new.media t ≡ M.seen self.old.media t) }
         ensures one_call { OnOk result (M.moment self.new.media ≡ M.moment self.old.media + 1) }
+        ensures at_most { M.moment self.new.media ≤ M.moment self.old.media + 1 }
 
         ensures only { IfErr result (λ e. e ≡ DeviceFault) }
         ensures fault { OnErr result ((self.new.failed ≡ true) × ((self.old.failed ≡ true) ⊎ Rose (M.faults self.old.media) (M.faults self.new.media))) }
+        ensures quiet { OnOk result (M.faults self.new.media ≡ M.faults self.old.media) }
         ensures going { OnOk result ((self.old.failed ≡ false) × (self.new.failed ≡ false)) }
         ensures stays_failed { self.old.failed ≡ true → (result ≡ Err DeviceFault) × (self.new ≡ self.old) }
         ensures geometry { self.new.geometry ≡ self.old.geometry }

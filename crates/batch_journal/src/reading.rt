@@ -1,18 +1,22 @@
 // Reads of the fast tier, for an opening.
-ghost use Rattle.std.specs.Prelude.{◌≡◌, ◌≢◌, ◌<◌, ◌≤◌, ◌+◌, ◌*◌, ◌⊎◌, ◌^◌, ℕ, List, length, true, false, drop, get_or, ◌==◌, OnErr, OnSome, IfSome, IfNone, IfOk, IfErr};
+ghost use Rattle.std.specs.Prelude.{◌≡◌, ◌≢◌, ◌<◌, ◌≤◌, ◌+◌, ◌*◌, ◌⊎◌, ◌^◌, ℕ, List, length, true, false, drop, get_or, ◌==◌, OnOk, OnErr, OnSome, IfSome, IfNone, IfOk, IfErr};
 ghost use Rattle.tier_device.specs.declared.media.Tier.TheVariants.{Fast};
 ghost use Rattle.tier_device.specs.Media.{Rose};
 ghost use Rattle.batch_journal.specs.Images.{slice, count_of, images_of, is_zero, rest_of_head};
 ghost use Rattle.batch_journal.specs.Blocks.{area_of, is_open, rest_of_gate};
 ghost use Rattle.batch_journal.specs.Course.{Unmoved};
 ghost use Rattle.batch_journal.specs.Reading.{IsRead};
-ghost use Rattle.batch_journal.specs.declared.error.JournalError.TheVariants.{DeviceFault, Damaged, Memory};
+ghost use Rattle.batch_journal.specs.declared.error.JournalError.TheVariants.{DeviceFault, BatchTooLarge, Memory};
+ghost use Rattle.batch_journal.specs.Damage.{OnDamage, IsGateDamage};
+ghost use Rattle.layout.specs.declared.error.What.{What};
+ghost use Rattle.layout.specs.declared.error.What.TheVariants as what;
 
 use crate::calls::fetch;
 use crate::error::JournalError;
 use crate::head::are_zero;
 use crate::replay::{GATE, HEAD, OPEN};
 use byteorder::{ByteOrder, LittleEndian};
+use layout::{GATE_BLOCK, HEAD_BLOCK, What};
 use std::alloc::Global;
 use tier_device::{Media, Tier};
 
@@ -28,6 +32,8 @@ pub fn read_run<M: Media>(
     ensures unmoved { Unmoved (M.moment media.old) (M.moment media.new) (M.seen media.old) (M.seen media.new) (M.left media.old) (M.left media.new) }
     ensures faults { M.faults media.old ≤ M.faults media.new }
     ensures only { IfErr result (λ e. (e ≡ DeviceFault) ⊎ (e ≡ Memory)) }
+    ensures quiet { OnOk result (M.faults media.new ≡ M.faults media.old) }
+    ensures quiet_refused { IfErr result (λ e. e ≢ DeviceFault → M.faults media.new ≡ M.faults media.old) }
     ensures cause { IfErr result (λ e. e ≡ DeviceFault → Rose (M.faults media.old) (M.faults media.new)) }
 {
     match vec![in alloc; 0u8; size] {
@@ -46,15 +52,20 @@ pub fn read_gate<M: Media>(alloc: Global, media: &mut M) -> Result<bool, Journal
     ensures rest { IfOk result (λ gate. is_zero (rest_of_gate (M.seen media.old Fast)) ≡ true) }
     ensures unmoved { Unmoved (M.moment media.old) (M.moment media.new) (M.seen media.old) (M.seen media.new) (M.left media.old) (M.left media.new) }
     ensures faults { M.faults media.old ≤ M.faults media.new }
-    ensures only { IfErr result (λ e. (e ≡ DeviceFault) ⊎ (e ≡ Damaged) ⊎ (e ≡ Memory)) }
-    ensures damaged { IfErr result (λ e. e ≡ Damaged → is_zero (rest_of_gate (M.seen media.old Fast)) ≡ false) }
+    ensures only { IfErr result (λ e. e ≢ BatchTooLarge) }
+    ensures damaged { IfErr result (λ e. OnDamage e (IsGateDamage (M.seen media.old Fast))) }
+    ensures quiet { OnOk result (M.faults media.new ≡ M.faults media.old) }
+    ensures quiet_refused { IfErr result (λ e. e ≢ DeviceFault → M.faults media.new ≡ M.faults media.old) }
     ensures cause { IfErr result (λ e. e ≡ DeviceFault → Rose (M.faults media.old) (M.faults media.new)) }
 {
     let size = 4096;
     match read_run(alloc, media, GATE, size) {
         Ok(block) => match gate_in(&block) {
             Some(is_open) => Ok(is_open),
-            None => Err(JournalError::Damaged),
+            None => Err(JournalError::Damaged {
+                what: What::JournalGate,
+                block: GATE_BLOCK,
+            }),
         },
         Err(error) => Err(error),
     }
@@ -79,6 +90,8 @@ fn read_count<M: Media>(alloc: Global, media: &mut M) -> Result<usize, JournalEr
     ensures unmoved { Unmoved (M.moment media.old) (M.moment media.new) (M.seen media.old) (M.seen media.new) (M.left media.old) (M.left media.new) }
     ensures faults { M.faults media.old ≤ M.faults media.new }
     ensures only { IfErr result (λ e. (e ≡ DeviceFault) ⊎ (e ≡ Memory)) }
+    ensures quiet { OnOk result (M.faults media.new ≡ M.faults media.old) }
+    ensures quiet_refused { IfErr result (λ e. e ≢ DeviceFault → M.faults media.new ≡ M.faults media.old) }
     ensures cause { IfErr result (λ e. e ≡ DeviceFault → Rose (M.faults media.old) (M.faults media.new)) }
 {
     match read_run(alloc, media, HEAD, 4) {
@@ -93,14 +106,20 @@ pub fn read_batch<M: Media>(alloc: Global, media: &mut M) -> Result<Vec<u8>, Jou
     ensures read { IfOk result (λ bytes. IsRead (M.seen media.old Fast) bytes.items) }
     ensures unmoved { Unmoved (M.moment media.old) (M.moment media.new) (M.seen media.old) (M.seen media.new) (M.left media.old) (M.left media.new) }
     ensures faults { M.faults media.old ≤ M.faults media.new }
-    ensures only { IfErr result (λ e. (e ≡ DeviceFault) ⊎ (e ≡ Damaged) ⊎ (e ≡ Memory)) }
-    ensures damaged { IfErr result (λ e. e ≡ Damaged → (count_of (area_of (M.seen media.old Fast)) < 1) ⊎ (256 < count_of (area_of (M.seen media.old Fast)))) }
+    ensures only { IfErr result (λ e. e ≢ BatchTooLarge) }
+    ensures named { IfErr result (λ e. OnDamage e (λ w block. (w ≡ what.JournalHead) × (block ≡ 35))) }
+    ensures damaged { IfErr result (λ e. OnDamage e (λ _ _. (count_of (area_of (M.seen media.old Fast)) < 1) ⊎ (256 < count_of (area_of (M.seen media.old Fast))))) }
+    ensures quiet { OnOk result (M.faults media.new ≡ M.faults media.old) }
+    ensures quiet_refused { IfErr result (λ e. e ≢ DeviceFault → M.faults media.new ≡ M.faults media.old) }
     ensures cause { IfErr result (λ e. e ≡ DeviceFault → Rose (M.faults media.old) (M.faults media.new)) }
 {
     match read_count(alloc, media) {
         Ok(count) => {
             if count < 1 || 256 < count {
-                return Err(JournalError::Damaged);
+                return Err(JournalError::Damaged {
+                    what: What::JournalHead,
+                    block: HEAD_BLOCK,
+                });
             }
             read_run(alloc, media, HEAD, 4096 * count + 4096)
         }

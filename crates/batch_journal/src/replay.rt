@@ -4,7 +4,7 @@ ghost use Rattle.tier_device.specs.declared.media.Tier.{Tier};
 ghost use Rattle.tier_device.specs.declared.media.Tier.TheVariants.{Fast};
 ghost use Rattle.tier_device.specs.Media.{AtRest, Rose};
 ghost use Rattle.batch_journal.specs.Images.{count_of, images_of, rest_of_head};
-ghost use Rattle.batch_journal.specs.Blocks.{area_of, is_open, home, after_batch, Fit};
+ghost use Rattle.batch_journal.specs.Blocks.{area_of, is_open, IsShutGate, home, after_batch, Fit};
 ghost use Rattle.batch_journal.specs.Volume.{SameJournal, IsAfter};
 ghost use Rattle.batch_journal.specs.Course.{Since, BesideFrom, SameOrAfter, IsPut, SameLengths};
 
@@ -37,6 +37,8 @@ fn put_images<M: Media>(media: &mut M, bytes: &[u8], count: usize) -> Result<(),
     ensures others { OnOk result ((t : Tier) → t ≢ Fast → M.seen media.new t ≡ M.seen media.old t) }
     ensures lengths { SameLengths (M.seen media.old) (M.seen media.new) }
     ensures calls { OnOk result (M.moment media.new ≡ M.moment media.old + count) }
+    ensures at_most { M.moment media.new ≤ M.moment media.old + count }
+    ensures quiet { OnOk result (M.faults media.new ≡ M.faults media.old) }
     ensures faults { M.faults media.old ≤ M.faults media.new }
     ensures cause { OnErr result (Rose (M.faults media.old) (M.faults media.new)) }
 {
@@ -61,6 +63,8 @@ fn put_images_kept<M: Media>(media: &mut M, bytes: &[u8], count: usize) -> Resul
     ensures others { OnOk result ((t : Tier) → t ≢ Fast → M.seen media.new t ≡ M.seen media.old t) }
     ensures lengths { SameLengths (M.seen media.old) (M.seen media.new) }
     ensures calls { OnOk result (M.moment media.new ≡ M.moment media.old + count + 1) }
+    ensures at_most { M.moment media.new ≤ M.moment media.old + count + 1 }
+    ensures quiet { OnOk result (M.faults media.new ≡ M.faults media.old) }
     ensures faults { M.faults media.old ≤ M.faults media.new }
     ensures cause { OnErr result (Rose (M.faults media.old) (M.faults media.new)) }
 {
@@ -86,6 +90,9 @@ pub fn replay<M: Media>(media: &mut M, bytes: &[u8], count: usize) -> Result<(),
     ensures others { OnOk result ((t : Tier) → t ≢ Fast → M.seen media.new t ≡ M.seen media.old t) }
     ensures lengths { SameLengths (M.seen media.old) (M.seen media.new) }
     ensures calls { OnOk result (M.moment media.new ≡ M.moment media.old + count + 3) }
+    ensures at_most { M.moment media.new ≤ M.moment media.old + count + 3 }
+    ensures quiet { OnOk result (M.faults media.new ≡ M.faults media.old) }
+    ensures gate_byte { OnOk result (IsShutGate (M.seen media.new Fast)) }
     ensures faults { M.faults media.old ≤ M.faults media.new }
     ensures cause { OnErr result (Rose (M.faults media.old) (M.faults media.new)) }
 {
@@ -109,6 +116,8 @@ fn open_batch<M: Media>(media: &mut M, bytes: &[u8]) -> Result<(), Failed>
     ensures others { OnOk result ((t : Tier) → t ≢ Fast → M.seen media.new t ≡ M.seen media.old t) }
     ensures lengths { SameLengths (M.seen media.old) (M.seen media.new) }
     ensures calls { OnOk result (M.moment media.new ≡ M.moment media.old + 4) }
+    ensures at_most { M.moment media.new ≤ M.moment media.old + 4 }
+    ensures quiet { OnOk result (M.faults media.new ≡ M.faults media.old) }
     ensures faults { M.faults media.old ≤ M.faults media.new }
     ensures cause { OnErr result (Rose (M.faults media.old) (M.faults media.new)) }
 {
@@ -133,6 +142,9 @@ pub fn write_batch<M: Media>(media: &mut M, bytes: &[u8], count: usize) -> Resul
     ensures others { OnOk result ((t : Tier) → t ≢ Fast → M.seen media.new t ≡ M.seen media.old t) }
     ensures lengths { SameLengths (M.seen media.old) (M.seen media.new) }
     ensures calls { OnOk result (M.moment media.new ≡ M.moment media.old + count + 7) }
+    ensures at_most { M.moment media.new ≤ M.moment media.old + count + 7 }
+    ensures quiet { OnOk result (M.faults media.new ≡ M.faults media.old) }
+    ensures gate_byte { OnOk result (IsShutGate (M.seen media.new Fast)) }
     ensures faults { M.faults media.old ≤ M.faults media.new }
     ensures cause { OnErr result (Rose (M.faults media.old) (M.faults media.new)) }
 {

@@ -1,11 +1,12 @@
-use Rattle.std.proofs.Common.{◌≡◌, ◌+◌, ℕ, List, length, cond, true, false, refl, sym, ◌∙◌, ap, subst, arith}
+use Rattle.std.proofs.Common.{◌≡◌, ◌+◌, ℕ, List, length, cond, true, false, inl, inr, refl, sym, ◌∙◌, ap, subst, arith}
 use Rattle.std.proofs.lemmas.Bool.{false≢true}
 use Rattle.tier_device.specs.declared.media.Tier.{Tier}
 use Rattle.tier_device.specs.declared.media.Tier.TheVariants.{Fast}
 use Rattle.batch_journal.specs.Images.{count_of, is_zero}
 use Rattle.batch_journal.specs.Blocks.{area_of, block_of, is_open, rest_of_gate, calls_of}
 use Rattle.batch_journal.specs.Volume.{Spells, IsVolume, SameJournal}
-use Rattle.batch_journal.proofs.Courses.{still, unmoved_on, then_calls, weaker, left_before, rose_later, on_ok, if_ok, if_ok_2, if_err, each_err, any_ok, tiers_same}
+use Rattle.batch_journal.proofs.Courses.{still, unmoved_on, then_calls, weaker, left_before, rose_later, on_ok, if_ok, if_ok_2, if_err, each_err, any_ok, tiers_same, on_damage}
+use Rattle.batch_journal.specs.Damage.{Names}
 use Rattle.batch_journal.proofs.Meaning.{same_refl, same_on, home_shut}
 use Rattle.batch_journal.proofs.Openings.{shut_volume}
 use Rattle.batch_journal.proofs.opening.open_medium.Goals as goal
@@ -71,7 +72,31 @@ returns-then-is_open-clause-damaged g c =
     let seen = m.seen old Fast in
     let un = c.read_gate.ensures.unmoved in
     let tiers : m.seen c.read_gate.new.media ≡ m.seen old = tiers_same (m.seen old) (m.seen c.read_gate.new.media) un.reads in
-    if_err c.open_replayed.result (λ e f is h volume. f is h (subst (λ (s : Tier → List ℕ). IsVolume h s) (sym tiers) volume)) c.open_replayed.ensures.damaged
+    if_err c.open_replayed.result (λ e f. on_damage e (λ w block none h volume. none h (subst (λ (s : Tier → List ℕ). IsVolume h s) (sym tiers) volume)) f) c.open_replayed.ensures.damaged
+
+pub returns-then-is_open-clause-named : goal.returns-then-is_open-clause-named
+returns-then-is_open-clause-named g c =
+    let m = g.M.Media in
+    let tiers : m.seen c.read_gate.new.media ≡ m.seen c.args.media.now = tiers_same (m.seen c.args.media.now) (m.seen c.read_gate.new.media) c.read_gate.ensures.unmoved.reads in
+    if_err c.open_replayed.result (λ e f. on_damage e (λ w block is. subst (λ (s : Tier → List ℕ). Names s w block) tiers is) f) c.open_replayed.ensures.named
+
+pub returns-then-is_open-clause-at_most : goal.returns-then-is_open-clause-at_most
+returns-then-is_open-clause-at_most g c =
+    let m = g.M.Media in
+    let seen = m.seen c.args.media.now Fast in
+    let un = c.read_gate.ensures.unmoved in
+    let opened : is_open seen ≡ true = sym c.in-Ok.ensures.gate ∙ c.if-is_open.true in
+    let same : count_of (area_of (m.seen c.read_gate.new.media Fast)) ≡ count_of (area_of seen) = ap (λ (s : List ℕ). count_of (area_of s)) (un.reads Fast) in
+    omega (arith, c.open_replayed.ensures.at_most, same, un.clock, calls_open seen opened)
+
+pub returns-then-is_open-clause-gate_byte : goal.returns-then-is_open-clause-gate_byte
+returns-then-is_open-clause-gate_byte g c = on_ok c.open_replayed.result (λ more opened. more) c.open_replayed.ensures.gate_byte
+
+pub returns-then-is_open-clause-quiet : goal.returns-then-is_open-clause-quiet
+returns-then-is_open-clause-quiet g c = on_ok c.open_replayed.result (λ more. more ∙ c.in-Ok.ensures.quiet) c.open_replayed.ensures.quiet
+
+pub returns-then-is_open-clause-quiet_refused : goal.returns-then-is_open-clause-quiet_refused
+returns-then-is_open-clause-quiet_refused g c = if_err c.open_replayed.result (λ e f other. f other ∙ c.in-Ok.ensures.quiet) c.open_replayed.ensures.quiet_refused
 
 pub returns-then-is_open-clause-untouched : goal.returns-then-is_open-clause-untouched
 returns-then-is_open-clause-untouched g c =
@@ -137,8 +162,28 @@ returns-else-is_open-clause-damaged g c =
     let closed : is_open seen ≡ false = sym c.in-Ok.ensures.gate ∙ c.if-is_open.false in
     let block : block_of (m.seen c.read_gate.new.media Fast) 0 ≡ block_of seen 0 = ap (λ (s : List ℕ). block_of s 0) (un.reads Fast) in
     if_err c.geometry_at_rest.result
-    (λ e f is h volume. f is h (subst (λ (b : List ℕ). Spells h b) (home_shut seen 0 refl closed ∙ sym block) volume.journal.superblock) (λ t. ap length (un.reads t) ∙ volume.sizes t))
+    (λ e f. on_damage e (λ w at none h volume. none h (subst (λ (b : List ℕ). Spells h b) (home_shut seen 0 refl closed ∙ sym block) volume.journal.superblock) (λ t. ap length (un.reads t) ∙ volume.sizes t)) f)
     c.geometry_at_rest.ensures.damaged
+
+pub returns-else-is_open-clause-named : goal.returns-else-is_open-clause-named
+returns-else-is_open-clause-named g c =
+    if_err c.geometry_at_rest.result (λ e f. on_damage e (λ w block is. inr (inr (record { structure = is.0; place = is.1; rest = inr c.in-Ok.ensures.rest }))) f) c.geometry_at_rest.ensures.named
+
+pub returns-else-is_open-clause-at_most : goal.returns-else-is_open-clause-at_most
+returns-else-is_open-clause-at_most g c =
+    let un = unmoved_on c.read_gate.ensures.unmoved c.geometry_at_rest.ensures.unmoved in
+    omega (arith, un.clock)
+
+pub returns-else-is_open-clause-gate_byte : goal.returns-else-is_open-clause-gate_byte
+returns-else-is_open-clause-gate_byte g c =
+    let closed : is_open (g.M.Media.seen c.args.media.now Fast) ≡ false = sym c.in-Ok.ensures.gate ∙ c.if-is_open.false in
+    any_ok c.geometry_at_rest.result (λ opened. absurd (false≢true (sym closed ∙ opened)))
+
+pub returns-else-is_open-clause-quiet : goal.returns-else-is_open-clause-quiet
+returns-else-is_open-clause-quiet g c = on_ok c.geometry_at_rest.result (λ more. more ∙ c.in-Ok.ensures.quiet) c.geometry_at_rest.ensures.quiet
+
+pub returns-else-is_open-clause-quiet_refused : goal.returns-else-is_open-clause-quiet_refused
+returns-else-is_open-clause-quiet_refused g c = if_err c.geometry_at_rest.result (λ e f other. f other ∙ c.in-Ok.ensures.quiet) c.geometry_at_rest.ensures.quiet_refused
 
 pub returns-else-is_open-clause-untouched : goal.returns-else-is_open-clause-untouched
 returns-else-is_open-clause-untouched g c =
@@ -194,5 +239,12 @@ returns-in-Err-clause-course g c =
     still Fast un same
 
 pub returns-in-Err-clause-damaged : goal.returns-in-Err-clause-damaged
-returns-in-Err-clause-damaged g c is h volume =
-    false≢true (sym (c.in-Err.ensures.damaged is) ∙ volume.journal.rest)
+returns-in-Err-clause-damaged g c =
+    on_damage c.in-Err.error (λ w block is h volume. false≢true (sym is.rest ∙ volume.journal.rest)) c.in-Err.ensures.damaged
+
+pub returns-in-Err-clause-named : goal.returns-in-Err-clause-named
+returns-in-Err-clause-named g c = on_damage c.in-Err.error (λ w block is. inl is) c.in-Err.ensures.damaged
+
+pub returns-then-size-lt-END-clause-named : goal.returns-then-size-lt-END-clause-named
+returns-then-size-lt-END-clause-named g c =
+    inr (inr (record { structure = refl; place = refl; rest = inl (omega (arith, c.size.ensures, c.if-size-lt-END.true)) }))

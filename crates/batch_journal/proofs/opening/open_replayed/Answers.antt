@@ -1,4 +1,4 @@
-use Rattle.std.proofs.Common.{◌≡◌, inl, inr, ℕ, List, length, true, sym, ◌∙◌, ap, subst, arith, rules}
+use Rattle.std.proofs.Common.{◌≡◌, inl, inr, ℕ, List, length, true, refl, sym, ◌∙◌, ap, subst, arith, rules}
 use Rattle.std.proofs.lemmas.Bool.{false≢true}
 use Rattle.layout.specs.Places.{Sizes}
 use Rattle.tier_device.specs.declared.media.Tier.TheVariants.{Fast}
@@ -7,7 +7,7 @@ use Rattle.batch_journal.specs.Blocks.{area_of, is_open, Fit}
 use Rattle.batch_journal.specs.Volume.{Spells, IsHead, SameJournal}
 use Rattle.batch_journal.specs.Reading.{IsRead, first_block}
 use Rattle.batch_journal.proofs.Images.{length-images_of}
-use Rattle.batch_journal.proofs.Courses.{still, unmoved_on, then_calls, weaker, left_before, rose_later}
+use Rattle.batch_journal.proofs.Courses.{still, unmoved_on, then_calls, weaker, left_before, rose_later, on_damage}
 use Rattle.batch_journal.proofs.Meaning.{same_refl, same_on}
 use Rattle.batch_journal.proofs.Openings.{first_spells, spells_one, head_read, open_volume, fits_here, counted}
 use Rattle.batch_journal.proofs.opening.open_replayed.Goals as goal
@@ -21,12 +21,14 @@ returns-in-Err-clause-course g c =
     still Fast c.read_batch.ensures.unmoved same
 
 pub returns-in-Err-clause-damaged : goal.returns-in-Err-clause-damaged
-returns-in-Err-clause-damaged g c is h vol =
-    let m = g.M.Media in
-    let old = c.args.media.now in
-    let seen = m.seen old Fast in
-    let head = vol.journal.head c.requires.opened in
-    elim (c.in-Err.ensures.damaged is) [ inl lt ↦ omega (arith, lt, head.some) | inr gt ↦ omega (arith, gt, head.few) ]
+returns-in-Err-clause-damaged g c =
+    on_damage c.in-Err.error (λ w block out h vol.
+        let head = vol.journal.head c.requires.opened in
+        elim out [ inl lt ↦ omega (arith, lt, head.some) | inr gt ↦ omega (arith, gt, head.few) ]) c.in-Err.ensures.damaged
+
+pub returns-in-Err-clause-named : goal.returns-in-Err-clause-named
+returns-in-Err-clause-named g c =
+    on_damage c.in-Err.error (λ w block is. inr (inl (record { structure = is.0; place = is.1; opened = c.requires.opened; rest = c.requires.gate }))) c.in-Err.ensures.named
 
 pub returns-in-Err-clause-lengths : goal.returns-in-Err-clause-lengths
 returns-in-Err-clause-lengths g c t =
@@ -47,7 +49,7 @@ returns-in-Err-geometry_under-clause-course g c =
     still Fast un same
 
 pub returns-in-Err-geometry_under-clause-damaged : goal.returns-in-Err-geometry_under-clause-damaged
-returns-in-Err-geometry_under-clause-damaged g c is h vol =
+returns-in-Err-geometry_under-clause-damaged g c = on_damage c.in-Err-geometry_under.error (λ w block none h vol.
     let m = g.M.Media in
     let old = c.args.media.now in
     let seen = m.seen old Fast in
@@ -58,7 +60,11 @@ returns-in-Err-geometry_under-clause-damaged g c is h vol =
     let first : c.deref.result.now ≡ items = c.deref.ensures.value in
     let here : first_block items seen ≡ first_block c.deref.result.now (mid Fast) = ap (λ (b : List ℕ). first_block b seen) (sym first) ∙ ap (first_block c.deref.result.now) (sym (un_read.reads Fast)) in
     let spells = subst (λ (b : List ℕ). Spells h b) here (first_spells h items seen c.requires.opened read vol.journal) in
-    c.in-Err-geometry_under.ensures.damaged is h spells (λ t. ap length (un_read.reads t) ∙ vol.sizes t)
+    none h spells (λ t. ap length (un_read.reads t) ∙ vol.sizes t)) c.in-Err-geometry_under.ensures.damaged
+
+pub returns-in-Err-geometry_under-clause-named : goal.returns-in-Err-geometry_under-clause-named
+returns-in-Err-geometry_under-clause-named g c =
+    on_damage c.in-Err-geometry_under.error (λ w block is. inr (inr (record { structure = is.0; place = is.1; rest = inr c.requires.gate }))) c.in-Err-geometry_under.ensures.named
 
 pub returns-in-Err-geometry_under-clause-untouched : goal.returns-in-Err-geometry_under-clause-untouched
 returns-in-Err-geometry_under-clause-untouched g c is =
@@ -88,7 +94,7 @@ returns-then-not-is_head-clause-course g c =
     still Fast un same
 
 pub returns-then-not-is_head-clause-damaged : goal.returns-then-not-is_head-clause-damaged
-returns-then-not-is_head-clause-damaged g c is h vol =
+returns-then-not-is_head-clause-damaged g c h vol =
     let m = g.M.Media in
     let old = c.args.media.now in
     let seen = m.seen old Fast in
@@ -103,6 +109,9 @@ returns-then-not-is_head-clause-damaged g c is h vol =
     let one : h ≡ geometry = spells_one h geometry (first_block items seen) (first_spells h items seen c.requires.opened read vol.journal) spells in
     let head : IsHead geometry items = subst (λ (k : Sizes). IsHead k items) one (head_read h seen items read (vol.journal.head c.requires.opened)) in
     false≢true (sym c.if-not-is_head.true ∙ c.is_head.ensures.1 (subst (λ (b : List ℕ). IsHead geometry b) (sym c.deref-2.ensures.value) head))
+
+pub returns-then-not-is_head-clause-named : goal.returns-then-not-is_head-clause-named
+returns-then-not-is_head-clause-named g c = inr (inl (record { structure = refl; place = refl; opened = c.requires.opened; rest = c.requires.gate }))
 
 pub returns-then-not-is_head-clause-untouched : goal.returns-then-not-is_head-clause-untouched
 returns-then-not-is_head-clause-untouched g c is =
@@ -223,3 +232,27 @@ returns-clause-cause g c is =
     let m = g.M.Media in
     let more = rose_later (m.faults c.args.media.now) (m.faults c.geometry_under.new.media) (m.faults c.replay.new.media) (omega (arith, c.read_batch.ensures.faults, c.geometry_under.ensures.faults)) c.replay.ensures.faults in
     more c.in-Err-replay.ensures.cause
+
+pub returns-in-Ok-replay-clause-at_most : goal.returns-in-Ok-replay-clause-at_most
+returns-in-Ok-replay-clause-at_most g c =
+    let m = g.M.Media in
+    let seen = m.seen c.args.media.now Fast in
+    let un = unmoved_on c.read_batch.ensures.unmoved c.geometry_under.ensures.unmoved in
+    let items = c.in-Ok.bytes.items in
+    let read : IsRead seen items = c.in-Ok.ensures.read in
+    let lens : c.len.result ≡ length items = search rules in
+    let count = counted c.len.result (count_of items) (read.long ∙ sym lens) in
+    let there : count_of (area_of seen) ≡ count_of items = sym (length-images_of (area_of seen)) ∙ ap length read.staged ∙ length-images_of items in
+    omega (arith, c.replay.ensures.at_most, count, there, un.clock)
+
+pub returns-clause-at_most : goal.returns-clause-at_most
+returns-clause-at_most g c =
+    let m = g.M.Media in
+    let seen = m.seen c.args.media.now Fast in
+    let un = unmoved_on c.read_batch.ensures.unmoved c.geometry_under.ensures.unmoved in
+    let items = c.in-Ok.bytes.items in
+    let read : IsRead seen items = c.in-Ok.ensures.read in
+    let lens : c.len.result ≡ length items = search rules in
+    let count = counted c.len.result (count_of items) (read.long ∙ sym lens) in
+    let there : count_of (area_of seen) ≡ count_of items = sym (length-images_of (area_of seen)) ∙ ap length read.staged ∙ length-images_of items in
+    omega (arith, c.replay.ensures.at_most, count, there, un.clock)

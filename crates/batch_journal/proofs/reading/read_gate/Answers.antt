@@ -1,4 +1,4 @@
-use Rattle.std.proofs.Common.{◌≡◌, ◌==◌, ℕ, length, sym, ◌∙◌, ap, arith}
+use Rattle.std.proofs.Common.{◌≡◌, ◌==◌, ℕ, length, refl, sym, ◌∙◌, ap, arith}
 use Rattle.tier_device.specs.declared.media.Tier.TheVariants.{Fast}
 use Rattle.batch_journal.specs.Images.{slice, is_zero}
 use Rattle.batch_journal.proofs.Found.{slice_long, gate_of_block, rest_of_block}
@@ -21,6 +21,10 @@ returns-in-Some-clause-rest g c =
     ap is_zero (sym (rest_of_block seen c.deref.result.now (c.deref.ensures.value ∙ c.in-Ok.ensures.bytes))) ∙ c.in-Some.ensures.rest
 
 pub returns-in-Ok-clause-damaged : goal.returns-in-Ok-clause-damaged
-returns-in-Ok-clause-damaged g c same =
+returns-in-Ok-clause-damaged g c =
     let seen = g.M.Media.seen c.args.media.now Fast in
-    ap is_zero (sym (rest_of_block seen c.deref.result.now (c.deref.ensures.value ∙ c.in-Ok.ensures.bytes))) ∙ c.in-None.ensures.damaged
+    record {
+      structure = refl;
+      place = refl;
+      rest = ap is_zero (sym (rest_of_block seen c.deref.result.now (c.deref.ensures.value ∙ c.in-Ok.ensures.bytes))) ∙ c.in-None.ensures.damaged;
+    }

@@ -62,3 +62,6 @@ pub returns-in-Ok-clause-cause : goal.returns-in-Ok-clause-cause
 returns-in-Ok-clause-cause g c =
     let m = g.M.Media in
     on_err c.keep-in-Ok.result (λ rose. rose_later (m.faults c.args.media.now) (m.faults c.keep.new.media) (m.faults c.keep-in-Ok.new.media) c.keep.ensures.faults c.keep-in-Ok.ensures.faults rose) c.keep-in-Ok.ensures.cause
+
+pub returns-in-Ok-clause-quiet : goal.returns-in-Ok-clause-quiet
+returns-in-Ok-clause-quiet g c = on_ok c.keep-in-Ok.result (λ more. more ∙ c.in-Ok.ensures.quiet) c.keep-in-Ok.ensures.quiet

@@ -38,6 +38,7 @@ images-preserved g c =
       lengths = λ t. c.put_image.ensures.lengths t ∙ c.images.invariant.lengths t;
       calls = omega (arith, c.in-Ok.ensures.one_call, c.images.invariant.calls);
       faults = omega (arith, c.put_image.ensures.faults, c.images.invariant.faults);
+      quiet = omega (arith, c.in-Ok.ensures.quiet, c.images.invariant.quiet);
     }
 
 pub returns-clause-put : goal.returns-clause-put
@@ -57,4 +58,5 @@ images-init g c =
       lengths = λ t. refl;
       calls = omega arith;
       faults = omega arith;
+      quiet = refl;
     }

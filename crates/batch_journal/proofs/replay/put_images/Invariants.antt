@@ -16,6 +16,7 @@ invariant-images g l =
       lengths : SameLengths (m.seen l.fn.media) (m.seen l.media);
       calls : m.moment l.media ≡ m.moment l.fn.media + l.place;
       faults : m.faults l.fn.media ≤ m.faults l.media;
+      quiet : m.faults l.media ≡ m.faults l.fn.media;
     }
 
 abbrev pub decreases-images : goal.decreases-images

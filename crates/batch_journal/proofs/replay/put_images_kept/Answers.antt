@@ -29,3 +29,6 @@ returns-in-Ok-clause-cause g c =
 
 pub returns-in-Ok-clause-lengths : goal.returns-in-Ok-clause-lengths
 returns-in-Ok-clause-lengths g c t = c.settle.ensures.lengths t ∙ c.put_images.ensures.lengths t
+
+pub returns-in-Ok-clause-quiet : goal.returns-in-Ok-clause-quiet
+returns-in-Ok-clause-quiet g c = on_ok c.settle.result (λ more. more ∙ c.in-Ok.ensures.quiet) c.settle.ensures.quiet

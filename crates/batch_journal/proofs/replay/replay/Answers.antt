@@ -5,7 +5,7 @@ use Rattle.batch_journal.specs.Images.{images_of}
 use Rattle.batch_journal.specs.Course.{Beside}
 use Rattle.batch_journal.proofs.Courses.{and_then, weaker, rose_later, on_ok, on_err}
 use Rattle.batch_journal.proofs.Meaning.{beside_alike, closing_alike}
-use Rattle.batch_journal.proofs.Stages.{gate_now}
+use Rattle.batch_journal.proofs.Stages.{gate_now, gate_byte}
 use Rattle.batch_journal.proofs.replay.replay.Goals as goal
 
 pub returns-in-Ok-clause-course : goal.returns-in-Ok-clause-course
@@ -49,3 +49,13 @@ returns-in-Ok-clause-cause g c =
 
 pub keep-requires : goal.keep-requires
 keep-requires g c = omega (arith, c.requires.size, c.put_images_kept.ensures.lengths Fast)
+
+pub returns-in-Ok-clause-quiet : goal.returns-in-Ok-clause-quiet
+returns-in-Ok-clause-quiet g c = on_ok c.keep.result (λ more. more ∙ c.in-Ok.ensures.quiet) c.keep.ensures.quiet
+
+pub returns-in-Ok-clause-gate_byte : goal.returns-in-Ok-clause-gate_byte
+returns-in-Ok-clause-gate_byte g c =
+    let m = g.M.Media in
+    let seen2 = m.seen c.put_images_kept.new.media Fast in
+    let le : 139265 ≤ length seen2 = omega (arith, c.requires.size, c.put_images_kept.ensures.lengths Fast) in
+    on_ok c.keep.result (gate_byte 0 seen2 (m.seen c.keep.new.media Fast) le) c.keep.ensures.written

@@ -40,3 +40,6 @@ pub returns-in-Ok-clause-cause : goal.returns-in-Ok-clause-cause
 returns-in-Ok-clause-cause g c =
     let m = g.M.Media in
     on_err c.replay.result (λ rose. rose_later (m.faults c.args.media.now) (m.faults c.open_batch.new.media) (m.faults c.replay.new.media) c.open_batch.ensures.faults c.replay.ensures.faults rose) c.replay.ensures.cause
+
+pub returns-in-Ok-clause-quiet : goal.returns-in-Ok-clause-quiet
+returns-in-Ok-clause-quiet g c = on_ok c.replay.result (λ more. more ∙ c.in-Ok.ensures.quiet) c.replay.ensures.quiet

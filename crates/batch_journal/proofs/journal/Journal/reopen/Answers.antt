@@ -23,10 +23,3 @@ returns-in-Ok-clause-blocks g c =
     let new = c.open_medium.new.media in
     let course = c.open_medium.ensures.course in
     (course.all (m.moment new) (m.seen new Fast) course.later (omega arith) (g.met.M.Media.seen_now new Fast)).blocks
-
-pub returns-in-Err-clause-only : goal.returns-in-Err-clause-only
-returns-in-Err-clause-only g c large = elim c.in-Err.ensures.only [
-  | inl fault ↦ cc
-  | inr (inl damaged) ↦ cc
-  | inr (inr memory) ↦ cc
-]
