@@ -14,7 +14,7 @@ use Rattle.lease_manager.specs.declared.view.Event.TheVariants.{Took, Refused, G
 use Rattle.lease_manager.specs.declared.view.Part.{Part}
 use Rattle.lease_manager.specs.Words.{both_marks}
 use Rattle.lease_manager.specs.Marks.{read_mark, write_mark, is_lease, Shows, ShowsOther}
-use Rattle.lease_manager.specs.Parts.{place_of, mode_at, put_mode, put_event, put_lease, put_free}
+use Rattle.lease_manager.specs.Parts.{place_of, mode_at, put_mode, put_event, put_lease, put_free, Continues}
 use Rattle.lease_manager.specs.History.{steps_by, asked_after, IsAskedOf, MayFollow}
 use Rattle.lease_manager.specs.Law.{TableState, SeatState, HistoryLaw, Law, IsRuled}
 use Rattle.lease_manager.specs.Plays.{Exchanged, Tried, TookOut, Saw, DidAsk, DidHear}
@@ -191,6 +191,10 @@ one_word words i n w f lt is = dite (ℕ_discrete w i)
     (λ e. ap (λ z. get_or (set words i n) z 0) e ∙ get_or-set_same words i n 0 lt ∙ is ∙ ap (λ z. f (get_or words z 0)) (sym e) ∙ sym (ap (λ b. cond b (f (get_or words w 0)) (get_or words w 0)) (eq-eqb i w (sym e))))
     (λ ne. get_or-set_other words i w n 0 ne ∙ sym (ap (λ b. cond b (f (get_or words w 0)) (get_or words w 0)) (ne_eqb i w (λ z. ne (sym z)))))
 
+-- a step comes right after the rule's history
+continues : (s : TableState) (r : IsRuled s) (id : ℕ) (p : Part) (ps : List Part) (e : Event) → get_elem? s.views id ≡ some (p ∷ ps) → MayFollow r.lawful.steps.history p.place e → Continues p e
+continues s r id p ps e at may = let h = r.lawful.steps in (h.history, h.legal, h.listed p.place ∙ ap (λ (u : Part). u.events) (own s r id p ps at), may)
+
 -- a step on an asked word
 asks : (slots id i bits : ℕ) (p : Part) (ps : List Part) → 1024 ≤ i → i < 1152 → Allows IsRuled slots id (p ∷ ps, []) i (λ n. bit_or n bits) (DidAsk (step slots i bits 0 none) (p ∷ ps, []))
 asks slots id i bits p ps ge lt s r _ at fits = let n : ℕ = get_or s.words i 0 in let wide = r.lawful.wide in (
@@ -199,7 +203,7 @@ asks slots id i bits p ps ge lt s r _ at fits = let n : ℕ = get_or s.words i 0
   tt,
   adds s r id i (bit_or n bits) p ps (Asked i bits) at (λ j small. get_or-set_other s.words i j (bit_or n bits) 0 (λ e. omega arith)) tt
       (λ w _ _. one_word s.words i (bit_or n bits) w (λ z. bit_or z bits) (omega arith) refl),
-  refl,
+  (refl, continues s r id p ps (Asked i bits) at tt),
 )
 
 hears : (slots id i : ℕ) (p : Part) (ps : List Part) → 1024 ≤ i → i < 1152 → IsAskedOf p.place i → Allows IsRuled slots id (p ∷ ps, []) i (λ _. 0) (DidHear (step slots i 0 0 none) (p ∷ ps, []))
@@ -213,7 +217,7 @@ hears slots id i p ps ge lt mine s r _ at fits =
       tt,
       adds s r id i 0 p ps (Heard i n) at (λ j small. get_or-set_other s.words i j 0 0 (λ e. omega arith)) found
           (λ w _ _. one_word s.words i 0 w (λ _. 0) (omega arith) refl),
-      (refl, (h.history, h.legal, h.listed p.place ∙ ap (λ (u : Part). u.events) (own s r id p ps at), found)),
+      (refl, continues s r id p ps (Heard i n) at found),
     )
 
 -- the same of a seat that is known to carry its own part first

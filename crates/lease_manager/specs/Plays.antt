@@ -33,9 +33,9 @@ TookOut st me found me' = me' ≡ with_own me (put_free (own_part me.0) st.word)
 abbrev pub Saw : Step (Unit {0}) → SeatState → ℕ → SeatState → Type 0
 Saw st me found me' = (me' ≡ with_own me (put_event (own_part me.0) (Looked st.word found))) × ShowsOwn (mode_at (own_part me.0) st.word) (own_part me.0).place found
 
--- these bits were put into an asked word
+-- these bits were put into an asked word: the question comes right after a history in which the own steps are
 abbrev pub DidAsk : Step (Unit {0}) → SeatState → ℕ → SeatState → Type 0
-DidAsk st me found me' = me' ≡ with_own me (put_event (own_part me.0) (Asked st.word st.first))
+DidAsk st me found me' = (me' ≡ with_own me (put_event (own_part me.0) (Asked st.word st.first))) × Continues (own_part me.0) (Asked st.word st.first)
 
 -- an asked word was emptied: the hearing comes right after a history in which the own steps are
 abbrev pub DidHear : Step (Unit {0}) → SeatState → ℕ → SeatState → Type 0

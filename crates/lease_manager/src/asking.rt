@@ -18,6 +18,7 @@ impl Leases {
         requires inode { IsInode ino }
         requires client { IsClient client }
         ensures asked { pass.new ≡ with_event pass.old (Asked (asked_word client ((ino - 1) / 64)) (asked_bit ino)) }
+        ensures history { Continues pass.old.part (Asked (asked_word client ((ino - 1) / 64)) (asked_bit ino)) }
         ensures step { steps_of pass.new ≡ steps_of pass.old + 1 }
     {
         let word = word_of_asking(client, ino);
