@@ -1,61 +1,45 @@
-ghost use Rattle.std.specs.Prelude.{◌≤◌};
+ghost use Rattle.std.specs.Prelude.{◌≤◌, IfOk};
+ghost use Rattle.tier_device.specs.Memory.{IsAtRest};
 
+use crate::doubles::{failing, rest_of, stopping};
 use std::alloc::{AllocError, Global};
 use std::test::Fail;
-use tier_device::{FaultMedia, Fill, Media, MediaError, MemMedia, StopMedia, Tier};
+use tier_device::{Fill, Media, MediaError, MemMedia, StopMedia, Tier};
 
-// Six zeros on the fast tier, one on each other.
-fn zeros(alloc: Global) -> Result<MemMedia, AllocError> {
+// Six zeros on the fast tier, one on the slow one.
+fn zeros(alloc: Global) -> Result<MemMedia, AllocError>
+    ensures { IfOk result IsAtRest }
+{
     let fast = [0u8; 6].to_vec(alloc)?;
-    let block = [0u8; 1].to_vec(alloc)?;
     let slow = [0u8; 1].to_vec(alloc)?;
-    MemMedia::of_bytes(alloc, fast, block, slow)
+    MemMedia::of_bytes(alloc, fast, Vec::new(alloc), slow)
 }
 
-#[test]
-fn a_write_is_read_and_ranges_are_tested(rt: HostRuntime) -> Result<(), Fail> {
-    let mut media = zeros(rt.alloc())?;
-    media.write(Tier::Fast, 1, &[8, 9])?;
-    media.fence(Tier::Fast)?;
-    let mut out = [0; 3];
-    media.read(Tier::Fast, 1, &mut out)?;
-    assert_eq!(rt; out.as_slice(), [8, 9, 0].as_slice());
-    for (tier, at) in [(Tier::Fast, 5), (Tier::Block, 0), (Tier::Slow, usize::MAX)] {
-        assert_eq!(rt;
-            media.write(tier, at, &[8, 9]),
-            Err(MediaError::OutOfRange),
-            "{at}"
-        );
-        assert_eq!(rt;
-            media.read(tier, at, &mut out),
-            Err(MediaError::OutOfRange),
-            "{at}"
-        );
-    }
-    assert_eq!(rt; media.bytes(Tier::Fast), [0, 8, 9, 0, 0, 0].as_slice());
-    assert_eq!(rt; media.size(Tier::Block), 1);
-    Ok(())
+// Writes 1, 2 at 0 and 7, 8 at 1, with a fence behind each, and counts the calls that succeed.
+fn four_calls<M: Media>(media: &mut M) -> usize {
+    let answers = [
+        media.write(Tier::Fast, 0, &[1, 2]),
+        media.fence(Tier::Fast),
+        media.write(Tier::Fast, 1, &[7, 8]),
+        media.fence(Tier::Fast),
+    ];
+    answers.iter().filter(|answer| **answer == Ok(())).count()
 }
 
-// What a stop leaves of the fast tier where 1, 2 was written at 0 and fenced, and 7, 8 written at 1 and fenced.
-fn stopped_within(alloc: Global, call: u64, fill: Fill) -> Result<Option<MemMedia>, AllocError>
+fn stops(alloc: Global, call: u64, fill: Fill, left: &[u8]) -> Result<bool, Fail>
     requires { 1 ≤ call }
 {
-    let mut media = StopMedia::new(zeros(alloc)?);
-    media.stop_within(call, fill);
-    let _ = media.write(Tier::Fast, 0, &[1, 2]);
-    let _ = media.fence(Tier::Fast);
-    let _ = media.write(Tier::Fast, 1, &[7, 8]);
-    let _ = media.fence(Tier::Fast);
-    if !media.is_stopped() {
-        return Ok(None);
-    }
-    Ok(media.rest().ok())
+    let mut media = stopping(zeros(alloc)?, call, fill);
+    let done = four_calls(&mut media);
+    let stopped = media.is_stopped();
+    let rest = rest_of(media, Fill::Old)?;
+    let before = call.saturating_sub(1);
+    Ok(stopped == (before < 4) && done as u64 == before && rest.bytes(Tier::Fast) == left)
 }
 
+// The calls before a stop succeed, none after it does, and the medium then holds this.
 #[test]
 fn a_stop_leaves_what_its_fill_says(rt: HostRuntime) -> Result<(), Fail> {
-    let alloc = rt.alloc();
     let table = [
         (1, Fill::Old, [0, 0, 0, 0, 0, 0]),
         (1, Fill::New, [1, 2, 0, 0, 0, 0]),
@@ -64,60 +48,61 @@ fn a_stop_leaves_what_its_fill_says(rt: HostRuntime) -> Result<(), Fail> {
         (3, Fill::Byte(0x17), [1, 0x17, 0x17, 0, 0, 0]),
         (4, Fill::New, [1, 7, 8, 0, 0, 0]),
         (4, Fill::Byte(0xa5), [1, 0xa5, 0xa5, 0, 0, 0]),
+        (5, Fill::Byte(0xa5), [1, 7, 8, 0, 0, 0]),
     ];
     for (call, fill, left) in table {
-        if call < 1 {
-            continue;
-        }
-        let rest = stopped_within(alloc, call, fill)?.ok_or("stopped")?;
-        assert_eq!(rt; rest.bytes(Tier::Fast), left.as_slice(), "call {call}");
+        let row = call;
+        assert!(rt;
+            1 <= row && stops(rt.alloc(), row, fill, &left)?,
+            "call {row}"
+        );
     }
-    assert!(rt; stopped_within(alloc, 5, Fill::Old)?.is_none());
     Ok(())
 }
 
+// What a medium answers that has stopped.
 #[test]
-fn a_stopped_medium_fails_and_keeps_its_fill(rt: HostRuntime) -> Result<(), Fail> {
+fn a_stopped_medium_fails_and_keeps_its_first_fill(rt: HostRuntime) -> Result<(), Fail> {
     let mut media = StopMedia::new(zeros(rt.alloc())?);
     media.write(Tier::Slow, 0, &[3])?;
     media.halt(Fill::Byte(9));
-    media.halt(Fill::Old);
-    assert_eq!(rt;
-        media.write(Tier::Fast, 0, &[1]),
-        Err(MediaError::DeviceFault)
-    );
-    assert_eq!(rt; media.fence(Tier::Slow), Err(MediaError::DeviceFault));
     let mut out = [5];
-    assert_eq!(rt;
+    let answers = [
+        media.write(Tier::Fast, 0, &[1]),
+        media.fence(Tier::Slow),
         media.read(Tier::Slow, 0, &mut out),
-        Err(MediaError::DeviceFault)
-    );
-    assert_eq!(rt;
         media.read(Tier::Slow, 1, &mut out),
-        Err(MediaError::OutOfRange)
-    );
-    assert_eq!(rt; out[0], 5);
-    let rest = media.rest().ok().ok_or("memory")?;
-    assert_eq!(rt; rest.bytes(Tier::Slow), [9].as_slice());
-    assert_eq!(rt; rest.bytes(Tier::Fast), [0; 6].as_slice());
+    ];
+    let fault = Err(MediaError::DeviceFault);
+    let wanted = [fault, fault, fault, Err(MediaError::OutOfRange)];
+    let rest = rest_of(media, Fill::Old)?;
+    let left = rest.bytes(Tier::Slow) == [9].as_slice();
+    assert!(rt; answers == wanted && out[0] == 5 && left);
     Ok(())
 }
 
+// The failed call is one of four, and a stop after them leaves this.
+fn fails(alloc: Global, call: u64, left: &[u8]) -> Result<bool, Fail>
+    requires { 1 ≤ call }
+{
+    let mut media = failing(zeros(alloc)?, call);
+    let done = four_calls(&mut media);
+    let rest = media.into_inner().after_stop(Fill::Byte(0xa5))?;
+    Ok(done == 3 && rest.bytes(Tier::Fast) == left)
+}
+
+// A failed write is done all the same, and a failed fence keeps nothing.
 #[test]
 fn one_call_fails_once(rt: HostRuntime) -> Result<(), Fail> {
-    let mut media = FaultMedia::new(zeros(rt.alloc())?);
-    media.fail_at(2);
-    assert_eq!(rt; media.write(Tier::Fast, 0, &[1]), Ok(()));
-    assert_eq!(rt;
-        media.write(Tier::Fast, 7, &[1]),
-        Err(MediaError::OutOfRange)
-    );
-    assert_eq!(rt; media.fence(Tier::Fast), Err(MediaError::DeviceFault));
-    assert_eq!(rt; media.fence(Tier::Fast), Ok(()));
-    assert_eq!(rt; media.write(Tier::Fast, 1, &[2]), Ok(()));
-    assert_eq!(rt;
-        media.into_inner().bytes(Tier::Fast),
-        [1, 2, 0, 0, 0, 0].as_slice()
-    );
+    let table = [
+        (1, [1, 7, 8, 0, 0, 0]),
+        (2, [1, 7, 8, 0, 0, 0]),
+        (3, [1, 7, 8, 0, 0, 0]),
+        (4, [1, 0xa5, 0xa5, 0, 0, 0]),
+    ];
+    for (call, left) in table {
+        let row = call;
+        assert!(rt; 1 <= row && fails(rt.alloc(), row, &left)?, "call {row}");
+    }
     Ok(())
 }

@@ -1,16 +1,15 @@
-//! Tests of what stands on media, over what the libraries make public: `tier_device` (`devices`), `update_log` (`regions`), `block_alloc`
-//! (`free_blocks`), `layout` (`layouts`), `batch_journal` (`journals`) and `long_media` (`long_media`).
+//! Tests of stops and failures of media, and of the free blocks, over what the libraries make public: `tier_device` (`devices`),
+//! `update_log` (`regions`), `batch_journal` (`journals`) and `block_alloc` (`free_blocks`). What bytes are read as is told by the
+//! rows of the program `format_rows`.
 #![tactic(auto)]
 
 #[cfg(test)]
 mod devices;
 #[cfg(test)]
+mod doubles;
+#[cfg(test)]
 mod free_blocks;
 #[cfg(test)]
 mod journals;
-#[cfg(test)]
-mod layouts;
-#[cfg(test)]
-mod long_media;
 #[cfg(test)]
 mod regions;

@@ -37,6 +37,9 @@ const WRITE: Flags = Flags {
     truncate: false,
 };
 
+// The descriptor that the first open file gets.
+const CLOSE: Call = Call::Close { descriptor: 0 };
+
 // The calls of one kind, and the time that they took.
 #[derive(Clone, Copy)]
 struct Clocked {
@@ -58,10 +61,23 @@ impl Clocked {
         let reply = tree.ask(1, call);
         self.time = self.time.saturating_add(start.elapsed(rt)?);
         self.calls = self.calls.saturating_add(1);
-        if let Reply::Failed { errno } = reply {
-            bail!("a call was answered {errno}");
-        }
-        Ok(())
+        succeeded(&reply)
+    }
+
+    fn open(
+        &mut self,
+        rt: &HostRuntime,
+        tree: &mut PlainTree,
+        path: &str,
+        flags: Flags,
+    ) -> Result<()> {
+        let path = bytes_of(rt.alloc(), path)?;
+        self.ask(rt, tree, &Call::Open { path, flags })
+    }
+
+    fn stat(&mut self, rt: &HostRuntime, tree: &mut PlainTree, path: &str) -> Result<()> {
+        let path = bytes_of(rt.alloc(), path)?;
+        self.ask(rt, tree, &Call::Stat { path })
     }
 
     fn report(&self, rt: &HostRuntime, kind: &str) -> Result<()> {
@@ -72,10 +88,16 @@ impl Clocked {
     }
 }
 
+fn succeeded(reply: &Reply) -> Result<()> {
+    match reply {
+        Reply::Failed { errno } => bail!("a call was answered {errno}"),
+        _ => Ok(()),
+    }
+}
+
 /// Prints how many calls of each kind are answered in a second, over a thousand files in twenty directories.
 pub fn run(rt: &HostRuntime) -> Result<()> {
-    let alloc = rt.alloc();
-    let mut tree = PlainTree::new(alloc)?;
+    let mut tree = PlainTree::new(rt.alloc())?;
     let paths = make_files(rt, &mut tree)?;
     time_writes(rt, &mut tree, &paths)?;
     time_stats(rt, &mut tree, &paths)?;
@@ -84,73 +106,89 @@ pub fn run(rt: &HostRuntime) -> Result<()> {
 
 // Makes the directories and the files, and gives the paths of the files.
 fn make_files(rt: &HostRuntime, tree: &mut PlainTree) -> Result<Vec<String>> {
-    let alloc = rt.alloc();
-    let mut paths = Vec::new(alloc);
-    let mut making = Clocked::new();
+    let mut paths = Vec::new(rt.alloc());
     for directory in 0..DIRECTORIES {
-        let path = bytes_of(alloc, &format!(in alloc; "/d{directory}")?)?;
-        making.ask(rt, tree, &Call::Mkdir { path })?;
+        make_directory(rt, tree, directory)?;
         for file in 0..FILES {
-            let path = format!(in alloc; "/d{directory}/f{file}")?;
-            making.ask(rt, tree, &open(alloc, &path, MAKE)?)?;
-            making.ask(rt, tree, &Call::Close { descriptor: 0 })?;
+            let path = format!(in rt.alloc(); "/d{directory}/f{file}")?;
+            make_file(rt, tree, &path)?;
             paths.push(path)?;
         }
     }
     Ok(paths)
 }
 
+fn make_directory(rt: &HostRuntime, tree: &mut PlainTree, directory: u32) -> Result<()> {
+    let name = format!(in rt.alloc(); "/d{directory}")?;
+    let path = bytes_of(rt.alloc(), &name)?;
+    Clocked::new().ask(rt, tree, &Call::Mkdir { path })
+}
+
+fn make_file(rt: &HostRuntime, tree: &mut PlainTree, path: &str) -> Result<()> {
+    let mut clocked = Clocked::new();
+    clocked.open(rt, tree, path, MAKE)?;
+    clocked.ask(rt, tree, &CLOSE)
+}
+
 fn time_writes(rt: &HostRuntime, tree: &mut PlainTree, paths: &[String]) -> Result<()> {
-    let alloc = rt.alloc();
-    let block = BLOCK;
+    let size = BLOCK;
+    let block = vec![in rt.alloc(); 0x61u8; size]?;
     let write = Call::Pwrite {
         descriptor: 0,
         at: 0,
-        bytes: Bytes::from_vec(vec![in alloc; 0x61u8; block]?),
+        bytes: Bytes::from_vec(block),
     };
-    let mut writes = Clocked::new();
-    let mut others = Clocked::new();
-    for path in paths {
-        others.ask(rt, tree, &open(alloc, path, WRITE)?)?;
-        writes.ask(rt, tree, &write)?;
-        others.ask(rt, tree, &Call::Close { descriptor: 0 })?;
-    }
-    writes.report(rt, "pwrite of 4 KiB")
+    let clocks = time_uses(rt, tree, paths, WRITE, &write)?;
+    clocks.uses.report(rt, "pwrite of 4 KiB")
 }
 
 fn time_stats(rt: &HostRuntime, tree: &mut PlainTree, paths: &[String]) -> Result<()> {
-    let alloc = rt.alloc();
     let mut stats = Clocked::new();
     for path in paths {
-        let path = bytes_of(alloc, path)?;
-        stats.ask(rt, tree, &Call::Stat { path })?;
+        stats.stat(rt, tree, path)?;
     }
     stats.report(rt, "stat")
 }
 
 fn time_reads(rt: &HostRuntime, tree: &mut PlainTree, paths: &[String]) -> Result<()> {
-    let alloc = rt.alloc();
     let read = Call::Pread {
         descriptor: 0,
         at: 0,
         count: BLOCK as u64,
     };
-    let mut opens = Clocked::new();
-    let mut reads = Clocked::new();
-    let mut closes = Clocked::new();
-    for path in paths {
-        opens.ask(rt, tree, &open(alloc, path, READ)?)?;
-        reads.ask(rt, tree, &read)?;
-        closes.ask(rt, tree, &Call::Close { descriptor: 0 })?;
-    }
-    opens.report(rt, "open")?;
-    reads.report(rt, "pread of 4 KiB")?;
-    closes.report(rt, "close")
+    let clocks = time_uses(rt, tree, paths, READ, &read)?;
+    clocks.opens.report(rt, "open")?;
+    clocks.uses.report(rt, "pread of 4 KiB")?;
+    clocks.closes.report(rt, "close")
 }
 
-fn open(alloc: Global, path: &str, flags: Flags) -> Result<Call, AllocError> {
-    let path = bytes_of(alloc, path)?;
-    Ok(Call::Open { path, flags })
+// The calls that open files, use them and close them.
+#[derive(Clone, Copy)]
+struct Clocks {
+    opens: Clocked,
+    uses: Clocked,
+    closes: Clocked,
+}
+
+// Opens each file, asks a call of it, and closes it.
+fn time_uses(
+    rt: &HostRuntime,
+    tree: &mut PlainTree,
+    paths: &[String],
+    flags: Flags,
+    call: &Call,
+) -> Result<Clocks> {
+    let mut clocks = Clocks {
+        opens: Clocked::new(),
+        uses: Clocked::new(),
+        closes: Clocked::new(),
+    };
+    for path in paths {
+        clocks.opens.open(rt, tree, path, flags)?;
+        clocks.uses.ask(rt, tree, call)?;
+        clocks.closes.ask(rt, tree, &CLOSE)?;
+    }
+    Ok(clocks)
 }
 
 fn bytes_of(alloc: Global, path: &str) -> Result<Bytes, AllocError> {
