@@ -68,7 +68,7 @@ fn put_node(graph: &PlainGraph, inode: u32, out: &mut String) -> Result<(), Allo
 
 fn put_entries(entries: &[PlainEntry], out: &mut String) -> Result<(), AllocError> {
     for entry in entries {
-        put_entry(out, entry.name.as_slice(), entry.inode, entry.kind)?;
+        put_entry(out, entry.name.as_slice(), entry.value.0, entry.value.1)?;
     }
     Ok(())
 }

@@ -1,208 +1,202 @@
-use file_graph::{Effect, Effects, Kind, PlainGraph};
+use file_graph::{Effect, Kind, PlainGraph};
 use posix_calls::{Bytes, Name, ROOT};
 use std::alloc::Global;
+use std::io::{self, ErrorKind, Write};
 use std::test::Fail;
 
-fn name_of(alloc: Global, bytes: &[u8]) -> Result<Name, Fail> {
-    let name = Name::from_vec(bytes.to_vec(alloc)?);
-    Ok(name.ok().ok_or("a name")?)
+// An effect: its word, its inode, a number and a text.
+type Row = (&'static str, u32, u32, &'static str);
+
+// Effects, and what a graph with a root alone then has: of each node its inode, its names and its bytes or entries; and all units.
+const ROWS: [(&[Row], &str); 14] = [
+    (&[], "1 1; 1"),
+    // Bytes behind the end leave a gap of zeros.
+    (
+        &[
+            ("make file", 2, 0, ""),
+            ("names", 2, 3, ""),
+            ("bytes", 2, 2, "cd"),
+            ("bytes", 2, 3, "efg"),
+        ],
+        "1 1; 2 3 \0\0cefg; 3",
+    ),
+    // Entries stand in the order of their names, and are replaced.
+    (
+        &[
+            ("enter", 1, 2, "b"),
+            ("enter", 1, 3, "ab"),
+            ("enter", 1, 4, "a"),
+            ("enter", 1, 5, "b"),
+        ],
+        "1 1 a:4 ab:3 b:5; 2",
+    ),
+    // An entry leaves by its whole name; a name that is not there does nothing.
+    (
+        &[
+            ("enter", 1, 2, "a"),
+            ("enter", 1, 2, "b"),
+            ("enter", 1, 2, "bc"),
+            ("leave", 1, 0, "c"),
+            ("leave", 1, 0, "b"),
+        ],
+        "1 1 a:2 bc:2; 2",
+    ),
+    // What a file is cut of is gone, and what it is grown by is zero.
+    (
+        &[
+            ("make file", 2, 0, ""),
+            ("bytes", 2, 0, "abcd"),
+            ("size", 2, 2, ""),
+            ("size", 2, 5, ""),
+            ("drop", 3, 0, ""),
+        ],
+        "1 1; 2 0 ab\0\0\0; 3",
+    ),
+    (&[("make file", 2, 0, ""), ("drop", 2, 0, "")], "1 1; 1"),
+    // A node that is made replaces what was there.
+    (
+        &[
+            ("make file", 2, 0, ""),
+            ("bytes", 2, 0, "abcd"),
+            ("make directory", 2, 0, ""),
+        ],
+        "1 1; 2 0; 2",
+    ),
+    // On another kind, or where no node is, an effect does nothing.
+    (
+        &[
+            ("enter", 1, 2, "a"),
+            ("make file", 2, 0, ""),
+            ("bytes", 2, 0, "xy"),
+            ("size", 1, 0, ""),
+            ("bytes", 1, 0, "z"),
+            ("leave", 2, 0, "a"),
+            ("enter", 2, 3, "c"),
+            ("leave", 3, 0, "a"),
+            ("size", 3, 1, ""),
+            ("names", 3, 1, ""),
+        ],
+        "1 1 a:2; 2 0 xy; 4",
+    ),
+    // A file costs a unit, and one more for each 4,096 bytes begun.
+    (&[("make file", 6, 0, ""), ("size", 6, 1, "")], "1 1; 3"),
+    (&[("make file", 6, 0, ""), ("size", 6, 4096, "")], "1 1; 3"),
+    (&[("make file", 6, 0, ""), ("size", 6, 8192, "")], "1 1; 4"),
+    (&[("make file", 6, 0, ""), ("size", 6, 8193, "")], "1 1; 5"),
+    (&[("make file", 6, 0, ""), ("size", 6, 0, "")], "1 1; 2"),
+    // There is no inode 1,025.
+    (&[("make file", 1025, 0, "")], "1 1; 1"),
+];
+
+fn effect_of(alloc: Global, row: Row) -> io::Result<Effect> {
+    let (word, inode, number, text) = row;
+    match word {
+        "enter" => entering(inode, number, name_of(alloc, text)?),
+        "leave" => leaving(inode, name_of(alloc, text)?),
+        "bytes" => writing(alloc, inode, number, text),
+        word => Ok(plain_effect(word, inode, number)),
+    }
 }
 
-fn entered(alloc: Global, inode: u32, name: &[u8]) -> Result<Effect, Fail> {
-    let name = name_of(alloc, name)?;
+fn plain_effect(word: &str, inode: u32, number: u32) -> Effect {
+    match word {
+        "make file" => Effect::Make {
+            inode,
+            kind: Kind::File,
+        },
+        "make directory" => Effect::Make {
+            inode,
+            kind: Kind::Directory,
+        },
+        "names" => Effect::Names {
+            inode,
+            names: number,
+        },
+        "size" => Effect::Size {
+            inode,
+            size: u64::from(number),
+        },
+        _ => Effect::Drop { inode },
+    }
+}
+
+fn name_of(alloc: Global, text: &str) -> io::Result<Name> {
+    match Name::from_vec(text.as_bytes().to_vec(alloc)?) {
+        Ok(name) => Ok(name),
+        Err(_) => Err(ErrorKind::InvalidData.into()),
+    }
+}
+
+fn entering(directory: u32, inode: u32, name: Name) -> io::Result<Effect> {
     Ok(Effect::Enter {
-        directory: ROOT,
+        directory,
         inode,
         kind: Kind::File,
         name,
     })
 }
 
-fn left(alloc: Global, directory: u32, name: &[u8]) -> Result<Effect, Fail> {
-    let name = name_of(alloc, name)?;
+fn leaving(directory: u32, name: Name) -> io::Result<Effect> {
     Ok(Effect::Leave { directory, name })
 }
 
-fn apply(graph: &mut PlainGraph, effect: Result<Effect, Fail>) -> Result<(), Fail> {
-    let effect = effect?;
-    Ok(graph.apply(&effect)?)
-}
-
-// The names in the root, each with a blank behind it.
-fn names_of_root(alloc: Global, graph: &PlainGraph) -> Result<Vec<u8>, Fail> {
-    let mut names = Vec::new(alloc);
-    for entry in graph.entries(ROOT).ok_or("a directory")? {
-        names.extend_from_slice(entry.name.as_slice())?;
-        names.push(b' ')?;
-    }
-    Ok(names)
-}
-
-fn written(alloc: Global, at: u64, bytes: &[u8]) -> Result<Effect, Fail> {
-    let bytes = Bytes::copy_of(alloc, bytes)?;
+fn writing(alloc: Global, inode: u32, at: u32, text: &str) -> io::Result<Effect> {
     Ok(Effect::Bytes {
-        inode: 2,
-        at,
-        bytes,
+        inode,
+        at: u64::from(at),
+        bytes: Bytes::copy_of(alloc, text.as_bytes())?,
     })
 }
 
-#[test]
-fn a_file_is_made_entered_and_written(rt: HostRuntime) -> Result<(), Fail> {
-    let alloc = rt.alloc();
-    let mut graph = PlainGraph::with_root(alloc)?;
-    assert_eq!(rt; graph.names(ROOT), Some(1));
-    assert_eq!(rt; graph.names(2), None);
-    apply(
-        &mut graph,
-        Ok(Effect::Make {
-            inode: 2,
-            kind: Kind::File,
-        }),
-    )?;
-    apply(&mut graph, Ok(Effect::Names { inode: 2, names: 3 }))?;
-    apply(&mut graph, written(alloc, 2, b"cd"))?;
-    apply(&mut graph, written(alloc, 3, b"efg"))?;
-    assert_eq!(rt; graph.names(2), Some(3));
-    assert_eq!(rt; graph.file(2).ok_or("a file")?, b"\0\0cefg".as_slice());
-    assert_eq!(rt; graph.file(ROOT).is_some(), false);
-    assert_eq!(rt; graph.entries(2).is_some(), false);
-    Ok(())
-}
-
-#[test]
-fn entries_stand_in_order_and_are_replaced(rt: HostRuntime) -> Result<(), Fail> {
-    let alloc = rt.alloc();
-    let mut graph = PlainGraph::with_root(alloc)?;
-    apply(&mut graph, entered(alloc, 2, b"b"))?;
-    apply(&mut graph, entered(alloc, 3, b"ab"))?;
-    apply(&mut graph, entered(alloc, 4, b"a"))?;
-    apply(&mut graph, entered(alloc, 5, b"b"))?;
-    let mut inodes = Vec::new(alloc);
-    for entry in graph.entries(ROOT).ok_or("a directory")? {
-        inodes.push(entry.value.0)?;
+// What a graph has at the inodes 1 to 5, and all its units.
+fn told(alloc: Global, graph: &PlainGraph) -> io::Result<Vec<u8>> {
+    let mut text = Vec::new(alloc);
+    for inode in ROOT..6 {
+        tell_node(&mut text, graph, inode)?;
     }
-    assert_eq!(rt;
-        names_of_root(alloc, &graph)?.as_slice(),
-        b"a ab b ".as_slice()
-    );
-    assert_eq!(rt; inodes.as_slice(), [4, 3, 5].as_slice());
-    Ok(())
+    write!(text, "{}", graph.charge())?;
+    Ok(text)
 }
 
-#[test]
-fn an_entry_leaves_by_its_name(rt: HostRuntime) -> Result<(), Fail> {
-    let alloc = rt.alloc();
-    let mut graph = PlainGraph::with_root(alloc)?;
-    for name in [b"a".as_slice(), b"b".as_slice(), b"bc".as_slice()] {
-        apply(&mut graph, entered(alloc, 2, name))?;
+fn tell_node(text: &mut Vec<u8>, graph: &PlainGraph, inode: u32) -> io::Result<()> {
+    let Some(names) = graph.names(inode) else {
+        return Ok(());
+    };
+    write!(text, "{inode} {names}")?;
+    if let Some(bytes) = graph.file(inode) {
+        tell_bytes(text, bytes)?;
     }
-    apply(&mut graph, left(alloc, ROOT, b"c"))?;
-    assert_eq!(rt;
-        names_of_root(alloc, &graph)?.as_slice(),
-        b"a b bc ".as_slice()
-    );
-    apply(&mut graph, left(alloc, ROOT, b"b"))?;
-    assert_eq!(rt;
-        names_of_root(alloc, &graph)?.as_slice(),
-        b"a bc ".as_slice()
-    );
-    Ok(())
-}
-
-#[test]
-fn a_file_is_cut_grown_and_dropped(rt: HostRuntime) -> Result<(), Fail> {
-    let alloc = rt.alloc();
-    let mut graph = PlainGraph::with_root(alloc)?;
-    apply(
-        &mut graph,
-        Ok(Effect::Make {
-            inode: 2,
-            kind: Kind::File,
-        }),
-    )?;
-    apply(&mut graph, written(alloc, 0, b"abcd"))?;
-    apply(&mut graph, Ok(Effect::Size { inode: 2, size: 2 }))?;
-    assert_eq!(rt; graph.file(2).ok_or("a file")?, b"ab".as_slice());
-    apply(&mut graph, Ok(Effect::Size { inode: 2, size: 5 }))?;
-    assert_eq!(rt; graph.file(2).ok_or("a file")?, b"ab\0\0\0".as_slice());
-    apply(&mut graph, Ok(Effect::Drop { inode: 3 }))?;
-    assert_eq!(rt; graph.names(2), Some(0));
-    apply(&mut graph, Ok(Effect::Drop { inode: 2 }))?;
-    assert_eq!(rt; graph.names(2), None);
-    Ok(())
-}
-
-#[test]
-fn effects_on_another_kind_or_on_no_node_do_nothing(rt: HostRuntime) -> Result<(), Fail> {
-    let alloc = rt.alloc();
-    let mut graph = PlainGraph::with_root(alloc)?;
-    apply(&mut graph, entered(alloc, 2, b"a"))?;
-    apply(
-        &mut graph,
-        Ok(Effect::Make {
-            inode: 2,
-            kind: Kind::File,
-        }),
-    )?;
-    apply(&mut graph, written(alloc, 0, b"xy"))?;
-    apply(
-        &mut graph,
-        Ok(Effect::Size {
-            inode: ROOT,
-            size: 0,
-        }),
-    )?;
-    apply(&mut graph, left(alloc, 2, b"a"))?;
-    apply(&mut graph, left(alloc, 3, b"a"))?;
-    apply(&mut graph, Ok(Effect::Size { inode: 3, size: 1 }))?;
-    assert_eq!(rt; names_of_root(alloc, &graph)?.as_slice(), b"a ".as_slice());
-    assert_eq!(rt; graph.file(2).ok_or("a file")?, b"xy".as_slice());
-    assert_eq!(rt; graph.names(3), None);
-    Ok(())
-}
-
-#[test]
-fn units_are_counted_by_begun_blocks(rt: HostRuntime) -> Result<(), Fail> {
-    let alloc = rt.alloc();
-    let mut graph = PlainGraph::with_root(alloc)?;
-    assert_eq!(rt; graph.charge(), 1);
-    apply(&mut graph, entered(alloc, 2, b"a"))?;
-    assert_eq!(rt; graph.charge(), 2);
-    apply(
-        &mut graph,
-        Ok(Effect::Make {
-            inode: 2,
-            kind: Kind::File,
-        }),
-    )?;
-    assert_eq!(rt; graph.charge(), 3);
-    for (size, units) in [(1, 4), (4_096, 4), (8_192, 5), (8_193, 6), (0, 3)] {
-        apply(&mut graph, Ok(Effect::Size { inode: 2, size }))?;
-        assert_eq!(rt; graph.charge(), units);
+    for entry in graph.entries(inode).unwrap_or(&[]) {
+        text.push(b' ')?;
+        text.extend_from_slice(entry.name.as_slice())?;
+        write!(text, ":{}", entry.value.0)?;
     }
-    apply(
-        &mut graph,
-        Ok(Effect::Make {
-            inode: 1_025,
-            kind: Kind::File,
-        }),
-    )?;
-    assert_eq!(rt; graph.charge(), 3);
+    text.extend_from_slice(b"; ")?;
     Ok(())
 }
 
+fn tell_bytes(text: &mut Vec<u8>, bytes: &[u8]) -> io::Result<()> {
+    text.push(b' ')?;
+    text.extend_from_slice(bytes)?;
+    Ok(())
+}
+
+// What a graph has after effects.
+fn after(alloc: Global, rows: &[Row]) -> io::Result<Vec<u8>> {
+    let mut graph = PlainGraph::with_root(alloc)?;
+    for row in rows {
+        let effect = effect_of(alloc, *row)?;
+        graph.apply(&effect)?;
+    }
+    told(alloc, &graph)
+}
+
 #[test]
-fn effects_are_counted(rt: HostRuntime) -> Result<(), Fail> {
-    let alloc = rt.alloc();
-    let none = Effects::from_vec(Vec::new(alloc));
-    assert!(rt; none.is_empty());
-    let mut effects = Vec::new(alloc);
-    effects.push(Effect::Names { inode: 7, names: 2 })?;
-    let effects = Effects::from_vec(effects);
-    assert_eq!(rt; effects.len(), 1);
-    for effect in effects.as_slice() {
-        assert!(rt; matches!(effect, Effect::Names { inode: 7, names: 2 }));
+fn effects_make_of_a_graph_what_they_say(rt: HostRuntime) -> Result<(), Fail> {
+    for (rows, wanted) in ROWS {
+        let found = after(rt.alloc(), rows)?;
+        let found = String::from_utf8_lossy(rt.alloc(), &found)?;
+        assert_eq!(rt; found.as_str(), wanted);
     }
     Ok(())
 }

@@ -1,13 +1,7 @@
-//! Tests of graphs, records and calls by their records, over what the libraries make public: `file_graph` (`graphs`), `log_record`
-//! (`records`) and `call_effects` (`call_records`).
+//! Tests of graphs and records, over what the libraries make public: `file_graph` (`graphs`) and `log_record` (`records`). What
+//! calls are answered, and their records, is told by the rows of `script_rows`.
 #![tactic(auto)]
 
-#[cfg(test)]
-mod call_records;
-#[cfg(test)]
-mod decisions;
-#[cfg(test)]
-mod graph_reader;
 #[cfg(test)]
 mod graphs;
 #[cfg(test)]

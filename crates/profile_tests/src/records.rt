@@ -1,6 +1,4 @@
-use file_graph::{Effect, Effects, Kind};
-use log_record::{Record, RecordError, is_payload, read_payload, read_record, write_record};
-use posix_calls::{Bytes, Name};
+use log_record::{RecordError, is_payload, read_payload, read_record, write_record};
 use std::alloc::Global;
 use std::test::Fail;
 
@@ -12,6 +10,15 @@ const MKDIR: [u8; 32] = [
 // Bytes `xy` of inode 9 from offset 258 on.
 const PWRITE: [u8; 24] = [
     1, 0, 0, 0, 1, 6, 9, 0, 0, 0, 2, 1, 0, 0, 0, 0, 0, 0, 2, 0, 0, 0, 120, 121,
+];
+
+// Such bytes that end with the greatest file, at 1,048,576, and one later.
+const LAST: [u8; 24] = [
+    1, 0, 0, 0, 1, 6, 9, 0, 0, 0, 254, 255, 15, 0, 0, 0, 0, 0, 2, 0, 0, 0, 120, 121,
+];
+
+const PAST_LAST: [u8; 24] = [
+    1, 0, 0, 0, 1, 6, 9, 0, 0, 0, 255, 255, 15, 0, 0, 0, 0, 0, 2, 0, 0, 0, 120, 121,
 ];
 
 // Inode 3 is no node.
@@ -35,151 +42,77 @@ const ALL: [u8; 77] = [
     7, 3, 0, 0, 0, // inode 3 is no node
 ];
 
-fn name_of(alloc: Global, bytes: &[u8]) -> Result<Name, Fail> {
-    let name = Name::from_vec(bytes.to_vec(alloc)?);
-    Ok(name.ok().ok_or("a name")?)
-}
+// What each of them spells: the units and the effects.
+const SPELLED: [(&[u8], &str); 7] = [
+    (
+        &MKDIR,
+        "2 [Make { inode: 2, kind: Directory }, \
+        Enter { directory: 1, inode: 2, kind: Directory, name: Name { bytes: [97] } }, \
+        Names { inode: 2, names: 1 }]",
+    ),
+    (
+        &PWRITE,
+        "1 [Bytes { inode: 9, at: 258, bytes: Bytes { bytes: [120, 121] } }]",
+    ),
+    (
+        &LAST,
+        "1 [Bytes { inode: 9, at: 1048574, bytes: Bytes { bytes: [120, 121] } }]",
+    ),
+    (&DROP, "1 [Drop { inode: 3 }]"),
+    (&SIZE, "0 [Size { inode: 2, size: 1048576 }]"),
+    (
+        &LEAVE,
+        "256 [Leave { directory: 1024, name: Name { bytes: [98, 99] } }]",
+    ),
+    (
+        &ALL,
+        "5 [Make { inode: 2, kind: File }, \
+        Enter { directory: 1, inode: 2, kind: File, name: Name { bytes: [97] } }, \
+        Leave { directory: 1, name: Name { bytes: [98, 99] } }, \
+        Names { inode: 2, names: 1 }, \
+        Size { inode: 2, size: 300 }, \
+        Bytes { inode: 2, at: 4, bytes: Bytes { bytes: [120, 121] } }, \
+        Drop { inode: 3 }]",
+    ),
+];
 
-fn mkdir(alloc: Global) -> Result<Record, Fail> {
-    let name = name_of(alloc, b"a")?;
-    let mut effects = Vec::new(alloc);
-    effects.push(Effect::Make {
-        inode: 2,
-        kind: Kind::Directory,
-    })?;
-    effects.push(Effect::Enter {
-        directory: 1,
-        inode: 2,
-        kind: Kind::Directory,
-        name,
-    })?;
-    effects.push(Effect::Names { inode: 2, names: 1 })?;
-    let effects = Effects::from_vec(effects);
-    Ok(Record { units: 2, effects })
-}
-
-fn pwrite(alloc: Global, at: u64) -> Result<Record, Fail> {
-    let mut effects = Vec::new(alloc);
-    let bytes = Bytes::copy_of(alloc, b"xy")?;
-    effects.push(Effect::Bytes {
-        inode: 9,
-        at,
-        bytes,
-    })?;
-    let effects = Effects::from_vec(effects);
-    Ok(Record { units: 1, effects })
-}
-
-fn one(alloc: Global, units: u32, effect: Effect) -> Result<Record, Fail> {
-    let mut effects = Vec::new(alloc);
-    effects.push(effect)?;
-    let effects = Effects::from_vec(effects);
-    Ok(Record { units, effects })
-}
-
-fn all(alloc: Global) -> Result<Record, Fail> {
-    let mut effects = Vec::new(alloc);
-    effects.push(Effect::Make {
-        inode: 2,
-        kind: Kind::File,
-    })?;
-    effects.push(Effect::Enter {
-        directory: 1,
-        inode: 2,
-        kind: Kind::File,
-        name: name_of(alloc, b"a")?,
-    })?;
-    effects.push(Effect::Leave {
-        directory: 1,
-        name: name_of(alloc, b"bc")?,
-    })?;
-    effects.push(Effect::Names { inode: 2, names: 1 })?;
-    effects.push(Effect::Size {
-        inode: 2,
-        size: 300,
-    })?;
-    effects.push(Effect::Bytes {
-        inode: 2,
-        at: 4,
-        bytes: Bytes::copy_of(alloc, b"xy")?,
-    })?;
-    effects.push(Effect::Drop { inode: 3 })?;
-    let effects = Effects::from_vec(effects);
-    Ok(Record { units: 5, effects })
-}
-
-// Whether the record is spelled so, and read again from there.
-fn goes_both_ways(alloc: Global, entry: &Record, bytes: &[u8]) -> Result<bool, Fail> {
-    let there = spelled(alloc, entry)?.as_slice() == bytes;
-    let back = read_payload(alloc, bytes)?;
-    Ok(there && spelled(alloc, &back)?.as_slice() == bytes)
-}
-
-// What is written of a record, where it has a spelling.
-fn spelled(alloc: Global, entry: &Record) -> Result<Vec<u8>, Fail> {
-    if !entry.has_spelling() {
-        return Err("a record with a spelling")?;
+// What bytes are read as, where that is written as the same bytes again.
+fn read_back(alloc: Global, bytes: &[u8]) -> Result<String, Fail> {
+    let entry = read_payload(alloc, bytes)?;
+    if !entry.has_spelling() || write_record(alloc, &entry)?.as_slice() != bytes {
+        return Err(Fail::new("a record is written otherwise"));
     }
-    Ok(write_record(alloc, entry)?)
+    let effects = entry.effects.as_slice();
+    Ok(format!(in alloc; "{} {effects:?}", entry.units)?)
 }
 
 #[test]
-fn mkdir_is_spelled_and_read(rt: HostRuntime) -> Result<(), Fail> {
-    let alloc = rt.alloc();
-    let bytes = spelled(alloc, &mkdir(alloc)?)?;
-    assert_eq!(rt; bytes.as_slice(), MKDIR.as_slice());
-    let back = read_payload(alloc, &MKDIR)?;
-    assert_eq!(rt; back.units, 2);
-    assert_eq!(rt; spelled(alloc, &back)?.as_slice(), MKDIR.as_slice());
-    Ok(())
-}
-
-#[test]
-fn pwrite_is_spelled_and_read(rt: HostRuntime) -> Result<(), Fail> {
-    let alloc = rt.alloc();
-    let bytes = spelled(alloc, &pwrite(alloc, 258)?)?;
-    assert_eq!(rt; bytes.as_slice(), PWRITE.as_slice());
-    let back = read_payload(alloc, &PWRITE)?;
-    assert_eq!(rt; spelled(alloc, &back)?.as_slice(), PWRITE.as_slice());
-    Ok(())
-}
-
-#[test]
-fn each_tag_is_spelled_and_read(rt: HostRuntime) -> Result<(), Fail> {
-    let alloc = rt.alloc();
-    let leave = Effect::Leave {
-        directory: 1_024,
-        name: name_of(alloc, b"bc")?,
-    };
-    let size = Effect::Size {
-        inode: 2,
-        size: 1_048_576,
-    };
-    assert!(rt; goes_both_ways(alloc, &one(alloc, 256, leave)?, &LEAVE)?);
-    assert!(rt; goes_both_ways(alloc, &one(alloc, 0, size)?, &SIZE)?);
-    assert!(rt; goes_both_ways(alloc, &one(alloc, 1, Effect::Drop { inode: 3 })?, &DROP)?);
-    assert!(rt; goes_both_ways(alloc, &all(alloc)?, &ALL)?);
-    Ok(())
-}
-
-#[test]
-fn no_other_tag_and_no_greater_size_is_spelled(rt: HostRuntime) -> Result<(), Fail> {
-    let alloc = rt.alloc();
-    let mut bytes = DROP.to_vec(alloc)?;
-    assert!(rt; is_payload(&bytes));
-    for tag in [0, 8, 255] {
-        bytes[5] = tag;
-        assert!(rt; !is_payload(&bytes));
+fn payloads_are_read_and_written(rt: HostRuntime) -> Result<(), Fail> {
+    for (bytes, wanted) in SPELLED {
+        let read = read_back(rt.alloc(), bytes)?;
+        assert_eq!(rt; read.as_str(), wanted);
     }
-    let mut bytes = SIZE.to_vec(alloc)?;
-    assert!(rt; is_payload(&bytes));
-    bytes[10] = 1;
-    assert!(rt; !is_payload(&bytes));
-    let size = Effect::Size {
-        inode: 2,
-        size: 1_048_577,
-    };
-    assert!(rt; !one(alloc, 0, size)?.has_spelling());
+    Ok(())
+}
+
+// A payload with one byte changed is none: another tag, a greater size, a later end, and any byte less or more.
+#[test]
+fn other_bytes_are_none(rt: HostRuntime) -> Result<(), Fail> {
+    let table: [(&[u8], usize, u8); 5] = [
+        (&DROP, 5, 0),
+        (&DROP, 5, 8),
+        (&DROP, 5, 255),
+        (&SIZE, 10, 1),
+        (&PAST_LAST, 0, 1),
+    ];
+    for (bytes, place, byte) in table {
+        let mut bytes = bytes.to_vec(rt.alloc())?;
+        if let Some(at) = bytes.get_mut(place) {
+            *at = byte;
+        }
+        assert!(rt; !is_payload(&bytes), "{place} {byte}");
+    }
+    assert!(rt; is_payload(&MKDIR) && !is_payload(&MKDIR[..31]) && !is_payload(&[]));
     Ok(())
 }
 
@@ -187,23 +120,11 @@ fn no_other_tag_and_no_greater_size_is_spelled(rt: HostRuntime) -> Result<(), Fa
 fn bytes_behind_a_record_are_left(rt: HostRuntime) -> Result<(), Fail> {
     let alloc = rt.alloc();
     let mut bytes = MKDIR.to_vec(alloc)?;
-    assert!(rt; is_payload(&bytes));
     bytes.push(7)?;
-    let (back, count) = read_record(alloc, &bytes)?;
+    let (_entry, count) = read_record(alloc, &bytes)?;
     assert_eq!(rt; count, 32);
-    assert_eq!(rt; spelled(alloc, &back)?.as_slice(), MKDIR.as_slice());
-    assert!(rt; !is_payload(&bytes));
     assert!(rt; matches!(read_payload(alloc, &bytes), Err(RecordError::NoRecord)));
     assert!(rt; matches!(read_record(alloc, &MKDIR[..31]), Err(RecordError::NoRecord)));
-    assert!(rt; !is_payload(&[]));
-    Ok(())
-}
-
-#[test]
-fn a_write_ends_within_the_greatest_file(rt: HostRuntime) -> Result<(), Fail> {
-    let alloc = rt.alloc();
-    assert!(rt; pwrite(alloc, 1_048_574)?.has_spelling());
-    assert!(rt; !pwrite(alloc, 1_048_575)?.has_spelling());
     Ok(())
 }
 

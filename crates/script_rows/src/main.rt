@@ -4,6 +4,7 @@
 #![tactic(auto)]
 
 mod difference;
+mod known;
 mod row;
 mod run;
 mod spelled;

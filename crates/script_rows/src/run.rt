@@ -1,4 +1,5 @@
 // The runs of the programs.
+use crate::known::run_known;
 use crate::row::Row;
 use std::alloc::Global;
 use std::io::{self, BufReader};
@@ -24,6 +25,7 @@ pub fn run(alloc: Global, row: &Row<'_>) -> io::Result<Ran> {
     };
     match row.words.first() {
         Some(word) if *word == "strata_first" => first(alloc, row, &mut ran),
+        Some(word) if *word == "known" => known(alloc, row, &mut ran),
         _ => shell(alloc, row, &mut ran)?,
     }
     Ok(ran)
@@ -31,6 +33,10 @@ pub fn run(alloc: Global, row: &Row<'_>) -> io::Result<Ran> {
 
 fn first(alloc: Global, row: &Row<'_>, ran: &mut Ran) {
     ran.status = run_first(alloc, &row.words, &mut ran.out, &mut ran.err);
+}
+
+fn known(alloc: Global, row: &Row<'_>, ran: &mut Ran) {
+    ran.status = run_known(alloc, &row.script, &mut ran.out);
 }
 
 fn shell(alloc: Global, row: &Row<'_>, ran: &mut Ran) -> io::Result<()> {

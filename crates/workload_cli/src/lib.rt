@@ -7,6 +7,7 @@
 mod first;
 mod lines;
 mod options;
+mod program;
 mod regions;
 mod run_error;
 mod script;
@@ -15,5 +16,6 @@ mod two_clients;
 mod usage;
 
 pub use first::run_first;
+pub use program::run_program;
 pub use script::part::MAX_LINE;
 pub use shell::run_sh;

@@ -30,7 +30,7 @@ impl From<Error> for WordsError {
     }
 }
 
-/// Tells what is wrong with the words, or the help, and answers the exit status: 0 for the help, 2 for words that can't be read,
+/// Tells what is wrong with the words, or their help, and answers the exit status: 0 for the help, 2 for words that can't be read,
 /// and 3 after a fault.
 pub fn tell<O: Write, E: Write>(error: WordsError, out: &mut O, err: &mut E) -> u8 {
     match error {
@@ -38,6 +38,13 @@ pub fn tell<O: Write, E: Write>(error: WordsError, out: &mut O, err: &mut E) -> 
             Ok(()) => 0,
             Err(fault) => tell_fault(fault, err),
         },
+        error => tell_words(error, err),
+    }
+}
+
+/// Tells what is wrong with the words, and answers the exit status.
+pub fn tell_words<E: Write>(error: WordsError, err: &mut E) -> u8 {
+    match error {
         WordsError::Usage(error) => {
             let _ = write!(err, "{error}");
             2

@@ -1,0 +1,13 @@
+-- What is known of a plain graph of which only some inodes are known.
+use Rattle.std.specs.Prelude.{ℕ, List, ◌||◌, ◌==◌, Option, Some, None, option_map, if◌then◌else◌}
+use Rattle.posix_calls.specs.Asks.{Part}
+use Rattle.posix_calls.specs.declared.limits.TheConstants.{ROOT}
+use Rattle.file_graph.specs.Graph.{Graph, is_among}
+use Rattle.graph_answers.specs.Whole.{whole_of}
+
+-- the nodes at some inodes are known, and of others whether they are directories; of the root that is always known
+abbrev pub part_of : Graph → List ℕ → List ℕ → Part
+part_of g nodes kinds = record {
+  is_dir = λ i. if i == ROOT || is_among i kinds then (whole_of g).is_dir i else None;
+  node = λ i. if is_among i nodes then (whole_of g).node i else None;
+}

@@ -1,0 +1,67 @@
+// Calls that are drawn.
+use std::io::{self, Write};
+
+// The calls: P and Q are paths, and D is a descriptor.
+const CALLS: [&str; 13] = [
+    "mkdir P",
+    "rmdir P",
+    "unlink P",
+    "link P Q",
+    "rename P Q",
+    "open P rw",
+    "open P rwc",
+    "open P rwt",
+    "close D",
+    "pread D 0 8192",
+    "pwrite D 4094 61x3",
+    "truncate P 5000",
+    "truncate P 3",
+];
+
+/// The paths on which calls are tried.
+pub const PATHS: [&str; 8] = ["/d", "/e", "/f", "/g", "/d/f", "/d/e", "/e/f", "/e/d/f"];
+
+/// Numbers below 2^31, in a row that is always the same.
+#[derive(Clone, Copy)]
+pub struct Draws {
+    state: u64,
+}
+
+impl Draws {
+    pub fn new() -> Self {
+        Draws { state: 1 }
+    }
+
+    fn next(&mut self) -> usize {
+        self.state = self
+            .state
+            .wrapping_mul(6_364_136_223_846_793_005)
+            .wrapping_add(1_442_695_040_888_963_407);
+        (self.state >> 33) as usize
+    }
+
+    fn next_of(&mut self, texts: &[&'static str]) -> &'static str {
+        let at = self.next().checked_rem(texts.len()).unwrap_or(0);
+        texts.get(at).copied().unwrap_or("")
+    }
+
+    /// A line with a call of client 1 or 2, in place of what is there.
+    pub fn line(&mut self, line: &mut Vec<u8>) -> io::Result<()> {
+        line.clear();
+        write!(line, "{}", self.next() % 2 + 1)?;
+        for word in self.next_of(&CALLS).split(' ') {
+            line.push(b' ')?;
+            self.word(line, word)?;
+        }
+        Ok(())
+    }
+
+    fn word(&mut self, line: &mut Vec<u8>, word: &str) -> io::Result<()> {
+        match word {
+            "P" | "Q" => line.extend_from_slice(self.next_of(&PATHS).as_bytes())?,
+            "D" => write!(line, "{}", self.next() % 4)?,
+            word => line.extend_from_slice(word.as_bytes())?,
+        }
+        Ok(())
+    }
+}
