@@ -56,10 +56,9 @@ open_there place number f None = do
   _ ← refuse errno.NoSpace (is_full place)
   Gives (NewFile place.spot number f.read f.write)
 
--- a file is opened, and made first where it is not there and the flags say so
-unfoldable pub open_path : Own → List ℕ → Flags → Asks Deed
-open_path own path f = do
-  names ← said (reading path)
+-- what follows once the path is read
+abbrev pub open_at : Own → List (List ℕ) → Flags → Asks Deed
+open_at own names f = do
   _ ← refuse errno.Invalid (is_senseless f)
   number ← number_or (lowest_free own 0 MAX_DESCRIPTORS)
   place ← prefix names
@@ -67,6 +66,12 @@ open_path own path f = do
   is_dir ← kind_at place.inode
   _ ← refuse errno.IsDirectory is_dir
   open_there place number f place.inode
+
+-- a file is opened, and made first where it is not there and the flags say so
+unfoldable pub open_path : Own → List ℕ → Flags → Asks Deed
+open_path own path f = do
+  names ← said (reading path)
+  open_at own names f
 
 -- a number is given back
 unfoldable pub close : Own → ℕ → Asks Deed
@@ -119,10 +124,9 @@ mkdir path = do
   _ ← refuse errno.NoSpace (is_full place)
   Gives (NewDir place.spot)
 
--- an empty directory goes
-unfoldable pub rmdir : List ℕ → Asks Deed
-rmdir path = do
-  names ← said (reading path)
+-- what follows once the path is read
+abbrev pub rmdir_at : List (List ℕ) → Asks Deed
+rmdir_at names = do
   _ ← refuse errno.Busy (is_root names)
   place ← prefix names
   i ← there place.inode
@@ -132,11 +136,15 @@ rmdir path = do
   _ ← refuse errno.NotEmpty (nat_lt 0 (fin.len entries))
   Gives (RemoveDir place.spot i)
 
--- a file has one more name
-unfoldable pub link : List ℕ → List ℕ → Asks Deed
-link old new = do
-  old_names ← said (reading old)
-  new_names ← said (reading new)
+-- an empty directory goes
+unfoldable pub rmdir : List ℕ → Asks Deed
+rmdir path = do
+  names ← said (reading path)
+  rmdir_at names
+
+-- what follows once both paths are read
+abbrev pub link_at : List (List ℕ) → List (List ℕ) → Asks Deed
+link_at old_names new_names = do
   from ← prefix old_names
   i ← there from.inode
   is_dir ← kind_at from.inode
@@ -148,16 +156,28 @@ link old new = do
   _ ← refuse errno.NoSpace (is_full to)
   Gives (AddName to.spot i)
 
--- a file has one name fewer
-unfoldable pub unlink : List ℕ → Asks Deed
-unlink path = do
-  names ← said (reading path)
+-- a file has one more name
+unfoldable pub link : List ℕ → List ℕ → Asks Deed
+link old new = do
+  old_names ← said (reading old)
+  new_names ← said (reading new)
+  link_at old_names new_names
+
+-- what follows once the path is read
+abbrev pub unlink_at : List (List ℕ) → Asks Deed
+unlink_at names = do
   _ ← refuse errno.Busy (is_root names)
   place ← prefix names
   i ← there place.inode
   is_dir ← kind_at place.inode
   _ ← refuse errno.NotPermitted is_dir
   Gives (DropName place.spot i)
+
+-- a file has one name fewer
+unfoldable pub unlink : List ℕ → Asks Deed
+unlink path = do
+  names ← said (reading path)
+  unlink_at names
 
 -- ---- rename
 
@@ -191,11 +211,9 @@ renamed from to i = do
   replaced ← replacing from to old_dir to.inode
   Gives (Move from.spot to.spot i old_dir replaced)
 
--- a name moves, in place of what was there; between two names of one node nothing changes
-unfoldable pub rename : List ℕ → List ℕ → Asks Deed
-rename old new = do
-  old_names ← said (reading old)
-  new_names ← said (reading new)
+-- what follows once both paths are read
+abbrev pub rename_at : List (List ℕ) → List (List ℕ) → Asks Deed
+rename_at old_names new_names = do
   _ ← refuse errno.Busy (is_root old_names || is_root new_names)
   from ← prefix old_names
   i ← there from.inode
@@ -203,18 +221,30 @@ rename old new = do
   _ ← refuse errno.Invalid (list_any (λ d. d == i) to.walked)
   if is_inode i to.inode then Gives (Tell reply.Done) else renamed from to i
 
+-- a name moves, in place of what was there; between two names of one node nothing changes
+unfoldable pub rename : List ℕ → List ℕ → Asks Deed
+rename old new = do
+  old_names ← said (reading old)
+  new_names ← said (reading new)
+  rename_at old_names new_names
+
 -- ---- list, stat
 
--- all names in a directory, in the order of their bytes
-unfoldable pub list_path : List ℕ → Asks Deed
-list_path path = do
-  names ← said (reading path)
+-- what follows once the path is read
+abbrev pub list_at : List (List ℕ) → Asks Deed
+list_at names = do
   place ← prefix names
   i ← there place.inode
   is_dir ← kind_at place.inode
   _ ← refuse errno.NotDirectory (not is_dir)
   entries ← entries_at i
   Gives (Tell (reply.Listed (map (λ e. e.0) (fin.entries entries))))
+
+-- all names in a directory, in the order of their bytes
+unfoldable pub list_path : List ℕ → Asks Deed
+list_path path = do
+  names ← said (reading path)
+  list_at names
 
 -- what there is to say of a node
 abbrev pub described : Option Seen → Asks Deed

@@ -5,7 +5,7 @@ ghost use Rattle.posix_calls.specs.Asks.{Part};
 ghost use Rattle.posix_calls.specs.Answers.{Tells};
 ghost use Rattle.posix_calls.specs.Own.{own_of};
 ghost use Rattle.posix_calls.specs.declared.limits.TheConstants.{MAX_DESCRIPTORS};
-ghost use Rattle.posix_calls.specs.Decide.{is_senseless, number_or, lowest_free, opened, empties, open_path, close, pread, write_at, pwrite};
+ghost use Rattle.posix_calls.specs.Decide.{is_senseless, number_or, lowest_free, opened, empties, open_path, open_at, close, pread, write_at, pwrite};
 
 use crate::bytes::Bytes;
 use crate::call::{Flags, Reply};
@@ -13,6 +13,7 @@ use crate::deed::{Deed, NoDeed};
 use crate::errno::Errno;
 use crate::limits::{MAX_FILE, MAX_TRANSFER};
 use crate::own::OwnDescriptors;
+use crate::path::Path;
 use crate::tree_answers::{TreeAnswers, known};
 use crate::walk::{Landing, kind_at, prefix, read_path, refuse_if, spot};
 use std::alloc::Global;
@@ -68,16 +69,29 @@ pub(crate) fn open<T: TreeAnswers>(
     ensures { Tells (T.part tree.now) (open_path (own_of own.now) bytes.now flags) result }
 {
     let path = read_path(alloc, bytes)?;
+    open_at(alloc, tree, own, &path, flags)
+}
+
+// What follows once the path is read.
+fn open_at<T: TreeAnswers>(
+    alloc: Global,
+    tree: &T,
+    own: &OwnDescriptors,
+    path: &Path,
+    flags: Flags,
+) -> Result<Deed, NoDeed>
+    ensures { Tells (T.part tree.now) (open_at (own_of own.now) path.now flags) result }
+{
     refuse_if(flags.is_senseless(), Errno::Invalid)?;
     let descriptor = free_number(own)?;
-    let to = prefix(tree, &path)?;
+    let to = prefix(tree, path)?;
     refuse_if(flags.is_taken(to), Errno::Exists)?;
     let is_dir = kind_at(tree, to.inode)?;
     refuse_if(is_dir, Errno::IsDirectory)?;
     let Some(inode) = to.inode else {
         refuse_if(!flags.create, Errno::NoEntry)?;
         refuse_if(to.is_full(), Errno::NoSpace)?;
-        let at = spot(alloc, to.parent, &path)?;
+        let at = spot(alloc, to.parent, path)?;
         return Ok(Deed::NewFile {
             at,
             descriptor,

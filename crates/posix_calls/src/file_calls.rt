@@ -1,12 +1,13 @@
 // What the calls that cut a file and take a name of it away come to: truncate, unlink.
 ghost use Rattle.std.specs.Prelude.{◌≡◌};
 ghost use Rattle.posix_calls.specs.Answers.{Tells};
-ghost use Rattle.posix_calls.specs.Decide.{truncate, unlink};
+ghost use Rattle.posix_calls.specs.Decide.{truncate, unlink, unlink_at};
 
 use crate::call::Reply;
 use crate::deed::{Deed, NoDeed};
 use crate::errno::Errno;
 use crate::limits::MAX_FILE;
+use crate::path::Path;
 use crate::tree_answers::{TreeAnswers, known};
 use crate::walk::{kind_at, prefix, read_path, refuse_if, refuse_root, spot, there};
 use std::alloc::Global;
@@ -38,11 +39,18 @@ pub(crate) fn unlink<T: TreeAnswers>(alloc: Global, tree: &T, bytes: &[u8]) -> R
     ensures { Tells (T.part tree.now) (unlink bytes.now) result }
 {
     let path = read_path(alloc, bytes)?;
-    refuse_root(&path)?;
-    let to = prefix(tree, &path)?;
+    unlink_at(alloc, tree, &path)
+}
+
+// What follows once the path is read.
+fn unlink_at<T: TreeAnswers>(alloc: Global, tree: &T, path: &Path) -> Result<Deed, NoDeed>
+    ensures { Tells (T.part tree.now) (unlink_at path.now) result }
+{
+    refuse_root(path)?;
+    let to = prefix(tree, path)?;
     let inode = there(to.inode)?;
     let is_dir = kind_at(tree, to.inode)?;
     refuse_if(is_dir, Errno::NotPermitted)?;
-    let at = spot(alloc, to.parent, &path)?;
+    let at = spot(alloc, to.parent, path)?;
     Ok(Deed::DropName { at, inode })
 }

@@ -1,11 +1,12 @@
 // What the calls that only tell come to: list, stat.
 ghost use Rattle.std.specs.Prelude.{◌≡◌};
 ghost use Rattle.posix_calls.specs.Answers.{Tells};
-ghost use Rattle.posix_calls.specs.Decide.{list_path, stat};
+ghost use Rattle.posix_calls.specs.Decide.{list_path, list_at, stat};
 
 use crate::call::Reply;
 use crate::deed::{Deed, Description, NoDeed};
 use crate::errno::Errno;
+use crate::path::Path;
 use crate::tree_answers::{TreeAnswers, known};
 use crate::walk::{kind_at, prefix, read_path, refuse_if, there};
 use std::alloc::Global;
@@ -14,7 +15,14 @@ pub(crate) fn list<T: TreeAnswers>(alloc: Global, tree: &T, bytes: &[u8]) -> Res
     ensures { Tells (T.part tree.now) (list_path bytes.now) result }
 {
     let path = read_path(alloc, bytes)?;
-    let to = prefix(tree, &path)?;
+    list_at(alloc, tree, &path)
+}
+
+// What follows once the path is read.
+fn list_at<T: TreeAnswers>(alloc: Global, tree: &T, path: &Path) -> Result<Deed, NoDeed>
+    ensures { Tells (T.part tree.now) (list_at path.now) result }
+{
+    let to = prefix(tree, path)?;
     let inode = there(to.inode)?;
     let is_dir = kind_at(tree, to.inode)?;
     refuse_if(!is_dir, Errno::NotDirectory)?;

@@ -2,12 +2,13 @@
 ghost use Rattle.std.specs.Prelude.{◌≡◌, ◌==◌, ◌&&◌, not, ℕ, List, []};
 ghost use Rattle.posix_calls.specs.Answers.{Tells, place_at};
 ghost use Rattle.posix_calls.specs.Walk.{is_full};
-ghost use Rattle.posix_calls.specs.Decide.{link, rename, replacing, is_inode};
+ghost use Rattle.posix_calls.specs.Decide.{link, link_at, rename, rename_at, replacing, is_inode};
 
 use crate::call::Reply;
 use crate::deed::{Deed, NoDeed, Replaced};
 use crate::errno::Errno;
 use crate::limits::MAX_NAMES;
+use crate::path::Path;
 use crate::tree_answers::{TreeAnswers, known};
 use crate::walk::{Landing, kind_at, prefix, read_path, refuse_if, refuse_root, spot, there, walk};
 use std::alloc::Global;
@@ -22,16 +23,28 @@ pub(crate) fn link<T: TreeAnswers>(
 {
     let old_path = read_path(alloc, old)?;
     let new_path = read_path(alloc, new)?;
-    let from = prefix(tree, &old_path)?;
+    link_at(alloc, tree, &old_path, &new_path)
+}
+
+// What follows once both paths are read.
+fn link_at<T: TreeAnswers>(
+    alloc: Global,
+    tree: &T,
+    old_path: &Path,
+    new_path: &Path,
+) -> Result<Deed, NoDeed>
+    ensures { Tells (T.part tree.now) (link_at old_path.now new_path.now) result }
+{
+    let from = prefix(tree, old_path)?;
     let inode = there(from.inode)?;
     let is_dir = kind_at(tree, from.inode)?;
     refuse_if(is_dir, Errno::NotPermitted)?;
-    let to = prefix(tree, &new_path)?;
+    let to = prefix(tree, new_path)?;
     refuse_if(to.is_there(), Errno::Exists)?;
     let names = known(tree.file_names(inode), inode)?;
     refuse_if(names >= MAX_NAMES, Errno::TooManyLinks)?;
     refuse_if(to.is_full(), Errno::NoSpace)?;
-    let at = spot(alloc, to.parent, &new_path)?;
+    let at = spot(alloc, to.parent, new_path)?;
     Ok(Deed::AddName { at, inode })
 }
 
@@ -86,11 +99,23 @@ pub(crate) fn rename<T: TreeAnswers>(
 {
     let old_path = read_path(alloc, old)?;
     let new_path = read_path(alloc, new)?;
-    refuse_root(&old_path)?;
-    refuse_root(&new_path)?;
-    let from = prefix(tree, &old_path)?;
+    rename_at(alloc, tree, &old_path, &new_path)
+}
+
+// What follows once both paths are read.
+fn rename_at<T: TreeAnswers>(
+    alloc: Global,
+    tree: &T,
+    old_path: &Path,
+    new_path: &Path,
+) -> Result<Deed, NoDeed>
+    ensures { Tells (T.part tree.now) (rename_at old_path.now new_path.now) result }
+{
+    refuse_root(old_path)?;
+    refuse_root(new_path)?;
+    let from = prefix(tree, old_path)?;
     let inode = there(from.inode)?;
-    let to = walk(tree, &new_path, inode)?;
+    let to = walk(tree, new_path, inode)?;
     refuse_if(to.passed, Errno::Invalid)?;
     if is_inode(inode, to.inode) {
         return Ok(Deed::Tell {
@@ -99,8 +124,8 @@ pub(crate) fn rename<T: TreeAnswers>(
     }
     let is_dir = kind_at(tree, from.inode)?;
     let replaced = replaced(tree, from, to, is_dir)?;
-    let old_spot = spot(alloc, from.parent, &old_path)?;
-    let new_spot = spot(alloc, to.parent, &new_path)?;
+    let old_spot = spot(alloc, from.parent, old_path)?;
+    let new_spot = spot(alloc, to.parent, new_path)?;
     Ok(Deed::Move {
         from: old_spot,
         to: new_spot,

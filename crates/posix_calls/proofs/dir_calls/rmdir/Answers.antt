@@ -1,8 +1,4 @@
-use Rattle.std.proofs.Common.{sym, ◌∙◌, ap, nat_lt}
-use Rattle.posix_calls.specs.Walk.{entries_seen}
-use Rattle.posix_calls.specs.Answers.{count_in}
-use Rattle.posix_calls.proofs.Chain.{exits, gives, bind_gives, bind_stops, passes, fails, bind_look, bind_look_lacks}
-use Rattle.posix_calls.proofs.Walks.{bind_place, bind_place_stops}
+use Rattle.posix_calls.proofs.Chain.{exits, bind_gives, bind_stops}
 use Rattle.posix_calls.specs.Decide.{rmdir}
 use Rattle.posix_calls.proofs.dir_calls.rmdir.Goals as goal
 
@@ -10,34 +6,6 @@ pub returns-in_err-path : goal.returns-in_err-path
 unfolding rmdir
 returns-in_err-path g c = exits c.from_residual.ensures.1 (bind_stops _ (c.in_err-path.ensures _))
 
-pub returns-in_err-refuse_root : goal.returns-in_err-refuse_root
-unfolding rmdir
-returns-in_err-refuse_root g c = exits c.from_residual-in_err-refuse_root.ensures.1 (bind_gives _ (c.in_ok-path.ensures _) (fails _ _ c.in_err-refuse_root.ensures.refused.0 (c.in_err-refuse_root.ensures.refused.1)))
-
-pub returns-in_err-to : goal.returns-in_err-to
-unfolding rmdir
-returns-in_err-to g c = exits c.from_residual-in_err-to.ensures.1 (bind_gives _ (c.in_ok-path.ensures _) (passes _ _ (c.in_ok-refuse_root.ensures.clear) (bind_place_stops 0 c.in_ok-path.path _ c.in_err-to.ensures.tells)))
-
-pub returns-in_err-inode : goal.returns-in_err-inode
-unfolding rmdir
-returns-in_err-inode g c = exits c.from_residual-in_err-inode.ensures.1 (bind_gives _ (c.in_ok-path.ensures _) (passes _ _ (c.in_ok-refuse_root.ensures.clear) (bind_place 0 c.in_ok-path.path _ c.in_ok-to.ensures.tells (λ to_walked to_seen. bind_stops _ (c.in_err-inode.ensures _)))))
-
-pub returns-in_err-is_dir : goal.returns-in_err-is_dir
-unfolding rmdir
-returns-in_err-is_dir g c = exits c.from_residual-in_err-is_dir.ensures.1 (bind_gives _ (c.in_ok-path.ensures _) (passes _ _ (c.in_ok-refuse_root.ensures.clear) (bind_place 0 c.in_ok-path.path _ c.in_ok-to.ensures.tells (λ to_walked to_seen. bind_gives _ (c.in_ok-inode.ensures _) (bind_stops _ c.in_err-is_dir.ensures)))))
-
-pub returns-in_err-refuse_if : goal.returns-in_err-refuse_if
-unfolding rmdir
-returns-in_err-refuse_if g c = exits c.from_residual-in_err-refuse_if.ensures.1 (bind_gives _ (c.in_ok-path.ensures _) (passes _ _ (c.in_ok-refuse_root.ensures.clear) (bind_place 0 c.in_ok-path.path _ c.in_ok-to.ensures.tells (λ to_walked to_seen. bind_gives _ (c.in_ok-inode.ensures _) (bind_gives _ c.in_ok-is_dir.ensures (fails _ _ c.in_err-refuse_if.ensures.refused.0 (c.in_err-refuse_if.ensures.refused.1)))))))
-
-pub returns-in_err-entries : goal.returns-in_err-entries
-unfolding rmdir
-returns-in_err-entries g c = exits c.from_residual-in_err-entries.ensures.1 (bind_gives _ (c.in_ok-path.ensures _) (passes _ _ (c.in_ok-refuse_root.ensures.clear) (bind_place 0 c.in_ok-path.path _ c.in_ok-to.ensures.tells (λ to_walked to_seen. bind_gives _ (c.in_ok-inode.ensures _) (bind_gives _ c.in_ok-is_dir.ensures (passes _ _ (c.in_ok-refuse_if.ensures.clear) (bind_look_lacks _ entries_seen count_in _ c.in_err-entries.ensures.lacks.0 (sym c.entry_count.ensures ∙ c.in_err-entries.ensures.lacks.1))))))))
-
-pub returns-in_err-refuse_if-2 : goal.returns-in_err-refuse_if-2
-unfolding rmdir
-returns-in_err-refuse_if-2 g c = exits c.from_residual-in_err-refuse_if-2.ensures.1 (bind_gives _ (c.in_ok-path.ensures _) (passes _ _ (c.in_ok-refuse_root.ensures.clear) (bind_place 0 c.in_ok-path.path _ c.in_ok-to.ensures.tells (λ to_walked to_seen. bind_gives _ (c.in_ok-inode.ensures _) (bind_gives _ c.in_ok-is_dir.ensures (passes _ _ (c.in_ok-refuse_if.ensures.clear) (bind_look _ entries_seen count_in _ (sym c.entry_count.ensures ∙ c.in_ok-entries.ensures.known) (λ s is. fails _ _ c.in_err-refuse_if-2.ensures.refused.0 (ap (nat_lt 0) is ∙ c.in_err-refuse_if-2.ensures.refused.1)))))))))
-
 pub returns : goal.returns
 unfolding rmdir
-returns g c = rw c.in_ok-at.ensures.spot (bind_gives _ (c.in_ok-path.ensures _) (passes _ _ (c.in_ok-refuse_root.ensures.clear) (bind_place 0 c.in_ok-path.path _ c.in_ok-to.ensures.tells (λ to_walked to_seen. bind_gives _ (c.in_ok-inode.ensures _) (bind_gives _ c.in_ok-is_dir.ensures (passes _ _ (c.in_ok-refuse_if.ensures.clear) (bind_look _ entries_seen count_in _ (sym c.entry_count.ensures ∙ c.in_ok-entries.ensures.known) (λ s is. passes _ _ (ap (nat_lt 0) is ∙ c.in_ok-refuse_if-2.ensures.clear) (gives)))))))))
+returns g c = bind_gives _ (c.in_ok-path.ensures _) c.rmdir_at.ensures

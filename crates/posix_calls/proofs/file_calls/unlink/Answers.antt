@@ -1,5 +1,4 @@
-use Rattle.posix_calls.proofs.Chain.{exits, gives, bind_gives, bind_stops, passes, fails}
-use Rattle.posix_calls.proofs.Walks.{bind_place, bind_place_stops}
+use Rattle.posix_calls.proofs.Chain.{exits, bind_gives, bind_stops}
 use Rattle.posix_calls.specs.Decide.{unlink}
 use Rattle.posix_calls.proofs.file_calls.unlink.Goals as goal
 
@@ -7,26 +6,6 @@ pub returns-in_err-path : goal.returns-in_err-path
 unfolding unlink
 returns-in_err-path g c = exits c.from_residual.ensures.1 (bind_stops _ (c.in_err-path.ensures _))
 
-pub returns-in_err-refuse_root : goal.returns-in_err-refuse_root
-unfolding unlink
-returns-in_err-refuse_root g c = exits c.from_residual-in_err-refuse_root.ensures.1 (bind_gives _ (c.in_ok-path.ensures _) (fails _ _ c.in_err-refuse_root.ensures.refused.0 (c.in_err-refuse_root.ensures.refused.1)))
-
-pub returns-in_err-to : goal.returns-in_err-to
-unfolding unlink
-returns-in_err-to g c = exits c.from_residual-in_err-to.ensures.1 (bind_gives _ (c.in_ok-path.ensures _) (passes _ _ (c.in_ok-refuse_root.ensures.clear) (bind_place_stops 0 c.in_ok-path.path _ c.in_err-to.ensures.tells)))
-
-pub returns-in_err-inode : goal.returns-in_err-inode
-unfolding unlink
-returns-in_err-inode g c = exits c.from_residual-in_err-inode.ensures.1 (bind_gives _ (c.in_ok-path.ensures _) (passes _ _ (c.in_ok-refuse_root.ensures.clear) (bind_place 0 c.in_ok-path.path _ c.in_ok-to.ensures.tells (λ to_walked to_seen. bind_stops _ (c.in_err-inode.ensures _)))))
-
-pub returns-in_err-is_dir : goal.returns-in_err-is_dir
-unfolding unlink
-returns-in_err-is_dir g c = exits c.from_residual-in_err-is_dir.ensures.1 (bind_gives _ (c.in_ok-path.ensures _) (passes _ _ (c.in_ok-refuse_root.ensures.clear) (bind_place 0 c.in_ok-path.path _ c.in_ok-to.ensures.tells (λ to_walked to_seen. bind_gives _ (c.in_ok-inode.ensures _) (bind_stops _ c.in_err-is_dir.ensures)))))
-
-pub returns-in_err-refuse_if : goal.returns-in_err-refuse_if
-unfolding unlink
-returns-in_err-refuse_if g c = exits c.from_residual-in_err-refuse_if.ensures.1 (bind_gives _ (c.in_ok-path.ensures _) (passes _ _ (c.in_ok-refuse_root.ensures.clear) (bind_place 0 c.in_ok-path.path _ c.in_ok-to.ensures.tells (λ to_walked to_seen. bind_gives _ (c.in_ok-inode.ensures _) (bind_gives _ c.in_ok-is_dir.ensures (fails _ _ c.in_err-refuse_if.ensures.refused.0 (c.in_err-refuse_if.ensures.refused.1)))))))
-
 pub returns : goal.returns
 unfolding unlink
-returns g c = rw c.in_ok-at.ensures.spot (bind_gives _ (c.in_ok-path.ensures _) (passes _ _ (c.in_ok-refuse_root.ensures.clear) (bind_place 0 c.in_ok-path.path _ c.in_ok-to.ensures.tells (λ to_walked to_seen. bind_gives _ (c.in_ok-inode.ensures _) (bind_gives _ c.in_ok-is_dir.ensures (passes _ _ (c.in_ok-refuse_if.ensures.clear) (gives)))))))
+returns g c = bind_gives _ (c.in_ok-path.ensures _) c.unlink_at.ensures
