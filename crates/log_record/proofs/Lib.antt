@@ -4,3 +4,4 @@ pub mod Records
 pub mod Loops
 pub mod Extends
 pub mod Lengths
+pub mod ReadLengths

@@ -1,6 +1,6 @@
 //! What holds of all records and bytes.
 
-ghost use Rattle.std.specs.Prelude.{◌≡◌, List, ℕ, Some, ◌++◌};
+ghost use Rattle.std.specs.Prelude.{◌≡◌, List, ℕ, length, Some, ◌++◌};
 ghost use Rattle.log_record.specs.declared.format.Record.{Record};
 ghost use Rattle.log_record.specs.Grammar.{AreBytes, IsRecord, spelling, record_at, record_of};
 
@@ -19,4 +19,9 @@ pub fn read_is_spelled()
 /// Two records whose spellings begin the same bytes are one record.
 pub fn no_spelling_begins_another()
     ensures { (r s : Record) (x y : List ℕ) → IsRecord r → IsRecord s → spelling r ++ x ≡ spelling s ++ y → (r ≡ s) × (x ≡ y) }
+{}
+
+/// What is read as a record has the length of its spelling, also where it is no row of bytes.
+pub fn read_is_as_long()
+    ensures { (bytes : List ℕ) (r : Record) → record_of bytes ≡ Some r → length bytes ≡ length (spelling r) }
 {}

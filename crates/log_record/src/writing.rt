@@ -1,4 +1,4 @@
-ghost use Rattle.std.specs.Prelude.{◌≡◌, ◌≤◌, ◌↔◌, ◌++◌, ◌∷◌, ◌*◌, length, IfOk, OnOk, OnErr, IsTrue, true};
+ghost use Rattle.std.specs.Prelude.{◌≡◌, ◌≤◌, ◌↔◌, ◌++◌, ◌∷◌, ◌+◌, ◌*◌, length, vec_len, vec_capacity, IfOk, OnOk, OnErr, IsOk, IsTrue, true};
 ghost use Rattle.std.specs.List.{All, AllByRecursion, flat_map};
 ghost use Rattle.file_graph.specs.declared.effect.Effect.TheVariants as effect;
 ghost use Rattle.log_record.specs.Outcome.{Extends};
@@ -81,12 +81,16 @@ pub fn write_record(alloc: Global, entry: &Record) -> Result<Vec<u8>, AllocError
     Ok(out)
 }
 
-/// Puts the one spelling of a record behind what stands in `out`. Where memory runs out, `out` is as it was.
+/// Puts the one spelling of a record behind what stands in `out`. Where memory runs out, `out` is as it was; where it has room
+/// for the spelling, none is asked for.
 #[tactic(auto, unfolding(crate::specs::Outcome::Extends))]
 pub fn write_behind(out: &mut Vec<u8>, entry: &Record) -> Result<(), AllocError>
     requires { IsRecord entry.now }
     ensures written { OnOk result (out.new.items ≡ out.old.items ++ spelling entry.now) }
     ensures refused { OnErr result (out.new.items ≡ out.old.items) }
+    ensures len { OnOk result (vec_len out.new ≡ vec_len out.old + length (spelling entry.now)) }
+    ensures room { vec_len out.old + length (spelling entry.now) ≤ vec_capacity out.old → IsOk result }
+    ensures capacity { vec_capacity out.old ≤ vec_capacity out.new }
 {
     let begin = out.len();
     match push_record(out, entry) {
@@ -103,6 +107,9 @@ fn push_record(out: &mut Vec<u8>, entry: &Record) -> Result<(), AllocError>
     requires { IsRecord entry.now }
     ensures written { OnOk result (out.new.items ≡ out.old.items ++ spelling entry.now) }
     ensures extends { Extends out.old.items out.new.items }
+    ensures len { OnOk result (vec_len out.new ≡ vec_len out.old + length (spelling entry.now)) }
+    ensures room { vec_len out.old + length (spelling entry.now) ≤ vec_capacity out.old → IsOk result }
+    ensures capacity { vec_capacity out.old ≤ vec_capacity out.new }
 {
     out.reserve(entry.spelled_len())?;
     push_u32(out, entry.units)?;
@@ -116,6 +123,9 @@ fn push_effects(out: &mut Vec<u8>, effects: &[Effect]) -> Result<(), AllocError>
     requires { AllByRecursion Fits effects.now }
     ensures written { OnOk result (out.new.items ≡ out.old.items ++ flat_map effect_bytes effects.now) }
     ensures extends { Extends out.old.items out.new.items }
+    ensures len { OnOk result (vec_len out.new ≡ vec_len out.old + length (flat_map effect_bytes effects.now)) }
+    ensures room { vec_len out.old + length (flat_map effect_bytes effects.now) ≤ vec_capacity out.old → IsOk result }
+    ensures capacity { vec_capacity out.old ≤ vec_capacity out.new }
 {
     for effect in effects {
         push_effect(out, effect)?;
@@ -127,6 +137,9 @@ fn push_effect(out: &mut Vec<u8>, effect: &Effect) -> Result<(), AllocError>
     requires { Fits effect.now }
     ensures written { OnOk result (out.new.items ≡ out.old.items ++ effect_bytes effect.now) }
     ensures extends { Extends out.old.items out.new.items }
+    ensures len { OnOk result (vec_len out.new ≡ vec_len out.old + length (effect_bytes effect.now)) }
+    ensures room { vec_len out.old + length (effect_bytes effect.now) ≤ vec_capacity out.old → IsOk result }
+    ensures capacity { vec_capacity out.old ≤ vec_capacity out.new }
 {
     match effect {
         Effect::Make { inode, kind } => push_make(out, *inode, *kind),
@@ -148,6 +161,9 @@ fn push_effect(out: &mut Vec<u8>, effect: &Effect) -> Result<(), AllocError>
 fn push_make(out: &mut Vec<u8>, inode: u32, kind: Kind) -> Result<(), AllocError>
     ensures written { OnOk result (out.new.items ≡ out.old.items ++ effect_bytes (effect.Make inode kind)) }
     ensures extends { Extends out.old.items out.new.items }
+    ensures len { OnOk result (vec_len out.new ≡ vec_len out.old + 6) }
+    ensures room { vec_len out.old + 6 ≤ vec_capacity out.old → IsOk result }
+    ensures capacity { vec_capacity out.old ≤ vec_capacity out.new }
 {
     out.push(MAKE)?;
     push_u32(out, inode)?;
@@ -166,6 +182,9 @@ fn push_enter(
     requires { length name.now ≤ 64 }
     ensures written { OnOk result (out.new.items ≡ out.old.items ++ effect_bytes (effect.Enter directory inode kind name.now)) }
     ensures extends { Extends out.old.items out.new.items }
+    ensures len { OnOk result (vec_len out.new ≡ vec_len out.old + (11 + length name.now)) }
+    ensures room { vec_len out.old + (11 + length name.now) ≤ vec_capacity out.old → IsOk result }
+    ensures capacity { vec_capacity out.old ≤ vec_capacity out.new }
 {
     out.push(ENTER)?;
     push_u32(out, directory)?;
@@ -181,6 +200,9 @@ fn push_leave(out: &mut Vec<u8>, directory: u32, name: &[u8]) -> Result<(), Allo
     requires { length name.now ≤ 64 }
     ensures written { OnOk result (out.new.items ≡ out.old.items ++ effect_bytes (effect.Leave directory name.now)) }
     ensures extends { Extends out.old.items out.new.items }
+    ensures len { OnOk result (vec_len out.new ≡ vec_len out.old + (6 + length name.now)) }
+    ensures room { vec_len out.old + (6 + length name.now) ≤ vec_capacity out.old → IsOk result }
+    ensures capacity { vec_capacity out.old ≤ vec_capacity out.new }
 {
     out.push(LEAVE)?;
     push_u32(out, directory)?;
@@ -193,6 +215,9 @@ fn push_leave(out: &mut Vec<u8>, directory: u32, name: &[u8]) -> Result<(), Allo
 fn push_names(out: &mut Vec<u8>, inode: u32, names: u32) -> Result<(), AllocError>
     ensures written { OnOk result (out.new.items ≡ out.old.items ++ effect_bytes (effect.Names inode names)) }
     ensures extends { Extends out.old.items out.new.items }
+    ensures len { OnOk result (vec_len out.new ≡ vec_len out.old + 9) }
+    ensures room { vec_len out.old + 9 ≤ vec_capacity out.old → IsOk result }
+    ensures capacity { vec_capacity out.old ≤ vec_capacity out.new }
 {
     out.push(NAMES)?;
     push_u32(out, inode)?;
@@ -204,6 +229,9 @@ fn push_names(out: &mut Vec<u8>, inode: u32, names: u32) -> Result<(), AllocErro
 fn push_size(out: &mut Vec<u8>, inode: u32, size: u64) -> Result<(), AllocError>
     ensures written { OnOk result (out.new.items ≡ out.old.items ++ effect_bytes (effect.Size inode size)) }
     ensures extends { Extends out.old.items out.new.items }
+    ensures len { OnOk result (vec_len out.new ≡ vec_len out.old + 13) }
+    ensures room { vec_len out.old + 13 ≤ vec_capacity out.old → IsOk result }
+    ensures capacity { vec_capacity out.old ≤ vec_capacity out.new }
 {
     out.push(SIZE)?;
     push_u32(out, inode)?;
@@ -216,6 +244,9 @@ fn push_bytes(out: &mut Vec<u8>, inode: u32, at: u64, bytes: &[u8]) -> Result<()
     requires { length bytes.now ≤ 65536 }
     ensures written { OnOk result (out.new.items ≡ out.old.items ++ effect_bytes (effect.Bytes inode at bytes.now)) }
     ensures extends { Extends out.old.items out.new.items }
+    ensures len { OnOk result (vec_len out.new ≡ vec_len out.old + (17 + length bytes.now)) }
+    ensures room { vec_len out.old + (17 + length bytes.now) ≤ vec_capacity out.old → IsOk result }
+    ensures capacity { vec_capacity out.old ≤ vec_capacity out.new }
 {
     out.push(BYTES)?;
     push_u32(out, inode)?;
@@ -229,6 +260,9 @@ fn push_bytes(out: &mut Vec<u8>, inode: u32, at: u64, bytes: &[u8]) -> Result<()
 fn push_drop(out: &mut Vec<u8>, inode: u32) -> Result<(), AllocError>
     ensures written { OnOk result (out.new.items ≡ out.old.items ++ effect_bytes (effect.Drop inode)) }
     ensures extends { Extends out.old.items out.new.items }
+    ensures len { OnOk result (vec_len out.new ≡ vec_len out.old + 5) }
+    ensures room { vec_len out.old + 5 ≤ vec_capacity out.old → IsOk result }
+    ensures capacity { vec_capacity out.old ≤ vec_capacity out.new }
 {
     out.push(DROP)?;
     push_u32(out, inode)?;
@@ -239,6 +273,9 @@ fn push_drop(out: &mut Vec<u8>, inode: u32) -> Result<(), AllocError>
 fn push_u32(out: &mut Vec<u8>, n: u32) -> Result<(), AllocError>
     ensures written { OnOk result (out.new.items ≡ out.old.items ++ bytes_4 n) }
     ensures extends { Extends out.old.items out.new.items }
+    ensures len { OnOk result (vec_len out.new ≡ vec_len out.old + 4) }
+    ensures room { vec_len out.old + 4 ≤ vec_capacity out.old → IsOk result }
+    ensures capacity { vec_capacity out.old ≤ vec_capacity out.new }
 {
     let mut bytes = [0; 4];
     LittleEndian::write_u32(&mut bytes, n);
@@ -250,6 +287,9 @@ fn push_u32(out: &mut Vec<u8>, n: u32) -> Result<(), AllocError>
 fn push_u64(out: &mut Vec<u8>, n: u64) -> Result<(), AllocError>
     ensures written { OnOk result (out.new.items ≡ out.old.items ++ bytes_8 n) }
     ensures extends { Extends out.old.items out.new.items }
+    ensures len { OnOk result (vec_len out.new ≡ vec_len out.old + 8) }
+    ensures room { vec_len out.old + 8 ≤ vec_capacity out.old → IsOk result }
+    ensures capacity { vec_capacity out.old ≤ vec_capacity out.new }
 {
     let mut bytes = [0; 8];
     LittleEndian::write_u64(&mut bytes, n);

@@ -1,17 +1,17 @@
 -- What a stop leaves is told by the calls up to the tier's last fence and those after it, and is one of the contents that may be left.
 use Rattle.std.proofs.Common.{◌≡◌, inl, inr, ℕ, zero, suc, ◌+◌, ◌-◌, ◌<◌, ◌≤◌, List, [], ◌∷◌, ◌++◌, length, take, drop, get_or, Bool, true, false, cond, refl, sym, ◌∙◌, ap, subst, arith, Some, append_assoc}
-use Rattle.std.specs.Prelude.{slice_get, replicate, nat_le, ◌&&◌}
+use Rattle.std.specs.Prelude.{slice_get, nat_le, ◌&&◌}
 use native.Mathlib.Numerals.{unary_clauses}
 use Rattle.std.specs.Bool.{MatchBool}
-use Rattle.std.proofs.Math.Seq.{take-suc}
-use Rattle.std.proofs.lemmas.List.{take-append-drop, length-replicate}
+use Rattle.std.proofs.Math.Seq.{take-suc, take-nil}
+use Rattle.std.proofs.lemmas.List.{take-append-drop, length-drop}
 use Rattle.std.proofs.lemmas.Option.{get_or_from_slice_get}
 use Rattle.std.proofs.lemmas.Bool.{cases_Bool}
 use Rattle.tier_device.specs.declared.media.Tier.{Tier}
 use Rattle.tier_device.specs.declared.fill.Fill.{Fill}
-use Rattle.tier_device.specs.declared.fill.Fill.TheVariants.{Old, New, Byte}
+use Rattle.tier_device.specs.Fill.{left_bytes, left_byte, fill_at}
 use Rattle.tier_device.specs.DeviceCall.{DeviceCall, Write, Fence}
-use Rattle.tier_device.specs.Media.{overwritten, Torn}
+use Rattle.tier_device.specs.Media.{Torn}
 use Rattle.tier_device.specs.Record.{same_tier, hits, shown, Leaves, replayed, LeftAfter}
 use Rattle.tier_device.specs.RecordLaws.{torn_overwritten, length-overwritten, length-shown, hit_fits}
 use Rattle.tier_device.specs.declared.record.Entry.{Entry}
@@ -64,20 +64,24 @@ held_cut fill tier first w es (suc j) within last free =
     ∙ sym (held_fenced fill tier first first (calls_of (take j es) w) back)
     ∙ ap (held fill tier first first) (sym (append_assoc (calls_of (take j es) w) (Fence tier ∷ []) back) ∙ whole)
 
-length-spoiled : (fill : Fill) (kept : List ℕ) (at : ℕ) (bytes : List ℕ) → at + length bytes ≤ length kept → length (spoiled fill kept at bytes) ≡ length kept
-length-spoiled Old kept at bytes le = refl
-length-spoiled New kept at bytes le = length-overwritten kept at bytes le
-length-spoiled (Byte b) kept at bytes le =
-    let fits : at + length (replicate (length bytes) b) ≤ length kept = omega (arith, length-replicate (length bytes) b) in
-    length-overwritten kept at (replicate (length bytes) b) fits
+pub length-left_bytes : (fill : Fill) (tier : Tier) (at : ℕ) (olds news : List ℕ) → length news ≤ length olds → length (left_bytes fill tier at olds news) ≡ length news
+length-left_bytes fill tier at [] [] le = refl
+length-left_bytes fill tier at [] (new ∷ news) le = absurd (omega arith)
+length-left_bytes fill tier at (old ∷ olds) [] le = refl
+length-left_bytes fill tier at (old ∷ olds) (new ∷ news) le = omega (arith, length-left_bytes fill tier (at + 1) olds news (omega arith))
 
-spoiled_torn : (fill : Fill) (kept : List ℕ) (at : ℕ) (bytes : List ℕ) → at + length bytes ≤ length kept → Torn at (length bytes) kept (spoiled fill kept at bytes)
-spoiled_torn Old kept at bytes le = record { before = refl; after = refl; same_length = refl }
-spoiled_torn New kept at bytes le = torn_overwritten kept at bytes le
-spoiled_torn (Byte b) kept at bytes le =
-    let same : length (replicate (length bytes) b) ≡ length bytes = length-replicate (length bytes) b in
-    let fits : at + length (replicate (length bytes) b) ≤ length kept = omega (arith, same) in
-    subst (λ (n : ℕ). Torn at n kept (overwritten kept at (replicate (length bytes) b))) same (torn_overwritten kept at (replicate (length bytes) b) fits)
+module _ (fill : Fill) (tier : Tier) (kept : List ℕ) (at : ℕ) (bytes : List ℕ) (le : at + length bytes ≤ length kept) where
+  filled : length (left_bytes fill tier at (drop at kept) bytes) ≡ length bytes
+  filled = length-left_bytes fill tier at (drop at kept) bytes (omega (arith, length-drop at kept))
+
+  within : at + length (left_bytes fill tier at (drop at kept) bytes) ≤ length kept
+  within = omega (arith, filled)
+
+  length-spoiled : length (spoiled fill tier kept at bytes) ≡ length kept
+  length-spoiled = length-overwritten kept at (left_bytes fill tier at (drop at kept) bytes) within
+
+  spoiled_torn : Torn at (length bytes) kept (spoiled fill tier kept at bytes)
+  spoiled_torn = subst (λ (n : ℕ). Torn at n kept (spoiled fill tier kept at bytes)) filled (torn_overwritten kept at (left_bytes fill tier at (drop at kept) bytes) within)
 
 -- what a stop leaves by a fill is one of the contents that it may leave
 pub held_left : (fill : Fill) (tier : Tier) (seen kept : List ℕ) (Before : List ℕ → Type 0) (xs : List DeviceCall) → length kept ≡ length seen → Before kept → LeftAfter tier seen Before xs (held fill tier seen kept xs)
@@ -90,19 +94,19 @@ held_left fill tier seen kept Before (Write t at bytes ∷ xs) long before =
     (elim (cases_Bool (hits tier seen t at bytes)) [
       | inl is ↦
           let here : hits tier kept t at bytes ≡ true = same ∙ is in
-          let torn = spoiled_torn fill kept at bytes (hit_fits tier kept t at bytes here) in
+          let torn = spoiled_torn fill tier kept at bytes (hit_fits tier kept t at bytes here) in
           subst (λ (b : Bool). MatchBool b ((d : List ℕ) × Before d × Torn at (length bytes) d (spoilt fill tier kept x)) (Before (spoilt fill tier kept x))) (sym is)
-          (subst (λ (b : Bool). (d : List ℕ) × Before d × Torn at (length bytes) d (cond b (spoiled fill kept at bytes) kept)) (sym here) (kept, before, torn))
+          (subst (λ (b : Bool). (d : List ℕ) × Before d × Torn at (length bytes) d (cond b (spoiled fill tier kept at bytes) kept)) (sym here) (kept, before, torn))
       | inr is ↦
           let here : hits tier kept t at bytes ≡ false = same ∙ is in
           subst (λ (b : Bool). MatchBool b ((d : List ℕ) × Before d × Torn at (length bytes) d (spoilt fill tier kept x)) (Before (spoilt fill tier kept x))) (sym is)
-          (subst (λ (b : Bool). Before (cond b (spoiled fill kept at bytes) kept)) (sym here) before)
+          (subst (λ (b : Bool). Before (cond b (spoiled fill tier kept at bytes) kept)) (sym here) before)
     ])
   where
     length-spoilt_write : length (spoilt fill tier kept (Write t at bytes)) ≡ length kept
     length-spoilt_write = elim (cases_Bool (hits tier kept t at bytes)) [
-      | inl is ↦ subst (λ (b : Bool). length (cond b (spoiled fill kept at bytes) kept) ≡ length kept) (sym is) (length-spoiled fill kept at bytes (hit_fits tier kept t at bytes is))
-      | inr is ↦ subst (λ (b : Bool). length (cond b (spoiled fill kept at bytes) kept) ≡ length kept) (sym is) refl
+      | inl is ↦ subst (λ (b : Bool). length (cond b (spoiled fill tier kept at bytes) kept) ≡ length kept) (sym is) (length-spoiled fill tier kept at bytes (hit_fits tier kept t at bytes is))
+      | inr is ↦ subst (λ (b : Bool). length (cond b (spoiled fill tier kept at bytes) kept) ≡ length kept) (sym is) refl
     ]
 held_left fill tier seen kept Before (Fence t ∷ xs) long before = elim (cases_Bool (same_tier t tier)) [
   | inl is ↦
@@ -112,3 +116,11 @@ held_left fill tier seen kept Before (Fence t ∷ xs) long before = elim (cases_
       held_left fill tier seen (cond (same_tier t tier) seen kept) (Leaves tier seen Before (Fence t)) xs (subst (λ (b : Bool). length (cond b seen kept) ≡ length seen) (sym is) long)
       (subst (λ (b : Bool). MatchBool b (cond b seen kept ≡ seen) (Before (cond b seen kept))) (sym is) before)
 ]
+
+-- only so many of the old bytes count as are written
+pub left_bytes-take : (fill : Fill) (tier : Tier) (at : ℕ) (olds news : List ℕ) (n : ℕ) → n ≡ length news → left_bytes fill tier at (take n olds) news ≡ left_bytes fill tier at olds news
+left_bytes-take fill tier at [] news n is = ap (λ (l : List ℕ). left_bytes fill tier at l news) (take-nil n)
+left_bytes-take fill tier at (old ∷ olds) [] n is = subst (λ k. left_bytes fill tier at (take k (old ∷ olds)) [] ≡ []) (sym is) refl
+left_bytes-take fill tier at (old ∷ olds) (new ∷ news) n is =
+    subst (λ k. left_bytes fill tier at (take k (old ∷ olds)) (new ∷ news) ≡ left_byte (fill_at fill tier at) old new ∷ left_bytes fill tier (at + 1) olds news) (sym is)
+    (ap (λ (l : List ℕ). left_byte (fill_at fill tier at) old new ∷ l) (left_bytes-take fill tier (at + 1) olds news (length news) refl))

@@ -1,23 +1,21 @@
 -- What a tier holds after a stop, by what each byte that was written and not fenced then holds.
-use Rattle.std.specs.Prelude.{◌≢◌, ℕ, List, [], ◌∷◌, length, if◌then◌else◌, replicate}
+use Rattle.std.specs.Prelude.{◌≢◌, ℕ, List, [], ◌∷◌, drop, if◌then◌else◌}
 use Rattle.tier_device.specs.declared.media.Tier.{Tier}
 use Rattle.tier_device.specs.DeviceCall.{DeviceCall, Write, Fence}
 use Rattle.tier_device.specs.declared.record.Entry.{Entry}
 use Rattle.tier_device.specs.declared.record.Entry.TheVariants as entry
 use Rattle.tier_device.specs.declared.fill.Fill.{Fill}
-use Rattle.tier_device.specs.declared.fill.Fill.TheVariants.{Old, New, Byte}
+use Rattle.tier_device.specs.Fill.{left_bytes}
 use Rattle.tier_device.specs.Media.{overwritten}
 use Rattle.tier_device.specs.Record.{same_tier, hits, shown}
 
--- what the range of a write holds
-abbrev pub spoiled : Fill → List ℕ → ℕ → List ℕ → List ℕ
-spoiled Old kept at bytes = kept
-spoiled New kept at bytes = overwritten kept at bytes
-spoiled (Byte b) kept at bytes = overwritten kept at (replicate (length bytes) b)
+-- what the range of a write holds: each byte by its place
+abbrev pub spoiled : Fill → Tier → List ℕ → ℕ → List ℕ → List ℕ
+spoiled fill tier kept at bytes = overwritten kept at (left_bytes fill tier at (drop at kept) bytes)
 
 -- the same of one call
 abbrev pub spoilt : Fill → Tier → List ℕ → DeviceCall → List ℕ
-spoilt fill tier kept (Write t at bytes) = if hits tier kept t at bytes then spoiled fill kept at bytes else kept
+spoilt fill tier kept (Write t at bytes) = if hits tier kept t at bytes then spoiled fill tier kept at bytes else kept
 spoilt fill tier kept (Fence t) = kept
 
 -- what a fence keeps is what a read gives; a write after it spoils its range

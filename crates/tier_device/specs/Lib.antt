@@ -1,11 +1,15 @@
 pub mod Media
+pub mod MediaLaws
 pub mod Rows
 pub mod DeviceCall
 pub mod CallLog
 pub mod Record
 pub mod RecordLaws
+pub mod Fill
 pub mod Held
 pub mod Memory
 pub mod MemoryLaws
+pub mod Turn
+pub mod Count
 pub mod Stop
 pub mod Fault

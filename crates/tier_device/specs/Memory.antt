@@ -1,5 +1,5 @@
 -- A medium in memory, as the device model sees it.
-use Rattle.std.specs.Prelude.{◌≡◌, ℕ, List, length, take}
+use Rattle.std.specs.Prelude.{◌≡◌, ◌+◌, ◌-◌, ◌^◌, ℕ, List, length, take, min}
 use Rattle.tier_device.specs.declared.media.Tier.{Tier}
 use Rattle.tier_device.specs.declared.memory.MemMedia.{MemMedia}
 use Rattle.tier_device.specs.Media.{AtRest}
@@ -27,3 +27,18 @@ memory_held fill m tier = held fill tier (row m.first tier) (row m.first tier) m
 -- a stop now leaves what a read gives, and nothing else
 abbrev pub IsAtRest : MemMedia → Type 0
 IsAtRest m = (t : Tier) → AtRest (memory_seen m) (memory_left m (memory_moment m)) t
+
+-- how many of its calls have failed
+abbrev pub memory_failures : MemMedia → ℕ
+memory_failures m = m.faults
+
+-- one failed call more, up to the greatest count
+abbrev pub one_more : ℕ → ℕ
+one_more n = min (n + 1) (2 ^ 64 - 1)
+
+-- A call that its record has no room for: nothing has changed but the count of failed calls.
+pub record IsRefused (old new : MemMedia) : Type 0 where
+  pub tiers : new.tiers ≡ old.tiers
+  pub first : new.first ≡ old.first
+  pub calls : new.calls ≡ old.calls
+  pub failures : new.faults ≡ one_more old.faults

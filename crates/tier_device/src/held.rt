@@ -1,8 +1,9 @@
 // The content that a stop leaves, by what unfenced bytes hold after it.
-ghost use Rattle.std.specs.Prelude.{◌≡◌, ◌≤◌, ◌<◌, ◌+◌, ◌-◌, length, drop, IfOk, Some, slice_get, IsTrue, ◌↔◌};
+ghost use Rattle.std.specs.Prelude.{◌≡◌, ◌≤◌, ◌<◌, ◌+◌, ◌-◌, ◌^◌, length, drop, IfOk, Some, slice_get, IsTrue, ◌↔◌};
 ghost use Rattle.tier_device.specs.declared.record.Entry.TheVariants as entry;
 ghost use Rattle.tier_device.specs.CallLog.{calls_of, call_of, len_of, total_len};
 ghost use Rattle.tier_device.specs.Record.{shown, replayed};
+ghost use Rattle.tier_device.specs.Fill.{left_bytes};
 ghost use Rattle.tier_device.specs.Held.{spoiled, spoilt, spoilt_all, held, NoFenceIn};
 
 use crate::Tier;
@@ -105,21 +106,27 @@ fn spoil(bytes: &mut Vec<u8>, tier: Tier, fill: Fill, entry: &Entry, written: &[
         Entry::Fence { .. } => 0,
         Entry::Write { tier: to, at, len } => {
             if to == tier && fits(bytes.len(), at, len) {
-                spoil_range(bytes, fill, at, &written[..len]);
+                spoil_range(bytes, tier, fill, at, &written[..len]);
             }
             len
         }
     }
 }
 
-fn spoil_range(bytes: &mut Vec<u8>, fill: Fill, at: usize, new: &[u8])
+fn spoil_range(bytes: &mut Vec<u8>, tier: Tier, fill: Fill, at: usize, new: &[u8])
     requires { at + length new.now ≤ length bytes.old.items }
-    ensures { bytes.new.items ≡ spoiled fill bytes.old.items at new.now }
+    ensures { bytes.new.items ≡ spoiled fill tier bytes.old.items at new.now }
 {
-    match fill {
-        Fill::Old => {}
-        Fill::New => overwrite(bytes, at, new),
-        Fill::Byte(byte) => bytes[at..at + new.len()].fill(byte),
+    fill_range(&mut bytes[at..at + new.len()], tier, fill, at, new);
+}
+
+fn fill_range(place: &mut [u8], tier: Tier, fill: Fill, at: usize, new: &[u8])
+    requires long { length place.old ≡ length new.now }
+    requires within { at + length new.now < 2 ^ 64 }
+    ensures { place.new ≡ left_bytes fill tier at place.old new.now }
+{
+    'bytes: for i in 0..new.len() {
+        place[i] = fill.choice(tier, at + i).choose(place[i], new[i]);
     }
 }
 

@@ -1,8 +1,8 @@
 // The device model: three rows of bytes, what a read gives of them, and what a stop at each moment may have left.
-ghost use Rattle.std.specs.Prelude.{◌≡◌, ◌≢◌, ◌≤◌, ◌+◌, ◌++◌, List, ℕ, length, take, drop, IfOk, OnOk, OnErr, IsErrOf};
+ghost use Rattle.std.specs.Prelude.{◌≡◌, ◌≢◌, ◌≤◌, ◌<◌, ◌^◌, ◌+◌, ◌++◌, List, ℕ, length, take, drop, IfOk, OnOk, OnErr, IsErrOf};
 ghost use Rattle.tier_device.specs.declared.media.Tier.{Tier};
 ghost use Rattle.tier_device.specs.declared.media.MediaError.TheVariants.{OutOfRange};
-ghost use Rattle.tier_device.specs.Media.{overwritten, Puts, Keeps, Tears, TearsAll, Settles, HasCause, InRange};
+ghost use Rattle.tier_device.specs.Media.{overwritten, Puts, Keeps, Tears, TearsAll, Settles, HasCause, InRange, Rose};
 
 use thiserror::Error;
 
@@ -80,6 +80,15 @@ pub trait Media {
     /// What a read gives is one of the contents that a stop now may leave.
     ghost seen_now: { (media : Self) (t : Tier) → left media (moment media) t (seen media t) };
 
+    /// The count of failed calls has a greatest value.
+    ghost few: { (media : Self) → faults media < 2 ^ 64 };
+
     /// A tier keeps its length.
     ghost sized: { (media : Self) (m : ℕ) (t : Tier) (c : List ℕ) → m ≤ moment media → left media m t c → length c ≡ length (seen media t) };
 }
+
+/// That the count of failed calls rose holds on, over later calls and earlier ones.
+pub fn rose_holds_on()
+    ensures later { (a b c : ℕ) → Rose a b → b ≤ c → c < 2 ^ 64 → Rose a c }
+    ensures earlier { (a b c : ℕ) → a ≤ b → Rose b c → Rose a c }
+{}

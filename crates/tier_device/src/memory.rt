@@ -1,5 +1,7 @@
 // A medium in memory, which keeps a record of its calls.
-ghost use Rattle.std.specs.Prelude.{◌≡◌, IfOk};
+ghost use Rattle.std.specs.Prelude.{◌≡◌, ◌<◌, ◌+◌, ◌^◌, List, ℕ, length, take, drop, IfOk, IfErr, OnOk, OnErr, IsErrOf};
+ghost use Rattle.tier_device.specs.declared.media.MediaError.TheVariants.{OutOfRange, DeviceFault};
+ghost use Rattle.tier_device.specs.Media.{overwritten, Puts, Keeps, Tears, TearsAll, Settles, HasCause, InRange};
 ghost use Rattle.tier_device.specs.declared.media.Tier.{Tier};
 ghost use Rattle.tier_device.specs.declared.media.Tier.TheVariants.{Fast, Block, Slow};
 ghost use Rattle.tier_device.specs.Rows.{row};
@@ -10,7 +12,7 @@ use crate::held::held_after;
 use crate::record::CallLog;
 use crate::tiers::Tiers;
 use crate::{Media, MediaError, Tier};
-use std::alloc::{AllocError, Global};
+use std::alloc::{AllocError, AllocFailed, Global};
 
 /// A medium in memory. It keeps what it held at first and a record of its calls, from which what a stop may leave at each
 /// moment is told: any bytes in each range that was written since the tier's last fence, and nothing less. Where the record
@@ -23,34 +25,39 @@ pub struct MemMedia {
     calls: CallLog,
     faults: u64,
     ghost replays: { (t : Tier) → row tiers t ≡ replayed t (row first t) calls },
+    ghost few: { faults < 2 ^ 64 },
 }
 
 impl MemMedia {
-    ghost use Rattle.tier_device.specs.Memory.{memory_seen, memory_left, memory_moment, memory_held, IsAtRest};
+    ghost use Rattle.tier_device.specs.Memory.{memory_seen, memory_left, memory_moment, memory_held, memory_failures, IsAtRest};
 
-    /// A medium at rest that holds these bytes, at moment 0 with no failed call.
+    /// A medium at rest that holds these bytes, at moment 0 with no failed call. Where memory runs out they are handed back.
     pub fn of_bytes(
         alloc: Global,
         fast: Vec<u8>,
         block: Vec<u8>,
         slow: Vec<u8>,
-    ) -> Result<Self, AllocError>
+    ) -> Result<Self, AllocFailed<(Vec<u8>, Vec<u8>, Vec<u8>)>>
         ensures fast { IfOk result (λ m. memory_seen m Fast ≡ fast.items) }
         ensures block { IfOk result (λ m. memory_seen m Block ≡ block.items) }
         ensures slow { IfOk result (λ m. memory_seen m Slow ≡ slow.items) }
         ensures at_rest { IfOk result (λ m. IsAtRest m) }
         ensures clock { IfOk result (λ m. memory_moment m ≡ 0) }
-        ensures faults { IfOk result (λ m. m.faults ≡ 0) }
+        ensures faults { IfOk result (λ m. memory_failures m ≡ 0) }
+        ensures refused { IfErr result (λ back. back.value ≡ (fast, block, slow)) }
     {
-        let tiers = Tiers::new(fast, block, slow);
-        let first = tiers.copy(alloc)?;
-        Ok(MemMedia {
-            alloc,
-            tiers,
-            first,
-            calls: CallLog::new(alloc),
-            faults: 0,
-        })
+        match Tiers::copy_of(alloc, &fast, &block, &slow) {
+            Ok(first) => Ok(MemMedia {
+                alloc,
+                tiers: Tiers::new(fast, block, slow),
+                first,
+                calls: CallLog::new(alloc),
+                faults: 0,
+            }),
+            Err(_) => Err(AllocFailed {
+                value: (fast, block, slow),
+            }),
+        }
     }
 
     /// The bytes of a tier.
@@ -66,12 +73,15 @@ impl MemMedia {
         ensures allowed { IfOk result (λ m. (t : Tier) → memory_left self.now (memory_moment self.now) t (memory_seen m t)) }
         ensures at_rest { IfOk result (λ m. IsAtRest m) }
         ensures clock { IfOk result (λ m. memory_moment m ≡ 0) }
-        ensures faults { IfOk result (λ m. m.faults ≡ 0) }
+        ensures faults { IfOk result (λ m. memory_failures m ≡ 0) }
     {
         let fast = self.tier_after_stop(Tier::Fast, fill)?;
         let block = self.tier_after_stop(Tier::Block, fill)?;
         let slow = self.tier_after_stop(Tier::Slow, fill)?;
-        MemMedia::of_bytes(self.alloc, fast, block, slow)
+        match MemMedia::of_bytes(self.alloc, fast, block, slow) {
+            Ok(media) => Ok(media),
+            Err(_) => Err(AllocError),
+        }
     }
 
     fn tier_after_stop(&self, tier: Tier, fill: Fill) -> Result<Vec<u8>, AllocError>
@@ -91,7 +101,7 @@ impl MemMedia {
 }
 
 impl Media for MemMedia {
-    ghost use Rattle.tier_device.specs.Memory.{memory_seen, memory_left, memory_moment};
+    ghost use Rattle.tier_device.specs.Memory.{memory_seen, memory_left, memory_moment, memory_failures, IsRefused};
     ghost use Rattle.tier_device.specs.MemoryLaws.{memory_seen_now, memory_sized};
 
     ghost seen = { memory_seen };
@@ -100,9 +110,11 @@ impl Media for MemMedia {
 
     ghost left = { memory_left };
 
-    ghost faults = { λ m. m.faults };
+    ghost faults = { memory_failures };
 
     ghost seen_now = { memory_seen_now };
+
+    ghost few = { λ m. m.few };
 
     ghost sized = { memory_sized };
 
@@ -110,7 +122,19 @@ impl Media for MemMedia {
         self.bytes(tier).len()
     }
 
-    fn read(&mut self, tier: Tier, at: usize, out: &mut [u8]) -> Result<(), MediaError> {
+    fn read(&mut self, tier: Tier, at: usize, out: &mut [u8]) -> Result<(), MediaError>
+        ensures range { InRange (length (memory_seen self.old tier)) at (length out.old) result self.old self.new }
+        ensures bytes { OnOk result (out.new ≡ take (length out.old) (drop at (memory_seen self.old tier))) }
+        ensures refused { OnErr result (out.new ≡ out.old) }
+        ensures seen { (t : Tier) → memory_seen self.new t ≡ memory_seen self.old t }
+        ensures clock { memory_moment self.new ≡ memory_moment self.old }
+        ensures past { Keeps (memory_moment self.old) (memory_moment self.new) (memory_left self.old) (memory_left self.new) }
+        ensures cause { HasCause (memory_failures self.old) (memory_failures self.new) result }
+
+        // It changes nothing, and never fails.
+        ensures same { self.new ≡ self.old }
+        ensures sound { IsErrOf result DeviceFault → ⊥ }
+    {
         let bytes = self.bytes(tier);
         if bytes.len() < at || bytes.len() - at < out.len() {
             return Err(MediaError::OutOfRange);
@@ -119,7 +143,19 @@ impl Media for MemMedia {
         Ok(())
     }
 
-    fn write(&mut self, tier: Tier, at: usize, bytes: &[u8]) -> Result<(), MediaError> {
+    fn write(&mut self, tier: Tier, at: usize, bytes: &[u8]) -> Result<(), MediaError>
+        ensures range { InRange (length (memory_seen self.old tier)) at (length bytes.now) result self.old self.new }
+        ensures written { OnOk result (Puts tier (overwritten (memory_seen self.old tier) at bytes.now) (memory_seen self.old) (memory_seen self.new)) }
+        ensures lengths { (t : Tier) → length (memory_seen self.new t) ≡ length (memory_seen self.old t) }
+        ensures clock { OnOk result (memory_moment self.new ≡ memory_moment self.old + 1) }
+        ensures past { Keeps (memory_moment self.old) (memory_moment self.new) (memory_left self.old) (memory_left self.new) }
+        ensures left { Tears tier at (length bytes.now) (memory_left self.old (memory_moment self.old)) (memory_left self.new (memory_moment self.new)) }
+        ensures all_left { OnOk result (TearsAll tier at (length bytes.now) (memory_left self.old (memory_moment self.old)) (memory_left self.new (memory_moment self.new))) }
+        ensures cause { HasCause (memory_failures self.old) (memory_failures self.new) result }
+
+        // Where the record has no room for the call, it has changed nothing and counts as failed.
+        ensures refused { IsErrOf result DeviceFault → IsRefused self.old self.new }
+    {
         let size = self.bytes(tier).len();
         if size < at || size - at < bytes.len() {
             return Err(MediaError::OutOfRange);
@@ -136,7 +172,19 @@ impl Media for MemMedia {
         }
     }
 
-    fn fence(&mut self, tier: Tier) -> Result<(), MediaError> {
+    fn fence(&mut self, tier: Tier) -> Result<(), MediaError>
+        ensures only { IsErrOf result OutOfRange → ⊥ }
+        ensures seen { OnOk result ((t : Tier) → memory_seen self.new t ≡ memory_seen self.old t) }
+        ensures lengths { (t : Tier) → length (memory_seen self.new t) ≡ length (memory_seen self.old t) }
+        ensures clock { OnOk result (memory_moment self.new ≡ memory_moment self.old + 1) }
+        ensures past { Keeps (memory_moment self.old) (memory_moment self.new) (memory_left self.old) (memory_left self.new) }
+        ensures left { (t : Tier) (c : List ℕ) → memory_left self.new (memory_moment self.new) t c → memory_left self.old (memory_moment self.old) t c }
+        ensures settled { OnOk result (Settles tier (memory_seen self.old) (memory_left self.old (memory_moment self.old)) (memory_left self.new (memory_moment self.new))) }
+        ensures cause { HasCause (memory_failures self.old) (memory_failures self.new) result }
+
+        // As of a write.
+        ensures refused { IsErrOf result DeviceFault → IsRefused self.old self.new }
+    {
         match self.calls.push_fence(tier) {
             Ok(()) => Ok(()),
             Err(_) => {

@@ -1,60 +1,77 @@
 // A medium that stops at a chosen moment, and then holds one of the contents that the stop may leave.
-ghost use Rattle.std.specs.Prelude.{◌≡◌, ◌≤◌, ◌<◌, ◌-◌, ℕ, IfOk, IfErr, IfSome, IfNone, is_some};
-ghost use Rattle.tier_device.specs.declared.media.MediaError.TheVariants.{DeviceFault};
+ghost use Rattle.std.specs.Prelude.{◌≡◌, ◌≢◌, ◌⊎◌, ◌≤◌, ◌<◌, ◌+◌, ◌-◌, ◌^◌, List, ℕ, length, take, drop, IfOk, IfErr, IfSome, OnOk, OnErr, IsErrOf, is_some, Some, None};
+ghost use Rattle.tier_device.specs.declared.media.MediaError.TheVariants.{OutOfRange, DeviceFault};
 ghost use Rattle.tier_device.specs.declared.media.Tier.{Tier};
-ghost use Rattle.tier_device.specs.Media.{Rose};
+ghost use Rattle.tier_device.specs.declared.trip.Turn.TheVariants.{Passes, IsTheOne, Over};
+ghost use Rattle.tier_device.specs.Media.{overwritten, Puts, Keeps, Tears, TearsAll, Settles, HasCause, InRange, Rose};
 
+use crate::count::Count;
+use crate::trip::{Trip, Turn};
 use crate::{Fill, Media, MediaError, MemMedia, Tier};
 
-/// How far it is from its stop.
-#[derive(Clone, Copy, Debug, PartialEq, Eq)]
-pub(crate) enum State {
-    Running,
-    /// So many writes and fences still succeed before the one that is stopped in.
-    Armed { more: u64, fill: Fill },
-    Stopped { fill: Fill },
-}
-
 /// A medium in memory that stops within a chosen write or fence, or between two. A stop within a write counts its range as
-/// written; one within a fence leaves the tier unfenced. From then on each call in range is a device fault.
+/// written; one within a fence leaves the tier unfenced. From then on each call in range is a device fault that changes
+/// nothing. Writes and fences in range are counted, by a number of its own or by a shared trip; reads are not.
 #[derive(Debug, Drop)]
 pub struct StopMedia {
     inner: MemMedia,
-    state: State,
+    count: Count,
+    fill: Fill,
+    stopped: bool,
     faults: u64,
+    ghost few: { faults < 2 ^ 64 },
 }
 
 impl StopMedia {
-    ghost use Rattle.tier_device.specs.Memory.{memory_seen, memory_left, memory_moment, memory_held, IsAtRest};
-    ghost use Rattle.tier_device.specs.Stop.{medium_of, armed, stopped, fill_of, failures};
+    ghost use Rattle.tier_device.specs.Memory.{memory_seen, memory_left, memory_moment, memory_held, IsRefused, IsAtRest};
+    ghost use Rattle.tier_device.specs.Count.{IsAlone, HasCounted};
+    ghost use Rattle.tier_device.specs.Stop.{medium_of, count_of, turn, armed, next_fill, stopped, fill_of, failures, Runs, HasStopped, Fits, IsStill, Stops, RunsOn, IsTorn};
 
     /// A medium that runs until it is stopped.
     pub fn new(inner: MemMedia) -> Self
         ensures inner { medium_of result ≡ inner }
         ensures armed { armed result ≡ None }
+        ensures alone { IsAlone (count_of result) }
         ensures running { stopped result ≡ None }
         ensures faults { failures result ≡ 0 }
     {
         StopMedia {
             inner,
-            state: State::Running,
+            count: Count::idle(),
+            fill: Fill::New,
+            stopped: false,
             faults: 0,
         }
     }
 
-    /// Has it stop within a write or fence: the next one is call 1. A medium that has stopped stays so.
+    /// Has it stop within a write or fence by a count of its own: the next one is call 1. It replaces what it counted by. A
+    /// medium that has stopped stays so.
     pub fn stop_within(&mut self, call: u64, fill: Fill)
         requires { 1 ≤ call }
         ensures inner { medium_of self.new ≡ medium_of self.old }
         ensures armed { stopped self.old ≡ None → armed self.new ≡ Some (call - 1, fill) }
+        ensures alone { stopped self.old ≡ None → IsAlone (count_of self.new) }
         ensures stopped { stopped self.new ≡ stopped self.old }
         ensures faults { failures self.new ≡ failures self.old }
     {
-        if !self.is_stopped() {
-            self.state = State::Armed {
-                more: call - 1,
-                fill,
-            };
+        if !self.stopped {
+            self.count = Count::at(call);
+            self.fill = fill;
+        }
+    }
+
+    /// Has it count by a trip that it shares, and stop with this fill where the trip runs out, in a call of its own or of
+    /// another medium. It replaces what it counted by. A medium that has stopped stays so.
+    pub fn stop_with(&mut self, trip: Trip, fill: Fill)
+        ensures inner { medium_of self.new ≡ medium_of self.old }
+        ensures shared { stopped self.old ≡ None → (count_of self.new).trip ≡ Some trip }
+        ensures fill { stopped self.old ≡ None → next_fill self.new ≡ fill }
+        ensures stopped { stopped self.new ≡ stopped self.old }
+        ensures faults { failures self.new ≡ failures self.old }
+    {
+        if !self.stopped {
+            self.count = Count::shared(trip);
+            self.fill = fill;
         }
     }
 
@@ -65,17 +82,17 @@ impl StopMedia {
         ensures stays { IfSome (stopped self.old) (λ first. stopped self.new ≡ Some first) }
         ensures faults { failures self.new ≡ failures self.old }
     {
-        if self.is_stopped() {
-            return;
+        if !self.stopped {
+            self.stopped = true;
+            self.fill = fill;
         }
-        self.state = State::Stopped { fill };
     }
 
     /// Whether it has stopped.
     pub fn is_stopped(&self) -> bool
         ensures { result ≡ is_some (stopped self.now) }
     {
-        matches!(self.state, State::Stopped { .. })
+        self.stopped
     }
 
     /// The medium after the stop, at rest: each byte that was written and not fenced holds what the fill says, of a medium
@@ -87,10 +104,7 @@ impl StopMedia {
         ensures clock { IfOk result (λ m. memory_moment m ≡ 0) }
         ensures refused { IfErr result (λ back. back ≡ self) }
     {
-        let fill = match self.state {
-            State::Stopped { fill } => fill,
-            _ => Fill::New,
-        };
+        let fill = if self.stopped { self.fill } else { Fill::New };
         match self.inner.after_stop(fill) {
             Ok(media) => Ok(media),
             Err(_) => Err(self),
@@ -99,49 +113,57 @@ impl StopMedia {
 
     // Counts one failed call.
     fn fail(&mut self) -> MediaError
-        ensures inner { self.new.inner ≡ self.old.inner }
-        ensures state { self.new.state ≡ self.old.state }
+        ensures still { IsStill self.old self.new }
         ensures is { result ≡ DeviceFault }
-        ensures rose { Rose self.old.faults self.new.faults × (self.old.faults ≤ self.new.faults) }
+        ensures rose { Rose self.old.faults self.new.faults × (self.old.faults ≤ self.new.faults) × (self.new.faults ≤ self.old.faults + 1) }
     {
         self.faults = self.faults.saturating_add(1);
         MediaError::DeviceFault
     }
 
-    // Counts one call that succeeded.
-    fn pass(&mut self)
+    // Counts a write or fence, and stops where it is the one.
+    fn turn(&mut self) -> Turn
         ensures inner { self.new.inner ≡ self.old.inner }
+        ensures fill { self.new.fill ≡ self.old.fill }
         ensures faults { self.new.faults ≡ self.old.faults }
+        ensures still { HasStopped self.old → (result ≡ Over) × IsStill self.old self.new }
+        ensures turn { Runs self.old → result ≡ self.new.count.turn }
+        ensures counted { Runs self.old → HasCounted self.old.count self.new.count }
+        ensures runs { result ≡ Passes → Runs self.new }
+        ensures stops { result ≢ Passes → HasStopped self.new }
     {
-        if let State::Armed { more, fill } = self.state {
-            self.state = State::Armed {
-                more: more.saturating_sub(1),
-                fill,
-            };
+        if self.stopped {
+            return Turn::Over;
         }
+        let turn = self.count.next(true);
+        self.stopped = turn != Turn::Passes;
+        turn
     }
 
-    // Stops it where the next call is the one.
-    fn stops_here(&mut self) -> bool
-        ensures inner { self.new.inner ≡ self.old.inner }
+    // The write that it stops in: its range counts as written.
+    fn tear(&mut self, tier: Tier, at: usize, bytes: &[u8])
+        requires { Fits self.old tier at (length bytes.now) }
+        ensures torn { IsTorn tier at bytes.now self.old.inner self.new.inner ⊎ IsRefused self.old.inner self.new.inner }
+        ensures past { Keeps (memory_moment self.old.inner) (memory_moment self.new.inner) (memory_left self.old.inner) (memory_left self.new.inner) }
+        ensures left { Tears tier at (length bytes.now) (memory_left self.old.inner (memory_moment self.old.inner)) (memory_left self.new.inner (memory_moment self.new.inner)) }
+        ensures lengths { (t : Tier) → length (memory_seen self.new.inner t) ≡ length (memory_seen self.old.inner t) }
+        ensures count { self.new.count ≡ self.old.count }
+        ensures fill { self.new.fill ≡ self.old.fill }
+        ensures stopped { self.new.stopped ≡ self.old.stopped }
         ensures faults { self.new.faults ≡ self.old.faults }
     {
-        match self.state {
-            State::Armed {
-                more: 0,
-                fill: left,
-            } => {
-                self.state = State::Stopped { fill: left };
-                true
-            }
-            _ => false,
+        match self.inner.write(tier, at, bytes) {
+            Ok(()) => {}
+            Err(_) => {}
         }
     }
 }
 
 impl Media for StopMedia {
-    ghost use Rattle.tier_device.specs.Memory.{memory_seen, memory_left, memory_moment};
+    ghost use Rattle.tier_device.specs.Memory.{memory_seen, memory_left, memory_moment, IsRefused};
     ghost use Rattle.tier_device.specs.MemoryLaws.{memory_seen_now, memory_sized};
+    ghost use Rattle.tier_device.specs.Count.{HasCounted};
+    ghost use Rattle.tier_device.specs.Stop.{medium_of, count_of, turn, failures, Runs, HasStopped, Fits, IsStill, Stops, RunsOn, IsTorn};
 
     ghost seen = { λ s. memory_seen s.inner };
 
@@ -153,13 +175,28 @@ impl Media for StopMedia {
 
     ghost seen_now = { λ s. memory_seen_now s.inner };
 
+    ghost few = { λ s. s.few };
+
     ghost sized = { λ s. memory_sized s.inner };
 
     fn size(&self, tier: Tier) -> usize {
         self.inner.size(tier)
     }
 
-    fn read(&mut self, tier: Tier, at: usize, out: &mut [u8]) -> Result<(), MediaError> {
+    fn read(&mut self, tier: Tier, at: usize, out: &mut [u8]) -> Result<(), MediaError>
+        ensures range { InRange (length (memory_seen (medium_of self.old) tier)) at (length out.old) result self.old self.new }
+        ensures bytes { OnOk result (out.new ≡ take (length out.old) (drop at (memory_seen (medium_of self.old) tier))) }
+        ensures refused { OnErr result (out.new ≡ out.old) }
+        ensures seen { (t : Tier) → memory_seen (medium_of self.new) t ≡ memory_seen (medium_of self.old) t }
+        ensures clock { memory_moment (medium_of self.new) ≡ memory_moment (medium_of self.old) }
+        ensures past { Keeps (memory_moment (medium_of self.old)) (memory_moment (medium_of self.new)) (memory_left (medium_of self.old)) (memory_left (medium_of self.new)) }
+        ensures cause { HasCause (failures self.old) (failures self.new) result }
+
+        // It is not counted. It fails where the medium has stopped, and nowhere else.
+        ensures still { IsStill self.old self.new }
+        ensures after_stop { HasStopped self.old → Fits self.old tier at (length out.old) → IsErrOf result DeviceFault }
+        ensures sound { Runs self.old → IsErrOf result DeviceFault → ⊥ }
+    {
         let size = self.inner.size(tier);
         if size < at || size - at < out.len() {
             return Err(MediaError::OutOfRange);
@@ -167,40 +204,71 @@ impl Media for StopMedia {
         if self.is_stopped() {
             return Err(self.fail());
         }
-        match self.inner.read(tier, at, out) {
-            Ok(()) => Ok(()),
-            Err(_) => Err(self.fail()),
-        }
+        self.inner.read(tier, at, out)
     }
 
-    fn write(&mut self, tier: Tier, at: usize, bytes: &[u8]) -> Result<(), MediaError> {
+    fn write(&mut self, tier: Tier, at: usize, bytes: &[u8]) -> Result<(), MediaError>
+        ensures range { InRange (length (memory_seen (medium_of self.old) tier)) at (length bytes.now) result self.old self.new }
+        ensures written { OnOk result (Puts tier (overwritten (memory_seen (medium_of self.old) tier) at bytes.now) (memory_seen (medium_of self.old)) (memory_seen (medium_of self.new))) }
+        ensures lengths { (t : Tier) → length (memory_seen (medium_of self.new) t) ≡ length (memory_seen (medium_of self.old) t) }
+        ensures clock { OnOk result (memory_moment (medium_of self.new) ≡ memory_moment (medium_of self.old) + 1) }
+        ensures past { Keeps (memory_moment (medium_of self.old)) (memory_moment (medium_of self.new)) (memory_left (medium_of self.old)) (memory_left (medium_of self.new)) }
+        ensures left { Tears tier at (length bytes.now) (memory_left (medium_of self.old) (memory_moment (medium_of self.old))) (memory_left (medium_of self.new) (memory_moment (medium_of self.new))) }
+        ensures all_left { OnOk result (TearsAll tier at (length bytes.now) (memory_left (medium_of self.old) (memory_moment (medium_of self.old))) (memory_left (medium_of self.new) (memory_moment (medium_of self.new)))) }
+        ensures cause { HasCause (failures self.old) (failures self.new) result }
+
+        // After the stop it fails and changes nothing.
+        ensures after_stop { HasStopped self.old → Fits self.old tier at (length bytes.now) → IsErrOf result DeviceFault × IsStill self.old self.new }
+
+        // It is counted, and what the count says of it holds: it passes, it is the one, or the stop was elsewhere.
+        ensures counted { Runs self.old → Fits self.old tier at (length bytes.now) → HasCounted (count_of self.old) (count_of self.new) }
+        ensures stops { Runs self.old → Fits self.old tier at (length bytes.now) → turn self.new ≡ IsTheOne → IsErrOf result DeviceFault × Stops self.old self.new }
+        ensures torn { Runs self.old → Fits self.old tier at (length bytes.now) → turn self.new ≡ IsTheOne → IsTorn tier at bytes.now (medium_of self.old) (medium_of self.new) ⊎ IsRefused (medium_of self.old) (medium_of self.new) }
+        ensures over { Runs self.old → Fits self.old tier at (length bytes.now) → turn self.new ≡ Over → IsErrOf result DeviceFault × Stops self.old self.new × (medium_of self.new ≡ medium_of self.old) }
+        ensures passes { Runs self.old → Fits self.old tier at (length bytes.now) → turn self.new ≡ Passes → RunsOn self.old self.new }
+        ensures sound { Runs self.old → turn self.new ≡ Passes → IsErrOf result DeviceFault → IsRefused (medium_of self.old) (medium_of self.new) }
+    {
         let size = self.inner.size(tier);
         if size < at || size - at < bytes.len() {
             return Err(MediaError::OutOfRange);
         }
-        if self.is_stopped() {
-            return Err(self.fail());
-        }
-        let stops = self.stops_here();
-        match self.inner.write(tier, at, bytes) {
-            Ok(()) if !stops => {
-                self.pass();
-                Ok(())
+        match self.turn() {
+            Turn::Over => Err(self.fail()),
+            Turn::IsTheOne => {
+                self.tear(tier, at, bytes);
+                Err(self.fail())
             }
-            _ => Err(self.fail()),
+            Turn::Passes => match self.inner.write(tier, at, bytes) {
+                Ok(()) => Ok(()),
+                Err(_) => Err(self.fail()),
+            },
         }
     }
 
-    fn fence(&mut self, tier: Tier) -> Result<(), MediaError> {
-        if self.is_stopped() || self.stops_here() {
-            return Err(self.fail());
-        }
-        match self.inner.fence(tier) {
-            Ok(()) => {
-                self.pass();
-                Ok(())
-            }
-            Err(_) => Err(self.fail()),
+    fn fence(&mut self, tier: Tier) -> Result<(), MediaError>
+        ensures only { IsErrOf result OutOfRange → ⊥ }
+        ensures seen { OnOk result ((t : Tier) → memory_seen (medium_of self.new) t ≡ memory_seen (medium_of self.old) t) }
+        ensures lengths { (t : Tier) → length (memory_seen (medium_of self.new) t) ≡ length (memory_seen (medium_of self.old) t) }
+        ensures clock { OnOk result (memory_moment (medium_of self.new) ≡ memory_moment (medium_of self.old) + 1) }
+        ensures past { Keeps (memory_moment (medium_of self.old)) (memory_moment (medium_of self.new)) (memory_left (medium_of self.old)) (memory_left (medium_of self.new)) }
+        ensures left { (t : Tier) (c : List ℕ) → memory_left (medium_of self.new) (memory_moment (medium_of self.new)) t c → memory_left (medium_of self.old) (memory_moment (medium_of self.old)) t c }
+        ensures settled { OnOk result (Settles tier (memory_seen (medium_of self.old)) (memory_left (medium_of self.old) (memory_moment (medium_of self.old))) (memory_left (medium_of self.new) (memory_moment (medium_of self.new)))) }
+        ensures cause { HasCause (failures self.old) (failures self.new) result }
+
+        // As of a write; the fence that it stops in leaves the tier unfenced, and so the medium as it was.
+        ensures after_stop { HasStopped self.old → IsErrOf result DeviceFault × IsStill self.old self.new }
+        ensures counted { Runs self.old → HasCounted (count_of self.old) (count_of self.new) }
+        ensures stops { Runs self.old → turn self.new ≢ Passes → IsErrOf result DeviceFault × Stops self.old self.new }
+        ensures unfenced { Runs self.old → turn self.new ≢ Passes → medium_of self.new ≡ medium_of self.old }
+        ensures passes { Runs self.old → turn self.new ≡ Passes → RunsOn self.old self.new }
+        ensures sound { Runs self.old → turn self.new ≡ Passes → IsErrOf result DeviceFault → IsRefused (medium_of self.old) (medium_of self.new) }
+    {
+        match self.turn() {
+            Turn::Passes => match self.inner.fence(tier) {
+                Ok(()) => Ok(()),
+                Err(_) => Err(self.fail()),
+            },
+            Turn::IsTheOne | Turn::Over => Err(self.fail()),
         }
     }
 }

@@ -34,14 +34,21 @@ impl Tiers {
         Tiers { fast, block, slow }
     }
 
-    /// A copy of all bytes.
-    pub fn copy(&self, alloc: Global) -> Result<Self, AllocError>
-        ensures { IfOk result (λ copy. copy ≡ self.now) }
+    /// A copy of these bytes.
+    pub fn copy_of(
+        alloc: Global,
+        fast: &[u8],
+        block: &[u8],
+        slow: &[u8],
+    ) -> Result<Self, AllocError>
+        ensures fast { IfOk result (λ copy. row copy Fast ≡ fast.now) }
+        ensures block { IfOk result (λ copy. row copy Block ≡ block.now) }
+        ensures slow { IfOk result (λ copy. row copy Slow ≡ slow.now) }
     {
         Ok(Tiers {
-            fast: self.fast.to_vec(alloc)?,
-            block: self.block.to_vec(alloc)?,
-            slow: self.slow.to_vec(alloc)?,
+            fast: fast.to_vec(alloc)?,
+            block: block.to_vec(alloc)?,
+            slow: slow.to_vec(alloc)?,
         })
     }
 

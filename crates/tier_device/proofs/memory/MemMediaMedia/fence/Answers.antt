@@ -7,7 +7,10 @@ use Rattle.tier_device.proofs.memory.MemMediaMedia.fence.Goals as goal
 pub invariant_of-self : goal.invariant_of-self
 invariant_of-self c =
     let m = c.args.self.now in
-    record { replays = λ t. m.replays t ∙ sym (fence_shows (row m.first) m.calls _ c.args.tier c.in-Ok.ensures.grown t) }
+    record {
+      few = m.few;
+      replays = λ t. m.replays t ∙ sym (fence_shows (row m.first) m.calls _ c.args.tier c.in-Ok.ensures.grown t);
+    }
 
 pub returns-in-Ok-clause-left : goal.returns-in-Ok-clause-left
 returns-in-Ok-clause-left c = fence_leaves (row c.args.self.now.first) _ _ c.args.tier c.in-Ok.ensures.grown

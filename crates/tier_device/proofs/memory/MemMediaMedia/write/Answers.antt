@@ -9,6 +9,7 @@ invariant_of-self c =
     let m = c.args.self.now in
     let fits : c.args.at + length c.args.bytes.now ≤ length (replayed c.args.tier (row m.first c.args.tier) m.calls) = omega (arith, ap length (m.replays c.args.tier), ap length c.bytes-size.ensures) in
     record {
+      few = m.few;
       replays = write_kept (row m.first) _ _ c.args.tier c.args.at c.args.bytes.now c.in-Ok.ensures.grown fits (row m.tiers) (row c.overwrite.new.self) m.replays c.overwrite.ensures;
     }
 
