@@ -1,4 +1,4 @@
-use block_alloc::{AllocFault, FreeRuns, Run};
+use block_alloc::{AllocatorError, FreeRuns, Run};
 use std::test::Fail;
 
 #[test]
@@ -6,7 +6,7 @@ fn takes_the_lowest_in_several_runs(rt: HostRuntime) -> Result<(), Fail> {
     let used = [true, false, false, true, false, false, true];
     let mut runs = FreeRuns::from_used(rt.alloc(), 100, &used)?;
     assert_eq!(rt; runs.free(), 4);
-    assert_eq!(rt; runs.take(5).err(), Some(AllocFault::NoBlock));
+    assert_eq!(rt; runs.take(5).err(), Some(AllocatorError::NoBlock));
     assert_eq!(rt; runs.free(), 4);
     let taken = runs.take(3)?;
     assert!(rt;

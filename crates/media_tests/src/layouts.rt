@@ -1,8 +1,8 @@
 use file_graph::Kind;
 use layout::{
-    BLOCK, Damaged, DecodeError, DirBlock, DirEntry, Extent, ExtentBlock, FIRST_NODE_BLOCK,
-    Geometry, MAX_EXTENTS, MAX_IN_BLOCK, Mark, Marks, SLOT_SIZE, Slot, Super, What, slot_block,
-    slot_byte,
+    BLOCK, DirBlock, DirEntries, DirEntry, EntryRef, Extent, ExtentBlock, FIRST_NODE_BLOCK,
+    Geometry, LayoutError, MAX_EXTENTS, MAX_IN_BLOCK, Mark, Marks, SLOT_SIZE, Slot, Space, Super,
+    What, set_entry, slot_block, slot_byte,
 };
 use posix_calls::Name;
 use std::alloc::{AllocError, AllocFailed, Global};
@@ -28,17 +28,13 @@ impl<T: Drop> From<AllocFailed<T>> for Stopped {
     }
 }
 
-impl From<Damaged> for Stopped {
-    fn from(_e: Damaged) -> Stopped {
+impl From<LayoutError> for Stopped {
+    fn from(_e: LayoutError) -> Stopped {
         Stopped::Unread
     }
 }
 
-impl From<DecodeError> for Stopped {
-    fn from(_e: DecodeError) -> Stopped {
-        Stopped::Unread
-    }
-}
+const FAST_DATA: Space = Space::Data(Tier::Fast);
 
 // The media that a world is made with by default.
 fn default_geometry() -> Result<Geometry, Stopped> {
@@ -226,7 +222,7 @@ fn superblock_has_its_bytes(rt: HostRuntime) -> Result<(), Stopped> {
     let found = Super { geometry };
     assert!(rt; encoded(alloc, &found)?.as_slice() == by_hand.as_slice());
     assert_eq!(rt; Super::decode(&by_hand), Ok(found));
-    let damaged = Damaged {
+    let damaged = LayoutError::Damaged {
         what: What::Super,
         block: 0,
     };
@@ -258,7 +254,7 @@ fn slots_have_their_bytes(rt: HostRuntime) -> Result<(), Stopped> {
     assert!(rt; encoded_slot(alloc, &file)?.as_slice() == by_hand.as_slice());
     assert_eq!(rt; Slot::decode(&geometry, 34, &by_hand), Ok(file));
     put(&mut by_hand, 28, &[0x2c, 1]);
-    let damaged = Damaged {
+    let damaged = LayoutError::Damaged {
         what: What::Slot,
         block: 2,
     };
@@ -296,7 +292,7 @@ fn marks_have_their_bytes(rt: HostRuntime) -> Result<(), Stopped> {
     assert!(rt; encoded_marks(alloc, &found)?.as_slice() == by_hand.as_slice());
     assert_eq!(rt; Marks::decode(&by_hand), Ok(found));
     put(&mut by_hand, 12, &[1]);
-    let damaged = Damaged {
+    let damaged = LayoutError::Damaged {
         what: What::Marks,
         block: 33,
     };
@@ -322,14 +318,14 @@ fn extent_block_has_its_bytes(rt: HostRuntime) -> Result<(), Stopped> {
     let found = ExtentBlock::new(5, extents);
     let by_hand = filled(alloc, BLOCK, &EXTENTS)?;
     assert!(rt; encoded_extents(alloc, &found)?.as_slice() == by_hand.as_slice());
-    let back = ExtentBlock::decode(alloc, &geometry, Tier::Fast, 292, &by_hand)?;
+    let back = ExtentBlock::decode(alloc, &geometry, FAST_DATA, 292, &by_hand)?;
     assert_eq!(rt; back.owner(), 5);
     assert!(rt; back.extents() == found.extents());
-    let damaged = DecodeError::Damaged(Damaged {
+    let damaged = LayoutError::Damaged {
         what: What::ExtentBlock,
         block: 292,
-    });
-    match ExtentBlock::decode(alloc, &geometry, Tier::Slow, 292, &by_hand) {
+    };
+    match ExtentBlock::decode(alloc, &geometry, Space::Data(Tier::Slow), 292, &by_hand) {
         Ok(_) => assert!(rt; false),
         Err(e) => assert_eq!(rt; e, damaged),
     }
@@ -363,6 +359,135 @@ fn dir_block_has_its_bytes(rt: HostRuntime) -> Result<(), Stopped> {
     let found = DirBlock::new(1, entries);
     assert!(rt; encoded_entries(alloc, &found)?.as_slice() == by_hand.as_slice());
     assert!(rt; encoded_entries(alloc, &back)?.as_slice() == by_hand.as_slice());
+    Ok(())
+}
+
+// A name of its own for each entry: its number by eight letters.
+fn name_of(number: usize) -> [u8; 8] {
+    let mut name = [b'a'; 8];
+    let mut rest = number;
+    for place in 0..8 {
+        name[place] = b'a' + (rest % 16) as u8;
+        rest /= 16;
+    }
+    name
+}
+
+fn entry_of(alloc: Global, number: usize) -> Result<DirEntry, Stopped> {
+    let kind = if number % 3 == 0 {
+        Kind::Directory
+    } else {
+        Kind::File
+    };
+    match Name::from_vec(name_of(number).to_vec(alloc)?) {
+        Ok(name) => Ok(DirEntry {
+            inode: 2 + (number % 1_023) as u32,
+            kind,
+            name,
+        }),
+        Err(_) => Err(Stopped::Unread),
+    }
+}
+
+// Entries of directory 9, from a first number on.
+fn entries_from(alloc: Global, first: usize) -> Result<DirBlock, Stopped> {
+    let mut entries = Vec::new(alloc);
+    for place in 0..MAX_IN_BLOCK {
+        entries.push(entry_of(alloc, first.saturating_add(place))?)?;
+    }
+    Ok(DirBlock::new(9, entries))
+}
+
+#[test]
+fn directory_of_3584_entries_is_spelled_and_read(rt: HostRuntime) -> Result<(), Stopped> {
+    let alloc = rt.alloc();
+    for number in 0..64 {
+        let first = MAX_IN_BLOCK * number;
+        let found = entries_from(alloc, first)?;
+        let block = encoded_entries(alloc, &found)?;
+        let back = DirEntries::read(300, &block)?;
+        assert_eq!(rt; (back.owner(), back.len()), (9, MAX_IN_BLOCK));
+        assert_eq!(rt; back.find(&name_of(first.saturating_add(55))), Some(55));
+        assert_eq!(rt; back.find(&name_of(first.saturating_add(56))), None);
+        let copy = DirBlock::decode(alloc, 300, &block)?;
+        assert!(rt; encoded_entries(alloc, &copy)?.as_slice() == block.as_slice());
+    }
+    Ok(())
+}
+
+#[test]
+fn entry_is_set_in_place(rt: HostRuntime) -> Result<(), Stopped> {
+    let alloc = rt.alloc();
+    let mut block = entries_by_hand(alloc)?;
+    if block.len() != BLOCK {
+        return Err(Stopped::Sizes);
+    }
+    let entry = EntryRef {
+        inode: 7,
+        kind: Kind::File,
+        name: b"other",
+    };
+    set_entry(&mut block, 0, entry);
+    let back = DirEntries::read(293, &block)?;
+    assert_eq!(rt;
+        (back.find(b"other"), back.find(b"a"), back.find(b"b.c")),
+        (Some(0), None, Some(1))
+    );
+    set_entry(&mut block, 1, entry);
+    let damaged = LayoutError::Damaged {
+        what: What::DirBlock,
+        block: 293,
+    };
+    assert_eq!(rt; DirEntries::read(293, &block).err(), Some(damaged));
+    Ok(())
+}
+
+// What extents of inode 5 in a space, of logical block, length and place, are read as.
+fn is_read(
+    alloc: Global,
+    geometry: &Geometry,
+    space: Space,
+    rows: &[(u32, u32, u32)],
+) -> Result<bool, Stopped> {
+    let mut extents = Vec::new(alloc);
+    for (logical, length, place) in rows {
+        extents.push(Extent {
+            logical: *logical,
+            length: *length,
+            place: *place,
+        })?;
+    }
+    let block = encoded_extents(alloc, &ExtentBlock::new(5, extents))?;
+    match ExtentBlock::decode(alloc, geometry, space, 292, &block) {
+        Ok(_) => Ok(true),
+        Err(LayoutError::Damaged { .. }) => Ok(false),
+        Err(LayoutError::Memory) => Err(Stopped::Memory),
+    }
+}
+
+#[test]
+fn extents_lie_where_their_node_may(rt: HostRuntime) -> Result<(), Stopped> {
+    let alloc = rt.alloc();
+    let geometry = default_geometry()?;
+    let rows: [(Space, [(u32, u32, u32); 2], bool); 10] = [
+        (Space::Nodes, [(0, 1, 292), (1, 63, 5_349)], true),
+        (Space::Nodes, [(0, 1, 291), (1, 1, 300)], false),
+        (Space::Nodes, [(0, 1, 292), (1, 63, 5_350)], false),
+        (Space::Nodes, [(0, 1, 292), (1, 64, 300)], false),
+        (Space::Nodes, [(0, 2, 300), (2, 2, 299)], false),
+        (FAST_DATA, [(0, 1, 5_412), (1, 255, 5_669)], true),
+        (FAST_DATA, [(0, 1, 5_412), (1, 256, 5_413)], false),
+        (FAST_DATA, [(0, 1, 5_411), (1, 1, 5_413)], false),
+        (FAST_DATA, [(9, 2, 5_500), (11, 2, 5_498)], true),
+        (FAST_DATA, [(9, 2, 5_500), (10, 2, 5_498)], false),
+    ];
+    for (space, extents, read) in rows {
+        assert_eq!(rt;
+            is_read(alloc, &geometry, space, &extents)?,
+            read,
+            "{extents:?}"
+        );
+    }
     Ok(())
 }
 
@@ -438,16 +563,16 @@ fn changed_extent_blocks_are_read_whole_or_damaged(rt: HostRuntime) -> Result<()
     let by_hand = filled(alloc, BLOCK, &EXTENTS)?;
     let mut read = false;
     let noise = draws.noise(alloc, BLOCK)?;
-    let mut damaged = ExtentBlock::decode(alloc, &geometry, Tier::Fast, 292, &noise).is_err();
+    let mut damaged = ExtentBlock::decode(alloc, &geometry, FAST_DATA, 292, &noise).is_err();
     for _ in 0..400 {
         let block = draws.changed(alloc, &by_hand)?;
-        match ExtentBlock::decode(alloc, &geometry, Tier::Fast, 292, &block) {
+        match ExtentBlock::decode(alloc, &geometry, FAST_DATA, 292, &block) {
             Ok(found) => {
                 read = true;
                 assert!(rt; encoded_extents(alloc, &found)?.as_slice() == block.as_slice());
             }
-            Err(DecodeError::Damaged(_)) => damaged = true,
-            Err(DecodeError::Memory) => return Err(Stopped::Memory),
+            Err(LayoutError::Damaged { .. }) => damaged = true,
+            Err(LayoutError::Memory) => return Err(Stopped::Memory),
         }
     }
     assert!(rt; read && damaged);
@@ -469,8 +594,8 @@ fn changed_dir_blocks_are_read_whole_or_damaged(rt: HostRuntime) -> Result<(), S
                 read = true;
                 assert!(rt; encoded_entries(alloc, &found)?.as_slice() == block.as_slice());
             }
-            Err(DecodeError::Damaged(_)) => damaged = true,
-            Err(DecodeError::Memory) => return Err(Stopped::Memory),
+            Err(LayoutError::Damaged { .. }) => damaged = true,
+            Err(LayoutError::Memory) => return Err(Stopped::Memory),
         }
     }
     assert!(rt; read && damaged);
@@ -480,15 +605,11 @@ fn changed_dir_blocks_are_read_whole_or_damaged(rt: HostRuntime) -> Result<(), S
 #[test]
 fn errors_are_told(rt: HostRuntime) -> Result<(), Stopped> {
     let alloc = rt.alloc();
-    let damaged = Damaged {
+    let damaged = LayoutError::Damaged {
         what: What::DirBlock,
         block: 293,
     };
-    let text = format!(in alloc;
-        "{}, {}",
-        DecodeError::Damaged(damaged),
-        DecodeError::Memory
-    )?;
+    let text = format!(in alloc; "{}, {}", damaged, LayoutError::Memory)?;
     assert_eq!(rt; text.as_str(), "block 293 is damaged, out of memory");
     Ok(())
 }
