@@ -5,7 +5,8 @@ use Rattle.std.proofs.lemmas.Bool.{cases_Bool, false≢true}
 use Rattle.byteorder.specs.Endian.{little_number}
 use Rattle.byteorder.specs.Numbers.{little_from-append}
 use Rattle.tier_device.specs.Media.{overwritten, Torn}
-use Rattle.batch_journal.specs.Images.{slice, is_zero, count_of, number_at, image_at, images_from, images_of, rest_of_head, image_for, or_else, with_images}
+use Rattle.batch_journal.specs.Images.{slice, count_of, number_at, image_at, images_from, images_of, rest_of_head, image_for, or_else, with_images}
+use Rattle.layout.specs.Bytes.{are_zero}
 use Rattle.batch_journal.specs.Blocks.{Blocks, block_of, gate_of, rest_of_gate, is_open, area_of, is_home, home, Rising, after_batch}
 use Rattle.batch_journal.specs.Volume.{Spells, IsHead, IsJournal, SameJournal, IsAfter}
 use Rattle.layout.specs.Places.{Sizes}
@@ -167,7 +168,7 @@ same_journal d c blocks rest long head = record {
   blocks = blocks;
   journal = λ g j. record {
     size = long ∙ j.size;
-    rest = ap is_zero rest ∙ j.rest;
+    rest = ap are_zero rest ∙ j.rest;
     superblock = subst (λ (h : Blocks). Spells g (h 0)) (sym blocks) j.superblock;
     head = λ opened. let h = head opened in subst (λ (a : List ℕ). IsHead g a) (sym h.1) (j.head h.0);
   };
@@ -211,7 +212,7 @@ head_alike g a b staged head =
       some = omega (arith, count, head.some);
       few = omega (arith, count, head.few);
       rising = subst (λ (is : List (ℕ × List ℕ)). Rising g 0 is) (sym staged.images) head.rising;
-      rest = ap is_zero staged.rest ∙ head.rest;
+      rest = ap are_zero staged.rest ∙ head.rest;
     }
 
 over_spells : (g : Sizes) (o : Option (List ℕ)) (x : List ℕ) → IfSome o (Spells g) → Spells g x → Spells g (or_else o x)
@@ -232,7 +233,7 @@ opened_after bytes seen d c same closed staged torn is =
         blocks = blocks;
         journal = λ g j head keeps. record {
           size = torn.same_length ∙ (same.journal g j).size;
-          rest = ap is_zero (slice_apart 139264 1 d c torn 139265 4095 (inr (omega arith))) ∙ (same.journal g j).rest;
+          rest = ap are_zero (slice_apart 139264 1 d c torn 139265 4095 (inr (omega arith))) ∙ (same.journal g j).rest;
           superblock = subst (λ (x : List ℕ). Spells g x) (sym first) (over_spells g (image_for 0 images) (home seen 0) keeps j.superblock);
           head = λ o. head_alike g (area_of c) bytes (record { images = area; rest = ap rest_of_head kept ∙ staged.rest }) head;
         };
@@ -267,7 +268,7 @@ run_home first n d c ge closed torn k apart = elim (cases_Bool (is_home k)) [
 pub run_journal : (g : Sizes) (first n : ℕ) (d c : List ℕ) → 292 ≤ first → is_open d ≡ false → Torn (4096 * first) n d c → IsJournal g d → IsJournal g c
 run_journal g first n d c ge closed torn j = record {
   size = torn.same_length ∙ j.size;
-  rest = ap is_zero (slice_apart (4096 * first) n d c torn 139265 4095 (inl (omega (arith, ge)))) ∙ j.rest;
+  rest = ap are_zero (slice_apart (4096 * first) n d c torn 139265 4095 (inl (omega (arith, ge)))) ∙ j.rest;
   superblock = subst (λ (x : List ℕ). Spells g x) (sym (run_home first n d c ge closed torn 0 (inl (omega (arith, ge))))) j.superblock;
   head = λ o. absurd (false≢true (sym (run_closed (4096 * first) n d c (omega (arith, ge)) closed torn) ∙ o));
 }

@@ -6,7 +6,8 @@ use Rattle.layout.specs.declared.superblock.Super.{Super}
 use Rattle.layout.specs.Places.{Sizes, tier_blocks}
 use Rattle.tier_device.specs.declared.media.Tier.{Tier}
 use Rattle.tier_device.specs.declared.media.Tier.TheVariants.{Fast}
-use Rattle.batch_journal.specs.Images.{is_zero, count_of, number_at, image_at, images_of, images_from, image_for, or_else, Rises}
+use Rattle.batch_journal.specs.Images.{count_of, number_at, image_at, images_of, images_from, image_for, or_else, Rises}
+use Rattle.layout.specs.Bytes.{are_zero}
 use Rattle.batch_journal.specs.Blocks.{area_of, rest_of_gate, block_of, is_open, home, Fit}
 use Rattle.batch_journal.specs.Volume.{Spells, HasSizes, IsHead, IsJournal, IsVolume}
 use Rattle.batch_journal.specs.Reading.{IsRead, first_block}
@@ -56,7 +57,7 @@ pub spells_one : (g h : Sizes) (b : List ℕ) → Spells g b → Spells h b → 
 unfolding geometry_or
 spells_one g h b first second = ap (geometry_or g) (sym first ∙ second)
 
-pub open_volume : (g : Sizes) (seen : Tier → List ℕ) (bytes : List ℕ) → is_open (seen Fast) ≡ true → IsRead (seen Fast) bytes → is_zero (rest_of_gate (seen Fast)) ≡ true → HasSizes g seen
+pub open_volume : (g : Sizes) (seen : Tier → List ℕ) (bytes : List ℕ) → is_open (seen Fast) ≡ true → IsRead (seen Fast) bytes → are_zero (rest_of_gate (seen Fast)) ≡ true → HasSizes g seen
     → Spells g (first_block bytes (seen Fast)) → IsHead g bytes → IsVolume g seen
 open_volume g seen bytes opened read rest sizes spells head = record {
   sizes = sizes;
@@ -68,7 +69,7 @@ open_volume g seen bytes opened read rest sizes spells head = record {
   };
 }
 
-pub shut_volume : (g : Sizes) (seen : Tier → List ℕ) → is_open (seen Fast) ≡ false → is_zero (rest_of_gate (seen Fast)) ≡ true → HasSizes g seen → Spells g (block_of (seen Fast) 0) → IsVolume g seen
+pub shut_volume : (g : Sizes) (seen : Tier → List ℕ) → is_open (seen Fast) ≡ false → are_zero (rest_of_gate (seen Fast)) ≡ true → HasSizes g seen → Spells g (block_of (seen Fast) 0) → IsVolume g seen
 shut_volume g seen closed rest sizes spells = record {
   sizes = sizes;
   journal = record {

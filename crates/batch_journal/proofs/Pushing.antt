@@ -9,7 +9,8 @@ use Rattle.byteorder.specs.Endian.{little_number, little_bytes}
 use Rattle.byteorder.specs.Numbers.{little_from-take, little_number-reads_back, length-bytes_low_first}
 use Rattle.tier_device.specs.Media.{overwritten, Torn}
 use Rattle.tier_device.specs.RecordLaws.{torn_overwritten}
-use Rattle.batch_journal.specs.Images.{slice, is_zero, count_of, number_at, image_at, images_from, images_of, rest_of_head, image_for, Rises, next_from, next_of}
+use Rattle.batch_journal.specs.Images.{slice, count_of, number_at, image_at, images_from, images_of, rest_of_head, image_for, Rises, next_from, next_of}
+use Rattle.layout.specs.Bytes.{are_zero}
 use Rattle.batch_journal.specs.View.{IsBatch}
 use Rattle.batch_journal.proofs.Bytes.{slice_behind, slice_apart, slice_written}
 use Rattle.batch_journal.proofs.Meaning.{number_front, image_front}
@@ -43,27 +44,27 @@ count_written b x small = little_number-reads_back 4 x (drop (0 + length (little
 
 -- ---- bytes that are zero
 
-pub zero_drop : (n : ℕ) (l : List ℕ) → is_zero l ≡ true → is_zero (drop n l) ≡ true
+pub zero_drop : (n : ℕ) (l : List ℕ) → are_zero l ≡ true → are_zero (drop n l) ≡ true
 zero_drop zero l is = is
 zero_drop (suc n) [] is = is
-zero_drop (suc n) (x ∷ xs) is = zero_drop n xs (and_parts (x == 0) (is_zero xs) is).1
+zero_drop (suc n) (x ∷ xs) is = zero_drop n xs (and_parts (x == 0) (are_zero xs) is).1
 
-zero_take : (n : ℕ) (l : List ℕ) → is_zero l ≡ true → is_zero (take n l) ≡ true
+zero_take : (n : ℕ) (l : List ℕ) → are_zero l ≡ true → are_zero (take n l) ≡ true
 zero_take zero l is = refl
 zero_take (suc n) [] is = refl
 zero_take (suc n) (x ∷ xs) is =
-    let parts = and_parts (x == 0) (is_zero xs) is in
-    ap (λ b. b && is_zero (take n xs)) parts.0 ∙ zero_take n xs parts.1
+    let parts = and_parts (x == 0) (are_zero xs) is in
+    ap (λ b. b && are_zero (take n xs)) parts.0 ∙ zero_take n xs parts.1
 
-zero_zeros : (n : ℕ) → is_zero (replicate n 0) ≡ true
+zero_zeros : (n : ℕ) → are_zero (replicate n 0) ≡ true
 zero_zeros zero = refl
 zero_zeros (suc n) = zero_zeros n
 
-pub zeros_rest : (n : ℕ) (b : List ℕ) → b ≡ replicate n 0 → is_zero (rest_of_head b) ≡ true
+pub zeros_rest : (n : ℕ) (b : List ℕ) → b ≡ replicate n 0 → are_zero (rest_of_head b) ≡ true
 zeros_rest n b is =
     let at = 4 + 4 * count_of b in
     let size = 4092 - 4 * count_of b in
-    zero_take size (drop at b) (zero_drop at b (ap is_zero is ∙ zero_zeros n))
+    zero_take size (drop at b) (zero_drop at b (ap are_zero is ∙ zero_zeros n))
 
 -- ---- numbers that rise
 
@@ -139,7 +140,7 @@ module _ (bytes image : List ℕ) (n next number : ℕ) (is : IsBatch n next byt
       ap (images_from b3 0) count3_suc ∙ images_more b3 0 n ∙ ap (λ q. images_from b3 0 n ++ (number_at b3 q, image_at b3 q) ∷ []) from_zero ∙ (λ i. images_each b3 bytes 0 n numbers images i ++ (last_number i, last_image i) ∷ [])
       ∙ ap (λ k. images_from bytes 0 k ++ (number, image) ∷ []) is.counts
 
-  rest_pushed : is_zero (rest_of_head b3) ≡ true
+  rest_pushed : are_zero (rest_of_head b3) ≡ true
   rest_pushed =
       let m = 4088 - 4 * n in
       let here : rest_of_head b3 ≡ slice (8 + 4 * n) m b3 = λ i. slice (at_rest i) (size_rest i) b3 in
@@ -152,8 +153,8 @@ module _ (bytes image : List ℕ) (n next number : ℕ) (is : IsBatch n next byt
       ap (λ k. take m (drop k bytes)) (sym more) ∙ ap (take m) (split_drop (4 + 4 * n) bytes) ∙ sym (drop-take 4 m (drop (4 + 4 * n) bytes))
       ∙ ap (λ k. drop 4 (take k (drop (4 + 4 * n) bytes))) (sym less) in
       let old : rest_of_head bytes ≡ slice (4 + 4 * n) (4092 - 4 * n) bytes = ap (λ k. slice (4 + 4 * k) (4092 - 4 * k) bytes) (sym is.counts) in
-      ap is_zero (here ∙ slice_behind 0 4 b2 b3 torn3 (8 + 4 * n) m (omega arith) ∙ slice_behind (4 + 4 * n) 4 b1 b2 torn2 (8 + 4 * n) m (omega arith) ∙ front ∙ later)
-      ∙ zero_drop 4 (slice (4 + 4 * n) (4092 - 4 * n) bytes) (ap is_zero (sym old) ∙ is.rest)
+      ap are_zero (here ∙ slice_behind 0 4 b2 b3 torn3 (8 + 4 * n) m (omega arith) ∙ slice_behind (4 + 4 * n) 4 b1 b2 torn2 (8 + 4 * n) m (omega arith) ∙ front ∙ later)
+      ∙ zero_drop 4 (slice (4 + 4 * n) (4092 - 4 * n) bytes) (ap are_zero (sym old) ∙ is.rest)
 
   pub pushed_next : next_of (images_of b3) ≡ number + 1
   pushed_next = ap next_of pushed_images ∙ next_more 0 (images_of bytes) (number, image)

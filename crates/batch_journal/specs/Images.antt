@@ -1,15 +1,10 @@
 -- A head and the images behind it, as bytes: those of a batch that is not written yet, and those that stand in a journal.
-use Rattle.std.specs.Prelude.{ℕ, zero, suc, ◌+◌, ◌-◌, ◌*◌, ◌≤◌, List, [], ◌∷◌, take, drop, Option, Some, None, Bool, ◌==◌, if◌then◌else◌}
-use Rattle.std.specs.List.{list_all}
+use Rattle.std.specs.Prelude.{ℕ, zero, suc, ◌+◌, ◌-◌, ◌*◌, ◌≤◌, List, [], ◌∷◌, take, drop, Option, Some, None, ◌==◌, if◌then◌else◌}
 use Rattle.byteorder.specs.Endian.{little_number}
 
 -- so many bytes from this one on
 abbrev pub slice : ℕ → ℕ → List ℕ → List ℕ
 slice at n c = take n (drop at c)
-
--- all bytes are zero
-abbrev pub is_zero : List ℕ → Bool
-is_zero bytes = list_all (λ b. b == 0) bytes
 
 -- how many images there are: the head's first number
 unfoldable pub count_of : List ℕ → ℕ

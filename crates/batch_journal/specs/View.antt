@@ -2,7 +2,8 @@
 use Rattle.std.specs.Prelude.{Bool, ℕ, List, ◌≡◌, ◌≤◌, ◌+◌, ◌*◌, length, true, false}
 use Rattle.tier_device.specs.declared.media.Tier.{Tier}
 use Rattle.layout.specs.Places.{Sizes}
-use Rattle.batch_journal.specs.Images.{images_of, count_of, rest_of_head, is_zero, Rises, next_of}
+use Rattle.batch_journal.specs.Images.{images_of, count_of, rest_of_head, Rises, next_of}
+use Rattle.layout.specs.Bytes.{are_zero}
 use Rattle.batch_journal.specs.Blocks.{is_open}
 use Rattle.batch_journal.specs.Volume.{IsJournal, HasSizes}
 
@@ -19,7 +20,7 @@ pub record IsBatch (count next : ℕ) (bytes : List ℕ) : Type 0 where
   pub few : count ≤ 1023
   pub rises : Rises 0 (images_of bytes)
   pub next_is : next ≡ next_of (images_of bytes)
-  pub rest : is_zero (rest_of_head bytes) ≡ true
+  pub rest : are_zero (rest_of_head bytes) ≡ true
 
 -- Whatever a stop leaves is a journal of this geometry, with a closed gate.
 pub record IsShut (g : Sizes) (seen : Tier → List ℕ) (left : List ℕ → Type 0) : Type 0 where

@@ -4,7 +4,8 @@ use Rattle.tier_device.specs.declared.media.Tier.{Tier}
 use Rattle.tier_device.specs.declared.media.Tier.TheVariants.{Fast}
 use Rattle.layout.specs.Places.{Sizes, tier_blocks}
 use Rattle.layout.specs.Super.{super_of}
-use Rattle.batch_journal.specs.Images.{count_of, images_of, image_for, rest_of_head, is_zero}
+use Rattle.batch_journal.specs.Images.{count_of, images_of, image_for, rest_of_head}
+use Rattle.layout.specs.Bytes.{are_zero}
 use Rattle.batch_journal.specs.Blocks.{home, is_open, area_of, rest_of_gate, after_batch, Rising}
 
 -- The block spells the superblock of this geometry.
@@ -20,12 +21,12 @@ pub record IsHead (g : Sizes) (bytes : List ℕ) : Type 0 where
   pub some : 1 ≤ count_of bytes
   pub few : count_of bytes ≤ 256
   pub rising : Rising g 0 (images_of bytes)
-  pub rest : is_zero (rest_of_head bytes) ≡ true
+  pub rest : are_zero (rest_of_head bytes) ≡ true
 
 -- A fast tier of this geometry: block 0 spells it once the journal is replayed, and behind an open gate stands a head.
 pub record IsJournal (g : Sizes) (c : List ℕ) : Type 0 where
   pub size : length c ≡ 4096 * tier_blocks g Fast
-  pub rest : is_zero (rest_of_gate c) ≡ true
+  pub rest : are_zero (rest_of_gate c) ≡ true
   pub superblock : Spells g (home c 0)
   pub head : is_open c ≡ true → IsHead g (area_of c)
 

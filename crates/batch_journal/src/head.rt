@@ -1,19 +1,13 @@
 // What the bytes of a head say.
 ghost use Rattle.std.specs.Prelude.{◌≡◌, ◌<◌, ◌≤◌, ◌+◌, ◌*◌, ◌^◌, ℕ, List, length, true, IsTrue, ◌↔◌};
 ghost use Rattle.layout.specs.Places.{is_journaled};
-ghost use Rattle.batch_journal.specs.Images.{count_of, number_at, images_of, rest_of_head, is_zero, Rises};
+ghost use Rattle.batch_journal.specs.Images.{count_of, number_at, images_of, rest_of_head, Rises};
+ghost use Rattle.layout.specs.Bytes.{are_zero};
 ghost use Rattle.batch_journal.specs.Blocks.{Rising};
 ghost use Rattle.batch_journal.specs.Volume.{IsHead, Spells, KeepsGeometry};
 
 use byteorder::{ByteOrder, LittleEndian};
-use layout::{Geometry, Super};
-
-/// Whether all bytes are zero.
-pub fn are_zero(bytes: &[u8]) -> bool
-    ensures { result ≡ is_zero bytes.now }
-{
-    bytes.iter().all(|byte| *byte == 0)
-}
+use layout::{Geometry, Super, are_zero};
 
 /// The block that the image at a place is for.
 pub fn number_in(bytes: &[u8], place: usize) -> u32
@@ -38,7 +32,7 @@ fn ends_in_zeros(bytes: &[u8], count: usize) -> bool
     requires count { count ≡ count_of bytes.now }
     requires few { count ≤ 256 }
     requires long { 4096 ≤ length bytes.now }
-    ensures { result ≡ is_zero (rest_of_head bytes.now) }
+    ensures { result ≡ are_zero (rest_of_head bytes.now) }
 {
     are_zero(&bytes[4 + 4 * count..4096])
 }

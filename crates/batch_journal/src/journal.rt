@@ -181,10 +181,34 @@ impl<M: Media> Journal<M> {
         ensures geometry { self.new.geometry ≡ self.old.geometry }
         ensures faults { M.faults self.old.media ≤ M.faults self.new.media }
     {
+        let _ = &self.failed;
+        self.read_part(tier, first, 0, out)
+    }
+
+    /// Reads bytes of a tier from a byte of a block on. After a refusal the buffer is as it was.
+    pub fn read_part(
+        &mut self,
+        tier: Tier,
+        block: u32,
+        offset: usize,
+        out: &mut [u8],
+    ) -> Result<(), JournalError>
+        requires { 4096 * block + offset + length out.old ≤ 4096 * tier_blocks self.old.geometry tier }
+        ensures bytes { OnOk result (out.new ≡ slice (4096 * block + offset) (length out.old) (M.seen self.old.media tier)) }
+        ensures refused { OnErr result (out.new ≡ out.old) }
+        ensures unmoved { Unmoved (M.moment self.old.media) (M.moment self.new.media) (M.seen self.old.media) (M.seen self.new.media) (M.left self.old.media) (M.left self.new.media) }
+        ensures only { IfErr result (λ e. e ≡ DeviceFault) }
+        ensures fault { OnErr result ((self.new.failed ≡ true) × ((self.old.failed ≡ true) ⊎ Rose (M.faults self.old.media) (M.faults self.new.media))) }
+        ensures quiet { OnOk result (M.faults self.new.media ≡ M.faults self.old.media) }
+        ensures going { OnOk result ((self.old.failed ≡ false) × (self.new.failed ≡ false)) }
+        ensures stays_failed { self.old.failed ≡ true → (result ≡ Err DeviceFault) × (self.new ≡ self.old) }
+        ensures geometry { self.new.geometry ≡ self.old.geometry }
+        ensures faults { M.faults self.old.media ≤ M.faults self.new.media }
+    {
         if self.failed {
             return Err(JournalError::DeviceFault);
         }
-        match fetch(&mut self.media, tier, 4096 * first as usize, out) {
+        match fetch(&mut self.media, tier, 4096 * block as usize + offset, out) {
             Ok(()) => Ok(()),
             Err(_) => {
                 self.failed = true;

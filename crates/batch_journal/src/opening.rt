@@ -6,7 +6,7 @@ ghost use Rattle.tier_device.specs.declared.media.Tier.TheVariants.{Fast};
 ghost use Rattle.tier_device.specs.Media.{AtRest, Rose};
 ghost use Rattle.batch_journal.specs.Images.{count_of};
 ghost use Rattle.batch_journal.specs.Blocks.{area_of, block_of, is_open, IsShutGate, rest_of_gate, calls_of};
-ghost use Rattle.batch_journal.specs.Images.{is_zero};
+ghost use Rattle.layout.specs.Bytes.{are_zero};
 ghost use Rattle.batch_journal.specs.Volume.{Spells, HasSizes, IsVolume, SameJournal};
 ghost use Rattle.batch_journal.specs.Course.{Since, Unmoved, SameLengths};
 ghost use Rattle.batch_journal.specs.Reading.{IsRead, first_block};
@@ -113,7 +113,7 @@ fn open_replayed<M: Media>(alloc: Global, media: &mut M) -> Result<Geometry, Jou
     requires size { 1196032 ≤ length (M.seen media.old Fast) }
     requires rest { AtRest (M.seen media.old) (M.left media.old (M.moment media.old)) Fast }
     requires opened { is_open (M.seen media.old Fast) ≡ true }
-    requires gate { is_zero (rest_of_gate (M.seen media.old Fast)) ≡ true }
+    requires gate { are_zero (rest_of_gate (M.seen media.old Fast)) ≡ true }
     ensures course { Since Fast (SameJournal (M.seen media.old Fast)) (M.moment media.old) (M.moment media.new) (M.left media.old) (M.left media.new) }
     ensures is { IfOk result (λ g. IsVolume g (M.seen media.old)) }
     ensures damaged { IfErr result (λ e. OnDamage e (λ _ _. (g : Sizes) → IsVolume g (M.seen media.old) → ⊥)) }

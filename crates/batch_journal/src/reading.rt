@@ -2,7 +2,8 @@
 ghost use Rattle.std.specs.Prelude.{◌≡◌, ◌≢◌, ◌<◌, ◌≤◌, ◌+◌, ◌*◌, ◌⊎◌, ◌^◌, ℕ, List, length, true, false, drop, get_or, ◌==◌, OnOk, OnErr, OnSome, IfSome, IfNone, IfOk, IfErr};
 ghost use Rattle.tier_device.specs.declared.media.Tier.TheVariants.{Fast};
 ghost use Rattle.tier_device.specs.Media.{Rose};
-ghost use Rattle.batch_journal.specs.Images.{slice, count_of, images_of, is_zero, rest_of_head};
+ghost use Rattle.batch_journal.specs.Images.{slice, count_of, images_of, rest_of_head};
+ghost use Rattle.layout.specs.Bytes.{are_zero};
 ghost use Rattle.batch_journal.specs.Blocks.{area_of, is_open, rest_of_gate};
 ghost use Rattle.batch_journal.specs.Course.{Unmoved};
 ghost use Rattle.batch_journal.specs.Reading.{IsRead};
@@ -13,10 +14,9 @@ ghost use Rattle.layout.specs.declared.error.What.TheVariants as what;
 
 use crate::calls::fetch;
 use crate::error::JournalError;
-use crate::head::are_zero;
 use crate::replay::{GATE, HEAD, OPEN};
 use byteorder::{ByteOrder, LittleEndian};
-use layout::{GATE_BLOCK, HEAD_BLOCK, What};
+use layout::{GATE_BLOCK, HEAD_BLOCK, What, are_zero};
 use std::alloc::Global;
 use tier_device::{Media, Tier};
 
@@ -49,7 +49,7 @@ pub fn read_run<M: Media>(
 pub fn read_gate<M: Media>(alloc: Global, media: &mut M) -> Result<bool, JournalError>
     requires { 1196032 ≤ length (M.seen media.old Fast) }
     ensures gate { IfOk result (λ gate. gate ≡ is_open (M.seen media.old Fast)) }
-    ensures rest { IfOk result (λ gate. is_zero (rest_of_gate (M.seen media.old Fast)) ≡ true) }
+    ensures rest { IfOk result (λ gate. are_zero (rest_of_gate (M.seen media.old Fast)) ≡ true) }
     ensures unmoved { Unmoved (M.moment media.old) (M.moment media.new) (M.seen media.old) (M.seen media.new) (M.left media.old) (M.left media.new) }
     ensures faults { M.faults media.old ≤ M.faults media.new }
     ensures only { IfErr result (λ e. e ≢ BatchTooLarge) }
@@ -75,8 +75,8 @@ pub fn read_gate<M: Media>(alloc: Global, media: &mut M) -> Result<bool, Journal
 fn gate_in(block: &[u8]) -> Option<bool>
     requires { 1 ≤ length block.now }
     ensures gate { IfSome result (λ is_open. is_open ≡ (get_or block.now 0 0 == 165)) }
-    ensures rest { OnSome result (is_zero (drop 1 block.now) ≡ true) }
-    ensures damaged { IfNone result (is_zero (drop 1 block.now) ≡ false) }
+    ensures rest { OnSome result (are_zero (drop 1 block.now) ≡ true) }
+    ensures damaged { IfNone result (are_zero (drop 1 block.now) ≡ false) }
 {
     if !are_zero(&block[1..]) {
         return None;

@@ -39,5 +39,6 @@ pub use places::{
     MARKS_BLOCK, MAX_DATA_BLOCKS, MAX_IMAGES, MAX_UNITS, MIN_UNITS, SLOT_SIZE, SLOTS_IN_BLOCK,
     SUPER_BLOCK, is_inode, slot_block, slot_byte,
 };
+pub use reading::are_zero;
 pub use slot::Slot;
 pub use superblock::Super;

@@ -31,6 +31,7 @@ pub fn text_of<'a>(text: &[u8], bytes: &'a [u8]) -> Option<&'a [u8]>
     bytes.strip_prefix(text)
 }
 
+/// Whether all bytes are zero.
 pub fn are_zero(bytes: &[u8]) -> bool
     ensures { result ≡ are_zero bytes.now }
 {

@@ -1,4 +1,4 @@
-use block_alloc::{AllocFault, FreeRuns, Run};
+use block_alloc::{AllocatorError, FreeRuns, Run};
 use std::alloc::Global;
 use std::test::Fail;
 
@@ -16,7 +16,7 @@ fn takes_whole_runs(alloc: Global) -> Result<bool, Fail> {
     let last = runs.take(1)?;
     let is_first = first.as_slice() == [run(101, 2), run(104, 1)].as_slice();
     let is_last = last.as_slice() == [run(105, 1)].as_slice();
-    Ok(free == 4 && refused == Some(AllocFault::NoBlock) && is_first && is_last)
+    Ok(free == 4 && refused == Some(AllocatorError::NoBlock) && is_first && is_last)
 }
 
 // Whether runs that are given back become one with those beside them.

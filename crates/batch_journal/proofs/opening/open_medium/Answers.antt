@@ -2,7 +2,8 @@ use Rattle.std.proofs.Common.{◌≡◌, ◌+◌, ℕ, List, length, cond, true,
 use Rattle.std.proofs.lemmas.Bool.{false≢true}
 use Rattle.tier_device.specs.declared.media.Tier.{Tier}
 use Rattle.tier_device.specs.declared.media.Tier.TheVariants.{Fast}
-use Rattle.batch_journal.specs.Images.{count_of, is_zero}
+use Rattle.batch_journal.specs.Images.{count_of}
+use Rattle.layout.specs.Bytes.{are_zero}
 use Rattle.batch_journal.specs.Blocks.{area_of, block_of, is_open, rest_of_gate, calls_of}
 use Rattle.batch_journal.specs.Volume.{Spells, IsVolume, SameJournal}
 use Rattle.batch_journal.proofs.Courses.{still, unmoved_on, then_calls, weaker, left_before, rose_later, on_ok, if_ok, if_ok_2, if_err, each_err, any_ok, tiers_same, on_damage}
@@ -44,7 +45,7 @@ open_replayed-requires-clause-gate g c =
     let un = c.read_gate.ensures.unmoved in
     let is = un.reads Fast in
     let rest = c.in-Ok.ensures.rest in
-    subst (λ (s : List ℕ). is_zero (rest_of_gate s) ≡ true) (sym is) rest
+    subst (λ (s : List ℕ). are_zero (rest_of_gate s) ≡ true) (sym is) rest
 
 pub returns-then-is_open-clause-course : goal.returns-then-is_open-clause-course
 returns-then-is_open-clause-course g c =

@@ -23,8 +23,8 @@ returns-in-Err-clause-course g c =
 pub returns-in-Err-clause-damaged : goal.returns-in-Err-clause-damaged
 returns-in-Err-clause-damaged g c =
     on_damage c.in-Err.error (λ w block out h vol.
-        let head = vol.journal.head c.requires.opened in
-        elim out [ inl lt ↦ omega (arith, lt, head.some) | inr gt ↦ omega (arith, gt, head.few) ]) c.in-Err.ensures.damaged
+    let head = vol.journal.head c.requires.opened in
+    elim out [ inl lt ↦ omega (arith, lt, head.some) | inr gt ↦ omega (arith, gt, head.few) ]) c.in-Err.ensures.damaged
 
 pub returns-in-Err-clause-named : goal.returns-in-Err-clause-named
 returns-in-Err-clause-named g c =

@@ -1,6 +1,7 @@
 use Rattle.std.proofs.Common.{◌≡◌, ◌==◌, ℕ, length, refl, sym, ◌∙◌, ap, arith}
 use Rattle.tier_device.specs.declared.media.Tier.TheVariants.{Fast}
-use Rattle.batch_journal.specs.Images.{slice, is_zero}
+use Rattle.batch_journal.specs.Images.{slice}
+use Rattle.layout.specs.Bytes.{are_zero}
 use Rattle.batch_journal.proofs.Found.{slice_long, gate_of_block, rest_of_block}
 use Rattle.batch_journal.proofs.reading.read_gate.Goals as goal
 
@@ -18,7 +19,7 @@ returns-in-Some-clause-gate g c =
 pub returns-in-Some-clause-rest : goal.returns-in-Some-clause-rest
 returns-in-Some-clause-rest g c =
     let seen = g.M.Media.seen c.args.media.now Fast in
-    ap is_zero (sym (rest_of_block seen c.deref.result.now (c.deref.ensures.value ∙ c.in-Ok.ensures.bytes))) ∙ c.in-Some.ensures.rest
+    ap are_zero (sym (rest_of_block seen c.deref.result.now (c.deref.ensures.value ∙ c.in-Ok.ensures.bytes))) ∙ c.in-Some.ensures.rest
 
 pub returns-in-Ok-clause-damaged : goal.returns-in-Ok-clause-damaged
 returns-in-Ok-clause-damaged g c =
@@ -26,5 +27,5 @@ returns-in-Ok-clause-damaged g c =
     record {
       structure = refl;
       place = refl;
-      rest = ap is_zero (sym (rest_of_block seen c.deref.result.now (c.deref.ensures.value ∙ c.in-Ok.ensures.bytes))) ∙ c.in-None.ensures.damaged;
+      rest = ap are_zero (sym (rest_of_block seen c.deref.result.now (c.deref.ensures.value ∙ c.in-Ok.ensures.bytes))) ∙ c.in-None.ensures.damaged;
     }

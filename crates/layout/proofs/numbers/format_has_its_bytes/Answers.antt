@@ -29,4 +29,3 @@ returns-clause-extents c = refl
 pub returns-clause-entries : goal.returns-clause-entries
 unfolding u32 u64 filled zeros
 returns-clause-entries c = refl
-

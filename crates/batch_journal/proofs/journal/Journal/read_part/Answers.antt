@@ -2,7 +2,7 @@ use Rattle.std.proofs.Common.{length, ap}
 use Rattle.tier_device.specs.declared.media.Tier.TheVariants.{Fast}
 use Rattle.batch_journal.proofs.Courses.{left_before}
 use Rattle.batch_journal.proofs.Views.{shut_still}
-use Rattle.batch_journal.proofs.journal.Journal.read.Goals as goal
+use Rattle.batch_journal.proofs.journal.Journal.read_part.Goals as goal
 
 pub invariant_of-self : goal.invariant_of-self
 invariant_of-self g c going =
