@@ -1,5 +1,6 @@
 pub mod Answering
 pub mod FirstPath
+pub mod Options
 pub mod Parts
 pub mod Printed
 pub mod Reading

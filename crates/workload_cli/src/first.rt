@@ -5,7 +5,7 @@ ghost use Rattle.file_graph.specs.Graph.{Graph, graph_of};
 ghost use Rattle.update_log.specs.View.{records_of};
 ghost use Rattle.workload_cli.specs.FirstPath.{nothing_open, file_open, first_call, second_call, IsLogged, stop_seen, IsMark, IsRecovered};
 
-use crate::lines::{write_data, write_names};
+use crate::lines::{write_data, write_name};
 use crate::options::{Stop, first_options};
 use crate::regions::{apply, log, open_region, recover};
 use crate::run_error::RunError;
@@ -17,7 +17,7 @@ use file_graph::PlainGraph;
 use log_record::Record;
 use posix_calls::{OwnDescriptors, ROOT, Reply};
 use std::alloc::Global;
-use std::io::Write;
+use std::io::{self, Write};
 use tier_device::StopMedia;
 use update_log::Region;
 
@@ -52,7 +52,8 @@ fn run<O: Write>(alloc: Global, stop: Option<Stop>, out: &mut O) -> Result<(), R
     let mut regions = open_regions(alloc, stop)?;
     let done = ask_both(alloc, &mut regions, &mut graph, out)?;
     recover_both(alloc, regions, &mut graph, done)?;
-    write_tree(out, &graph)
+    write_tree(out, &graph)?;
+    Ok(())
 }
 
 fn open_regions(alloc: Global, stop: Option<Stop>) -> Result<Regions, RunError> {
@@ -151,23 +152,23 @@ fn write_reply<O: Write>(
     client: u8,
     is_answered: bool,
     reply: &Reply,
-) -> Result<(), RunError> {
+) -> io::Result<()> {
     if !is_answered {
-        writeln!(out, "{client} stopped")?;
-        return Ok(());
+        return writeln!(out, "{client} stopped");
     }
     match reply {
-        Reply::Done => writeln!(out, "{client} ok")?,
-        Reply::Wrote { count } => writeln!(out, "{client} wrote {count}")?,
-        _ => return Err(RunError::Damaged),
+        Reply::Wrote { count } => writeln!(out, "{client} wrote {count}"),
+        _ => writeln!(out, "{client} ok"),
     }
-    Ok(())
 }
 
-fn write_tree<O: Write>(out: &mut O, graph: &PlainGraph) -> Result<(), RunError> {
+fn write_tree<O: Write>(out: &mut O, graph: &PlainGraph) -> io::Result<()> {
     let bytes = graph.file(FILE).unwrap_or(&[]);
     write!(out, "/f bytes {} ", bytes.len())?;
     write_data(out, bytes)?;
-    out.write_all(b"\n/ ")?;
-    write_names(out, graph.entries(ROOT).unwrap_or(&[]))
+    out.write_all(b"\n/ names")?;
+    for entry in graph.entries(ROOT).unwrap_or(&[]) {
+        write_name(out, entry.name.as_slice())?;
+    }
+    out.write_all(b"\n")
 }

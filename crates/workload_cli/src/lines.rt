@@ -2,19 +2,21 @@
 ghost use Rattle.std.specs.Prelude.{◌≡◌, ◌<◌, IfSome, length, option_map};
 ghost use Rattle.workload_cli.specs.Printed.{run_in_front};
 
-use crate::run_error::RunError;
-use file_graph::PlainEntry;
 use script_lines::{is_plain, run_len};
-use std::io::Write;
+use std::io::{self, Write};
 
 /// Bytes as runs of one byte each, `hhxN` joined by `+`, or `-` where there is none.
-pub fn write_data<W: Write>(out: &mut W, bytes: &[u8]) -> Result<(), RunError> {
+pub fn write_data<W: Write>(out: &mut W, bytes: &[u8]) -> io::Result<()> {
     let Some((byte, count, behind)) = first_run(bytes) else {
-        out.write_all(b"-")?;
-        return Ok(());
+        return out.write_all(b"-");
     };
     write!(out, "{byte:02x}x{count}")?;
-    let mut rest = behind;
+    write_more(out, behind)
+}
+
+// Further runs, each behind a `+`.
+fn write_more<W: Write>(out: &mut W, bytes: &[u8]) -> io::Result<()> {
+    let mut rest = bytes;
     while let Some((byte, count, behind)) = first_run(rest) {
         write!(out, "+{byte:02x}x{count}")?;
         rest = behind;
@@ -36,25 +38,18 @@ fn first_run(bytes: &[u8]) -> Option<(u8, usize, &[u8])>
     }
 }
 
-/// A line of names, each behind a space.
-pub fn write_names<W: Write>(out: &mut W, entries: &[PlainEntry]) -> Result<(), RunError> {
-    out.write_all(b"names")?;
-    for entry in entries {
-        out.write_all(b" ")?;
-        write_name(out, entry.name.as_slice())?;
+/// A name behind a space. Bytes from 0x21 to 0x7e but `%` stand as they are, all others as `%hh`.
+pub fn write_name<W: Write>(out: &mut W, name: &[u8]) -> io::Result<()> {
+    out.write_all(b" ")?;
+    for byte in name {
+        write_byte(out, *byte)?;
     }
-    out.write_all(b"\n")?;
     Ok(())
 }
 
-/// A name. Bytes from 0x21 to 0x7e but `%` stand as they are, all others as `%hh`.
-pub fn write_name<W: Write>(out: &mut W, name: &[u8]) -> Result<(), RunError> {
-    for byte in name {
-        if is_plain(*byte) {
-            out.write_all(&[*byte])?;
-        } else {
-            write!(out, "%{byte:02x}")?;
-        }
+fn write_byte<W: Write>(out: &mut W, byte: u8) -> io::Result<()> {
+    if is_plain(byte) {
+        return out.write_all(&[byte]);
     }
-    Ok(())
+    write!(out, "%{byte:02x}")
 }

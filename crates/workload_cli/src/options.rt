@@ -1,5 +1,7 @@
 // The words of a program's command line.
-ghost use Rattle.std.specs.Prelude.{◌≤◌};
+ghost use Rattle.std.specs.Prelude.{◌≡◌, ◌≤◌, IfOk, IfSome};
+ghost use Rattle.workload_cli.specs.Options.{fill_in, IsFill};
+ghost use Rattle.clap.specs.Matches.{found_of};
 
 use crate::usage::WordsError;
 use clap::{Arg, ArgAction, ArgMatches, Command, value_parser};
@@ -24,10 +26,15 @@ pub fn first_options<'a>(alloc: Global, words: &'a [&'a str]) -> Result<Option<S
 }
 
 fn first_command<'a>(alloc: Global) -> Result<Command<'a>, AllocError> {
+    let fill = fill_arg(alloc)?;
+    stop_command(alloc)?.arg(fill)
+}
+
+fn stop_command<'a>(alloc: Global) -> Result<Command<'a>, AllocError> {
+    let stop = stop_arg(alloc)?;
     Command::new(alloc, "strata_first")
         .about("Two clients log a call each, the run stops, and a recovery shows what was kept")
-        .arg(stop_arg(alloc)?)?
-        .arg(fill_arg(alloc)?)
+        .arg(stop)
 }
 
 fn stop_arg<'a>(alloc: Global) -> Result<Arg<'a>, AllocError> {
@@ -51,7 +58,10 @@ fn fill_arg<'a>(alloc: Global) -> Result<Arg<'a>, AllocError> {
         .requires_arg("stop")
 }
 
-fn stop_of(matches: &ArgMatches<'_>) -> Result<Option<Stop>, WordsError> {
+// The stop that is asked for, whose fill is the byte that the option's value spells.
+fn stop_of(matches: &ArgMatches<'_>) -> Result<Option<Stop>, WordsError>
+    ensures { IfOk result (λ stop. IfSome stop (λ s. IsFill (found_of matches.now) s.fill)) }
+{
     let Some(call) = matches.get_one::<u64>("stop") else {
         return Ok(None);
     };
@@ -67,7 +77,10 @@ fn stop_of(matches: &ArgMatches<'_>) -> Result<Option<Stop>, WordsError> {
     Ok(Some(Stop { call, fill }))
 }
 
-fn fill_of(digits: &[u8]) -> Option<u8> {
+// The byte of two digits.
+fn fill_of(digits: &[u8]) -> Option<u8>
+    ensures { result ≡ fill_in digits.now }
+{
     match digits {
         [high, low] => hex_byte(*high, *low),
         _ => None,

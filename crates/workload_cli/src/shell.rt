@@ -111,11 +111,16 @@ fn answer_all<R: BufRead + Drop, O: Write>(
             return Ok(());
         }
         match shell.answer(lines.line()) {
-            Some(answer) => write_answer(out, &answer)?,
+            Some(answer) => printed(out, &answer)?,
             None => return Err(lines.unreadable()),
         }
     }
     Err(ScriptError::Run(RunError::Device))
+}
+
+fn printed<O: Write>(out: &mut O, answer: &Answer) -> Result<(), RunError> {
+    write_answer(out, answer)?;
+    Ok(())
 }
 
 /// A file tree that answers the lines of a script.

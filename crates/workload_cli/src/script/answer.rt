@@ -1,8 +1,7 @@
 // What the lines of a script are answered.
 use crate::lines::{write_data, write_name};
-use crate::run_error::RunError;
-use posix_calls::{Bytes, Names, Reply};
-use std::io::Write;
+use posix_calls::{Name, Reply};
+use std::io::{self, Write};
 
 /// What a line that can be read is answered.
 #[derive(Drop)]
@@ -13,40 +12,43 @@ pub enum Answer {
 }
 
 /// Prints an answer: nothing, or a reply as a line.
-pub fn write_answer<W: Write>(out: &mut W, answer: &Answer) -> Result<(), RunError> {
+pub fn write_answer<W: Write>(out: &mut W, answer: &Answer) -> io::Result<()> {
     match answer {
         Answer::Silent => Ok(()),
         Answer::Call(reply) => write_reply(out, reply),
     }
 }
 
-fn write_reply<W: Write>(out: &mut W, reply: &Reply) -> Result<(), RunError> {
+fn write_reply<W: Write>(out: &mut W, reply: &Reply) -> io::Result<()> {
     match reply {
-        Reply::Done => writeln!(out, "ok")?,
-        Reply::Opened { descriptor } => writeln!(out, "fd {descriptor}")?,
-        Reply::Read { bytes } => write_bytes(out, bytes)?,
-        Reply::Wrote { count } => writeln!(out, "wrote {count}")?,
-        Reply::Listed { names } => write_listed(out, names)?,
-        Reply::File { size, names } => writeln!(out, "file {size} {names}")?,
-        Reply::Dir { entries } => writeln!(out, "dir {entries}")?,
-        Reply::Failed { errno } => writeln!(out, "{}", errno.standard_name())?,
+        Reply::Read { bytes } => write_bytes(out, bytes.as_slice()),
+        Reply::Listed { names } => write_listed(out, names.as_slice()),
+        reply => write_short(out, reply),
     }
-    Ok(())
 }
 
-fn write_bytes<W: Write>(out: &mut W, bytes: &Bytes) -> Result<(), RunError> {
+// A reply that has a length of its own.
+fn write_short<W: Write>(out: &mut W, reply: &Reply) -> io::Result<()> {
+    match reply {
+        Reply::Opened { descriptor } => writeln!(out, "fd {descriptor}"),
+        Reply::Wrote { count } => writeln!(out, "wrote {count}"),
+        Reply::File { size, names } => writeln!(out, "file {size} {names}"),
+        Reply::Dir { entries } => writeln!(out, "dir {entries}"),
+        Reply::Failed { errno } => writeln!(out, "{}", errno.standard_name()),
+        _ => writeln!(out, "ok"),
+    }
+}
+
+fn write_bytes<W: Write>(out: &mut W, bytes: &[u8]) -> io::Result<()> {
     write!(out, "bytes {} ", bytes.len())?;
-    write_data(out, bytes.as_slice())?;
-    out.write_all(b"\n")?;
-    Ok(())
+    write_data(out, bytes)?;
+    out.write_all(b"\n")
 }
 
-fn write_listed<W: Write>(out: &mut W, names: &Names) -> Result<(), RunError> {
+fn write_listed<W: Write>(out: &mut W, names: &[Name]) -> io::Result<()> {
     out.write_all(b"names")?;
-    for name in names.as_slice() {
-        out.write_all(b" ")?;
+    for name in names {
         write_name(out, name.as_slice())?;
     }
-    out.write_all(b"\n")?;
-    Ok(())
+    out.write_all(b"\n")
 }
