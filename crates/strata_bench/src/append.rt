@@ -1,46 +1,123 @@
 // Appends to a client's log, beside copies of the same bytes.
 ghost use Rattle.std.specs.Prelude.{◌≡◌, ◌≤◌, ◌<◌, IfOk};
 ghost use Rattle.log_record.specs.Grammar.{IsRecord};
+ghost use Rattle.long_media.specs.File.{IsAtRest as IsFileAtRest};
+ghost use Rattle.long_media.specs.Ram.{IsAtRest as IsRamAtRest};
 ghost use Rattle.tier_device.specs.Memory.{IsAtRest};
+ghost use Rattle.tier_device.specs.declared.media.Tier.TheVariants.{Fast};
+ghost use Rattle.tier_device.specs.Media.{AtRest};
 ghost use Rattle.update_log.specs.declared.stage.Stage.TheVariants as stages;
 
 use anyhow::{Result, bail};
 use file_graph::{Effect, Effects};
 use log_record::Record;
 use posix_calls::Bytes;
+use long_media::{FileMedia, RamMedia, Sizes};
 use std::alloc::{AllocError, Global};
+use std::fs;
 use std::time::{Duration, Instant};
-use tier_device::MemMedia;
-use update_log::{REGION_SIZE, Region, RegionError, Stage};
+use tier_device::{Media, MemMedia, Tier};
+use update_log::{CLOSED, HEADER, REGION_SIZE, Region, RegionError, Stage};
 
 /// How many regions are filled, and how many bytes of their size are copied.
 const REGIONS: u32 = 200;
 
-/// Prints the time of an append of a record that writes so many bytes, that of a copy of the same bytes, and their ratio.
-pub fn run(rt: &HostRuntime, bytes: usize) -> Result<()> {
-    let append = time_of_an_append(rt, bytes)?;
+/// Over which medium appends are timed.
+#[derive(Clone, Copy)]
+pub enum Over<'a> {
+    /// Media that keep a record of their calls, a new one for each region.
+    Memory,
+    /// One medium that keeps none.
+    Ram,
+    /// One medium over a file that is made here, and taken away at the end.
+    File(&'a str),
+}
+
+/// Prints the time of an append of a record that writes so many bytes, that of a copy of the same bytes, and their ratio. Over
+/// one medium at least so many appends are made.
+pub fn run(rt: &HostRuntime, bytes: usize, appends: u64, over: Over<'_>) -> Result<()> {
+    let append = time_of_an_append(rt, bytes, appends, over)?;
     let copy = time_of_a_copy(rt, bytes)?;
     report(rt, bytes, append, copy)
 }
 
-fn time_of_an_append(rt: &HostRuntime, bytes: usize) -> Result<u128> {
+fn time_of_an_append(
+    rt: &HostRuntime,
+    bytes: usize,
+    appends: u64,
+    over: Over<'_>,
+) -> Result<u128> {
     let entry = write_of(rt.alloc(), bytes)?;
     keep_freed_memory(rt.alloc())?;
+    match over {
+        Over::Memory => over_new_media(rt, &entry),
+        Over::Ram => over_one(rt, reopened(rt.alloc(), ram(rt.alloc())?)?, &entry, appends),
+        Over::File(path) => {
+            let region = reopened(rt.alloc(), file(rt, path)?)?;
+            let time = over_one(rt, region, &entry, appends);
+            fs::remove_file(rt, path)?;
+            time
+        }
+    }
+}
+
+fn over_new_media(rt: &HostRuntime, entry: &Record) -> Result<u128> {
     let mut time = Duration::ZERO;
     let mut count = 0u64;
     for _ in 0..REGIONS {
-        let (took, appended) = timed_fill(rt, &entry)?;
+        let mut region = fresh(rt.alloc())?;
+        let (took, appended) = timed_fill(rt, &mut region, entry)?;
         time = time.saturating_add(took);
         count = count.saturating_add(appended);
     }
     Ok(each(time, count))
 }
 
-// The time in which one region is filled, and with how many records.
-fn timed_fill(rt: &HostRuntime, entry: &Record) -> Result<(Duration, u64)> {
-    let mut region = fresh(rt.alloc())?;
+// Fills the region and empties it again, until at least so many records were appended. Only the appends are timed.
+fn over_one<M: Media>(
+    rt: &HostRuntime,
+    region: Region<M>,
+    entry: &Record,
+    appends: u64,
+) -> Result<u128> {
+    let mut region = region;
+    let mut time = Duration::ZERO;
+    let mut count = 0u64;
+    for _ in 0..u64::MAX {
+        if appends <= count {
+            break;
+        }
+        let (took, appended) = timed_fill(rt, &mut region, entry)?;
+        if appended == 0 {
+            bail!("the record does not fit");
+        }
+        time = time.saturating_add(took);
+        count = count.saturating_add(appended);
+        region = emptied(rt.alloc(), region)?;
+    }
+    Ok(each(time, count))
+}
+
+// The region of the same medium with no record: its first gate is closed.
+fn emptied<M: Media>(alloc: Global, region: Region<M>) -> Result<Region<M>> {
+    let mut media = region.into_media();
+    if let Err(error) = media.write(Tier::Fast, HEADER, &[CLOSED]) {
+        bail!("emptying a region: {error}");
+    }
+    match media.fence(Tier::Fast) {
+        Ok(()) => reopened(alloc, media),
+        Err(error) => bail!("emptying a region: {error}"),
+    }
+}
+
+// The time in which the region is filled, and with how many records.
+fn timed_fill<M: Media>(
+    rt: &HostRuntime,
+    region: &mut Region<M>,
+    entry: &Record,
+) -> Result<(Duration, u64)> {
     let start = Instant::now(rt)?;
-    let count = fill(&mut region, entry)?;
+    let count = fill(region, entry)?;
     Ok((start.elapsed(rt)?, count))
 }
 
@@ -99,9 +176,41 @@ fn write_of(alloc: Global, bytes: usize) -> Result<Record> {
 
 // An empty region.
 fn fresh(alloc: Global) -> Result<Region<MemMedia>> {
-    match Region::reopen(alloc, medium(alloc)?) {
+    reopened(alloc, medium(alloc)?)
+}
+
+fn reopened<M: Media>(alloc: Global, media: M) -> Result<Region<M>>
+    requires { AtRest (M.seen media) (M.left media (M.moment media)) Fast }
+{
+    match Region::reopen(alloc, media) {
         Ok(region) => Ok(region),
         Err((error, _media)) => bail!("opening a region: {error}"),
+    }
+}
+
+fn ram(alloc: Global) -> Result<RamMedia, AllocError>
+    ensures { IfOk result IsRamAtRest }
+{
+    let size = REGION_SIZE;
+    let zeros = vec![in alloc; 0u8; size]?;
+    Ok(RamMedia::of_bytes(
+        zeros,
+        Vec::new(alloc),
+        Vec::new(alloc),
+    ))
+}
+
+fn file(rt: &HostRuntime, path: &str) -> Result<FileMedia>
+    ensures { IfOk result IsFileAtRest }
+{
+    let sizes = Sizes {
+        fast: REGION_SIZE,
+        block: 0,
+        slow: 0,
+    };
+    match FileMedia::create(rt, rt.alloc(), path, sizes) {
+        Ok(media) => Ok(media),
+        Err(error) => bail!("{error}"),
     }
 }
 
@@ -114,7 +223,7 @@ fn medium(alloc: Global) -> Result<MemMedia, AllocError>
 }
 
 // Appends the record until the region is full, and counts how often.
-fn fill(region: &mut Region<MemMedia>, entry: &Record) -> Result<u64> {
+fn fill<M: Media>(region: &mut Region<M>, entry: &Record) -> Result<u64> {
     for count in 0..u64::MAX {
         if region.stage() != Stage::Resting || !entry.has_spelling() {
             bail!("nothing can be appended");

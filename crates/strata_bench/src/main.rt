@@ -6,16 +6,23 @@ mod batch;
 mod leases;
 mod script;
 
-use anyhow::{Context, Result};
+use anyhow::{Context, Result, bail};
+use append::Over;
 use clap::{Arg, ArgAction, ArgMatches, Command, value_parser};
 use std::alloc::Global;
 use std::env;
 use std::process::ExitCode;
 
+/// How many appends are made at least over one medium.
+const APPENDS: u64 = 630;
+
 fn command<'a>(alloc: Global) -> Result<Command<'a>> {
     let timings = Command::new(alloc, "strata_bench")
         .about("Times the layers of Strata beside plain work on the same bytes")
         .arg(append_arg(alloc))?
+        .arg(media_arg(alloc))?
+        .arg(path_arg(alloc))?
+        .arg(times_arg(alloc))?
         .arg(batch_arg(alloc))?
         .arg(leases_arg(alloc))?
         .arg(script_arg(alloc))?;
@@ -29,6 +36,30 @@ fn append_arg<'a>(alloc: Global) -> Arg<'a> {
         .help("Time appends of records that write so many bytes, 1 to 65536")
         .action(ArgAction::Set)
         .value_parser(value_parser!(u64).range(1..65_537))
+}
+
+fn media_arg<'a>(alloc: Global) -> Arg<'a> {
+    Arg::new(alloc, "media")
+        .long("media")
+        .value_name("KIND")
+        .help("The medium of the appends: mem (with a record of its calls), ram (with none), or file, made at PATH")
+        .action(ArgAction::Set)
+}
+
+fn path_arg<'a>(alloc: Global) -> Arg<'a> {
+    Arg::new(alloc, "path")
+        .value_name("PATH")
+        .help("The file that --media file makes, and takes away at the end")
+        .action(ArgAction::Set)
+}
+
+fn times_arg<'a>(alloc: Global) -> Arg<'a> {
+    Arg::new(alloc, "times")
+        .long("times")
+        .value_name("COUNT")
+        .help("Over ram or file make at least so many appends, by default 630")
+        .action(ArgAction::Set)
+        .value_parser(value_parser!(u64))
 }
 
 fn batch_arg<'a>(alloc: Global) -> Arg<'a> {
@@ -76,13 +107,27 @@ fn main(rt: HostRuntime) -> Result<ExitCode> {
     }
 }
 
+// The medium that the appends are made over.
+fn over<'a>(matches: &ArgMatches<'a>) -> Result<Over<'a>> {
+    match (
+        matches.get_str("media").unwrap_or("mem"),
+        matches.get_str("path"),
+    ) {
+        ("mem", None) => Ok(Over::Memory),
+        ("ram", None) => Ok(Over::Ram),
+        ("file", Some(path)) => Ok(Over::File(path)),
+        _ => bail!("--media is mem, ram, or file with a path"),
+    }
+}
+
 // Makes the timings that are asked for, but for the leases': only `main` can start threads.
 fn run(rt: &HostRuntime, matches: &ArgMatches<'_>) -> Result<()> {
     let append = matches.get_one::<u64>("append");
     let batch = matches.get_one::<u64>("batch");
     let script = matches.get_flag("script");
     if let Some(bytes) = append {
-        append::run(rt, bytes as usize)?;
+        let times = matches.get_one::<u64>("times").unwrap_or(APPENDS);
+        append::run(rt, bytes as usize, times, over(matches)?)?;
     }
     if let Some(images) = batch {
         batch::run(rt, images as usize)?;
@@ -92,7 +137,7 @@ fn run(rt: &HostRuntime, matches: &ArgMatches<'_>) -> Result<()> {
     }
     if append.is_none() && batch.is_none() && !script && !matches.get_flag("leases") {
         println!(rt;
-            "usage: strata_bench [--append BYTES] [--batch IMAGES] [--leases] [--script]"
+            "usage: strata_bench [--append BYTES [--media mem|ram|file [PATH]] [--times COUNT]] [--batch IMAGES] [--leases] [--script]"
         )?;
     }
     Ok(())
