@@ -3,8 +3,8 @@ use crate::data_words::{allowed_geometry, first_word, geometry_of, number_of, pa
 use crate::error::RowError;
 use crate::structures::put_reading;
 use layout::{
-    BLOCK, DecodeError, DirBlock, ExtentBlock, Geometry, Marks, SLOT_SIZE, Slot, Super, is_inode,
-    slot_block, slot_byte,
+    BLOCK, DirBlock, ExtentBlock, Geometry, LayoutError, Marks, SLOT_SIZE, Slot, Space, Super,
+    is_inode, slot_block, slot_byte,
 };
 use std::alloc::{AllocError, Global};
 use tier_device::Tier;
@@ -102,8 +102,8 @@ pub fn directory_extents(
     geometry: &Geometry,
     number: u32,
     block: &[u8],
-) -> Result<ExtentBlock, DecodeError> {
-    ExtentBlock::decode(alloc, geometry, Tier::Fast, number, block)
+) -> Result<ExtentBlock, LayoutError> {
+    ExtentBlock::decode(alloc, geometry, Space::Nodes, number, block)
 }
 
 fn extents_of(
@@ -111,7 +111,7 @@ fn extents_of(
     geometry: &Geometry,
     word: &str,
     block: &[u8],
-) -> Result<Result<ExtentBlock, DecodeError>, RowError> {
+) -> Result<Result<ExtentBlock, LayoutError>, RowError> {
     let tier = match word.as_bytes() {
         b"fast" => Tier::Fast,
         b"block" => Tier::Block,
@@ -119,5 +119,5 @@ fn extents_of(
         b"directory" => return Ok(directory_extents(alloc, geometry, NUMBER, block)),
         _ => return Err(RowError::Unread),
     };
-    Ok(ExtentBlock::decode(alloc, geometry, tier, NUMBER, block))
+    Ok(ExtentBlock::decode(alloc, geometry, Space::Data(tier), NUMBER, block))
 }

@@ -66,7 +66,7 @@ fn copied(alloc: Global, bytes: &[u8]) -> Result<MemMedia, AllocError>
     ensures { IfOk result IsAtRest }
 {
     let fast = bytes.to_vec(alloc)?;
-    MemMedia::of_bytes(alloc, fast, Vec::new(alloc), Vec::new(alloc))
+    Ok(MemMedia::of_bytes(alloc, fast, Vec::new(alloc), Vec::new(alloc))?)
 }
 
 fn open(alloc: Global, media: MemMedia) -> Result<Region<MemMedia>, RegionError>

@@ -10,8 +10,8 @@ use crate::region_rows::{found_in, put_sizes};
 use crate::structures::put_reading;
 use batch_journal::Journal;
 use layout::{
-    BLOCK, DirBlock, Extent, ExtentBlock, Geometry, MARKS_BLOCK, Marks, SLOT_SIZE, Slot, Super,
-    slot_block, slot_byte,
+    BLOCK, DirBlock, Extent, ExtentBlock, Geometry, MARKS_BLOCK, Marks, SLOT_SIZE, Slot, Space,
+    Super, slot_block, slot_byte,
 };
 use posix_calls::MAX_INODE;
 use std::alloc::{AllocError, Global};
@@ -137,7 +137,13 @@ impl Walk {
         }
         self.read(root);
         write!(out, "; {root} ")?;
-        let found = ExtentBlock::decode(self.alloc, &self.geometry, tier, root, &self.block);
+        let found = ExtentBlock::decode(
+            self.alloc,
+            &self.geometry,
+            Space::Data(tier),
+            root,
+            &self.block,
+        );
         put_reading(self.alloc, found, &self.block, out)
     }
 

@@ -1,5 +1,6 @@
 -- A medium in memory whose past is in the proof, as the device model sees it.
-use Rattle.std.specs.Prelude.{◌≡◌, ◌≤◌, ℕ, List, length}
+use Rattle.std.specs.Prelude.{◌≡◌, ◌<◌, ◌≤◌, ◌^◌, ℕ, List, length}
+use Rattle.std.proofs.Common.{lit<}
 use Rattle.tier_device.specs.declared.media.Tier.{Tier}
 use Rattle.tier_device.specs.Media.{AtRest}
 use Rattle.tier_device.specs.Rows.{row}
@@ -33,3 +34,7 @@ ram_seen_now m t = history_seen_now m.past.history (row m.tiers) m.shows t
 
 pub ram_sized : (m : RamMedia) (k : ℕ) (t : Tier) (c : List ℕ) → k ≤ ram_moment m → ram_left m k t c → length c ≡ length (ram_seen m t)
 ram_sized m k t c _ left = history_sized m.past.history (row m.tiers) m.shows k t c left
+
+-- no failed call is no more than 64 bits count
+pub none_is_few : 0 < 2 ^ 64
+none_is_few = lit< tt

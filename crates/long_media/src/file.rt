@@ -21,6 +21,7 @@ pub struct FileMedia {
     inner: Mirrored,
     faults: u64,
     ghost told: { mirrored_failed inner ≡ true → 0 < faults },
+    ghost few: { faults < 2 ^ 64 },
 }
 
 impl FileMedia {
@@ -74,6 +75,8 @@ impl Media for FileMedia {
     ghost faults = { failures };
 
     ghost seen_now = { file_seen_now };
+
+    ghost few = { λ m. m.few };
 
     ghost sized = { file_sized };
 

@@ -45,7 +45,7 @@ impl RamMedia {
 }
 
 impl Media for RamMedia {
-    ghost use Rattle.long_media.specs.Ram.{ram_seen, ram_moment, ram_left, ram_seen_now, ram_sized, ram_history};
+    ghost use Rattle.long_media.specs.Ram.{ram_seen, ram_moment, ram_left, ram_seen_now, ram_sized, ram_history, none_is_few};
 
     ghost seen = { ram_seen };
 
@@ -56,6 +56,8 @@ impl Media for RamMedia {
     ghost faults = { λ _. 0 };
 
     ghost seen_now = { ram_seen_now };
+
+    ghost few = { λ _. none_is_few };
 
     ghost sized = { ram_sized };
 

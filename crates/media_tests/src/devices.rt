@@ -12,7 +12,7 @@ fn zeros(alloc: Global) -> Result<MemMedia, AllocError>
 {
     let fast = [0u8; 6].to_vec(alloc)?;
     let slow = [0u8; 1].to_vec(alloc)?;
-    MemMedia::of_bytes(alloc, fast, Vec::new(alloc), slow)
+    Ok(MemMedia::of_bytes(alloc, fast, Vec::new(alloc), slow)?)
 }
 
 // Writes 1, 2 at 0 and 7, 8 at 1, with a fence behind each, and counts the calls that succeed.

@@ -39,7 +39,7 @@ pub fn after_stop(media: &MemMedia) -> Result<MemMedia, AllocError>
 }
 
 /// A medium whose call of this number fails.
-pub fn failing(media: MemMedia, call: u64) -> FaultMedia
+pub fn failing(media: MemMedia, call: u64) -> FaultMedia<MemMedia>
     requires call { 1 ≤ call }
     requires rests { IsAtRest media }
     ensures { IsAtRest (sound_of result) }

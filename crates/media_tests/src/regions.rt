@@ -19,7 +19,7 @@ fn medium(alloc: Global) -> Result<MemMedia, AllocError>
 {
     let size = REGION_SIZE;
     let zeros = vec![in alloc; 0u8; size]?;
-    MemMedia::of_bytes(alloc, zeros, Vec::new(alloc), Vec::new(alloc))
+    Ok(MemMedia::of_bytes(alloc, zeros, Vec::new(alloc), Vec::new(alloc))?)
 }
 
 fn reopened<M: Media + Drop>(alloc: Global, media: M) -> Result<Region<M>, RegionError>
