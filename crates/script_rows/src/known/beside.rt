@@ -2,11 +2,11 @@
 use crate::known::part::KnownPart;
 use call_effects::{growth_of, has_effects, record_of};
 use file_graph::{Effect, Effects, PlainGraph};
-use posix_calls::{
-    Call, Deed, Descriptor, Errno, MAX_CLIENTS, MAX_INODE, NoDeed, OwnDescriptors, ROOT,
-    Reply, decide,
-};
 use plain_tree::PlainTree;
+use posix_calls::{
+    Call, Deed, Descriptor, Errno, MAX_CLIENTS, MAX_INODE, NoDeed, OwnDescriptors, ROOT, Reply,
+    decide,
+};
 use std::alloc::Global;
 use std::io::{self, ErrorKind};
 
