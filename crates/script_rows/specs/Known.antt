@@ -1,5 +1,5 @@
 -- What is known of a plain graph of which only some inodes are known.
-use Rattle.std.specs.Prelude.{ℕ, List, ◌||◌, ◌==◌, Option, Some, None, option_map, if◌then◌else◌}
+use Rattle.std.specs.Prelude.{ℕ, List, ◌||◌, ◌==◌, None, if◌then◌else◌}
 use Rattle.posix_calls.specs.Asks.{Part}
 use Rattle.posix_calls.specs.declared.limits.TheConstants.{ROOT}
 use Rattle.file_graph.specs.Graph.{Graph, is_among}
