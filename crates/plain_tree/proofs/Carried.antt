@@ -1,6 +1,6 @@
 -- What deeds make of the nodes and the rows of a plain tree.
-use Rattle.std.proofs.Common.{◌≡◌, ◌≢◌, ℕ, List, Option, refl, sym, ap, ◌∙◌, inl, inr, arith}
-use Rattle.posix_calls.specs.Tree.{Node, Tree, Own, Descriptors, with_own, State}
+use Rattle.std.proofs.Common.{◌≡◌, ℕ, List, Option, refl, sym, ap, ◌∙◌}
+use Rattle.posix_calls.specs.Tree.{Node, Tree, Descriptors, with_own, State}
 use Rattle.posix_calls.specs.Deeds.{tree_after, own_after, held_after, state_after}
 use Rattle.posix_calls.proofs.Steps.{with_same}
 use Rattle.plain_tree.specs.Plain.{tree_of, held_of, state_in, with_opened, opened_by, HasNumber, IsPlaced}

@@ -1,11 +1,11 @@
 -- How many names there are after a change, and that what is stored of them stays right.
-use Rattle.std.proofs.Common.{◌≡◌, ◌≢◌, ℕ, zero, suc, ◌+◌, ◌<◌, ◌≤◌, List, [], ◌∷◌, ◌++◌, length, Option, Some, None, Result, Ok, Err, refl, sym, ap, ◌∙◌, arith, inl, inr}
+use Rattle.std.proofs.Common.{◌≡◌, ◌≢◌, ℕ, ◌+◌, ◌<◌, ◌≤◌, List, [], ◌∷◌, ◌++◌, length, Option, Some, None, Result, Ok, Err, refl, sym, ap, ◌∙◌, arith, inl, inr}
 use Rattle.std.specs.Prelude.{OnOk, OnErr}
 use Rattle.std.specs.declared.alloc.AllocError.{AllocError}
 use Rattle.std.proofs.lemmas.Bool.{cases_lt}
 use Rattle.std.proofs.lemmas.List.{get_or_past}
 use Rattle.std.specs.FinMap as fin
-use Rattle.posix_calls.specs.Tree.{Node, Tree, Dir, set_node, entries_of, names_in, names_of, sum_up_to, IsBare}
+use Rattle.posix_calls.specs.Tree.{Node, Tree, Dir, set_node, entries_of, names_in, names_of, IsBare}
 use Rattle.posix_calls.specs.Deeds.{entered, left}
 use Rattle.plain_tree.specs.Plain.{tree_of, count_at, one_for, at_spot, IsBareReplaced, IsInode, IsCounted, Replaces}
 use Rattle.posix_calls.specs.declared.deed.Replaced.{Replaced}
@@ -14,7 +14,7 @@ use Rattle.posix_calls.specs.Content.{Entries}
 use Rattle.posix_calls.specs.declared.deed.Spot.{Spot}
 use Rattle.posix_calls.specs.declared.limits.TheConstants.{MAX_INODE}
 use Rattle.posix_calls.proofs.Sums.{names_of-set_node, all_zero}
-use Rattle.posix_calls.proofs.Counts.{counted, counted_is, counted_empty, absent}
+use Rattle.posix_calls.proofs.Counts.{counted, counted_is, absent}
 use Rattle.posix_calls.proofs.Changes.{in_node, bare_names, entered_names, left_names, left_here, on_one, set_other, set_there}
 use Rattle.plain_tree.proofs.Slots.{pushed_at}
 use Rattle.plain_tree.proofs.Moves.{renewed, off_parent}

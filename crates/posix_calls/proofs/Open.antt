@@ -1,12 +1,10 @@
 -- What is open, and where descriptors come and go.
-use Rattle.std.proofs.Common.{◌≡◌, ◌⊎◌, inl, inr, ℕ, zero, suc, ◌+◌, ◌-◌, ◌<◌, ◌≤◌, refl, Some, None, Option, cond, ap, sym, ◌∙◌, subst, true, false, Bool, arith}
-use Rattle.std.specs.Prelude.{◌||◌}
+use Rattle.std.proofs.Common.{◌≡◌, ◌⊎◌, inl, inr, ℕ, ◌+◌, ◌-◌, ◌<◌, ◌≤◌, refl, Some, None, Option, cond, ap, sym, ◌∙◌, subst, true, false, arith}
 use Rattle.std.proofs.lemmas.Bool.{eq-eqb}
 use Rattle.std.proofs.lemmas.Bool.Decides.{eqb_tells}
-use Rattle.std.proofs.Math.Decide.{dec_le}
 use Rattle.posix_calls.specs.Tree.{Descriptors, set_own, with_own, is_open, any_up_to, refers_to}
 use Rattle.posix_calls.specs.declared.descriptor.Descriptor.{Descriptor}
-use Rattle.posix_calls.proofs.Sums.{IsOne, any_there, any_is}
+use Rattle.posix_calls.proofs.Sums.{any_there, any_is}
 
 -- what is open at a number of a client is open
 pub open_there : (d : Descriptors) (c n : ℕ) (o : Descriptor) → 1 ≤ c → c ≤ 8 → n < 32 → d c n ≡ Some o → is_open d o.inode ≡ true

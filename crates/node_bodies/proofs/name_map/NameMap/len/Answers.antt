@@ -1,4 +1,4 @@
-use Rattle.std.proofs.Common.{◌≡◌, ap, sym, ◌∙◌, List, length, ℕ}
+use Rattle.std.proofs.Common.{◌≡◌, ap, sym, ◌∙◌, List, length}
 use Rattle.std.specs.FinMap as fin
 use Rattle.std.proofs.lemmas.List.{length-map}
 use Rattle.posix_calls.specs.Content.{Entries}
