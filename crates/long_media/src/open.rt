@@ -10,7 +10,6 @@ use crate::file::FileMedia;
 use std::alloc::{AllocError, Global};
 use std::fs::{self, File, Files, OpenOptions, TryLockError};
 use std::io;
-use std::os::fd::AsRawFd;
 use std::os::unix::fs::FileExt;
 use std::path::Path;
 use tier_device::{Tier, Tiers};
@@ -170,15 +169,9 @@ fn check_len(file: &File, wanted: u64) -> Result<(), FileProblem> {
     Ok(())
 }
 
-// Has the system keep all that it was given of the file, and drop its copies of it: after a sync that failed in an earlier
-// process those may differ from what is kept.
+// Has the system keep all that it was given of the file.
 fn settle(file: &File) -> io::Result<()> {
-    file.sync_all()?;
-    let advised = libc::posix_fadvise(file.as_raw_fd(), 0, 0, libc::POSIX_FADV_DONTNEED);
-    if advised != 0 {
-        return Err(io::Error::from_raw_os_error(advised));
-    }
-    Ok(())
+    file.sync_all()
 }
 
 fn read_tiers(alloc: Global, file: &File, sizes: Sizes) -> Result<Tiers, FileProblem>
