@@ -13,8 +13,7 @@ use Rattle.posix_calls.proofs.Directory.{entries-empty, names_same}
 use Rattle.posix_calls.proofs.Counts.{order}
 use Rattle.file_graph.specs.Graph.{Node, FileBody, DirBody, directory_entries}
 use Rattle.file_graph.specs.declared.effect.Kind.{Kind}
-use Rattle.file_graph.specs.declared.entries.PlainEntry.{PlainEntry}
-use Rattle.file_graph.specs.Plain.{pairs}
+use Rattle.file_graph.specs.Plain.{PlainEntry, pairs}
 use Rattle.std.proofs.lemmas.List.{length-map}
 use Rattle.call_effects.specs.Wholes.{without_kinds, node_is_dir, node_seen}
 use Rattle.call_effects.proofs.Inodes.{get_inodes}
