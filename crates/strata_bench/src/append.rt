@@ -11,8 +11,8 @@ ghost use Rattle.update_log.specs.declared.stage.Stage.TheVariants as stages;
 use anyhow::{Result, bail};
 use file_graph::{Effect, Effects};
 use log_record::Record;
-use posix_calls::Bytes;
 use long_media::{FileMedia, RamMedia, Sizes};
+use posix_calls::Bytes;
 use std::alloc::{AllocError, Global};
 use std::fs;
 use std::time::{Duration, Instant};
@@ -41,19 +41,14 @@ pub fn run(rt: &HostRuntime, bytes: usize, appends: u64, over: Over<'_>) -> Resu
     report(rt, bytes, append, copy)
 }
 
-fn time_of_an_append(
-    rt: &HostRuntime,
-    bytes: usize,
-    appends: u64,
-    over: Over<'_>,
-) -> Result<u128> {
+fn time_of_an_append(rt: &HostRuntime, bytes: usize, appends: u64, over: Over<'_>) -> Result<u128> {
     let entry = write_of(rt.alloc(), bytes)?;
     keep_freed_memory(rt.alloc())?;
     match over {
         Over::Memory => over_new_media(rt, &entry),
-        Over::Ram => over_one(rt, reopened(rt.alloc(), ram(rt.alloc())?)?, &entry, appends),
+        Over::Ram => over_one(rt, over_ram(rt.alloc())?, &entry, appends),
         Over::File(path) => {
-            let region = reopened(rt.alloc(), file(rt, path)?)?;
+            let region = over_file(rt, path)?;
             let time = over_one(rt, region, &entry, appends);
             fs::remove_file(rt, path)?;
             time
@@ -74,7 +69,7 @@ fn over_new_media(rt: &HostRuntime, entry: &Record) -> Result<u128> {
 }
 
 // Fills the region and empties it again, until at least so many records were appended. Only the appends are timed.
-fn over_one<M: Media>(
+fn over_one<M: Media + Drop>(
     rt: &HostRuntime,
     region: Region<M>,
     entry: &Record,
@@ -99,7 +94,7 @@ fn over_one<M: Media>(
 }
 
 // The region of the same medium with no record: its first gate is closed.
-fn emptied<M: Media>(alloc: Global, region: Region<M>) -> Result<Region<M>> {
+fn emptied<M: Media + Drop>(alloc: Global, region: Region<M>) -> Result<Region<M>> {
     let mut media = region.into_media();
     if let Err(error) = media.write(Tier::Fast, HEADER, &[CLOSED]) {
         bail!("emptying a region: {error}");
@@ -111,7 +106,7 @@ fn emptied<M: Media>(alloc: Global, region: Region<M>) -> Result<Region<M>> {
 }
 
 // The time in which the region is filled, and with how many records.
-fn timed_fill<M: Media>(
+fn timed_fill<M: Media + Drop>(
     rt: &HostRuntime,
     region: &mut Region<M>,
     entry: &Record,
@@ -179,7 +174,7 @@ fn fresh(alloc: Global) -> Result<Region<MemMedia>> {
     reopened(alloc, medium(alloc)?)
 }
 
-fn reopened<M: Media>(alloc: Global, media: M) -> Result<Region<M>>
+fn reopened<M: Media + Drop>(alloc: Global, media: M) -> Result<Region<M>>
     requires { AtRest (M.seen media) (M.left media (M.moment media)) Fast }
 {
     match Region::reopen(alloc, media) {
@@ -188,16 +183,20 @@ fn reopened<M: Media>(alloc: Global, media: M) -> Result<Region<M>>
     }
 }
 
+fn over_ram(alloc: Global) -> Result<Region<RamMedia>> {
+    reopened(alloc, ram(alloc)?)
+}
+
+fn over_file(rt: &HostRuntime, path: &str) -> Result<Region<FileMedia>> {
+    reopened(rt.alloc(), file(rt, path)?)
+}
+
 fn ram(alloc: Global) -> Result<RamMedia, AllocError>
     ensures { IfOk result IsRamAtRest }
 {
     let size = REGION_SIZE;
     let zeros = vec![in alloc; 0u8; size]?;
-    Ok(RamMedia::of_bytes(
-        zeros,
-        Vec::new(alloc),
-        Vec::new(alloc),
-    ))
+    Ok(RamMedia::of_bytes(zeros, Vec::new(alloc), Vec::new(alloc)))
 }
 
 fn file(rt: &HostRuntime, path: &str) -> Result<FileMedia>
@@ -223,7 +222,7 @@ fn medium(alloc: Global) -> Result<MemMedia, AllocError>
 }
 
 // Appends the record until the region is full, and counts how often.
-fn fill<M: Media>(region: &mut Region<M>, entry: &Record) -> Result<u64> {
+fn fill<M: Media + Drop>(region: &mut Region<M>, entry: &Record) -> Result<u64> {
     for count in 0..u64::MAX {
         if region.stage() != Stage::Resting || !entry.has_spelling() {
             bail!("nothing can be appended");

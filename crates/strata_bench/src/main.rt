@@ -42,7 +42,9 @@ fn media_arg<'a>(alloc: Global) -> Arg<'a> {
     Arg::new(alloc, "media")
         .long("media")
         .value_name("KIND")
-        .help("The medium of the appends: mem (with a record of its calls), ram (with none), or file, made at PATH")
+        .help(
+            "The medium of the appends: mem (with a record of its calls), ram (with none), or file, made at PATH",
+        )
         .action(ArgAction::Set)
 }
 
