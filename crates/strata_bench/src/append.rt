@@ -33,9 +33,8 @@ pub enum Over<'a> {
     File(&'a str),
 }
 
-/// Prints the time of an append of a record that writes so many bytes, that of a copy of the same bytes, and their ratio. Both are
-/// of the fastest fill of a region; over a file the append's is that of all fills. Over one medium at least so many appends are
-/// made.
+/// Prints the time of an append of a record that writes so many bytes, that of a copy of the same bytes, and their ratio. Over
+/// one medium at least so many appends are made.
 pub fn run(rt: &HostRuntime, bytes: usize, appends: u64, over: Over<'_>) -> Result<()> {
     let append = time_of_an_append(rt, bytes, appends, over)?;
     let copy = time_of_a_copy(rt, bytes)?;
@@ -46,26 +45,27 @@ fn time_of_an_append(rt: &HostRuntime, bytes: usize, appends: u64, over: Over<'_
     let entry = write_of(rt.alloc(), bytes)?;
     keep_freed_memory(rt.alloc())?;
     match over {
-        Over::Memory => Ok(over_new_media(rt, &entry)?.best),
-        Over::Ram => Ok(over_one(rt, over_ram(rt.alloc())?, &entry, appends)?.best),
+        Over::Memory => over_new_media(rt, &entry),
+        Over::Ram => over_one(rt, over_ram(rt.alloc())?, &entry, appends),
         Over::File(path) => {
             let region = over_file(rt, path)?;
-            let times = over_one(rt, region, &entry, appends);
+            let time = over_one(rt, region, &entry, appends);
             fs::remove_file(rt, path)?;
-            let times = times?;
-            Ok(each(times.time, times.count))
+            time
         }
     }
 }
 
-fn over_new_media(rt: &HostRuntime, entry: &Record) -> Result<Times> {
-    let mut times = Times::new();
+fn over_new_media(rt: &HostRuntime, entry: &Record) -> Result<u128> {
+    let mut time = Duration::ZERO;
+    let mut count = 0u64;
     for _ in 0..REGIONS {
         let mut region = fresh(rt.alloc())?;
         let (took, appended) = timed_fill(rt, &mut region, entry)?;
-        times.add(took, appended);
+        time = time.saturating_add(took);
+        count = count.saturating_add(appended);
     }
-    Ok(times)
+    Ok(each(time, count))
 }
 
 // Fills the region and empties it again, until at least so many records were appended. Only the appends are timed.
@@ -74,21 +74,23 @@ fn over_one<M: Media + Drop>(
     region: Region<M>,
     entry: &Record,
     appends: u64,
-) -> Result<Times> {
+) -> Result<u128> {
     let mut region = region;
-    let mut times = Times::new();
+    let mut time = Duration::ZERO;
+    let mut count = 0u64;
     for _ in 0..u64::MAX {
-        if appends <= times.count {
+        if appends <= count {
             break;
         }
         let (took, appended) = timed_fill(rt, &mut region, entry)?;
         if appended == 0 {
             bail!("the record does not fit");
         }
-        times.add(took, appended);
+        time = time.saturating_add(took);
+        count = count.saturating_add(appended);
         region = emptied(rt.alloc(), region)?;
     }
-    Ok(times)
+    Ok(each(time, count))
 }
 
 // The region of the same medium with no record: its first gate is closed.
@@ -118,13 +120,12 @@ fn time_of_a_copy(rt: &HostRuntime, bytes: usize) -> Result<u128> {
     let alloc = rt.alloc();
     let from = vec![in alloc; 0x61u8; bytes]?;
     let mut to = vec![in alloc; 0u8; REGION_SIZE]?;
-    let mut times = Times::new();
+    let start = Instant::now(rt)?;
+    let mut count = 0u64;
     for _ in 0..REGIONS {
-        let start = Instant::now(rt)?;
-        let count = copy(&mut to, &from);
-        times.add(start.elapsed(rt)?, count);
+        count = count.saturating_add(copy(&mut to, &from));
     }
-    Ok(times.best)
+    Ok(each(start.elapsed(rt)?, count))
 }
 
 // Frees a large block once: the allocator then keeps what is freed, so that no page is asked of the system while a region is
@@ -135,30 +136,6 @@ fn keep_freed_memory(alloc: Global) -> Result<(), AllocError> {
     Ok(())
 }
 
-// How long the fills of regions took.
-#[derive(Clone, Copy)]
-struct Times {
-    time: Duration,
-    count: u64,
-    best: u128,
-}
-
-impl Times {
-    fn new() -> Self {
-        Times {
-            time: Duration::ZERO,
-            count: 0,
-            best: u128::MAX,
-        }
-    }
-
-    fn add(&mut self, took: Duration, appended: u64) {
-        self.time = self.time.saturating_add(took);
-        self.count = self.count.saturating_add(appended);
-        self.best = self.best.min(each(took, appended));
-    }
-}
-
 // Nanoseconds for one of so many.
 fn each(time: Duration, count: u64) -> u128 {
     time.as_nanos().checked_div(u128::from(count)).unwrap_or(0)
@@ -167,8 +144,8 @@ fn each(time: Duration, count: u64) -> u128 {
 fn report(rt: &HostRuntime, bytes: usize, append: u128, copy: u128) -> Result<()> {
     println!(rt; "append of {bytes} bytes: {append} ns")?;
     println!(rt; "copy of {bytes} bytes: {copy} ns")?;
-    if let Some(ratio) = append.saturating_mul(10).checked_div(copy) {
-        println!(rt; "ratio: {}.{}", ratio / 10, ratio % 10)?;
+    if let Some(ratio) = append.checked_div(copy) {
+        println!(rt; "ratio: {ratio}")?;
     }
     Ok(())
 }
