@@ -1,9 +1,9 @@
 // A medium over a file of the operating system, with a mirror in memory.
 ghost use Rattle.std.specs.Prelude.{◌≡◌, ◌≤◌, ◌<◌, ◌+◌, ◌^◌, ◌++◌, List, ℕ, length, take, drop, IfOk, OnOk, OnErr, IsErrOf, true, false};
 ghost use Rattle.tier_device.specs.declared.media.Tier.{Tier};
-ghost use Rattle.tier_device.specs.declared.media.MediaError.TheVariants.{OutOfRange};
+ghost use Rattle.tier_device.specs.declared.media.MediaError.TheVariants.{OutOfRange, DeviceFault};
 ghost use Rattle.tier_device.specs.Rows.{row};
-ghost use Rattle.tier_device.specs.Media.{overwritten, Puts, Keeps, Tears, TearsAll, Settles, HasCause, InRange};
+ghost use Rattle.tier_device.specs.Media.{overwritten, Puts, Keeps, Tears, TearsAll, Settles, HasCause, InRange, Rose};
 ghost use Rattle.long_media.specs.Cover.{Fails};
 ghost use Rattle.long_media.specs.Place.{total};
 ghost use Rattle.long_media.specs.Mirrored.{mirrored_failed};
@@ -63,6 +63,16 @@ impl FileMedia {
     {}
 }
 
+// Counts one failed call.
+fn count(faults: &mut u64) -> MediaError
+    ensures is { result ≡ DeviceFault }
+    ensures rose { Rose faults.old faults.new }
+    ensures some { (0 < faults.new) × (faults.old ≤ faults.new) }
+{
+    *faults = faults.saturating_add(1);
+    MediaError::DeviceFault
+}
+
 impl Media for FileMedia {
     ghost use Rattle.long_media.specs.File.{file_seen, file_moment, file_left, file_seen_now, file_sized, file_failed, failures};
 
@@ -99,8 +109,7 @@ impl Media for FileMedia {
             return Err(MediaError::OutOfRange);
         }
         if self.inner.is_failed() {
-            self.faults = self.faults.saturating_add(1);
-            return Err(MediaError::DeviceFault);
+            return Err(count(&mut self.faults));
         }
         out.copy_from_slice(&self.bytes(tier)[at..at + out.len()]);
         Ok(())
@@ -122,15 +131,11 @@ impl Media for FileMedia {
             return Err(MediaError::OutOfRange);
         }
         if self.inner.is_failed() {
-            self.faults = self.faults.saturating_add(1);
-            return Err(MediaError::DeviceFault);
+            return Err(count(&mut self.faults));
         }
         match self.inner.write(tier, at, bytes) {
             Ok(()) => Ok(()),
-            Err(_) => {
-                self.faults = self.faults.saturating_add(1);
-                Err(MediaError::DeviceFault)
-            }
+            Err(_) => Err(count(&mut self.faults)),
         }
     }
 
@@ -146,15 +151,11 @@ impl Media for FileMedia {
         ensures failed { Fails (file_failed self.old) (file_failed self.new) result }
     {
         if self.inner.is_failed() {
-            self.faults = self.faults.saturating_add(1);
-            return Err(MediaError::DeviceFault);
+            return Err(count(&mut self.faults));
         }
         match self.inner.fence(tier) {
             Ok(()) => Ok(()),
-            Err(_) => {
-                self.faults = self.faults.saturating_add(1);
-                Err(MediaError::DeviceFault)
-            }
+            Err(_) => Err(count(&mut self.faults)),
         }
     }
 }

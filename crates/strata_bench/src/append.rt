@@ -46,9 +46,9 @@ fn time_of_an_append(rt: &HostRuntime, bytes: usize, appends: u64, over: Over<'_
     keep_freed_memory(rt.alloc())?;
     match over {
         Over::Memory => over_new_media(rt, &entry),
-        Over::Ram => over_one(rt, reopened(rt.alloc(), ram(rt.alloc())?)?, &entry, appends),
+        Over::Ram => over_one(rt, over_ram(rt.alloc())?, &entry, appends),
         Over::File(path) => {
-            let region = reopened(rt.alloc(), file(rt, path)?)?;
+            let region = over_file(rt, path)?;
             let time = over_one(rt, region, &entry, appends);
             fs::remove_file(rt, path)?;
             time
@@ -181,6 +181,14 @@ fn reopened<M: Media + Drop>(alloc: Global, media: M) -> Result<Region<M>>
         Ok(region) => Ok(region),
         Err((error, _media)) => bail!("opening a region: {error}"),
     }
+}
+
+fn over_ram(alloc: Global) -> Result<Region<RamMedia>> {
+    reopened(alloc, ram(alloc)?)
+}
+
+fn over_file(rt: &HostRuntime, path: &str) -> Result<Region<FileMedia>> {
+    reopened(rt.alloc(), file(rt, path)?)
 }
 
 fn ram(alloc: Global) -> Result<RamMedia, AllocError>
