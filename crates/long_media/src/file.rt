@@ -1,9 +1,9 @@
 // A medium over a file of the operating system, with a mirror in memory.
 ghost use Rattle.std.specs.Prelude.{◌≡◌, ◌≤◌, ◌<◌, ◌+◌, ◌^◌, ◌++◌, List, ℕ, length, take, drop, IfOk, OnOk, OnErr, IsErrOf, true, false};
 ghost use Rattle.tier_device.specs.declared.media.Tier.{Tier};
-ghost use Rattle.tier_device.specs.declared.media.MediaError.TheVariants.{OutOfRange, DeviceFault};
+ghost use Rattle.tier_device.specs.declared.media.MediaError.TheVariants.{OutOfRange};
 ghost use Rattle.tier_device.specs.Rows.{row};
-ghost use Rattle.tier_device.specs.Media.{overwritten, Puts, Keeps, Tears, TearsAll, Settles, HasCause, InRange, Rose};
+ghost use Rattle.tier_device.specs.Media.{overwritten, Puts, Keeps, Tears, TearsAll, Settles, HasCause, InRange};
 ghost use Rattle.long_media.specs.Cover.{Fails};
 ghost use Rattle.long_media.specs.Place.{total};
 ghost use Rattle.long_media.specs.Mirrored.{mirrored_failed};
@@ -63,16 +63,6 @@ impl FileMedia {
     {}
 }
 
-// Counts one failed call.
-fn count(faults: &mut u64) -> MediaError
-    ensures is { result ≡ DeviceFault }
-    ensures rose { Rose faults.old faults.new }
-    ensures some { (0 < faults.new) × (faults.old ≤ faults.new) }
-{
-    *faults = faults.saturating_add(1);
-    MediaError::DeviceFault
-}
-
 impl Media for FileMedia {
     ghost use Rattle.long_media.specs.File.{file_seen, file_moment, file_left, file_seen_now, file_sized, file_failed, failures};
 
@@ -109,7 +99,8 @@ impl Media for FileMedia {
             return Err(MediaError::OutOfRange);
         }
         if self.inner.is_failed() {
-            return Err(count(&mut self.faults));
+            self.faults = self.faults.saturating_add(1);
+            return Err(MediaError::DeviceFault);
         }
         out.copy_from_slice(&self.bytes(tier)[at..at + out.len()]);
         Ok(())
@@ -131,11 +122,15 @@ impl Media for FileMedia {
             return Err(MediaError::OutOfRange);
         }
         if self.inner.is_failed() {
-            return Err(count(&mut self.faults));
+            self.faults = self.faults.saturating_add(1);
+            return Err(MediaError::DeviceFault);
         }
         match self.inner.write(tier, at, bytes) {
             Ok(()) => Ok(()),
-            Err(_) => Err(count(&mut self.faults)),
+            Err(_) => {
+                self.faults = self.faults.saturating_add(1);
+                Err(MediaError::DeviceFault)
+            }
         }
     }
 
@@ -151,11 +146,15 @@ impl Media for FileMedia {
         ensures failed { Fails (file_failed self.old) (file_failed self.new) result }
     {
         if self.inner.is_failed() {
-            return Err(count(&mut self.faults));
+            self.faults = self.faults.saturating_add(1);
+            return Err(MediaError::DeviceFault);
         }
         match self.inner.fence(tier) {
             Ok(()) => Ok(()),
-            Err(_) => Err(count(&mut self.faults)),
+            Err(_) => {
+                self.faults = self.faults.saturating_add(1);
+                Err(MediaError::DeviceFault)
+            }
         }
     }
 }
