@@ -1,3 +1,5 @@
+ghost use Rattle.std.specs.Prelude.{◌≤◌, length};
+
 use std::alloc::Global;
 use std::io::{self, BufReader, ErrorKind, Read, Write};
 use std::test::Fail;
@@ -28,7 +30,9 @@ impl Read for Slow {
 }
 
 // Moves what there is, what fits and what is to come at a time.
-fn give(bytes: &mut &'static [u8], buf: &mut [u8], at_a_time: usize) -> usize {
+fn give(bytes: &mut &'static [u8], buf: &mut [u8], at_a_time: usize) -> usize
+    ensures { result ≤ length buf.new }
+{
     let count = at_a_time.min(bytes.len()).min(buf.len());
     buf[..count].copy_from_slice(&bytes[..count]);
     *bytes = &bytes[count..];
