@@ -1,10 +1,10 @@
 -- What it tells that questions came to a result.
 use Rattle.std.proofs.Common.{◌≡◌, ℕ, Bool, true, false, refl, Option, Ok}
 use Rattle.posix_calls.specs.declared.errno.Errno.{Errno}
-use Rattle.posix_calls.specs.Asks.{Seen, Asks, Gives, Refuses, IsDir, Look, ◌>>=◌, View, run}
+use Rattle.posix_calls.specs.Query.{Seen, Query, Gives, Refuses, IsDir, Look, ◌>>=◌, View, run}
 use Rattle.posix_calls.specs.Walk.{refuse}
 
-pub bind_ok : {A B : Type 0} (v : View) (q : Asks A) (f : A → Asks B) (b : B) → run v (q >>= f) ≡ Ok b → (a : A) × (run v q ≡ Ok a) × (run v (f a) ≡ Ok b)
+pub bind_ok : {A B : Type 0} (v : View) (q : Query A) (f : A → Query B) (b : B) → run v (q >>= f) ≡ Ok b → (a : A) × (run v q ≡ Ok a) × (run v (f a) ≡ Ok b)
 unfolding run ◌>>=◌
 bind_ok v (Gives x) f b e = (x, refl, e)
 bind_ok v (Refuses x) f b e = absurd (cc)

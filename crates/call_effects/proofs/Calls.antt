@@ -1,4 +1,4 @@
--- Each call that is not refused comes to a deed that fits the graph.
+-- Each call that is not refused comes to a operation that fits the graph.
 use Rattle.std.proofs.Common.{◌≡◌, ◌≢◌, inl, inr, ℕ, zero, suc, ◌+◌, ◌<◌, ◌≤◌, List, [], ◌∷◌, refl, Some, None, Option, Ok, cond, ap, sym, ◌∙◌, subst, true, false, Bool, arith, ◌==◌}
 use Rattle.std.specs.Prelude.{◌&&◌, not, length, nat_lt}
 use Rattle.std.specs.List.{list_any}
@@ -12,11 +12,11 @@ use Rattle.posix_calls.specs.declared.call.Flags.{Flags}
 use Rattle.posix_calls.specs.declared.call.Reply.TheVariants as replies
 use Rattle.posix_calls.specs.declared.call.Call.{Call}
 use Rattle.posix_calls.specs.declared.call.Call.TheVariants as call
-use Rattle.posix_calls.specs.declared.deed.Deed.{Deed}
-use Rattle.posix_calls.specs.declared.deed.Deed.TheVariants.{Tell, Resize}
-use Rattle.posix_calls.specs.declared.deed.Replaced.{Replaced}
-use Rattle.posix_calls.specs.declared.deed.Replaced.TheVariants.{OldFile}
-use Rattle.posix_calls.specs.Asks.{Seen, File, Dir, Gives, Refuses, Look, View, run}
+use Rattle.posix_calls.specs.declared.operation.Operation.{Operation}
+use Rattle.posix_calls.specs.declared.operation.Operation.TheVariants.{Tell, Resize}
+use Rattle.posix_calls.specs.declared.operation.Replaced.{Replaced}
+use Rattle.posix_calls.specs.declared.operation.Replaced.TheVariants.{OldFile}
+use Rattle.posix_calls.specs.Query.{Seen, File, Dir, Gives, Refuses, Look, View, run}
 use Rattle.posix_calls.specs.Walk.{Place, is_root, is_there, is_true, there, prefix, entries_seen, entries_at, kind_at}
 use Rattle.posix_calls.specs.Decide.{opened, open_there, lowest_free, number_or, is_inode, replacing, replacing_dir, renamed, write_at, described, mkdir, unlink, rmdir, link, rename, truncate, pwrite, pread, close, open_path, list_path, stat, decide}
 use Rattle.posix_calls.proofs.Open as opens
@@ -46,12 +46,12 @@ nothing_there : (o : Option ℕ) → is_there o ≡ false → o ≡ None
 nothing_there None e = refl
 nothing_there (Some i) e = absurd (cc)
 
-fits_as : (g : Graph) (d : Descriptors) (own : Own) (x y : Deed) → x ≡ y → Fits g d own x → Fits g d own y
+fits_as : (g : Graph) (d : Descriptors) (own : Own) (x y : Operation) → x ≡ y → Fits g d own x → Fits g d own y
 fits_as g d own x y e = subst (Fits g d own) e
 
-mkdir_fits : (g : Graph) (d : Descriptors) (own : Own) (path : List ℕ) (deed : Deed) → IsFair g d → run (graph_view g d) (mkdir path) ≡ Ok deed → Fits g d own deed
+mkdir_fits : (g : Graph) (d : Descriptors) (own : Own) (path : List ℕ) (operation : Operation) → IsFair g d → run (graph_view g d) (mkdir path) ≡ Ok operation → Fits g d own operation
 unfolding mkdir
-mkdir_fits g d own path deed sound e =
+mkdir_fits g d own path operation sound e =
     let v = graph_view g d in
     let names = bind_ok v _ _ _ e in
     let place = bind_ok v _ _ _ names.2 in
@@ -59,7 +59,7 @@ mkdir_fits g d own path deed sound e =
     let room = bind_ok v _ _ _ new.2 in
     let none = not_refused v errno.Exists _ _ new.1 in
     let at = unmade g names.0 place.0 (place_of g d names.0 place.0 sound place.1) none in
-    fits_as g d own _ deed (given v room.2) (room_at g place.0 at (nothing_there place.0.inode none))
+    fits_as g d own _ operation (given v room.2) (room_at g place.0 at (nothing_there place.0.inode none))
 
 pub there_is : (v : View) (o : Option ℕ) (i : ℕ) → run v (there o) ≡ Ok i → o ≡ Some i
 unfolding run
@@ -76,14 +76,14 @@ kind_is v o i b c is known e =
     cc
 
 -- a named node that was answered to be no directory is a file, whose names are those that are looked up
-named_file : (g : Graph) (d : Descriptors) (place : Place) (i : ℕ) (b : Bool) → IsFair g d → IsPlace g place → place.inode ≡ Some i → run (graph_view g d) (kind_at place.inode) ≡ Ok b → b ≡ false → IsEntry g place.spot (i, kind.File) × IsUsedFile g d i
+named_file : (g : Graph) (d : Descriptors) (place : Place) (i : ℕ) (b : Bool) → IsFair g d → IsPlace g place → place.inode ≡ Some i → run (graph_view g d) (kind_at place.inode) ≡ Ok b → b ≡ false → IsEntry g place.location (i, kind.File) × IsUsedFile g d i
 named_file g d place i b sound at is e no_dir =
     let node = named_at g d place i sound at is in
-    elim (node.kind) as (λ k. node.kind ≡ k → IsEntry g place.spot (i, kind.File) × IsUsedFile g d i) [
+    elim (node.kind) as (λ k. node.kind ≡ k → IsEntry g place.location (i, kind.File) × IsUsedFile g d i) [
       | kind.File ↦ λ same.
-          let entry = subst (λ k. IsEntry g place.spot (i, k)) same node.entry in
+          let entry = subst (λ k. IsEntry g place.location (i, k)) same node.entry in
           let f = has_file g i (node.node ∙ ap Some same) in
-          let used = used_by_name g d place.spot i f.names f.bytes kind.File sound entry f.is in
+          let used = used_by_name g d place.location i f.names f.bytes kind.File sound entry f.is in
           (entry, record { names = f.names; bytes = f.bytes; is = f.is; used = used })
       | kind.Directory ↦ λ same.
           let f = has_dir g i (node.node ∙ ap Some same) in
@@ -91,9 +91,9 @@ named_file g d place i b sound at is e no_dir =
           absurd (let clash : true ≡ false = sym yes ∙ no_dir in cc)
     ] refl
 
-unlink_fits : (g : Graph) (d : Descriptors) (own : Own) (path : List ℕ) (deed : Deed) → IsFair g d → run (graph_view g d) (unlink path) ≡ Ok deed → Fits g d own deed
+unlink_fits : (g : Graph) (d : Descriptors) (own : Own) (path : List ℕ) (operation : Operation) → IsFair g d → run (graph_view g d) (unlink path) ≡ Ok operation → Fits g d own operation
 unfolding unlink
-unlink_fits g d own path deed sound e =
+unlink_fits g d own path operation sound e =
     let v = graph_view g d in
     let names = bind_ok v _ _ _ e in
     let busy = bind_ok v _ _ _ names.2 in
@@ -102,7 +102,7 @@ unlink_fits g d own path deed sound e =
     let is_dir = bind_ok v _ _ _ i.2 in
     let refused = bind_ok v _ _ _ is_dir.2 in
     let at = beyond g names.0 place.0 (place_of g d names.0 place.0 sound place.1) (not_refused v errno.Busy _ _ busy.1) in
-    fits_as g d own _ deed (given v refused.2) (named_file g d place.0 i.0 is_dir.0 sound at (there_is v place.0.inode i.0 i.1) is_dir.1 (not_refused v errno.NotPermitted _ _ refused.1))
+    fits_as g d own _ operation (given v refused.2) (named_file g d place.0 i.0 is_dir.0 sound at (there_is v place.0.inode i.0 i.1) is_dir.1 (not_refused v errno.NotPermitted _ _ refused.1))
 
 -- ---- of an open file
 
@@ -121,18 +121,18 @@ open_file g d c n x i sound is same =
       and_false true = refl
       and_false false = refl
 
-write_fits : (g : Graph) (d : Descriptors) (own : Own) (i at : ℕ) (bytes : List ℕ) (deed : Deed) → IsUsedFile g d i → run (graph_view g d) (write_at i at bytes) ≡ Ok deed → Fits g d own deed
-write_fits g d own i at [] deed is e = fits_as g d own _ deed (given (graph_view g d) e) tt
-write_fits g d own i at (b ∷ bytes) deed is e = let big = bind_ok (graph_view g d) _ _ _ e in fits_as g d own _ deed (given (graph_view g d) big.2) is
+write_fits : (g : Graph) (d : Descriptors) (own : Own) (i at : ℕ) (bytes : List ℕ) (operation : Operation) → IsUsedFile g d i → run (graph_view g d) (write_at i at bytes) ≡ Ok operation → Fits g d own operation
+write_fits g d own i at [] operation is e = fits_as g d own _ operation (given (graph_view g d) e) tt
+write_fits g d own i at (b ∷ bytes) operation is e = let big = bind_ok (graph_view g d) _ _ _ e in fits_as g d own _ operation (given (graph_view g d) big.2) is
 
-pwrite_fits : (g : Graph) (d : Descriptors) (own : Own) (client number at : ℕ) (bytes : List ℕ) (deed : Deed) → IsFair g d → run (graph_view g d) (pwrite (d client) number at bytes) ≡ Ok deed → Fits g d own deed
+pwrite_fits : (g : Graph) (d : Descriptors) (own : Own) (client number at : ℕ) (bytes : List ℕ) (operation : Operation) → IsFair g d → run (graph_view g d) (pwrite (d client) number at bytes) ≡ Ok operation → Fits g d own operation
 unfolding pwrite
-pwrite_fits g d own client number at bytes deed sound e =
+pwrite_fits g d own client number at bytes operation sound e =
     let v = graph_view g d in
     let i = bind_ok v _ _ _ e in
     let long = bind_ok v _ _ _ i.2 in
     let x = opened_is v (λ o. o.writes) (d client number) i.0 i.1 in
-    write_fits g d own i.0 at bytes deed (open_file g d client number x.0 i.0 sound x.1 x.2) long.2
+    write_fits g d own i.0 at bytes operation (open_file g d client number x.0 i.0 sound x.1 x.2) long.2
 
 -- ---- by a path that may be the root's
 
@@ -146,9 +146,9 @@ file_beyond g d names place i b sound (inl end) is e no_dir =
     absurd (let clash : true ≡ false = sym yes ∙ no_dir in cc)
 file_beyond g d names place i b sound (inr at) is e no_dir = (named_file g d place i b sound at is e no_dir).1
 
-truncate_fits : (g : Graph) (d : Descriptors) (own : Own) (path : List ℕ) (len : ℕ) (deed : Deed) → IsFair g d → run (graph_view g d) (truncate path len) ≡ Ok deed → Fits g d own deed
+truncate_fits : (g : Graph) (d : Descriptors) (own : Own) (path : List ℕ) (len : ℕ) (operation : Operation) → IsFair g d → run (graph_view g d) (truncate path len) ≡ Ok operation → Fits g d own operation
 unfolding truncate
-truncate_fits g d own path len deed sound e =
+truncate_fits g d own path len operation sound e =
     let v = graph_view g d in
     let names = bind_ok v _ _ _ e in
     let place = bind_ok v _ _ _ names.2 in
@@ -158,11 +158,11 @@ truncate_fits g d own path len deed sound e =
     let big = bind_ok v _ _ _ refused.2 in
     let seen = bind_ok v _ _ _ big.2 in
     let node = file_beyond g d names.0 place.0 i.0 is_dir.0 sound (place_of g d names.0 place.0 sound place.1) (there_is v place.0.inode i.0 i.1) is_dir.1 (not_refused v errno.IsDirectory _ _ refused.1) in
-    fits_as g d own _ deed (given v seen.2) (elim (length seen.0 == len) as (λ b. Fits g d own (cond b (Tell replies.Done) (Resize i.0 len))) [ true ↦ tt | false ↦ node ])
+    fits_as g d own _ operation (given v seen.2) (elim (length seen.0 == len) as (λ b. Fits g d own (cond b (Tell replies.Done) (Resize i.0 len))) [ true ↦ tt | false ↦ node ])
 
-link_fits : (g : Graph) (d : Descriptors) (own : Own) (old new : List ℕ) (deed : Deed) → IsFair g d → run (graph_view g d) (link old new) ≡ Ok deed → Fits g d own deed
+link_fits : (g : Graph) (d : Descriptors) (own : Own) (old new : List ℕ) (operation : Operation) → IsFair g d → run (graph_view g d) (link old new) ≡ Ok operation → Fits g d own operation
 unfolding link
-link_fits g d own old new deed sound e =
+link_fits g d own old new operation sound e =
     let v = graph_view g d in
     let old_names = bind_ok v _ _ _ e in
     let new_names = bind_ok v _ _ _ old_names.2 in
@@ -178,27 +178,27 @@ link_fits g d own old new deed sound e =
     let node = file_beyond g d old_names.0 from.0 i.0 is_dir.0 sound (place_of g d old_names.0 from.0 sound from.1) (there_is v from.0.inode i.0 i.1) is_dir.1 (not_refused v errno.NotPermitted _ _ refused.1) in
     let none = not_refused v errno.Exists _ _ exists.1 in
     let at = unmade g new_names.0 to.0 (place_of g d new_names.0 to.0 sound to.1) none in
-    fits_as g d own _ deed (given v full.2) (room_at g to.0 at (nothing_there to.0.inode none), node)
+    fits_as g d own _ operation (given v full.2) (room_at g to.0 at (nothing_there to.0.inode none), node)
 
 -- ---- directories
 
 -- the kind of a named node is what was answered
-kind_named : (g : Graph) (d : Descriptors) (place : Place) (i : ℕ) (b : Bool) → IsFair g d → IsPlace g place → place.inode ≡ Some i → run (graph_view g d) (kind_at place.inode) ≡ Ok b → IsEntry g place.spot (i, kind_if b) × (kind_of (g i) ≡ Some (kind_if b))
+kind_named : (g : Graph) (d : Descriptors) (place : Place) (i : ℕ) (b : Bool) → IsFair g d → IsPlace g place → place.inode ≡ Some i → run (graph_view g d) (kind_at place.inode) ≡ Ok b → IsEntry g place.location (i, kind_if b) × (kind_of (g i) ≡ Some (kind_if b))
 kind_named g d place i b sound at is e =
     let node = named_at g d place i sound at is in
-    elim (node.kind) as (λ k. node.kind ≡ k → IsEntry g place.spot (i, kind_if b) × (kind_of (g i) ≡ Some (kind_if b))) [
+    elim (node.kind) as (λ k. node.kind ≡ k → IsEntry g place.location (i, kind_if b) × (kind_of (g i) ≡ Some (kind_if b))) [
       | kind.File ↦ λ same.
-          let entry = subst (λ k. IsEntry g place.spot (i, k)) same node.entry in
+          let entry = subst (λ k. IsEntry g place.location (i, k)) same node.entry in
           let f = has_file g i (node.node ∙ ap Some same) in
-          let used = used_by_name g d place.spot i f.names f.bytes kind.File sound entry f.is in
+          let used = used_by_name g d place.location i f.names f.bytes kind.File sound entry f.is in
           let no_dir = kind_is (graph_view g d) place.inode i b false is (view_is_file g d i f.names f.bytes f.is used) e in
           let kinds : kind.File ≡ kind_if b = sym (ap kind_if no_dir) in
-          (subst (λ k. IsEntry g place.spot (i, k)) kinds entry, node.node ∙ ap Some (same ∙ kinds))
+          (subst (λ k. IsEntry g place.location (i, k)) kinds entry, node.node ∙ ap Some (same ∙ kinds))
       | kind.Directory ↦ λ same.
           let f = has_dir g i (node.node ∙ ap Some same) in
           let yes = kind_is (graph_view g d) place.inode i b true is (view_is_dir g d i f.names f.entries f.is) e in
           let kinds : kind.Directory ≡ kind_if b = sym (ap kind_if yes) in
-          (subst (λ k. IsEntry g place.spot (i, k)) (same ∙ kinds) node.entry, node.node ∙ ap Some (same ∙ kinds))
+          (subst (λ k. IsEntry g place.location (i, k)) (same ∙ kinds) node.entry, node.node ∙ ap Some (same ∙ kinds))
     ] refl
 
 none_of_test : (n : ℕ) → nat_lt 0 n ≡ false → n ≡ 0
@@ -215,9 +215,9 @@ not_not : (b : Bool) → not b ≡ false → b ≡ true
 not_not true e = refl
 not_not false e = absurd (cc)
 
-rmdir_fits : (g : Graph) (d : Descriptors) (own : Own) (path : List ℕ) (deed : Deed) → IsFair g d → run (graph_view g d) (rmdir path) ≡ Ok deed → Fits g d own deed
+rmdir_fits : (g : Graph) (d : Descriptors) (own : Own) (path : List ℕ) (operation : Operation) → IsFair g d → run (graph_view g d) (rmdir path) ≡ Ok operation → Fits g d own operation
 unfolding rmdir
-rmdir_fits g d own path deed sound e =
+rmdir_fits g d own path operation sound e =
     let v = graph_view g d in
     let names = bind_ok v _ _ _ e in
     let busy = bind_ok v _ _ _ names.2 in
@@ -230,13 +230,13 @@ rmdir_fits g d own path deed sound e =
     let at = beyond g names.0 place.0 (place_of g d names.0 place.0 sound place.1) (not_refused v errno.Busy _ _ busy.1) in
     let node = kind_named g d place.0 i.0 is_dir.0 sound at (there_is v place.0.inode i.0 i.1) is_dir.1 in
     let yes = ap kind_if (not_not is_dir.0 (not_refused v errno.NotDirectory _ _ refused.1)) in
-    fits_as g d own _ deed (given v full.2) (subst (λ k. IsEntry g place.0.spot (i.0, k)) yes node.0, empty_seen g d i.0 seen.0 (node.1 ∙ ap Some yes) seen.1 (not_refused v errno.NotEmpty _ _ full.1))
+    fits_as g d own _ operation (given v full.2) (subst (λ k. IsEntry g place.0.location (i.0, k)) yes node.0, empty_seen g d i.0 seen.0 (node.1 ∙ ap Some yes) seen.1 (not_refused v errno.NotEmpty _ _ full.1))
 
 replaced_fits : (g : Graph) (d : Descriptors) (own : Own) (from to : Place) (i : ℕ) (old_dir : Bool) (o : Option ℕ) (replaced : Replaced) → IsFair g d → IsPlace g to → to.inode ≡ o → is_inode i o ≡ false
-    → run (graph_view g d) (replacing from to old_dir o) ≡ Ok replaced → FitsReplaced g d to.spot i replaced
+    → run (graph_view g d) (replacing from to old_dir o) ≡ Ok replaced → FitsReplaced g d to.location i replaced
 replaced_fits g d own from to i old_dir None replaced sound at is other e =
     let full = bind_ok (graph_view g d) _ _ _ e in
-    subst (FitsReplaced g d to.spot i) (given (graph_view g d) full.2) (room_at g to at is)
+    subst (FitsReplaced g d to.location i) (given (graph_view g d) full.2) (room_at g to at is)
 replaced_fits g d own from to i old_dir (Some j) replaced sound at is other e =
     let v = graph_view g d in
     let new_dir = bind_ok v _ _ _ e in
@@ -245,33 +245,33 @@ replaced_fits g d own from to i old_dir (Some j) replaced sound at is other e =
     let asked : run v (kind_at to.inode) ≡ Ok new_dir.0 = ap (λ x. run v (kind_at x)) is ∙ new_dir.1 in
     let node = kind_named g d to j new_dir.0 sound at is asked in
     let apart : i ≢ j = λ same. let yes : (i == j) ≡ true = eq-eqb i j same in let clash : true ≡ false = sym yes ∙ other in absurd (cc) in
-    elim (new_dir.0) as (λ b. new_dir.0 ≡ b → run v (cond b (replacing_dir j) (Gives (OldFile j))) ≡ Ok replaced → FitsReplaced g d to.spot i replaced) [
+    elim (new_dir.0) as (λ b. new_dir.0 ≡ b → run v (cond b (replacing_dir j) (Gives (OldFile j))) ≡ Ok replaced → FitsReplaced g d to.location i replaced) [
       | true ↦ λ so rest.
           let entries = bind_ok v _ _ _ rest in
           let full = bind_ok v _ _ _ entries.2 in
-          subst (FitsReplaced g d to.spot i) (given v full.2)
-          (apart, subst (λ b. IsEntry g to.spot (j, kind_if b)) so node.0, empty_seen g d j entries.0 (node.1 ∙ ap (λ b. Some (kind_if b)) so) entries.1 (not_refused v errno.NotEmpty _ _ full.1))
+          subst (FitsReplaced g d to.location i) (given v full.2)
+          (apart, subst (λ b. IsEntry g to.location (j, kind_if b)) so node.0, empty_seen g d j entries.0 (node.1 ∙ ap (λ b. Some (kind_if b)) so) entries.1 (not_refused v errno.NotEmpty _ _ full.1))
       | false ↦ λ so rest.
           let file = named_file g d to j new_dir.0 sound at is asked so in
-          subst (FitsReplaced g d to.spot i) (given v rest) (apart, file.0, file.1)
+          subst (FitsReplaced g d to.location i) (given v rest) (apart, file.0, file.1)
     ] refl no_file.2
 
-renamed_fits : (g : Graph) (d : Descriptors) (own : Own) (from to : Place) (i : ℕ) (deed : Deed) → IsFair g d → IsPlace g from → from.inode ≡ Some i → IsPlace g to → IsClear (tree_of (kept g d)) i to.spot.parent → is_inode i to.inode ≡ false → run (graph_view g d) (renamed from to i) ≡ Ok deed → Fits g d own deed
-renamed_fits g d own from to i deed sound at is at_to clear other e =
+renamed_fits : (g : Graph) (d : Descriptors) (own : Own) (from to : Place) (i : ℕ) (operation : Operation) → IsFair g d → IsPlace g from → from.inode ≡ Some i → IsPlace g to → IsClear (tree_of (kept g d)) i to.location.parent → is_inode i to.inode ≡ false → run (graph_view g d) (renamed from to i) ≡ Ok operation → Fits g d own operation
+renamed_fits g d own from to i operation sound at is at_to clear other e =
     let v = graph_view g d in
     let old_dir = bind_ok v _ _ _ e in
     let replaced = bind_ok v _ _ _ old_dir.2 in
     let node = kind_named g d from i old_dir.0 sound at is old_dir.1 in
-    fits_as g d own _ deed (given v replaced.2) (node.0, clear, replaced_fits g d own from to i old_dir.0 to.inode replaced.0 sound at_to refl other replaced.1)
+    fits_as g d own _ operation (given v replaced.2) (node.0, clear, replaced_fits g d own from to i old_dir.0 to.inode replaced.0 sound at_to refl other replaced.1)
 
 -- the walk to a name that is not the root's
-clear_of_walk : (g : Graph) (d : Descriptors) (i : ℕ) (names : List (List ℕ)) (place : Place) → IsFair g d → is_root names ≡ false → run (graph_view g d) (prefix names) ≡ Ok place → list_any (λ x. x == i) place.walked ≡ false → IsClear (tree_of (kept g d)) i place.spot.parent
+clear_of_walk : (g : Graph) (d : Descriptors) (i : ℕ) (names : List (List ℕ)) (place : Place) → IsFair g d → is_root names ≡ false → run (graph_view g d) (prefix names) ≡ Ok place → list_any (λ x. x == i) place.walked ≡ false → IsClear (tree_of (kept g d)) i place.location.parent
 clear_of_walk g d i [] place sound busy e clear = absurd (cc)
 clear_of_walk g d i (name ∷ names) place sound busy e clear = clear_walk g d i name names place sound.typed.root e clear
 
-rename_fits : (g : Graph) (d : Descriptors) (own : Own) (old new : List ℕ) (deed : Deed) → IsFair g d → run (graph_view g d) (rename old new) ≡ Ok deed → Fits g d own deed
+rename_fits : (g : Graph) (d : Descriptors) (own : Own) (old new : List ℕ) (operation : Operation) → IsFair g d → run (graph_view g d) (rename old new) ≡ Ok operation → Fits g d own operation
 unfolding rename
-rename_fits g d own old new deed sound e =
+rename_fits g d own old new operation sound e =
     let v = graph_view g d in
     let old_names = bind_ok v _ _ _ e in
     let new_names = bind_ok v _ _ _ old_names.2 in
@@ -283,9 +283,9 @@ rename_fits g d own old new deed sound e =
     let roots = or_left (is_root old_names.0) (is_root new_names.0) (not_refused v errno.Busy _ _ busy.1) in
     let at = beyond g old_names.0 from.0 (place_of g d old_names.0 from.0 sound from.1) roots.0 in
     let at_to = beyond g new_names.0 to.0 (place_of g d new_names.0 to.0 sound to.1) roots.1 in
-    elim (is_inode i.0 to.0.inode) as (λ b. is_inode i.0 to.0.inode ≡ b → run v (cond b (Gives (Tell replies.Done)) (renamed from.0 to.0 i.0)) ≡ Ok deed → Fits g d own deed) [
-      | true ↦ λ same done. fits_as g d own _ deed (given v done) tt
-      | false ↦ λ other rest. renamed_fits g d own from.0 to.0 i.0 deed sound at (there_is v from.0.inode i.0 i.1) at_to (clear_of_walk g d i.0 new_names.0 to.0 sound roots.1 to.1 (not_refused v errno.Invalid _ _ under.1)) other rest
+    elim (is_inode i.0 to.0.inode) as (λ b. is_inode i.0 to.0.inode ≡ b → run v (cond b (Gives (Tell replies.Done)) (renamed from.0 to.0 i.0)) ≡ Ok operation → Fits g d own operation) [
+      | true ↦ λ same done. fits_as g d own _ operation (given v done) tt
+      | false ↦ λ other rest. renamed_fits g d own from.0 to.0 i.0 operation sound at (there_is v from.0.inode i.0 i.1) at_to (clear_of_walk g d i.0 new_names.0 to.0 sound roots.1 to.1 (not_refused v errno.Invalid _ _ under.1)) other rest
     ] refl under.2
 
 -- ---- open
@@ -309,19 +309,19 @@ number_some v own (Some n) number is e =
 number_is : (v : View) (own : Own) (number : ℕ) → run v (number_or (lowest_free own 0 32)) ≡ Ok number → IsNumber own number
 number_is v own number e = number_some v own (lowest_free own 0 32) number refl e
 
-open_there_fits : (g : Graph) (d : Descriptors) (own : Own) (names : List (List ℕ)) (place : Place) (number : ℕ) (f : Flags) (b : Bool) (o : Option ℕ) (deed : Deed) → IsFair g d → Leads g names place → place.inode ≡ o → run (graph_view g d) (kind_at place.inode) ≡ Ok b → b ≡ false
-    → IsNumber own number → run (graph_view g d) (open_there place number f o) ≡ Ok deed → Fits g d own deed
-open_there_fits g d own names place number f b (Some i) deed sound at is asked no_dir num e =
+open_there_fits : (g : Graph) (d : Descriptors) (own : Own) (names : List (List ℕ)) (place : Place) (number : ℕ) (f : Flags) (b : Bool) (o : Option ℕ) (operation : Operation) → IsFair g d → Leads g names place → place.inode ≡ o → run (graph_view g d) (kind_at place.inode) ≡ Ok b → b ≡ false
+    → IsNumber own number → run (graph_view g d) (open_there place number f o) ≡ Ok operation → Fits g d own operation
+open_there_fits g d own names place number f b (Some i) operation sound at is asked no_dir num e =
     let seen = bind_ok (graph_view g d) _ _ _ e in
-    fits_as g d own _ deed (given (graph_view g d) seen.2) (file_beyond g d names place i b sound at is asked no_dir, num)
-open_there_fits g d own names place number f b None deed sound at is asked no_dir num e =
+    fits_as g d own _ operation (given (graph_view g d) seen.2) (file_beyond g d names place i b sound at is asked no_dir, num)
+open_there_fits g d own names place number f b None operation sound at is asked no_dir num e =
     let missing = bind_ok (graph_view g d) _ _ _ e in
     let full = bind_ok (graph_view g d) _ _ _ missing.2 in
-    fits_as g d own _ deed (given (graph_view g d) full.2) (room_at g place (unmade g names place at (ap is_there is)) is, num)
+    fits_as g d own _ operation (given (graph_view g d) full.2) (room_at g place (unmade g names place at (ap is_there is)) is, num)
 
-open_fits : (g : Graph) (d : Descriptors) (own : Own) (path : List ℕ) (f : Flags) (deed : Deed) → IsFair g d → run (graph_view g d) (open_path own path f) ≡ Ok deed → Fits g d own deed
+open_fits : (g : Graph) (d : Descriptors) (own : Own) (path : List ℕ) (f : Flags) (operation : Operation) → IsFair g d → run (graph_view g d) (open_path own path f) ≡ Ok operation → Fits g d own operation
 unfolding open_path
-open_fits g d own path f deed sound e =
+open_fits g d own path f operation sound e =
     let v = graph_view g d in
     let names = bind_ok v _ _ _ e in
     let senseless = bind_ok v _ _ _ names.2 in
@@ -330,30 +330,30 @@ open_fits g d own path f deed sound e =
     let exists = bind_ok v _ _ _ place.2 in
     let is_dir = bind_ok v _ _ _ exists.2 in
     let refused = bind_ok v _ _ _ is_dir.2 in
-    open_there_fits g d own names.0 place.0 number.0 f is_dir.0 place.0.inode deed sound (place_of g d names.0 place.0 sound place.1) refl is_dir.1 (not_refused v errno.IsDirectory _ _ refused.1) (number_is v own number.0 number.1) refused.2
+    open_there_fits g d own names.0 place.0 number.0 f is_dir.0 place.0.inode operation sound (place_of g d names.0 place.0 sound place.1) refl is_dir.1 (not_refused v errno.IsDirectory _ _ refused.1) (number_is v own number.0 number.1) refused.2
 
 -- ---- what changes no tree
 
-close_fits : (g : Graph) (d : Descriptors) (client number : ℕ) (deed : Deed) → IsFair g d → run (graph_view g d) (close (d client) number) ≡ Ok deed → Fits g d (d client) deed
+close_fits : (g : Graph) (d : Descriptors) (client number : ℕ) (operation : Operation) → IsFair g d → run (graph_view g d) (close (d client) number) ≡ Ok operation → Fits g d (d client) operation
 unfolding close
-close_fits g d client number deed sound e =
+close_fits g d client number operation sound e =
     let v = graph_view g d in
     let i = bind_ok v _ _ _ e in
     let x = opened_is v (λ o. true) (d client number) i.0 i.1 in
-    fits_as g d (d client) _ deed (given v i.2) (open_file g d client number x.0 i.0 sound x.1 x.2, record { what = x.0; is = x.1; inode = x.2 })
+    fits_as g d (d client) _ operation (given v i.2) (open_file g d client number x.0 i.0 sound x.1 x.2, record { what = x.0; is = x.1; inode = x.2 })
 
-pread_fits : (g : Graph) (d : Descriptors) (own : Own) (number at count : ℕ) (deed : Deed) → run (graph_view g d) (pread own number at count) ≡ Ok deed → Fits g d own deed
+pread_fits : (g : Graph) (d : Descriptors) (own : Own) (number at count : ℕ) (operation : Operation) → run (graph_view g d) (pread own number at count) ≡ Ok operation → Fits g d own operation
 unfolding pread
-pread_fits g d own number at count deed e =
+pread_fits g d own number at count operation e =
     let v = graph_view g d in
     let i = bind_ok v _ _ _ e in
     let long = bind_ok v _ _ _ i.2 in
     let bytes = bind_ok v _ _ _ long.2 in
-    fits_as g d own _ deed (given v bytes.2) tt
+    fits_as g d own _ operation (given v bytes.2) tt
 
-list_fits : (g : Graph) (d : Descriptors) (own : Own) (path : List ℕ) (deed : Deed) → run (graph_view g d) (list_path path) ≡ Ok deed → Fits g d own deed
+list_fits : (g : Graph) (d : Descriptors) (own : Own) (path : List ℕ) (operation : Operation) → run (graph_view g d) (list_path path) ≡ Ok operation → Fits g d own operation
 unfolding list_path
-list_fits g d own path deed e =
+list_fits g d own path operation e =
     let v = graph_view g d in
     let names = bind_ok v _ _ _ e in
     let place = bind_ok v _ _ _ names.2 in
@@ -361,38 +361,38 @@ list_fits g d own path deed e =
     let is_dir = bind_ok v _ _ _ i.2 in
     let refused = bind_ok v _ _ _ is_dir.2 in
     let entries = bind_ok v _ _ _ refused.2 in
-    fits_as g d own _ deed (given v entries.2) tt
+    fits_as g d own _ operation (given v entries.2) tt
 
-described_fits : (g : Graph) (d : Descriptors) (own : Own) (v : View) (s : Option Seen) (deed : Deed) → run v (described s) ≡ Ok deed → Fits g d own deed
+described_fits : (g : Graph) (d : Descriptors) (own : Own) (v : View) (s : Option Seen) (operation : Operation) → run v (described s) ≡ Ok operation → Fits g d own operation
 unfolding run
-described_fits g d own v None deed e = absurd (cc)
-described_fits g d own v (Some (File names bytes)) deed e = fits_as g d own _ deed (given v e) tt
-described_fits g d own v (Some (Dir entries)) deed e = fits_as g d own _ deed (given v e) tt
+described_fits g d own v None operation e = absurd (cc)
+described_fits g d own v (Some (File names bytes)) operation e = fits_as g d own _ operation (given v e) tt
+described_fits g d own v (Some (Dir entries)) operation e = fits_as g d own _ operation (given v e) tt
 
-node_described : (v : View) (i : ℕ) (deed : Deed) → run v (Look i described) ≡ Ok deed → run v (described (v.node i)) ≡ Ok deed
+node_described : (v : View) (i : ℕ) (operation : Operation) → run v (Look i described) ≡ Ok operation → run v (described (v.node i)) ≡ Ok operation
 unfolding run
-node_described v i deed e = e
+node_described v i operation e = e
 
-stat_fits : (g : Graph) (d : Descriptors) (own : Own) (path : List ℕ) (deed : Deed) → run (graph_view g d) (stat path) ≡ Ok deed → Fits g d own deed
+stat_fits : (g : Graph) (d : Descriptors) (own : Own) (path : List ℕ) (operation : Operation) → run (graph_view g d) (stat path) ≡ Ok operation → Fits g d own operation
 unfolding stat
-stat_fits g d own path deed e =
+stat_fits g d own path operation e =
     let v = graph_view g d in
     let names = bind_ok v _ _ _ e in
     let place = bind_ok v _ _ _ names.2 in
     let i = bind_ok v _ _ _ place.2 in
-    described_fits g d own v (v.node i.0) deed (node_described v i.0 deed i.2)
+    described_fits g d own v (v.node i.0) operation (node_described v i.0 operation i.2)
 
 -- every call
-pub decide_fits : (g : Graph) (d : Descriptors) (client : ℕ) (c : Call) (deed : Deed) → IsFair g d → run (graph_view g d) (decide (d client) c) ≡ Ok deed → Fits g d (d client) deed
-decide_fits g d client (call.Open path flags) deed sound e = open_fits g d (d client) path flags deed sound e
-decide_fits g d client (call.Close number) deed sound e = close_fits g d client number deed sound e
-decide_fits g d client (call.Pread number at count) deed sound e = pread_fits g d (d client) number at count deed e
-decide_fits g d client (call.Pwrite number at bytes) deed sound e = pwrite_fits g d (d client) client number at bytes deed sound e
-decide_fits g d client (call.Truncate path len) deed sound e = truncate_fits g d (d client) path len deed sound e
-decide_fits g d client (call.Mkdir path) deed sound e = mkdir_fits g d (d client) path deed sound e
-decide_fits g d client (call.Rmdir path) deed sound e = rmdir_fits g d (d client) path deed sound e
-decide_fits g d client (call.Link old new) deed sound e = link_fits g d (d client) old new deed sound e
-decide_fits g d client (call.Unlink path) deed sound e = unlink_fits g d (d client) path deed sound e
-decide_fits g d client (call.Rename old new) deed sound e = rename_fits g d (d client) old new deed sound e
-decide_fits g d client (call.List path) deed sound e = list_fits g d (d client) path deed e
-decide_fits g d client (call.Stat path) deed sound e = stat_fits g d (d client) path deed e
+pub decide_fits : (g : Graph) (d : Descriptors) (client : ℕ) (c : Call) (operation : Operation) → IsFair g d → run (graph_view g d) (decide (d client) c) ≡ Ok operation → Fits g d (d client) operation
+decide_fits g d client (call.Open path flags) operation sound e = open_fits g d (d client) path flags operation sound e
+decide_fits g d client (call.Close number) operation sound e = close_fits g d client number operation sound e
+decide_fits g d client (call.Pread number at count) operation sound e = pread_fits g d (d client) number at count operation e
+decide_fits g d client (call.Pwrite number at bytes) operation sound e = pwrite_fits g d (d client) client number at bytes operation sound e
+decide_fits g d client (call.Truncate path len) operation sound e = truncate_fits g d (d client) path len operation sound e
+decide_fits g d client (call.Mkdir path) operation sound e = mkdir_fits g d (d client) path operation sound e
+decide_fits g d client (call.Rmdir path) operation sound e = rmdir_fits g d (d client) path operation sound e
+decide_fits g d client (call.Link old new) operation sound e = link_fits g d (d client) old new operation sound e
+decide_fits g d client (call.Unlink path) operation sound e = unlink_fits g d (d client) path operation sound e
+decide_fits g d client (call.Rename old new) operation sound e = rename_fits g d (d client) old new operation sound e
+decide_fits g d client (call.List path) operation sound e = list_fits g d (d client) path operation e
+decide_fits g d client (call.Stat path) operation sound e = stat_fits g d (d client) path operation e

@@ -14,7 +14,7 @@ use Rattle.file_graph.specs.declared.effect.Effect.{Effect}
 use Rattle.file_graph.specs.declared.effect.Effect.TheVariants as effect
 use Rattle.call_effects.specs.Effects.{stored}
 use Rattle.call_effects.specs.Wholes.{without_kinds, tree_of, tree_node, keep, kept, kind_of, one_if, IsTyped, IsSound, AreReached}
-use Rattle.posix_calls.specs.Deeds.{entered, left}
+use Rattle.posix_calls.specs.Operations.{entered, left}
 use Rattle.posix_calls.proofs.Sums.{names_of-set_node}
 use Rattle.posix_calls.proofs.Counts.{counted, counted_is, counted_insert, counted_remove}
 use Rattle.call_effects.proofs.Puts.{put, put_other, put_through, put_through_at}

@@ -12,8 +12,8 @@ use Rattle.file_graph.specs.declared.effect.Kind.TheVariants as kind
 use Rattle.file_graph.specs.declared.effect.Effect.TheVariants as effect
 use Rattle.call_effects.specs.Effects.{stored, removing}
 use Rattle.call_effects.specs.Wholes.{without_kinds, tree_of, tree_node, kept, kind_of, one_if, IsTyped}
-use Rattle.posix_calls.specs.declared.deed.Spot.{Spot}
-use Rattle.posix_calls.specs.Deeds.{entered, left, less_unused}
+use Rattle.posix_calls.specs.declared.operation.Location.{Location}
+use Rattle.posix_calls.specs.Operations.{entered, left, less_unused}
 use Rattle.posix_calls.proofs.Counts.{counted, counted_is, counted_empty, get_inserted, get_left, none_of_no_entries}
 use Rattle.posix_calls.proofs.Changes.{off_one, on_one}
 use Rattle.call_effects.specs.Fits.{IsRoom, IsEntry}
@@ -100,7 +100,7 @@ tree_resized g d i n len old is used =
 
 -- ---- a name of a file goes
 
-module _ (g : Graph) (d : Descriptors) (i names : ℕ) (at : Spot) (bytes : List ℕ) (sound : IsFair g d) (entry : IsEntry g at (i, kind.File)) (is : g i ≡ file names bytes) where
+module _ (g : Graph) (d : Descriptors) (i names : ℕ) (at : Location) (bytes : List ℕ) (sound : IsFair g d) (entry : IsEntry g at (i, kind.File)) (is : g i ≡ file names bytes) where
   abbrev drop_1 : Graph
   drop_1 = put g at.parent (dir entry.names (fin.remove entry.entries at.name))
 
@@ -174,7 +174,7 @@ module _ (g : Graph) (d : Descriptors) (i names : ℕ) (at : Spot) (bytes : List
 
 -- ---- a name moves
 
-module _ (g : Graph) (d : Descriptors) (i : ℕ) (k : Kind) (from to : Spot) (sound : IsFair g d) (entry : IsEntry g from (i, k)) (room : IsRoom (put g from.parent (dir entry.names (fin.remove entry.entries from.name))) to) where
+module _ (g : Graph) (d : Descriptors) (i : ℕ) (k : Kind) (from to : Location) (sound : IsFair g d) (entry : IsEntry g from (i, k)) (room : IsRoom (put g from.parent (dir entry.names (fin.remove entry.entries from.name))) to) where
   abbrev pub shift_1 : Graph
   shift_1 = put g from.parent (dir entry.names (fin.remove entry.entries from.name))
 
@@ -221,7 +221,7 @@ module _ (g : Graph) (d : Descriptors) (i : ℕ) (k : Kind) (from to : Spot) (so
 
 -- ---- a directory goes
 
-module _ (g : Graph) (d : Descriptors) (i : ℕ) (n : ℕ) (at : Spot) (es : Entries (ℕ × Kind)) (sound : IsFair g d) (entry : IsEntry g at (i, kind.Directory)) (is : g i ≡ dir n es) (empty : fin.len es ≡ 0) where
+module _ (g : Graph) (d : Descriptors) (i : ℕ) (n : ℕ) (at : Location) (es : Entries (ℕ × Kind)) (sound : IsFair g d) (entry : IsEntry g at (i, kind.Directory)) (is : g i ≡ dir n es) (empty : fin.len es ≡ 0) where
   abbrev go_1 : Graph
   go_1 = put g at.parent (dir entry.names (fin.remove entry.entries at.name))
 
@@ -291,7 +291,7 @@ module _ (g : Graph) (d : Descriptors) (i : ℕ) (n : ℕ) (at : Spot) (es : Ent
 not_zero : (n : ℕ) → (n + 1 == 0) ≡ false
 not_zero n = elim (eqb_tells (n + 1) 0) [ inl same ↦ let e = same.1 in absurd (omega (arith, e)) | inr off ↦ off.0 ]
 
-module _ (g : Graph) (d : Descriptors) (i names : ℕ) (at : Spot) (bytes : List ℕ) (sound : IsFair g d) (room : IsRoom g at) (is : g i ≡ file names bytes) where
+module _ (g : Graph) (d : Descriptors) (i names : ℕ) (at : Location) (bytes : List ℕ) (sound : IsFair g d) (room : IsRoom g at) (is : g i ≡ file names bytes) where
   abbrev add_1 : Graph
   add_1 = put g at.parent (dir room.names (fin.insert room.entries at.name (i, kind.File)))
 

@@ -6,9 +6,9 @@ use Rattle.std.proofs.lemmas.Bool.Decides.{eqb_tells}
 use Rattle.std.specs.FinMap as fin
 use Rattle.posix_calls.specs.Content.{Entries}
 use Rattle.posix_calls.specs.Tree.{Tree, Descriptors, is_open, set_node, entries_of}
-use Rattle.posix_calls.specs.Asks.{Seen, Asks, Gives, Refuses, IsDir, Look, ◌>>=◌, View, run}
-use Rattle.posix_calls.specs.Asks as asks
-use Rattle.posix_calls.specs.declared.deed.Spot.{Spot}
+use Rattle.posix_calls.specs.Query.{Seen, Query, Gives, Refuses, IsDir, Look, ◌>>=◌, View, run}
+use Rattle.posix_calls.specs.Query as query
+use Rattle.posix_calls.specs.declared.operation.Location.{Location}
 use Rattle.posix_calls.specs.Walk.{Place, root_place, entries_seen, directory, directory_if, walk}
 use Rattle.posix_calls.proofs.Reached.{Chain, chain_path}
 use Rattle.posix_calls.proofs.Changes.{set_other}
@@ -68,13 +68,13 @@ kept_is_dir b (Some n) e = elim (n.body) as (λ y. n.body ≡ y → option_map n
   | DirBody es ↦ λ is t. refl
 ] refl e
 
-pub view_dir : (g : Graph) (d : Descriptors) (i n : ℕ) (es : Entries (ℕ × Kind)) → g i ≡ dir n es → (graph_view g d).node i ≡ Some (asks.Dir (without_kinds es))
+pub view_dir : (g : Graph) (d : Descriptors) (i n : ℕ) (es : Entries (ℕ × Kind)) → g i ≡ dir n es → (graph_view g d).node i ≡ Some (query.Dir (without_kinds es))
 view_dir g d i n es is = ap (λ o. option_map node_seen (keep (is_open d i) o)) is
 
 pub view_is_dir : (g : Graph) (d : Descriptors) (i n : ℕ) (es : Entries (ℕ × Kind)) → g i ≡ dir n es → (graph_view g d).is_dir i ≡ Some true
 view_is_dir g d i n es is = ap (λ o. option_map node_is_dir (keep (is_open d i) o)) is
 
-pub view_file : (g : Graph) (d : Descriptors) (i n : ℕ) (bytes : List ℕ) → g i ≡ file n bytes → IsUsed d i n → (graph_view g d).node i ≡ Some (asks.File n bytes)
+pub view_file : (g : Graph) (d : Descriptors) (i n : ℕ) (bytes : List ℕ) → g i ≡ file n bytes → IsUsed d i n → (graph_view g d).node i ≡ Some (query.File n bytes)
 view_file g d i n bytes is used = ap (λ o. option_map node_seen (keep (is_open d i) o)) is ∙ ap (λ b. option_map node_seen (cond b None (file n bytes))) used
 
 pub view_is_file : (g : Graph) (d : Descriptors) (i n : ℕ) (bytes : List ℕ) → g i ≡ file n bytes → IsUsed d i n → (graph_view g d).is_dir i ≡ Some false
@@ -85,8 +85,8 @@ view_is_file g d i n bytes is used = ap (λ o. option_map node_is_dir (keep (is_
 pub record IsPlace (g : Graph) (place : Place) : Type 0 where
   pub names : ℕ
   pub entries : Entries (ℕ × Kind)
-  pub is : g place.spot.parent ≡ dir names entries
-  pub inode : place.inode ≡ fin.get (without_kinds entries) place.spot.name
+  pub is : g place.location.parent ≡ dir names entries
+  pub inode : place.inode ≡ fin.get (without_kinds entries) place.location.name
 
 -- in the root, or beyond it
 abbrev pub Leads : Graph → List (List ℕ) → Place → Type 0
@@ -130,29 +130,29 @@ pub some_first : (o : Option (ℕ × Kind)) (i : ℕ) → Some i ≡ option_map 
 some_first None i e = absurd (cc)
 some_first (Some x) i e = let same : i ≡ x.0 = cc in (x.1, λ t. Some (sym same t, x.1))
 
-pub record IsNamed (g : Graph) (at : Spot) (i : ℕ) : Type 0 where
+pub record IsNamed (g : Graph) (at : Location) (i : ℕ) : Type 0 where
   pub kind : Kind
   pub entry : IsEntry g at (i, kind)
   pub node : kind_of (g i) ≡ Some kind
 
-pub named_at : (g : Graph) (d : Descriptors) (place : Place) (i : ℕ) → IsFair g d → IsPlace g place → place.inode ≡ Some i → IsNamed g place.spot i
+pub named_at : (g : Graph) (d : Descriptors) (place : Place) (i : ℕ) → IsFair g d → IsPlace g place → place.inode ≡ Some i → IsNamed g place.location i
 named_at g d place i sound at is =
-    let e = some_first (fin.get at.entries place.spot.name) i (sym is ∙ at.inode ∙ get_inodes at.entries place.spot.name) in
+    let e = some_first (fin.get at.entries place.location.name) i (sym is ∙ at.inode ∙ get_inodes at.entries place.location.name) in
     record {
       kind = e.0;
       entry = record { names = at.names; entries = at.entries; is = at.is; there = e.1 };
-      node = sound.typed.kinds place.spot.parent at.names at.entries place.spot.name (i, e.0) at.is e.1;
+      node = sound.typed.kinds place.location.parent at.names at.entries place.location.name (i, e.0) at.is e.1;
     }
 
 none_first : (o : Option (ℕ × Kind)) → None ≡ option_map (λ (e : ℕ × Kind). e.0) o → o ≡ None
 none_first None e = refl
 none_first (Some x) e = absurd (cc)
 
-pub room_at : (g : Graph) (place : Place) → IsPlace g place → place.inode ≡ None → IsRoom g place.spot
-room_at g place at is = record { names = at.names; entries = at.entries; is = at.is; none = none_first (fin.get at.entries place.spot.name) (sym is ∙ at.inode ∙ get_inodes at.entries place.spot.name) }
+pub room_at : (g : Graph) (place : Place) → IsPlace g place → place.inode ≡ None → IsRoom g place.location
+room_at g place at is = record { names = at.names; entries = at.entries; is = at.is; none = none_first (fin.get at.entries place.location.name) (sym is ∙ at.inode ∙ get_inodes at.entries place.location.name) }
 
 -- a file with a name is used
-pub used_by_name : (g : Graph) (d : Descriptors) (at : Spot) (i n : ℕ) (bytes : List ℕ) (k : Kind) → IsFair g d → IsEntry g at (i, k) → g i ≡ file n bytes → IsUsed d i n
+pub used_by_name : (g : Graph) (d : Descriptors) (at : Location) (i n : ℕ) (bytes : List ℕ) (k : Kind) → IsFair g d → IsEntry g at (i, k) → g i ≡ file n bytes → IsUsed d i n
 used_by_name g d at i n bytes k sound entry is =
     let range = sound.typed.numbers at.parent kind.Directory (ap kind_of entry.is) in
     let one : 1 ≤ named g i = has_name g at.parent entry.names at.name entry.entries (i, k) entry.is range.0 range.1 entry.there in
@@ -185,8 +185,8 @@ directory_is v (Some i) child e = elim (v.is_dir i) as (λ o. run v (directory_i
 -- from here to the parent that the walk led to, there is a way also without this inode, and what was walked before is not it
 record IsPast (u : Tree) (i from : ℕ) (way : List ℕ) (place : Place) : Type 0 where
   inodes : List ℕ
-  chain : Chain u from inodes place.spot.parent
-  apart : place.spot.parent ≢ i
+  chain : Chain u from inodes place.location.parent
+  apart : place.location.parent ≢ i
   before : list_any (λ d. d == i) way ≡ false
 
 past : (g : Graph) (d : Descriptors) (i from : ℕ) (way : List ℕ) (name : List ℕ) (names : List (List ℕ)) (place : Place) → kind_of (g from) ≡ Some kind.Directory → run (graph_view g d) (walk from way (name ∷ names)) ≡ Ok place → list_any (λ d. d == i) place.walked ≡ false
@@ -212,8 +212,8 @@ past g d i from way name (next ∷ names) place is e clear =
     let edge : fin.get (entries_of (set_node t i None from)) name ≡ Some (c.0) = ap (λ o. fin.get (entries_of o) name) (here ∙ tree_dir g d from there.names there.entries there.is) ∙ ap (λ m. fin.get m name) seen ∙ directory_is v (fin.get s.0 name) c.0 c.1 in
     record { inodes = c.0 ∷ rest.inodes; chain = ((name, edge), rest.chain); apart = rest.apart; before = both.1 }
 
-pub clear_walk : (g : Graph) (d : Descriptors) (i : ℕ) (name : List ℕ) (names : List (List ℕ)) (place : Place) → kind_of (g 1) ≡ Some kind.Directory → run (graph_view g d) (walk 1 [] (name ∷ names)) ≡ Ok place → list_any (λ d. d == i) place.walked ≡ false → IsClear (tree_of (kept g d)) i place.spot.parent
+pub clear_walk : (g : Graph) (d : Descriptors) (i : ℕ) (name : List ℕ) (names : List (List ℕ)) (place : Place) → kind_of (g 1) ≡ Some kind.Directory → run (graph_view g d) (walk 1 [] (name ∷ names)) ≡ Ok place → list_any (λ d. d == i) place.walked ≡ false → IsClear (tree_of (kept g d)) i place.location.parent
 clear_walk g d i name names place root e clear =
     let p = past g d i 1 [] name names place root e clear in
-    let path = chain_path (set_node (tree_of (kept g d)) i None) p.inodes 1 place.spot.parent p.chain in
+    let path = chain_path (set_node (tree_of (kept g d)) i None) p.inodes 1 place.location.parent p.chain in
     record { apart = p.apart; path = path.0; leads = path.1 }

@@ -1,4 +1,4 @@
--- What a deed's questions come to over a graph are its effects and their growth.
+-- What a operation's questions come to over a graph are its effects and their growth.
 use Rattle.std.proofs.Common.{◌≡◌, ◌≢◌, inl, inr, ℕ, ◌+◌, ◌-◌, ◌≤◌, true, false, cond, T, List, [], ◌∷◌, length, refl, Option, None, Ok, ap, sym, subst, ◌∙◌, arith, ◌&&◌}
 use Rattle.std.specs.Prelude.{map, max}
 use Rattle.std.proofs.lemmas.Grind.{common_steps}
@@ -9,13 +9,13 @@ use Rattle.std.specs.FinMap as fin
 use Rattle.std.specs.FinMap.Entries.{below_all}
 use Rattle.posix_calls.specs.Content.{Entries, written, resized, file_units, directory_units}
 use Rattle.posix_calls.specs.Tree.{Descriptors, Own}
-use Rattle.posix_calls.specs.Asks.{Gives, ◌>>=◌, View, run}
+use Rattle.posix_calls.specs.Query.{Gives, ◌>>=◌, View, run}
 use Rattle.posix_calls.specs.Walk.{entries_seen, bytes_seen, bytes_at}
-use Rattle.posix_calls.specs.declared.deed.Spot.{Spot}
-use Rattle.posix_calls.specs.declared.deed.Deed.{Deed}
-use Rattle.posix_calls.specs.declared.deed.Deed.TheVariants.{Tell, NewDir, NewFile, OpenFile, CloseFile, Write, Resize, RemoveDir, AddName, DropName, Move}
-use Rattle.posix_calls.specs.declared.deed.Replaced.TheVariants.{Nothing, OldFile, OldDir}
-use Rattle.posix_calls.specs.Deeds.{makes}
+use Rattle.posix_calls.specs.declared.operation.Location.{Location}
+use Rattle.posix_calls.specs.declared.operation.Operation.{Operation}
+use Rattle.posix_calls.specs.declared.operation.Operation.TheVariants.{Tell, NewDir, NewFile, OpenFile, CloseFile, Write, Resize, RemoveDir, AddName, DropName, Move}
+use Rattle.posix_calls.specs.declared.operation.Replaced.TheVariants.{Nothing, OldFile, OldDir}
+use Rattle.posix_calls.specs.Operations.{makes}
 use Rattle.posix_calls.proofs.Directory.{names_same}
 use Rattle.posix_calls.proofs.Counts.{order}
 use Rattle.posix_calls.proofs.Within.{resized_length}
@@ -108,16 +108,16 @@ module _ (g : Graph) (d : Descriptors) (sound : IsSound g d) where
   -- ---- a node is made
 
   -- the rise of the directory at a name that is free in it
-  abbrev pub room_rise : (at : Spot) → IsRoom g at → ℕ
+  abbrev pub room_rise : (at : Location) → IsRoom g at → ℕ
   room_rise at room = directory_units (fin.len room.entries + 1) - directory_units (fin.len room.entries)
 
-  filled_cost : (e : ℕ × Kind) (at : Spot) (room : IsRoom g at) → cost (dir room.names (fin.insert room.entries at.name e)) ≡ directory_units (fin.len room.entries + 1)
+  filled_cost : (e : ℕ × Kind) (at : Location) (room : IsRoom g at) → cost (dir room.names (fin.insert room.entries at.name e)) ≡ directory_units (fin.len room.entries + 1)
   filled_cost e at room = ap directory_units (len_inserted room.entries at.name e room.none)
 
-  new_apart : (i : ℕ) (at : Spot) → IsNew g i → IsRoom g at → i ≢ at.parent
+  new_apart : (i : ℕ) (at : Location) → IsNew g i → IsRoom g at → i ≢ at.parent
   new_apart i at new room same = let both : ◌≡◌ {A = Option Node} (dir room.names room.entries) None = sym room.is ∙ ap g (sym same) ∙ new.none in cc
 
-  pub made_rises : (i : ℕ) (k : Kind) (at : Spot) → IsNew g i → (room : IsRoom g at) → growth g (making i k at) ≡ cost (fresh 1 k) + room_rise at room
+  pub made_rises : (i : ℕ) (k : Kind) (at : Location) → IsNew g i → (room : IsRoom g at) → growth g (making i k at) ≡ cost (fresh 1 k) + room_rise at room
   made_rises i k at new room =
       let x = dir room.names (fin.insert room.entries at.name (i, k)) in
       let g1 = put g i (fresh 0 k) in
@@ -139,7 +139,7 @@ module _ (g : Graph) (d : Descriptors) (sound : IsSound g d) where
 
   -- ---- one more name
 
-  pub added_rises : (i n : ℕ) (at : Spot) (room : IsRoom g at) → growth g (effect.Enter at.parent i kind.File at.name ∷ effect.Names i n ∷ []) ≡ room_rise at room
+  pub added_rises : (i n : ℕ) (at : Location) (room : IsRoom g at) → growth g (effect.Enter at.parent i kind.File at.name ∷ effect.Names i n ∷ []) ≡ room_rise at room
   added_rises i n at room =
       let x = dir room.names (fin.insert room.entries at.name (i, kind.File)) in
       let g1 = put g at.parent x in
@@ -155,13 +155,13 @@ module _ (g : Graph) (d : Descriptors) (sound : IsSound g d) where
 
   -- ---- a name goes
 
-  dropped_rises : (i n : ℕ) (at : Spot) → growth g (effect.Leave at.parent at.name ∷ effect.Names i n ∷ []) ≡ 0
+  dropped_rises : (i n : ℕ) (at : Location) → growth g (effect.Leave at.parent at.name ∷ effect.Names i n ∷ []) ≡ 0
   dropped_rises i n at =
       let g1 = after_effect g (effect.Leave at.parent at.name) in
       growth_is g (effect.Leave at.parent at.name ∷ effect.Names i n ∷ [])
       ∙ none_rises g (after_effect g1 (effect.Names i n)) (λ j. let a = named_costs g1 i n j in let b = left_costs g at.parent at.name j in omega (arith, a, b))
 
-  removed_rises : (i : ℕ) (at : Spot) → growth g (removing at i) ≡ 0
+  removed_rises : (i : ℕ) (at : Location) → growth g (removing at i) ≡ 0
   removed_rises i at =
       let g1 = after_effect g (effect.Leave at.parent at.name) in
       growth_is g (removing at i)
@@ -169,11 +169,11 @@ module _ (g : Graph) (d : Descriptors) (sound : IsSound g d) where
 
   -- ---- a name moves
 
-  is_dir : (at : Spot) (e : ℕ × Kind) → IsEntry g at e → IsDir (g at.parent)
+  is_dir : (at : Location) (e : ℕ × Kind) → IsEntry g at e → IsDir (g at.parent)
   is_dir at e entry = ap kind_of entry.is
 
   -- within its directory
-  pub kept_rises : (from to : Spot) (i : ℕ) (k : Kind) → from.parent ≡ to.parent → IsEntry g from (i, k) → growth g (effect.Leave from.parent from.name ∷ effect.Enter to.parent i k to.name ∷ []) ≡ 0
+  pub kept_rises : (from to : Location) (i : ℕ) (k : Kind) → from.parent ≡ to.parent → IsEntry g from (i, k) → growth g (effect.Leave from.parent from.name ∷ effect.Enter to.parent i k to.name ∷ []) ≡ 0
   kept_rises from to i k same entry =
       let h = after_effect g (effect.Leave from.parent from.name) in
       let room = left_room g from.parent entry.names from.name entry.entries (i, k) entry.is entry.there in
@@ -184,7 +184,7 @@ module _ (g : Graph) (d : Descriptors) (sound : IsSound g d) where
       (subst (λ p. entry_count (h p) + 1 ≤ entry_count (g p)) same room)
 
   -- to another directory
-  pub shifted_rises : (from to : Spot) (i : ℕ) (k : Kind) → from.parent ≢ to.parent → IsEntry g from (i, k) → (room : IsRoom g to) → growth g (effect.Leave from.parent from.name ∷ effect.Enter to.parent i k to.name ∷ []) ≡ room_rise to room
+  pub shifted_rises : (from to : Location) (i : ℕ) (k : Kind) → from.parent ≢ to.parent → IsEntry g from (i, k) → (room : IsRoom g to) → growth g (effect.Leave from.parent from.name ∷ effect.Enter to.parent i k to.name ∷ []) ≡ room_rise to room
   shifted_rises from to i k apart entry room =
       let y = dir entry.names (fin.remove entry.entries from.name) in
       let x = dir room.names (fin.insert room.entries to.name (i, k)) in
@@ -205,7 +205,7 @@ module _ (g : Graph) (d : Descriptors) (sound : IsSound g d) where
       ∙ ap (λ c. c - cost (g to.parent)) there ∙ ap (λ c. directory_units (fin.len room.entries + 1) - c) before
 
   -- in the place of a file
-  over_file_rises : (from to : Spot) (i j n : ℕ) (k : Kind) → IsEntry g to (j, kind.File) → growth g (effect.Leave to.parent to.name ∷ effect.Names j n ∷ effect.Leave from.parent from.name ∷ effect.Enter to.parent i k to.name ∷ []) ≡ 0
+  over_file_rises : (from to : Location) (i j n : ℕ) (k : Kind) → IsEntry g to (j, kind.File) → growth g (effect.Leave to.parent to.name ∷ effect.Names j n ∷ effect.Leave from.parent from.name ∷ effect.Enter to.parent i k to.name ∷ []) ≡ 0
   over_file_rises from to i j n k old =
       let p = to.parent in
       let h1 = after_effect g (effect.Leave p to.name) in
@@ -217,7 +217,7 @@ module _ (g : Graph) (d : Descriptors) (sound : IsSound g d) where
       (is_dir to (j, kind.File) old) (named_kinds h1 j n p ∙ left_kinds g p to.name p ∙ is_dir to (j, kind.File) old) (omega (arith, room, counts))
 
   -- in the place of a directory
-  over_dir_rises : (from to : Spot) (i j : ℕ) (k : Kind) → IsEntry g to (j, kind.Directory) → IsEmptyDir g j → growth g (effect.Leave to.parent to.name ∷ effect.Drop j ∷ effect.Leave from.parent from.name ∷ effect.Enter to.parent i k to.name ∷ []) ≡ 0
+  over_dir_rises : (from to : Location) (i j : ℕ) (k : Kind) → IsEntry g to (j, kind.Directory) → IsEmptyDir g j → growth g (effect.Leave to.parent to.name ∷ effect.Drop j ∷ effect.Leave from.parent from.name ∷ effect.Enter to.parent i k to.name ∷ []) ≡ 0
   over_dir_rises from to i j k old empty =
       let p = to.parent in
       let h1 = after_effect g (effect.Leave p to.name) in
@@ -232,10 +232,10 @@ module _ (g : Graph) (d : Descriptors) (sound : IsSound g d) where
       ∙ moved_again g h2 from.parent p i k from.name to.name (λ x. let a = dropped_costs h1 j x in let b = left_costs g p to.name x in omega (arith, a, b))
       (is_dir to (j, kind.Directory) old) (ap kind_of stays ∙ left_kinds g p to.name p ∙ is_dir to (j, kind.Directory) old) (omega (arith, room, counts))
 
-  -- ---- every deed
+  -- ---- every operation
 
   -- a rename that puts nothing out of its place, by whether it stays in its directory
-  moved_asked : (from to : Spot) (i : ℕ) (k : Kind) → IsEntry g from (i, k) → IsRoom g to → run (graph_view g d) (move_rise from to Nothing) ≡ Ok (growth g (effect.Leave from.parent from.name ∷ effect.Enter to.parent i k to.name ∷ []))
+  moved_asked : (from to : Location) (i : ℕ) (k : Kind) → IsEntry g from (i, k) → IsRoom g to → run (graph_view g d) (move_rise from to Nothing) ≡ Ok (growth g (effect.Leave from.parent from.name ∷ effect.Enter to.parent i k to.name ∷ []))
   moved_asked from to i k entry room = elim (eqb_tells from.parent to.parent) [
     | inl same ↦ ap (λ b. run (graph_view g d) (cond b (Gives 0) (entry_rise to.parent))) same.0 ∙ gives (graph_view g d) 0 ∙ ap (λ n. Ok n) (sym (kept_rises from to i k same.1 entry))
     | inr off ↦ ap (λ b. run (graph_view g d) (cond b (Gives 0) (entry_rise to.parent))) off.0 ∙ entry_asked g d to.parent room.names room.entries room.is ∙ ap (λ n. Ok n) (sym (shifted_rises from to i k off.1 entry room))
@@ -257,7 +257,7 @@ module _ (g : Graph) (d : Descriptors) (sound : IsSound g d) where
   emptied_rises : (i : ℕ) (f : IsUsedFile g d i) → growth g (effect.Size i 0 ∷ []) ≡ 0
   emptied_rises i f = resized_rises i 0 f ∙ (let least = units_of_none (length f.bytes) in omega (arith, least))
 
-  pub growth_as_asked : (own : Own) (new : ℕ) (deed : Deed) → (makes deed ≡ true → IsNew g new) → Fits g d own deed → run (graph_view g d) (growth_asked deed) ≡ Ok (growth g (effects_of g new deed))
+  pub growth_as_asked : (own : Own) (new : ℕ) (operation : Operation) → (makes operation ≡ true → IsNew g new) → Fits g d own operation → run (graph_view g d) (growth_asked operation) ≡ Ok (growth g (effects_of g new operation))
   growth_as_asked own new (Tell answer) free fits = gives (graph_view g d) 0 ∙ ap (λ n. Ok n) (sym nothing_rises)
   growth_as_asked own new (NewDir at) free room =
       rise_asked g d at.parent room.names room.entries (directory_units 0) room.is ∙ ap (λ n. Ok (n + room_rise at room)) (sym empty_cost) ∙ ap (λ n. Ok n) (sym (made_rises new kind.Directory at (free refl) room))

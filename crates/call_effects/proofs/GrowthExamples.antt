@@ -1,12 +1,12 @@
--- The growth of some deeds, in numbers.
+-- The growth of some operations, in numbers.
 use Rattle.std.proofs.Common.{◌≡◌, ◌≢◌, ℕ, ◌+◌, ◌-◌, List, [], ◌∷◌, length, None, refl, ap, ◌∙◌, arith}
 use Rattle.std.specs.Prelude.{nat_le, option_map, Ok, max, Bool}
 use Rattle.std.specs.FinMap as fin
 use Rattle.posix_calls.specs.Content.{directory_units}
 use Rattle.posix_calls.specs.Tree.{Descriptors}
-use Rattle.posix_calls.specs.declared.deed.Spot.{Spot}
-use Rattle.posix_calls.specs.declared.deed.Deed.TheVariants.{NewDir, Write, AddName, Move}
-use Rattle.posix_calls.specs.declared.deed.Replaced.TheVariants.{Nothing}
+use Rattle.posix_calls.specs.declared.operation.Location.{Location}
+use Rattle.posix_calls.specs.declared.operation.Operation.TheVariants.{NewDir, Write, AddName, Move}
+use Rattle.posix_calls.specs.declared.operation.Replaced.TheVariants.{Nothing}
 use Rattle.posix_calls.proofs.Counts.{order}
 use Rattle.file_graph.specs.Graph.{Graph, fresh}
 use Rattle.file_graph.specs.Units.{growth}
@@ -14,7 +14,7 @@ use Rattle.file_graph.specs.declared.effect.Kind.{Kind}
 use Rattle.file_graph.specs.declared.effect.Kind.TheVariants as kind
 use Rattle.call_effects.specs.Effects.{stored, kind_if, effects_of}
 use Rattle.call_effects.specs.Records.{file_rise}
-use Rattle.posix_calls.specs.Asks.{Gives, ◌>>=◌, run}
+use Rattle.posix_calls.specs.Query.{Gives, ◌>>=◌, run}
 use Rattle.posix_calls.specs.declared.errno.Errno.TheVariants as errno
 use Rattle.posix_calls.specs.Walk.{refuse, walk, is_there}
 use Rattle.posix_calls.specs.Decide.{mkdir}
@@ -27,7 +27,7 @@ use Rattle.call_effects.proofs.Fresh.{fresh_sound}
 use Rattle.call_effects.proofs.GrowthAsked.{len_seen, room_rise, made_rises, added_rises, shifted_rises, written_rises, empty_cost}
 
 -- the name `a` in the root
-abbrev root_a : Spot
+abbrev root_a : Location
 root_a = record { parent = 1; name = 97 ∷ [] }
 
 nothing_seen : fin.get (without_kinds fin.empty) (97 ∷ []) ≡ None
@@ -55,12 +55,12 @@ first_directory =
 
 module _ (g : Graph) (d : Descriptors) (sound : IsSound g d) where
   -- a directory's second entry: a new node's own unit, and none for the directory that it is entered in
-  second_entry : (new : ℕ) (at : Spot) → IsNew g new → (room : IsRoom g at) → fin.len room.entries ≡ 1 → growth g (effects_of g new (NewDir at)) ≡ 1
+  second_entry : (new : ℕ) (at : Location) → IsNew g new → (room : IsRoom g at) → fin.len room.entries ≡ 1 → growth g (effects_of g new (NewDir at)) ≡ 1
   second_entry new at free room one =
       made_rises g d sound new kind.Directory at free room ∙ ap (λ n. n + room_rise g d sound at room) (empty_cost g d sound) ∙ ap (λ n. directory_units 0 + (directory_units (n + 1) - directory_units n)) one
 
   -- so a second name there costs nothing
-  second_name : (i : ℕ) (at : Spot) (room : IsRoom g at) → fin.len room.entries ≡ 1 → growth g (effects_of g 0 (AddName at i)) ≡ 0
+  second_name : (i : ℕ) (at : Location) (room : IsRoom g at) → fin.len room.entries ≡ 1 → growth g (effects_of g 0 (AddName at i)) ≡ 0
   second_name i at room one = added_rises g d sound i (stored (g i) + 1) at room ∙ ap (λ n. directory_units (n + 1) - directory_units n) one
 
   -- one byte at 4,095 of an empty file ends its first block, and two begin the second
@@ -71,8 +71,8 @@ module _ (g : Graph) (d : Descriptors) (sound : IsSound g d) where
   two_bytes i b c f empty = written_rises g d sound i 4095 (b ∷ c ∷ []) f ∙ ap (λ (bytes : List ℕ). file_rise (length bytes) (max (length bytes) 4097)) empty
 
   -- a name that moves becomes another directory's 57th, for which a block begins, or its 56th; a fall of the directory that it leaves changes neither
-  entry_57 : (i : ℕ) (b : Bool) (from to : Spot) → from.parent ≢ to.parent → IsEntry g from (i, kind_if b) → (room : IsRoom g to) → fin.len room.entries ≡ 56 → growth g (effects_of g 0 (Move from to i b Nothing)) ≡ 1
+  entry_57 : (i : ℕ) (b : Bool) (from to : Location) → from.parent ≢ to.parent → IsEntry g from (i, kind_if b) → (room : IsRoom g to) → fin.len room.entries ≡ 56 → growth g (effects_of g 0 (Move from to i b Nothing)) ≡ 1
   entry_57 i b from to apart entry room full = shifted_rises g d sound from to i (kind_if b) apart entry room ∙ ap (λ n. directory_units (n + 1) - directory_units n) full
 
-  entry_56 : (i : ℕ) (b : Bool) (from to : Spot) → from.parent ≢ to.parent → IsEntry g from (i, kind_if b) → (room : IsRoom g to) → fin.len room.entries ≡ 55 → growth g (effects_of g 0 (Move from to i b Nothing)) ≡ 0
+  entry_56 : (i : ℕ) (b : Bool) (from to : Location) → from.parent ≢ to.parent → IsEntry g from (i, kind_if b) → (room : IsRoom g to) → fin.len room.entries ≡ 55 → growth g (effects_of g 0 (Move from to i b Nothing)) ≡ 0
   entry_56 i b from to apart entry room full = shifted_rises g d sound from to i (kind_if b) apart entry room ∙ ap (λ n. directory_units (n + 1) - directory_units n) full

@@ -1,4 +1,4 @@
--- What one descriptor that is taken or given back makes of the tree, and a deed with the descriptors after it.
+-- What one descriptor that is taken or given back makes of the tree, and a operation with the descriptors after it.
 use Rattle.std.proofs.Common.{◌≡◌, ◌≢◌, inl, inr, ℕ, ◌-◌, ◌<◌, ◌≤◌, [], refl, Some, None, Option, cond, ap, sym, ◌∙◌, subst, true, false, Bool, arith, ◌==◌}
 use Rattle.std.specs.Prelude.{option_map, ◌&&◌, not}
 use Rattle.std.proofs.lemmas.Bool.Decides.{eqb_tells}
@@ -6,9 +6,9 @@ use Rattle.posix_calls.specs.Content.{resized}
 use Rattle.posix_calls.specs.Tree.{Descriptors, Own, is_open, any_up_to, refers_to, set_own, with_own, names_of}
 use Rattle.posix_calls.specs.declared.descriptor.Descriptor.{Descriptor}
 use Rattle.posix_calls.specs.Tree as tree
-use Rattle.posix_calls.specs.declared.deed.Deed.{Deed}
-use Rattle.posix_calls.specs.declared.deed.Deed.TheVariants.{Tell, NewDir, NewFile, OpenFile, CloseFile, Write, Resize, RemoveDir, AddName, DropName, Move}
-use Rattle.posix_calls.specs.Deeds.{tree_after, makes, held_after, less_unused}
+use Rattle.posix_calls.specs.declared.operation.Operation.{Operation}
+use Rattle.posix_calls.specs.declared.operation.Operation.TheVariants.{Tell, NewDir, NewFile, OpenFile, CloseFile, Write, Resize, RemoveDir, AddName, DropName, Move}
+use Rattle.posix_calls.specs.Operations.{tree_after, makes, held_after, less_unused}
 use Rattle.posix_calls.proofs.Open.{own_cases, own_there, open_there}
 use Rattle.posix_calls.proofs.Steps.{with_same}
 use Rattle.file_graph.specs.Graph.{Graph, Node, after_effects}
@@ -21,7 +21,7 @@ use Rattle.call_effects.proofs.Changes.{IsFair, file}
 use Rattle.call_effects.proofs.Views.{file_count}
 use Rattle.call_effects.proofs.NewNodes.{made, g2, fresh}
 use Rattle.call_effects.proofs.Edges.{tree_used, size_is}
-use Rattle.call_effects.proofs.Deeds.{after_deed, Stays}
+use Rattle.call_effects.proofs.Operations.{after_operation, Stays}
 
 module _ (g : Graph) (d : Descriptors) (client number i : ℕ) (what : Option Descriptor) (near : (j : ℕ) → j ≢ i → refers_to j what ≡ refers_to j (d client number)) where
   abbrev pub now : Descriptors
@@ -129,38 +129,38 @@ tree_closed g d client number i fair h f =
     ]
     ∙ ap (λ n. cond (n == 0 && not (is_open e i)) (put t i None) t) (sym count)
 
--- ---- every deed
+-- ---- every operation
 
-abbrev pub graph_after : Graph → ℕ → Deed → Graph
-graph_after g new deed = after_effects g (effects_of g new deed)
+abbrev pub graph_after : Graph → ℕ → Operation → Graph
+graph_after g new operation = after_effects g (effects_of g new operation)
 
--- a deed that leads to these descriptors
-pub record IsDone (g : Graph) (d e : Descriptors) (new : ℕ) (deed : Deed) : Type 0 where
-  pub tree : tree_of (kept (graph_after g new deed) e) ≡ tree_after e new (tree_of (kept g d)) deed
-  pub fair : IsFair (graph_after g new deed) e
+-- a operation that leads to these descriptors
+pub record IsDone (g : Graph) (d e : Descriptors) (new : ℕ) (operation : Operation) : Type 0 where
+  pub tree : tree_of (kept (graph_after g new operation) e) ≡ tree_after e new (tree_of (kept g d)) operation
+  pub fair : IsFair (graph_after g new operation) e
 
-done_same : (g : Graph) (d : Descriptors) (client new : ℕ) (deed : Deed) → Stays deed → IsFair g d → (makes deed ≡ true → IsNew g new) → Fits g d (d client) deed → IsDone g d (with_own d client (d client)) new deed
-done_same g d client new deed st fair free fits =
-    let b = after_deed g d (d client) new deed st fair free fits in
-    subst (λ e. IsDone g d e new deed) (sym (with_same d client)) (record { tree = b.tree; fair = b.fair })
+done_same : (g : Graph) (d : Descriptors) (client new : ℕ) (operation : Operation) → Stays operation → IsFair g d → (makes operation ≡ true → IsNew g new) → Fits g d (d client) operation → IsDone g d (with_own d client (d client)) new operation
+done_same g d client new operation st fair free fits =
+    let b = after_operation g d (d client) new operation st fair free fits in
+    subst (λ e. IsDone g d e new operation) (sym (with_same d client)) (record { tree = b.tree; fair = b.fair })
 
-pub done : (g : Graph) (d : Descriptors) (client new : ℕ) (deed : Deed) → 1 ≤ client → client ≤ 8 → IsFair g d → (makes deed ≡ true → IsNew g new) → Fits g d (d client) deed → IsDone g d (held_after client new d deed) new deed
+pub done : (g : Graph) (d : Descriptors) (client new : ℕ) (operation : Operation) → 1 ≤ client → client ≤ 8 → IsFair g d → (makes operation ≡ true → IsNew g new) → Fits g d (d client) operation → IsDone g d (held_after client new d operation) new operation
 done g d client new (CloseFile i number) low high fair free (f, h) = record {
   tree = tree_closed g d client number i fair h f;
   fair = fair_now g d client number i None (near_old d client number i h) (λ o no_one. absurd (cc)) fair;
 }
 done g d client new (NewFile at number reads writes) low high fair free (room, num) =
-    let deed = NewFile at number reads writes in
-    let b = after_deed g d (d client) new deed tt fair free (room, num) in
+    let operation = NewFile at number reads writes in
+    let b = after_operation g d (d client) new operation tt fair free (room, num) in
     let last = g2 g d new kind.File at fair (free refl) room in
-    let is : graph_after g new deed new ≡ file 1 [] = ap (λ h. h new) (made g d new kind.File at fair (free refl) room) ∙ put_there last new (fresh 1 kind.File) in
-    let held = held_open (graph_after g new deed) d client number new reads writes b.fair num low high (record { names = 1; bytes = []; is = is; used = refl }) in
+    let is : graph_after g new operation new ≡ file 1 [] = ap (λ h. h new) (made g d new kind.File at fair (free refl) room) ∙ put_there last new (fresh 1 kind.File) in
+    let held = held_open (graph_after g new operation) d client number new reads writes b.fair num low high (record { names = 1; bytes = []; is = is; used = refl }) in
     record { tree = held.tree ∙ b.tree; fair = held.fair }
 done g d client new (OpenFile i true number reads writes) low high fair free (f, num) =
-    let deed = OpenFile i true number reads writes in
-    let b = after_deed g d (d client) new deed tt fair free (f, num) in
-    let is : graph_after g new deed i ≡ file f.names (resized 0 f.bytes) = ap (λ h. h i) (size_is g i f.names 0 f.bytes f.is) ∙ put_there g i (file f.names (resized 0 f.bytes)) in
-    let held = held_open (graph_after g new deed) d client number i reads writes b.fair num low high (record { names = f.names; bytes = resized 0 f.bytes; is = is; used = f.used }) in
+    let operation = OpenFile i true number reads writes in
+    let b = after_operation g d (d client) new operation tt fair free (f, num) in
+    let is : graph_after g new operation i ≡ file f.names (resized 0 f.bytes) = ap (λ h. h i) (size_is g i f.names 0 f.bytes f.is) ∙ put_there g i (file f.names (resized 0 f.bytes)) in
+    let held = held_open (graph_after g new operation) d client number i reads writes b.fair num low high (record { names = f.names; bytes = resized 0 f.bytes; is = is; used = f.used }) in
     record { tree = held.tree ∙ b.tree; fair = held.fair }
 done g d client new (OpenFile i false number reads writes) low high fair free (f, num) =
     let held = held_open g d client number i reads writes fair num low high f in

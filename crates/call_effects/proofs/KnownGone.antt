@@ -6,8 +6,8 @@ use Rattle.posix_calls.specs.Content.{Entries}
 use Rattle.posix_calls.specs.Tree.{Descriptors, is_open}
 use Rattle.posix_calls.specs.declared.descriptor.Descriptor.{Descriptor}
 use Rattle.posix_calls.specs.declared.call.Call.{Call}
-use Rattle.posix_calls.specs.Asks.{Asks, Gives, Refuses, IsDir, Look, View, Part, Found, Known, Lacks, IsPart, run, run_part}
-use Rattle.posix_calls.specs.Asks.{whole}
+use Rattle.posix_calls.specs.Query.{Query, Gives, Refuses, IsDir, Look, View, Part, Found, Known, Missing, IsPart, run, run_part}
+use Rattle.posix_calls.specs.Query.{whole}
 use Rattle.posix_calls.specs.Walk.{entries_seen, entries_at}
 use Rattle.posix_calls.specs.Decide.{decide}
 use Rattle.posix_calls.proofs.Counts.{order}
@@ -17,7 +17,7 @@ use Rattle.file_graph.specs.declared.effect.Kind.TheVariants as kind
 use Rattle.call_effects.specs.Wholes.{keep, kept, kind_of, graph_view, node_is_dir, node_seen, without_kinds}
 use Rattle.call_effects.specs.Known.{stored_view}
 use Rattle.call_effects.specs.Fits.{IsUsedFile}
-use Rattle.call_effects.proofs.KnownAsking.{AsksAll, asks_call, read_known}
+use Rattle.call_effects.proofs.KnownAsking.{QueryAll, query_call, read_known}
 use Rattle.call_effects.proofs.Inodes.{get_inodes}
 use Rattle.call_effects.proofs.Changes.{IsFair, file, dir}
 use Rattle.call_effects.proofs.Facts.{has_dir, has_file, used_by_name, some_first}
@@ -29,27 +29,27 @@ abbrev AnswersAlike : View → View → (ℕ → Type 0) → Type 0
 AnswersAlike v w Passes = (i : ℕ) → Passes i → (v.is_dir i ≡ w.is_dir i) × (v.node i ≡ w.node i)
 
 -- come to the same
-run_alike : {A : Type 0} (v w : View) (Passes : ℕ → Type 0) (q : Asks A) → AnswersAlike v w Passes → AsksAll (whole v) Passes Passes q → run v q ≡ run w q
-unfolding AsksAll run
+run_alike : {A : Type 0} (v w : View) (Passes : ℕ → Type 0) (q : Query A) → AnswersAlike v w Passes → QueryAll (whole v) Passes Passes q → run v q ≡ run w q
+unfolding QueryAll run
 run_alike v w Passes (Gives x) same asks = refl
 run_alike v w Passes (Refuses e) same asks = refl
 run_alike v w Passes (IsDir i next) same (met, rest) = run_alike v w Passes (next (v.is_dir i)) same (rest (v.is_dir i) refl) ∙ ap (λ o. run w (next o)) (same i met).0
 run_alike v w Passes (Look i next) same (met, rest) = run_alike v w Passes (next (v.node i)) same (rest (v.node i) refl) ∙ ap (λ o. run w (next o)) (same i met).1
 
 -- and what a part of the other lacks is among what is asked of
-lacks_asked : {A : Type 0} (p : Part) (v w : View) (Passes : ℕ → Type 0) (q : Asks A) (i : ℕ) → AnswersAlike v w Passes → IsPart p w → AsksAll (whole v) Passes Passes q → run_part p q ≡ Lacks i → Passes i
-unfolding AsksAll run_part
-lacks_asked p v w Passes (Gives x) i same part asks e = absurd (cc)
-lacks_asked p v w Passes (Refuses x) i same part asks e = absurd (cc)
-lacks_asked {A = A} p v w Passes (IsDir j next) i same part (met, rest) e =
-    elim (p.is_dir j) as (λ o. p.is_dir j ≡ o → ◌≡◌ {A = Found A} (elim o [ None ↦ Lacks j | Some a ↦ run_part p (next a) ]) (Lacks i) → Passes i) [
-      | None ↦ λ is lacks. let here : j ≡ i = cc in subst Passes here met
-      | Some a ↦ λ is lacks. lacks_asked p v w Passes (next a) i same part (rest a (ap (λ o. Some o) ((same j met).0 ∙ part.is_dir j a is))) lacks
+missing_asked : {A : Type 0} (p : Part) (v w : View) (Passes : ℕ → Type 0) (q : Query A) (i : ℕ) → AnswersAlike v w Passes → IsPart p w → QueryAll (whole v) Passes Passes q → run_part p q ≡ Missing i → Passes i
+unfolding QueryAll run_part
+missing_asked p v w Passes (Gives x) i same part asks e = absurd (cc)
+missing_asked p v w Passes (Refuses x) i same part asks e = absurd (cc)
+missing_asked {A = A} p v w Passes (IsDir j next) i same part (met, rest) e =
+    elim (p.is_dir j) as (λ o. p.is_dir j ≡ o → ◌≡◌ {A = Found A} (elim o [ None ↦ Missing j | Some a ↦ run_part p (next a) ]) (Missing i) → Passes i) [
+      | None ↦ λ is missing. let here : j ≡ i = cc in subst Passes here met
+      | Some a ↦ λ is missing. missing_asked p v w Passes (next a) i same part (rest a (ap (λ o. Some o) ((same j met).0 ∙ part.is_dir j a is))) missing
     ] refl e
-lacks_asked {A = A} p v w Passes (Look j next) i same part (met, rest) e =
-    elim (p.node j) as (λ o. p.node j ≡ o → ◌≡◌ {A = Found A} (elim o [ None ↦ Lacks j | Some a ↦ run_part p (next a) ]) (Lacks i) → Passes i) [
-      | None ↦ λ is lacks. let here : j ≡ i = cc in subst Passes here met
-      | Some a ↦ λ is lacks. lacks_asked p v w Passes (next a) i same part (rest a (ap (λ o. Some o) ((same j met).1 ∙ part.node j a is))) lacks
+missing_asked {A = A} p v w Passes (Look j next) i same part (met, rest) e =
+    elim (p.node j) as (λ o. p.node j ≡ o → ◌≡◌ {A = Found A} (elim o [ None ↦ Missing j | Some a ↦ run_part p (next a) ]) (Missing i) → Passes i) [
+      | None ↦ λ is missing. let here : j ≡ i = cc in subst Passes here met
+      | Some a ↦ λ is missing. missing_asked p v w Passes (next a) i same part (rest a (ap (λ o. Some o) ((same j met).1 ∙ part.node j a is))) missing
     ] refl e
 
 -- ---- what is kept
@@ -86,8 +86,8 @@ module _ (g : Graph) (d : Descriptors) (fair : IsFair g d) where
   abbrev v : View
   v = graph_view g d
 
-  abbrev pub AsksKept : {A : Type 0} → Asks A → Type 0
-  AsksKept q = AsksAll (whole v) Stays Stays q
+  abbrev pub QueryKept : {A : Type 0} → Query A → Type 0
+  QueryKept q = QueryAll (whole v) Stays Stays q
 
   pub dir_stays : (i : ℕ) → kind_of (g i) ≡ Some kind.Directory → Stays i
   dir_stays i is = let f = has_dir g i is in record { node = record { names = f.names; body = DirBody f.entries }; stored = f.is; kept = ap (keep (is_open d i)) f.is }
@@ -115,19 +115,19 @@ module _ (g : Graph) (d : Descriptors) (fair : IsFair g d) where
   open_stays : (client number : ℕ) (x : Descriptor) → d client number ≡ Some x → Stays x.inode
   open_stays client number x is = used_stays x.inode (open_file g d client number x x.inode fair is refl)
 
-  pub call_asks_kept : (client : ℕ) (c : Call) → AsksKept (decide (d client) c)
-  call_asks_kept client c = let root = dir_stays 1 fair.typed.root in asks_call (whole v) Stays Stays (d client) (root, root) named_stays (open_stays client) c
+  pub call_asks_kept : (client : ℕ) (c : Call) → QueryKept (decide (d client) c)
+  call_asks_kept client c = let root = dir_stays 1 fair.typed.root in query_call (whole v) Stays Stays (d client) (root, root) named_stays (open_stays client) c
 
   seen_alike : AnswersAlike v (stored_view g) Stays
   seen_alike i stays = let same = stays.kept ∙ sym stays.stored in (ap (option_map node_is_dir) same, ap (option_map node_seen) same)
 
   -- questions that meet nothing that is gone come to the same over the stored graph
-  pub stored_alike : {A : Type 0} (q : Asks A) → AsksKept q → run v q ≡ run (stored_view g) q
+  pub stored_alike : {A : Type 0} (q : Query A) → QueryKept q → run v q ≡ run (stored_view g) q
   stored_alike q asks = run_alike v (stored_view g) Stays q seen_alike asks
 
   -- and a part of it lacks only what is kept
-  pub lacks_kept : {A : Type 0} (p : Part) (q : Asks A) (i : ℕ) → IsPart p (stored_view g) → AsksKept q → run_part p q ≡ Lacks i → Stays i
-  lacks_kept p q i part asks e = lacks_asked p v (stored_view g) Stays q i seen_alike part asks e
+  pub missing_kept : {A : Type 0} (p : Part) (q : Query A) (i : ℕ) → IsPart p (stored_view g) → QueryKept q → run_part p q ≡ Missing i → Stays i
+  missing_kept p q i part asks e = missing_asked p v (stored_view g) Stays q i seen_alike part asks e
 
 pub no_call_meets : (g : Graph) (d : Descriptors) (client : ℕ) (c : Call) → IsFair g d → run (graph_view g d) (decide (d client) c) ≡ run (stored_view g) (decide (d client) c)
 no_call_meets g d client c fair = stored_alike g d fair (decide (d client) c) (call_asks_kept g d fair client c)

@@ -17,11 +17,11 @@ use Rattle.call_effects.specs.Effects.{kind_if}
 use Rattle.call_effects.specs.Wholes.{kind_of, node_is_dir}
 use Rattle.call_effects.specs.Known.{Knowledge, Agrees, copied, same_kind, tells, is_told, is_dir_by, part_of}
 use Rattle.call_effects.specs.Fits.{IsEntry}
-use Rattle.posix_calls.specs.declared.deed.Spot.{Spot}
+use Rattle.posix_calls.specs.declared.operation.Location.{Location}
 use Rattle.call_effects.proofs.Changes.{IsFair, dir}
 use Rattle.call_effects.proofs.Facts.{has_dir, has_file}
 use Rattle.call_effects.proofs.KnownTold.{part_is}
-use Rattle.call_effects.proofs.KnownLacking.{Answers, by_dir, by_file}
+use Rattle.call_effects.proofs.KnownMissing.{Answers, by_dir, by_file}
 
 pub or_true : (b : Bool) → (b || true) ≡ true
 or_true true = refl
@@ -69,7 +69,7 @@ module _ (k : Knowledge) (g : Graph) (d : Descriptors) (fair : IsFair g d) (agre
   a_copy (Some x) n e = ap (λ y. Some y) e
 
   -- an entry of a copy tells its kind
-  pub entry_tells_kind : (at : Spot) (i : ℕ) (b : Bool) → IsEntry (copied k) at (i, kind_if b) → (part_of k).is_dir i ≡ Some (Some b)
+  pub entry_tells_kind : (at : Location) (i : ℕ) (b : Bool) → IsEntry (copied k) at (i, kind_if b) → (part_of k).is_dir i ≡ Some (Some b)
   entry_tells_kind at i b entry =
       let copy = a_copy (k.copies at.parent) (record { names = entry.names; body = DirBody entry.entries }) entry.is in
       let a = told_answered i (kind_if b) (entry_told at.parent entry.names i entry.entries at.name (kind_if b) copy entry.there) in

@@ -5,8 +5,8 @@ use Rattle.std.specs.FinMap as fin
 use Rattle.posix_calls.specs.Content.{Entries}
 use Rattle.posix_calls.specs.Tree.{Own, Descriptors}
 use Rattle.posix_calls.specs.declared.call.Call.{Call}
-use Rattle.posix_calls.specs.declared.deed.Deed.{Deed}
-use Rattle.posix_calls.specs.Asks.{Seen, File, Dir, Asks, Gives, Refuses, IsDir, Look, Part, Found, Known, Lacks, run, run_part}
+use Rattle.posix_calls.specs.declared.operation.Operation.{Operation}
+use Rattle.posix_calls.specs.Query.{Seen, File, Dir, Query, Gives, Refuses, IsDir, Look, Part, Found, Known, Missing, run, run_part}
 use Rattle.posix_calls.specs.Walk.{entries_seen, entries_at}
 use Rattle.posix_calls.specs.Decide.{decide}
 use Rattle.posix_calls.proofs.Counts.{order}
@@ -16,8 +16,8 @@ use Rattle.call_effects.specs.Known.{Knowledge, Agrees, IsLookedAtNext, part_of}
 use Rattle.call_effects.proofs.Inodes.{get_inodes}
 use Rattle.call_effects.proofs.Changes.{IsFair}
 use Rattle.call_effects.proofs.Facts.{some_first}
-use Rattle.call_effects.proofs.KnownAsking.{AsksAll, asks_call, dir_answered, read_known}
-use Rattle.call_effects.proofs.KnownLacking.{Answers}
+use Rattle.call_effects.proofs.KnownAsking.{QueryAll, query_call, dir_answered, read_known}
+use Rattle.call_effects.proofs.KnownMissing.{Answers}
 use Rattle.call_effects.proofs.KnownKinds.{entry_told, told_answered}
 
 -- a look at an inode may be lacking
@@ -25,8 +25,8 @@ abbrev Any : ℕ → Type 0
 Any i = Unit {0}
 
 -- where each kind that is asked for is known, what is lacking is a node
-looked_at : (p : Part) (q : Asks Deed) (i : ℕ) → AsksAll p (λ j. Answers (p.is_dir j)) Any q → run_part p q ≡ Lacks i → IsLookedAtNext p i q
-unfolding AsksAll run_part run
+looked_at : (p : Part) (q : Query Operation) (i : ℕ) → QueryAll p (λ j. Answers (p.is_dir j)) Any q → run_part p q ≡ Missing i → IsLookedAtNext p i q
+unfolding QueryAll run_part run
 looked_at p (Gives x) i asks e = absurd (cc)
 looked_at p (Refuses x) i asks e = absurd (cc)
 looked_at p (IsDir j next) i (known, asks) e =
@@ -34,10 +34,10 @@ looked_at p (IsDir j next) i (known, asks) e =
     let rest = looked_at p (next o) i (asks o known.1) (sym (dir_answered p j next o known.1) ∙ e) in
     record { next = rest.next; unknown = rest.unknown; same = λ v part. ap (λ x. run v (next x)) (part.is_dir j o known.1) ∙ rest.same v part }
 looked_at p (Look j next) i (met, asks) e =
-    elim (p.node j) as (λ o. p.node j ≡ o → ◌≡◌ {A = Found Deed} (elim o [ None ↦ Lacks j | Some a ↦ run_part p (next a) ]) (Lacks i) → IsLookedAtNext p i (Look j next)) [
-      | None ↦ λ is lacks. let same : j ≡ i = cc in subst (λ x. IsLookedAtNext p x (Look j next)) same (record { next = next; unknown = is; same = λ v part. refl })
-      | Some a ↦ λ is lacks.
-          let rest = looked_at p (next a) i (asks a is) lacks in
+    elim (p.node j) as (λ o. p.node j ≡ o → ◌≡◌ {A = Found Operation} (elim o [ None ↦ Missing j | Some a ↦ run_part p (next a) ]) (Missing i) → IsLookedAtNext p i (Look j next)) [
+      | None ↦ λ is missing. let same : j ≡ i = cc in subst (λ x. IsLookedAtNext p x (Look j next)) same (record { next = next; unknown = is; same = λ v part. refl })
+      | Some a ↦ λ is missing.
+          let rest = looked_at p (next a) i (asks a is) missing in
           record { next = rest.next; unknown = rest.unknown; same = λ v part. ap (λ x. run v (next x)) (part.node j a is) ∙ rest.same v part }
     ] refl e
 
@@ -68,5 +68,5 @@ module _ (k : Knowledge) (g : Graph) (d : Descriptors) (fair : IsFair g d) (agre
       let r = read_known p at entries_seen entries e in
       (seen_kind at i name (k.copies at) r.0 refl r.1 (ap (λ m. fin.get m name) r.2 ∙ there), tt)
 
-  pub call_looks : (own : Own) (c : Call) (i : ℕ) → run_part p (decide own c) ≡ Lacks i → IsLookedAtNext p i (decide own c)
-  call_looks own c i e = looked_at p (decide own c) i (asks_call p KindKnown Any own ((Some true, refl), tt) named_kind (λ number x is. tt) c) e
+  pub call_looks : (own : Own) (c : Call) (i : ℕ) → run_part p (decide own c) ≡ Missing i → IsLookedAtNext p i (decide own c)
+  call_looks own c i e = looked_at p (decide own c) i (query_call p KindKnown Any own ((Some true, refl), tt) named_kind (λ number x is. tt) c) e

@@ -5,7 +5,7 @@ use Rattle.posix_calls.specs.Path.{reading}
 use Rattle.posix_calls.specs.Tree.{Own}
 use Rattle.posix_calls.specs.declared.errno.Errno.TheVariants as errno
 use Rattle.posix_calls.specs.declared.call.Flags.{Flags}
-use Rattle.posix_calls.specs.Asks.{Part, Known, run_part, ◌>>=◌}
+use Rattle.posix_calls.specs.Query.{Part, Known, run_part, ◌>>=◌}
 use Rattle.posix_calls.specs.Walk.{is_root, walk}
 use Rattle.posix_calls.specs.Decide.{is_senseless, lowest_free, open_path, truncate, mkdir, rmdir, link, unlink, rename}
 use Rattle.call_effects.proofs.KnownKinds.{or_true}

@@ -8,8 +8,8 @@ use Rattle.posix_calls.specs.Tree.{Own, Descriptors, any_up_to}
 use Rattle.posix_calls.specs.declared.errno.Errno.{Errno}
 use Rattle.posix_calls.specs.declared.errno.Errno.TheVariants as errno
 use Rattle.posix_calls.specs.declared.call.Call.TheVariants as call
-use Rattle.posix_calls.specs.declared.deed.Deed.TheVariants.{NewDir, DropName}
-use Rattle.posix_calls.specs.Asks.{Seen, Asks, Gives, Refuses, IsDir, Look, ◌>>=◌, Part, Found, Known, Lacks, run_part}
+use Rattle.posix_calls.specs.declared.operation.Operation.TheVariants.{NewDir, DropName}
+use Rattle.posix_calls.specs.Query.{Seen, Query, Gives, Refuses, IsDir, Look, ◌>>=◌, Part, Found, Known, Missing, run_part}
 use Rattle.posix_calls.specs.Walk.{walk}
 use Rattle.posix_calls.specs.Decide.{mkdir, unlink}
 use Rattle.posix_calls.proofs.Directory.{lists}
@@ -27,18 +27,18 @@ use Rattle.call_effects.proofs.Changes.{dir}
 abbrev then_found : {A B : Type 0} → Found A → (A → Found B) → Found B
 then_found (Known (Ok x)) f = f x
 then_found (Known (Err e)) f = Known (Err e)
-then_found (Lacks i) f = Lacks i
+then_found (Missing i) f = Missing i
 
 abbrev answered : {A X : Type 0} → ℕ → Option X → (X → Found A) → Found A
-answered i None f = Lacks i
+answered i None f = Missing i
 answered i (Some x) f = f x
 
-part_bind : {A B : Type 0} (p : Part) (q : Asks A) (f : A → Asks B) → run_part p (q >>= f) ≡ then_found (run_part p q) (λ x. run_part p (f x))
+part_bind : {A B : Type 0} (p : Part) (q : Query A) (f : A → Query B) → run_part p (q >>= f) ≡ then_found (run_part p q) (λ x. run_part p (f x))
 unfolding run_part ◌>>=◌
 part_bind p (Gives x) f = refl
 part_bind p (Refuses e) f = refl
-part_bind {A = A} {B = B} p (IsDir i next) f = elim (p.is_dir i) as (λ o. ◌≡◌ {A = Found B} (elim o [ None ↦ Lacks i | Some a ↦ run_part p (next a >>= f) ]) (then_found (elim o as (λ _. Found A) [ None ↦ Lacks i | Some a ↦ run_part p (next a) ]) (λ x. run_part p (f x)))) [ None ↦ refl | Some a ↦ part_bind p (next a) f ]
-part_bind {A = A} {B = B} p (Look i next) f = elim (p.node i) as (λ o. ◌≡◌ {A = Found B} (elim o [ None ↦ Lacks i | Some a ↦ run_part p (next a >>= f) ]) (then_found (elim o as (λ _. Found A) [ None ↦ Lacks i | Some a ↦ run_part p (next a) ]) (λ x. run_part p (f x)))) [ None ↦ refl | Some a ↦ part_bind p (next a) f ]
+part_bind {A = A} {B = B} p (IsDir i next) f = elim (p.is_dir i) as (λ o. ◌≡◌ {A = Found B} (elim o [ None ↦ Missing i | Some a ↦ run_part p (next a >>= f) ]) (then_found (elim o as (λ _. Found A) [ None ↦ Missing i | Some a ↦ run_part p (next a) ]) (λ x. run_part p (f x)))) [ None ↦ refl | Some a ↦ part_bind p (next a) f ]
+part_bind {A = A} {B = B} p (Look i next) f = elim (p.node i) as (λ o. ◌≡◌ {A = Found B} (elim o [ None ↦ Missing i | Some a ↦ run_part p (next a >>= f) ]) (then_found (elim o as (λ _. Found A) [ None ↦ Missing i | Some a ↦ run_part p (next a) ]) (λ x. run_part p (f x)))) [ None ↦ refl | Some a ↦ part_bind p (next a) f ]
 
 part_gives : {A : Type 0} (p : Part) (x : A) → run_part p (Gives x) ≡ Known (Ok x)
 unfolding run_part
@@ -48,13 +48,13 @@ part_refuses : (A : Type 0) (p : Part) (e : Errno) → run_part {A = A} p (Refus
 unfolding run_part
 part_refuses A p e = refl
 
-part_is_dir : {A : Type 0} (p : Part) (i : ℕ) (next : Option Bool → Asks A) → run_part p (IsDir i next) ≡ answered i (p.is_dir i) (λ o. run_part p (next o))
+part_is_dir : {A : Type 0} (p : Part) (i : ℕ) (next : Option Bool → Query A) → run_part p (IsDir i next) ≡ answered i (p.is_dir i) (λ o. run_part p (next o))
 unfolding run_part
-part_is_dir {A = A} p i next = elim (p.is_dir i) as (λ o. ◌≡◌ {A = Found A} (elim o [ None ↦ Lacks i | Some a ↦ run_part p (next a) ]) (answered i o (λ o. run_part p (next o)))) [ None ↦ refl | Some a ↦ refl ]
+part_is_dir {A = A} p i next = elim (p.is_dir i) as (λ o. ◌≡◌ {A = Found A} (elim o [ None ↦ Missing i | Some a ↦ run_part p (next a) ]) (answered i o (λ o. run_part p (next o)))) [ None ↦ refl | Some a ↦ refl ]
 
-part_look : {A : Type 0} (p : Part) (i : ℕ) (next : Option Seen → Asks A) → run_part p (Look i next) ≡ answered i (p.node i) (λ o. run_part p (next o))
+part_look : {A : Type 0} (p : Part) (i : ℕ) (next : Option Seen → Query A) → run_part p (Look i next) ≡ answered i (p.node i) (λ o. run_part p (next o))
 unfolding run_part
-part_look {A = A} p i next = elim (p.node i) as (λ o. ◌≡◌ {A = Found A} (elim o [ None ↦ Lacks i | Some a ↦ run_part p (next a) ]) (answered i o (λ o. run_part p (next o)))) [ None ↦ refl | Some a ↦ refl ]
+part_look {A = A} p i next = elim (p.node i) as (λ o. ◌≡◌ {A = Found A} (elim o [ None ↦ Missing i | Some a ↦ run_part p (next a) ]) (answered i o (λ o. run_part p (next o)))) [ None ↦ refl | Some a ↦ refl ]
 
 ruleset parts = (part_bind, part_gives, part_refuses, part_is_dir, part_look)
 
@@ -74,7 +74,7 @@ with_root root = record { client = 1; own = nothing_open; copies = λ i. cond (i
 root_copied : Knowledge
 root_copied = with_root (fresh 1)
 
-without_a_copy : run_part (part_of nothing_copied) (mkdir (codes "/a")) ≡ Lacks 1
+without_a_copy : run_part (part_of nothing_copied) (mkdir (codes "/a")) ≡ Missing 1
 unfolding mkdir walk nothing_copied
 without_a_copy = simp parts refl
 
@@ -89,9 +89,9 @@ two_entries = fin.insert (fin.insert fin.empty (codes "a") (2, kind.Directory)) 
 two_copied : Knowledge
 two_copied = with_root (dir 1 two_entries)
 
-lacks_the_directory : run_part (part_of two_copied) (mkdir (codes "/a/b")) ≡ Lacks 2
+missing_the_directory : run_part (part_of two_copied) (mkdir (codes "/a/b")) ≡ Missing 2
 unfolding mkdir walk two_copied with_root two_entries any_up_to
-lacks_the_directory = simp (parts, lists, fin.gets) refl
+missing_the_directory = simp (parts, lists, fin.gets) refl
 
 no_directory : run_part (part_of two_copied) (mkdir (codes "/f/b")) ≡ Known (Err errno.NotDirectory)
 unfolding mkdir walk two_copied with_root two_entries any_up_to
@@ -102,7 +102,7 @@ unlinked : run_part (part_of two_copied) (unlink (codes "/f")) ≡ Known (Ok (Dr
 unfolding unlink walk two_copied with_root two_entries any_up_to
 unlinked = simp (parts, lists, fin.gets) refl
 
-unlinked_effects : run_part (part_of two_copied) (effects_asked 0 (DropName (record { parent = 1; name = codes "f" }) 3)) ≡ Lacks 3
+unlinked_effects : run_part (part_of two_copied) (effects_asked 0 (DropName (record { parent = 1; name = codes "f" }) 3)) ≡ Missing 3
 unfolding two_copied with_root two_entries
 unlinked_effects = simp parts refl
 

@@ -2,10 +2,10 @@
 use Rattle.std.specs.Prelude.{IsSome, is_some}
 use Rattle.std.proofs.Common.{◌≡◌, ℕ, List, Ok, Err, Result, cond, ap, sym, ◌∙◌, subst}
 use Rattle.posix_calls.specs.Tree.{Own, Descriptors, with_own}
-use Rattle.posix_calls.specs.Asks.{Known, Lacks, run, run_part}
+use Rattle.posix_calls.specs.Query.{Known, Missing, run, run_part}
 use Rattle.posix_calls.specs.Decide.{decide}
-use Rattle.posix_calls.specs.Deeds.{Step, reply_of, own_after}
-use Rattle.posix_calls.specs.declared.deed.Deed.{Deed}
+use Rattle.posix_calls.specs.Operations.{Step, reply_of, own_after}
+use Rattle.posix_calls.specs.declared.operation.Operation.{Operation}
 use Rattle.posix_calls.specs.declared.errno.Errno.{Errno}
 use Rattle.posix_calls.specs.declared.errno.Errno.TheVariants as errno
 use Rattle.posix_calls.specs.declared.call.Call.{Call}
@@ -21,11 +21,11 @@ use Rattle.call_effects.specs.Fits.{Fits}
 use Rattle.call_effects.specs.Known.{Knowledge, Agrees, IsPlanned, part_of, stored_view}
 use Rattle.call_effects.proofs.Changes.{IsFair, fair_of}
 use Rattle.call_effects.proofs.Steps.{answer_fits, call_done, call_sound, call_refused}
-use Rattle.call_effects.proofs.KnownGone.{Stays, AsksKept, call_asks_kept, no_call_meets, stored_alike, lacks_kept}
+use Rattle.call_effects.proofs.KnownGone.{Stays, QueryKept, call_asks_kept, no_call_meets, stored_alike, missing_kept}
 use Rattle.call_effects.proofs.KnownTold.{part_is}
-use Rattle.call_effects.proofs.KnownEffects.{effects_are, asks_effects, asks_growth}
+use Rattle.call_effects.proofs.KnownEffects.{effects_are, query_effects, query_growth}
 
-pub answer_known : (k : Knowledge) (g : Graph) (d : Descriptors) (c : Call) (r : Result Deed Errno) → IsSound g d → Agrees k g d → run_part (part_of k) (decide k.own c) ≡ Known r → answer_over g d k.client c ≡ r
+pub answer_known : (k : Knowledge) (g : Graph) (d : Descriptors) (c : Call) (r : Result Operation Errno) → IsSound g d → Agrees k g d → run_part (part_of k) (decide k.own c) ≡ Known r → answer_over g d k.client c ≡ r
 answer_known k g d c r sound agrees known =
     let fair = fair_of g d sound in
     let own_is : d k.client ≡ k.own = λ t n. agrees.own n t in
@@ -34,42 +34,42 @@ answer_known k g d c r sound agrees known =
     ∙ ap (λ own. run (stored_view g) (decide own c)) own_is
     ∙ known_is_run (part_of k) (stored_view g) (part_is k g d fair agrees) (decide k.own c) r known
 
-pub effects_known : (k : Knowledge) (g : Graph) (d : Descriptors) (own : Own) (new : ℕ) (deed : Deed) (es : List Effect) → IsSound g d → Agrees k g d → Fits g d own deed → run_part (part_of k) (effects_asked new deed) ≡ Known (Ok es) → effects_of g new deed ≡ es
-effects_known k g d own new deed es sound agrees fits known =
+pub effects_known : (k : Knowledge) (g : Graph) (d : Descriptors) (own : Own) (new : ℕ) (operation : Operation) (es : List Effect) → IsSound g d → Agrees k g d → Fits g d own operation → run_part (part_of k) (effects_asked new operation) ≡ Known (Ok es) → effects_of g new operation ≡ es
+effects_known k g d own new operation es sound agrees fits known =
     let fair = fair_of g d sound in
-    let by_part = known_is_run (part_of k) (stored_view g) (part_is k g d fair agrees) (effects_asked new deed) (Ok es) known in
-    let same : Ok (effects_of g new deed) ≡ Ok es = sym (effects_are g d own new deed fits) ∙ stored_alike g d fair (effects_asked new deed) (asks_effects g d own fair new deed fits) ∙ by_part in
+    let by_part = known_is_run (part_of k) (stored_view g) (part_is k g d fair agrees) (effects_asked new operation) (Ok es) known in
+    let same : Ok (effects_of g new operation) ≡ Ok es = sym (effects_are g d own new operation fits) ∙ stored_alike g d fair (effects_asked new operation) (query_effects g d own fair new operation fits) ∙ by_part in
     cc
 
-pub growth_known : (k : Knowledge) (g : Graph) (d : Descriptors) (own : Own) (deed : Deed) (units : ℕ) → IsSound g d → Agrees k g d → Fits g d own deed → run_part (part_of k) (growth_asked deed) ≡ Known (Ok units) → run (graph_view g d) (growth_asked deed) ≡ Ok units
-growth_known k g d own deed units sound agrees fits known =
+pub growth_known : (k : Knowledge) (g : Graph) (d : Descriptors) (own : Own) (operation : Operation) (units : ℕ) → IsSound g d → Agrees k g d → Fits g d own operation → run_part (part_of k) (growth_asked operation) ≡ Known (Ok units) → run (graph_view g d) (growth_asked operation) ≡ Ok units
+growth_known k g d own operation units sound agrees fits known =
     let fair = fair_of g d sound in
-    stored_alike g d fair (growth_asked deed) (asks_growth g d own fair deed fits)
-    ∙ known_is_run (part_of k) (stored_view g) (part_is k g d fair agrees) (growth_asked deed) (Ok units) known
+    stored_alike g d fair (growth_asked operation) (query_growth g d own fair operation fits)
+    ∙ known_is_run (part_of k) (stored_view g) (part_is k g d fair agrees) (growth_asked operation) (Ok units) known
 
 -- what is planned is what comes, with its effects
-pub planned_answer : (k : Knowledge) (g : Graph) (d : Descriptors) (c : Call) (new : ℕ) (deed : Deed) (es : List Effect) → IsSound g d → Agrees k g d → IsPlanned k c new deed es → (answer_over g d k.client c ≡ Ok deed) × (effects_of g new deed ≡ es)
-planned_answer k g d c new deed es sound agrees plan =
-    let answer = answer_known k g d c (Ok deed) sound agrees plan.comes in
-    (answer, effects_known k g d (d k.client) new deed es sound agrees (answer_fits g d k.client c deed sound answer) plan.effects)
+pub planned_answer : (k : Knowledge) (g : Graph) (d : Descriptors) (c : Call) (new : ℕ) (operation : Operation) (es : List Effect) → IsSound g d → Agrees k g d → IsPlanned k c new operation es → (answer_over g d k.client c ≡ Ok operation) × (effects_of g new operation ≡ es)
+planned_answer k g d c new operation es sound agrees plan =
+    let answer = answer_known k g d c (Ok operation) sound agrees plan.comes in
+    (answer, effects_known k g d (d k.client) new operation es sound agrees (answer_fits g d k.client c operation sound answer) plan.effects)
 
 module _ (k : Knowledge) (g : Graph) (d : Descriptors) (sound : IsSound g d) (agrees : Agrees k g d) where
   own_is : d k.client ≡ k.own
   own_is = λ t n. agrees.own n t
 
-  pub planned_step : (c : Call) (new : ℕ) (deed : Deed) (es : List Effect) → IsPlanned k c new deed es → Step (state_of g d) k.client c (reply_of deed) (state_of (after_effects g es) (with_own d k.client (own_after new k.own deed)))
-  planned_step c new deed es plan =
-      let a = planned_answer k g d c new deed es sound agrees plan in
-      let step = call_done g d k.client new c deed sound a.0 (λ m. agrees.granted new (plan.number m)) in
-      subst (λ own. Step (state_of g d) k.client c (reply_of deed) (state_of (after_effects g es) (with_own d k.client (own_after new own deed)))) own_is
-      (subst (λ es. Step (state_of g d) k.client c (reply_of deed) (state_of (after_effects g es) (with_own d k.client (own_after new (d k.client) deed)))) a.1 step)
+  pub planned_step : (c : Call) (new : ℕ) (operation : Operation) (es : List Effect) → IsPlanned k c new operation es → Step (state_of g d) k.client c (reply_of operation) (state_of (after_effects g es) (with_own d k.client (own_after new k.own operation)))
+  planned_step c new operation es plan =
+      let a = planned_answer k g d c new operation es sound agrees plan in
+      let step = call_done g d k.client new c operation sound a.0 (λ m. agrees.granted new (plan.number m)) in
+      subst (λ own. Step (state_of g d) k.client c (reply_of operation) (state_of (after_effects g es) (with_own d k.client (own_after new own operation)))) own_is
+      (subst (λ es. Step (state_of g d) k.client c (reply_of operation) (state_of (after_effects g es) (with_own d k.client (own_after new (d k.client) operation)))) a.1 step)
 
-  pub planned_sound : (c : Call) (new : ℕ) (deed : Deed) (es : List Effect) → IsPlanned k c new deed es → IsSound (after_effects g es) (with_own d k.client (own_after new k.own deed))
-  planned_sound c new deed es plan =
-      let a = planned_answer k g d c new deed es sound agrees plan in
-      let sound_after = call_sound g d k.client new c deed sound a.0 (λ m. agrees.granted new (plan.number m)) in
-      subst (λ own. IsSound (after_effects g es) (with_own d k.client (own_after new own deed))) own_is
-      (subst (λ es. IsSound (after_effects g es) (with_own d k.client (own_after new (d k.client) deed))) a.1 sound_after)
+  pub planned_sound : (c : Call) (new : ℕ) (operation : Operation) (es : List Effect) → IsPlanned k c new operation es → IsSound (after_effects g es) (with_own d k.client (own_after new k.own operation))
+  planned_sound c new operation es plan =
+      let a = planned_answer k g d c new operation es sound agrees plan in
+      let sound_after = call_sound g d k.client new c operation sound a.0 (λ m. agrees.granted new (plan.number m)) in
+      subst (λ own. IsSound (after_effects g es) (with_own d k.client (own_after new own operation))) own_is
+      (subst (λ es. IsSound (after_effects g es) (with_own d k.client (own_after new (d k.client) operation))) a.1 sound_after)
 
   pub refused_step : (c : Call) (e : Errno) → run_part (part_of k) (decide k.own c) ≡ Known (Err e) → Step (state_of g d) k.client c (reply.Failed e) (state_of g d)
   refused_step c e known = call_refused g d k.client c e sound (answer_known k g d c (Err e) sound agrees known)
@@ -79,18 +79,18 @@ module _ (k : Knowledge) (g : Graph) (d : Descriptors) (sound : IsSound g d) (ag
 some_kept : (g : Graph) (d : Descriptors) (fair : IsFair g d) (i : ℕ) → Stays g d fair i → IsSome (kept g d i)
 some_kept g d fair i stays = ap is_some stays.kept
 
-pub lacks_there : (k : Knowledge) (g : Graph) (d : Descriptors) (c : Call) (i : ℕ) → IsSound g d → Agrees k g d → run_part (part_of k) (decide k.own c) ≡ Lacks i → IsSome (kept g d i)
-lacks_there k g d c i sound agrees e =
+pub missing_there : (k : Knowledge) (g : Graph) (d : Descriptors) (c : Call) (i : ℕ) → IsSound g d → Agrees k g d → run_part (part_of k) (decide k.own c) ≡ Missing i → IsSome (kept g d i)
+missing_there k g d c i sound agrees e =
     let fair = fair_of g d sound in
     let own_is : d k.client ≡ k.own = λ t n. agrees.own n t in
-    some_kept g d fair i (lacks_kept g d fair (part_of k) (decide k.own c) i (part_is k g d fair agrees) (subst (λ (own : Own). AsksKept g d fair (decide own c)) own_is (call_asks_kept g d fair k.client c)) e)
+    some_kept g d fair i (missing_kept g d fair (part_of k) (decide k.own c) i (part_is k g d fair agrees) (subst (λ (own : Own). QueryKept g d fair (decide own c)) own_is (call_asks_kept g d fair k.client c)) e)
 
-pub effects_lack_there : (k : Knowledge) (g : Graph) (d : Descriptors) (new : ℕ) (deed : Deed) (i : ℕ) → IsSound g d → Agrees k g d → Fits g d (d k.client) deed → run_part (part_of k) (effects_asked new deed) ≡ Lacks i → IsSome (kept g d i)
-effects_lack_there k g d new deed i sound agrees fits e =
+pub effects_missing_there : (k : Knowledge) (g : Graph) (d : Descriptors) (new : ℕ) (operation : Operation) (i : ℕ) → IsSound g d → Agrees k g d → Fits g d (d k.client) operation → run_part (part_of k) (effects_asked new operation) ≡ Missing i → IsSome (kept g d i)
+effects_missing_there k g d new operation i sound agrees fits e =
     let fair = fair_of g d sound in
-    some_kept g d fair i (lacks_kept g d fair (part_of k) (effects_asked new deed) i (part_is k g d fair agrees) (asks_effects g d (d k.client) fair new deed fits) e)
+    some_kept g d fair i (missing_kept g d fair (part_of k) (effects_asked new operation) i (part_is k g d fair agrees) (query_effects g d (d k.client) fair new operation fits) e)
 
-pub growth_lacks_there : (k : Knowledge) (g : Graph) (d : Descriptors) (deed : Deed) (i : ℕ) → IsSound g d → Agrees k g d → Fits g d (d k.client) deed → run_part (part_of k) (growth_asked deed) ≡ Lacks i → IsSome (kept g d i)
-growth_lacks_there k g d deed i sound agrees fits e =
+pub growth_lacks_there : (k : Knowledge) (g : Graph) (d : Descriptors) (operation : Operation) (i : ℕ) → IsSound g d → Agrees k g d → Fits g d (d k.client) operation → run_part (part_of k) (growth_asked operation) ≡ Missing i → IsSome (kept g d i)
+growth_lacks_there k g d operation i sound agrees fits e =
     let fair = fair_of g d sound in
-    some_kept g d fair i (lacks_kept g d fair (part_of k) (growth_asked deed) i (part_is k g d fair agrees) (asks_growth g d (d k.client) fair deed fits) e)
+    some_kept g d fair i (missing_kept g d fair (part_of k) (growth_asked operation) i (part_is k g d fair agrees) (query_growth g d (d k.client) fair operation fits) e)

@@ -12,7 +12,7 @@ use Rattle.std.specs.FinMap.Entries.{below_all}
 use Rattle.std.proofs.lemmas.Bool.Decides.{eqb_tells}
 use Rattle.posix_calls.specs.Content.{Entries}
 use Rattle.posix_calls.specs.Tree.{Descriptors}
-use Rattle.posix_calls.specs.Asks.{IsPart}
+use Rattle.posix_calls.specs.Query.{IsPart}
 use Rattle.posix_calls.proofs.Counts.{order}
 use Rattle.posix_calls.proofs.Directory.{names_same}
 use Rattle.posix_calls.proofs.Sums.{any_is}

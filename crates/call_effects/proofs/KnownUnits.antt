@@ -1,8 +1,8 @@
 -- The growth that a client asks for is that of the whole.
 use Rattle.std.proofs.Common.{◌≡◌, ℕ, List, Ok, ap, sym, ◌∙◌}
 use Rattle.posix_calls.specs.Tree.{Descriptors}
-use Rattle.posix_calls.specs.Asks.{Known, run_part}
-use Rattle.posix_calls.specs.declared.deed.Deed.{Deed}
+use Rattle.posix_calls.specs.Query.{Known, run_part}
+use Rattle.posix_calls.specs.declared.operation.Operation.{Operation}
 use Rattle.posix_calls.specs.declared.call.Call.{Call}
 use Rattle.file_graph.specs.Graph.{Graph}
 use Rattle.file_graph.specs.Units.{growth}
@@ -15,10 +15,10 @@ use Rattle.call_effects.proofs.GrowthAsked.{growth_as_asked}
 use Rattle.call_effects.proofs.KnownSteps.{growth_known, planned_answer}
 use Rattle.call_effects.proofs.Steps.{answer_fits}
 
-pub planned_growth : (k : Knowledge) (g : Graph) (d : Descriptors) (c : Call) (new : ℕ) (deed : Deed) (es : List Effect) (units : ℕ) → IsSound g d → Agrees k g d → IsPlanned k c new deed es → run_part (part_of k) (growth_asked deed) ≡ Known (Ok units) → growth g es ≡ units
-planned_growth k g d c new deed es units sound agrees plan known =
-    let a = planned_answer k g d c new deed es sound agrees plan in
-    let fits = answer_fits g d k.client c deed sound a.0 in
-    let same : Ok (growth g (effects_of g new deed)) ≡ Ok units = sym (growth_as_asked g d sound (d k.client) new deed (λ m. agrees.granted new (plan.number m)) fits) ∙ growth_known k g d (d k.client) deed units sound agrees fits known in
-    let here : growth g (effects_of g new deed) ≡ units = cc in
+pub planned_growth : (k : Knowledge) (g : Graph) (d : Descriptors) (c : Call) (new : ℕ) (operation : Operation) (es : List Effect) (units : ℕ) → IsSound g d → Agrees k g d → IsPlanned k c new operation es → run_part (part_of k) (growth_asked operation) ≡ Known (Ok units) → growth g es ≡ units
+planned_growth k g d c new operation es units sound agrees plan known =
+    let a = planned_answer k g d c new operation es sound agrees plan in
+    let fits = answer_fits g d k.client c operation sound a.0 in
+    let same : Ok (growth g (effects_of g new operation)) ≡ Ok units = sym (growth_as_asked g d sound (d k.client) new operation (λ m. agrees.granted new (plan.number m)) fits) ∙ growth_known k g d (d k.client) operation units sound agrees fits known in
+    let here : growth g (effects_of g new operation) ≡ units = cc in
     ap (growth g) (sym a.1) ∙ here

@@ -1,7 +1,7 @@
 pub mod Asked
 pub mod Calls
 pub mod Changes
-pub mod Deeds
+pub mod Operations
 pub mod Edges
 pub mod Facts
 pub mod Fresh
@@ -14,7 +14,7 @@ pub mod KnownAsking
 pub mod KnownEffects
 pub mod KnownGone
 pub mod KnownKinds
-pub mod KnownLacking
+pub mod KnownMissing
 pub mod KnownLooks
 pub mod KnownRoot
 pub mod KnownRows
@@ -26,7 +26,7 @@ pub mod Puts
 pub mod Reached
 pub mod Rises
 pub mod Spelled
-pub mod SpelledAsks
+pub mod SpelledQuery
 pub mod Steps
 pub mod Views
 pub mod Ways

@@ -13,8 +13,8 @@ use Rattle.file_graph.specs.declared.effect.Kind.TheVariants as kind
 use Rattle.file_graph.specs.declared.effect.Effect.TheVariants as effect
 use Rattle.call_effects.specs.Effects.{stored, making}
 use Rattle.call_effects.specs.Wholes.{without_kinds, tree_of, tree_node, kept, kind_of, one_if, IsTyped}
-use Rattle.posix_calls.specs.declared.deed.Spot.{Spot}
-use Rattle.posix_calls.specs.Deeds.{entered}
+use Rattle.posix_calls.specs.declared.operation.Location.{Location}
+use Rattle.posix_calls.specs.Operations.{entered}
 use Rattle.posix_calls.proofs.Counts.{counted, counted_is, counted_empty, get_inserted}
 use Rattle.posix_calls.proofs.Changes.{off_one, on_one}
 use Rattle.call_effects.specs.Fits.{IsNew, IsRoom}
@@ -47,7 +47,7 @@ shown_fresh : (d : Descriptors) (i : ℕ) (k : Kind) → shown d i (fresh 1 k) �
 shown_fresh d i kind.File = refl
 shown_fresh d i kind.Directory = ap (λ m. Some (tree.Dir m)) inodes_empty
 
-module _ (g : Graph) (d : Descriptors) (i : ℕ) (k : Kind) (at : Spot) (sound : IsFair g d) (new : IsNew g i) (room : IsRoom g at) where
+module _ (g : Graph) (d : Descriptors) (i : ℕ) (k : Kind) (at : Location) (sound : IsFair g d) (new : IsNew g i) (room : IsRoom g at) where
   apart : at.parent ≢ i
   apart same = let both : dir room.names room.entries ≡ None = sym room.is ∙ ap g same ∙ new.none in cc
 

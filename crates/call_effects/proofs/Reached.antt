@@ -1,17 +1,17 @@
--- A deed over a sound graph leaves each directory reached, so the graph that its effects make is sound.
+-- A operation over a sound graph leaves each directory reached, so the graph that its effects make is sound.
 use Rattle.std.proofs.Common.{◌≡◌, ◌≢◌, ℕ, ◌≤◌, List, [], refl, Some, None, Option, cond, ap, sym, ◌∙◌, subst, true, false, Bool, ◌==◌, if◌then◌else◌}
 use Rattle.std.specs.Prelude.{option_map, ◌&&◌, not}
 use Rattle.std.specs.FinMap as fin
 use Rattle.posix_calls.specs.Content.{written, resized}
 use Rattle.posix_calls.specs.Tree.{Tree, Descriptors, set_node, entries_of, bytes_of, names_of, is_open}
 use Rattle.posix_calls.specs.Tree as tree
-use Rattle.posix_calls.specs.Asks.{dir_test}
+use Rattle.posix_calls.specs.Query.{dir_test}
 use Rattle.posix_calls.specs.WellFormed.{IsDirectory, IsFile}
-use Rattle.posix_calls.specs.declared.deed.Spot.{Spot}
-use Rattle.posix_calls.specs.declared.deed.Deed.{Deed}
-use Rattle.posix_calls.specs.declared.deed.Deed.TheVariants.{Tell, NewDir, NewFile, OpenFile, CloseFile, Write, Resize, RemoveDir, AddName, DropName, Move}
-use Rattle.posix_calls.specs.declared.deed.Replaced.TheVariants.{Nothing, OldFile, OldDir}
-use Rattle.posix_calls.specs.Deeds.{entered, left, less_unused, tree_after, makes, held_after, state_after}
+use Rattle.posix_calls.specs.declared.operation.Location.{Location}
+use Rattle.posix_calls.specs.declared.operation.Operation.{Operation}
+use Rattle.posix_calls.specs.declared.operation.Operation.TheVariants.{Tell, NewDir, NewFile, OpenFile, CloseFile, Write, Resize, RemoveDir, AddName, DropName, Move}
+use Rattle.posix_calls.specs.declared.operation.Replaced.TheVariants.{Nothing, OldFile, OldDir}
+use Rattle.posix_calls.specs.Operations.{entered, left, less_unused, tree_after, makes, held_after, state_after}
 use Rattle.posix_calls.proofs.Changes.{entry, IsBare, bare_file, bare_same, set_other, left_kind, left_here, left_none, left_keeps}
 use Rattle.posix_calls.proofs.Reached as way
 use Rattle.file_graph.specs.Graph.{Graph, Node, FileBody, DirBody}
@@ -80,16 +80,16 @@ module _ (g : Graph) (d : Descriptors) where
   bare_empty : (i : ℕ) → IsEmptyDir g i → IsBare (t i)
   bare_empty i f = ap entries_of (tree_dir g d i f.names f.entries f.is ∙ ap (λ m. Some (tree.Dir m)) (ap (λ m. without_kinds m) (fin.empty_of_len f.entries f.none) ∙ inodes_empty))
 
-  room_parent : (at : Spot) → IsRoom g at → IsDirectory (t at.parent)
+  room_parent : (at : Location) → IsRoom g at → IsDirectory (t at.parent)
   room_parent at room = ap (option_map dir_test) (tree_dir g d at.parent room.names room.entries room.is)
 
-  room_none : (at : Spot) → IsRoom g at → entry t at ≡ None
+  room_none : (at : Location) → IsRoom g at → entry t at ≡ None
   room_none at room = ap (λ o. fin.get (entries_of o) at.name) (tree_dir g d at.parent room.names room.entries room.is) ∙ get_inodes room.entries at.name ∙ ap (option_map (λ (e : ℕ × Kind). e.0)) room.none
 
-  entry_parent : (at : Spot) (e : ℕ × Kind) → IsEntry g at e → IsDirectory (t at.parent)
+  entry_parent : (at : Location) (e : ℕ × Kind) → IsEntry g at e → IsDirectory (t at.parent)
   entry_parent at e entry = ap (option_map dir_test) (tree_dir g d at.parent entry.names entry.entries entry.is)
 
-  entry_there : (at : Spot) (e : ℕ × Kind) → IsEntry g at e → entry t at ≡ Some (e.0)
+  entry_there : (at : Location) (e : ℕ × Kind) → IsEntry g at e → entry t at ≡ Some (e.0)
   entry_there at e at_e = ap (λ o. fin.get (entries_of o) at.name) (tree_dir g d at.parent at_e.names at_e.entries at_e.is) ∙ get_inodes at_e.entries at.name ∙ ap (option_map (λ (x : ℕ × Kind). x.0)) at_e.there
 
   none_new : (new : ℕ) → IsNew g new → t new ≡ None
@@ -98,7 +98,7 @@ module _ (g : Graph) (d : Descriptors) where
 -- ---- a name moves
 
 -- the tree without what was at the new name, as the move finds it
-record IsReady (t : Tree) (from to : Spot) (i : ℕ) : Type 0 where
+record IsReady (t : Tree) (from to : Location) (i : ℕ) : Type 0 where
   reached : way.AreReached t
   from_dir : IsDirectory (t from.parent)
   there : entry t from ≡ Some i
@@ -106,11 +106,11 @@ record IsReady (t : Tree) (from to : Spot) (i : ℕ) : Type 0 where
   none : entry t to ≡ None
   clear : Clear t i to.parent
 
-moved : (t : Tree) (from to : Spot) (i : ℕ) → IsReady t from to i → way.AreReached (entered (left t from) to i)
+moved : (t : Tree) (from to : Location) (i : ℕ) → IsReady t from to i → way.AreReached (entered (left t from) to i)
 moved t from to i ready = reached_shifted t from to i ready.from_dir ready.there ready.to_dir (left_none t from to ready.none) ready.clear ready.reached
 
 -- without a directory that is replaced
-ready_removed : (t : Tree) (from to : Spot) (i j : ℕ) → i ≢ j → IsDirectory (t from.parent) → entry t from ≡ Some i → IsDirectory (t to.parent) → entry t to ≡ Some j → IsBare (t j) → Clear t i to.parent → way.AreReached t → IsReady (set_node (left t to) j None) from to i
+ready_removed : (t : Tree) (from to : Location) (i j : ℕ) → i ≢ j → IsDirectory (t from.parent) → entry t from ≡ Some i → IsDirectory (t to.parent) → entry t to ≡ Some j → IsBare (t j) → Clear t i to.parent → way.AreReached t → IsReady (set_node (left t to) j None) from to i
 ready_removed t from to i j other from_dir there to_dir old bare clear reached =
     let u = left t to in
     let v = set_node u j None in
@@ -127,7 +127,7 @@ ready_removed t from to i j other from_dir there to_dir old bare clear reached =
     }
 
 -- without the name of a file that is replaced
-ready_left : (t : Tree) (from to : Spot) (i j : ℕ) → i ≢ j → IsDirectory (t from.parent) → entry t from ≡ Some i → IsDirectory (t to.parent) → entry t to ≡ Some j → IsFile (t j) → Clear t i to.parent → way.AreReached t → IsReady (left t to) from to i
+ready_left : (t : Tree) (from to : Location) (i j : ℕ) → i ≢ j → IsDirectory (t from.parent) → entry t from ≡ Some i → IsDirectory (t to.parent) → entry t to ≡ Some j → IsFile (t j) → Clear t i to.parent → way.AreReached t → IsReady (left t to) from to i
 ready_left t from to i j other from_dir there to_dir old file clear reached =
     let bare = bare_file (t j) file in
     record {
@@ -139,16 +139,16 @@ ready_left t from to i j other from_dir there to_dir old file clear reached =
       clear = clear_beside t (left t to) i j to.parent bare (parent_off t to j j old bare) (λ a c off e. (e.0, left_keeps t to j old (record { parent = a; name = e.0 }) c off e.1)) clear;
     }
 
-ready_unused : (held : Descriptors) (t : Tree) (from to : Spot) (i j : ℕ) → i ≢ j → IsDirectory (t from.parent) → entry t from ≡ Some i → IsDirectory (t to.parent) → entry t to ≡ Some j → IsFile (t j) → Clear t i to.parent → way.AreReached t → IsReady (less_unused held (left t to) j) from to i
+ready_unused : (held : Descriptors) (t : Tree) (from to : Location) (i j : ℕ) → i ≢ j → IsDirectory (t from.parent) → entry t from ≡ Some i → IsDirectory (t to.parent) → entry t to ≡ Some j → IsFile (t j) → Clear t i to.parent → way.AreReached t → IsReady (less_unused held (left t to) j) from to i
 ready_unused held t from to i j other from_dir there to_dir old file clear reached =
     elim (names_of (left t to) j == 0 && not (is_open held j)) as (λ b. IsReady (if b then set_node (left t to) j None else left t to) from to i) [
       | true ↦ ready_removed t from to i j other from_dir there to_dir old (bare_file (t j) file) clear reached
       | false ↦ ready_left t from to i j other from_dir there to_dir old file clear reached
     ]
 
--- ---- every deed
+-- ---- every operation
 
-reached_after : (g : Graph) (d e : Descriptors) (client new : ℕ) (deed : Deed) → (makes deed ≡ true → IsNew g new) → Fits g d (d client) deed → way.AreReached (tree_of (kept g d)) → way.AreReached (tree_after e new (tree_of (kept g d)) deed)
+reached_after : (g : Graph) (d e : Descriptors) (client new : ℕ) (operation : Operation) → (makes operation ≡ true → IsNew g new) → Fits g d (d client) operation → way.AreReached (tree_of (kept g d)) → way.AreReached (tree_after e new (tree_of (kept g d)) operation)
 reached_after g d e client new (Tell answer) free fits reached = reached
 reached_after g d e client new (NewDir at) free room reached = reached_made (t g d) at new (none_new g d new (free refl)) (room_parent g d at room) (room_none g d at room) reached
 reached_after g d e client new (NewFile at number r w) free (room, num) reached = reached_new_file (t g d) at new (none_new g d new (free refl)) (room_parent g d at room) (room_none g d at room) reached
@@ -178,15 +178,15 @@ reached_after g d e client new (Move from to i b (OldDir j)) free (entry, clear,
     moved (set_node (left (t g d) to) j None) from to i
     (ready_removed (t g d) from to i j old.0 (entry_parent g d from (i, kind_if b) entry) (entry_there g d from (i, kind_if b) entry) (entry_parent g d to (j, kind.Directory) old.1) (entry_there g d to (j, kind.Directory) old.1) (bare_empty g d j old.2) (clear_of (t g d) i to.parent clear) reached)
 
-pub sound_after : (g : Graph) (d : Descriptors) (client new : ℕ) (deed : Deed) → 1 ≤ client → client ≤ 8 → IsSound g d → (makes deed ≡ true → IsNew g new) → Fits g d (d client) deed → IsSound (graph_after g new deed) (held_after client new d deed)
-sound_after g d client new deed low high sound free fits =
-    let e = held_after client new d deed in
-    let is = done g d client new deed low high (fair_of g d sound) free fits in
+pub sound_after : (g : Graph) (d : Descriptors) (client new : ℕ) (operation : Operation) → 1 ≤ client → client ≤ 8 → IsSound g d → (makes operation ≡ true → IsNew g new) → Fits g d (d client) operation → IsSound (graph_after g new operation) (held_after client new d operation)
+sound_after g d client new operation low high sound free fits =
+    let e = held_after client new d operation in
+    let is = done g d client new operation low high (fair_of g d sound) free fits in
     let before = reached_kept g d (chains (tree_of g) sound.reached) in
-    let after = reached_after g d e client new deed free fits before in
-    sound_fair (graph_after g new deed) e is.fair (paths (tree_of (graph_after g new deed)) (reached_whole (graph_after g new deed) e (subst way.AreReached (sym is.tree) after)))
+    let after = reached_after g d e client new operation free fits before in
+    sound_fair (graph_after g new operation) e is.fair (paths (tree_of (graph_after g new operation)) (reached_whole (graph_after g new operation) e (subst way.AreReached (sym is.tree) after)))
 
-pub state_is : (g : Graph) (d : Descriptors) (client new : ℕ) (deed : Deed) → 1 ≤ client → client ≤ 8 → IsSound g d → (makes deed ≡ true → IsNew g new) → Fits g d (d client) deed → state_of (graph_after g new deed) (held_after client new d deed) ≡ state_after client new (state_of g d) deed
-state_is g d client new deed low high sound free fits =
-    let is = done g d client new deed low high (fair_of g d sound) free fits in
-    λ x. record { tree = is.tree x; descriptors = held_after client new d deed }
+pub state_is : (g : Graph) (d : Descriptors) (client new : ℕ) (operation : Operation) → 1 ≤ client → client ≤ 8 → IsSound g d → (makes operation ≡ true → IsNew g new) → Fits g d (d client) operation → state_of (graph_after g new operation) (held_after client new d operation) ≡ state_after client new (state_of g d) operation
+state_is g d client new operation low high sound free fits =
+    let is = done g d client new operation low high (fair_of g d sound) free fits in
+    λ x. record { tree = is.tree x; descriptors = held_after client new d operation }

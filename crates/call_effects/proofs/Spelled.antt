@@ -5,17 +5,17 @@ use Rattle.std.specs.List.{AllByRecursion}
 use Rattle.std.specs.FinMap as fin
 use Rattle.posix_calls.specs.Name.{is_name}
 use Rattle.posix_calls.specs.Tree.{Tree, Descriptors, Own, names_of, entries_of}
-use Rattle.posix_calls.specs.Asks.{run, view_of}
+use Rattle.posix_calls.specs.Query.{run, view_of}
 use Rattle.posix_calls.specs.Decide.{decide}
-use Rattle.posix_calls.specs.Deeds.{is_client, answer, makes}
+use Rattle.posix_calls.specs.Operations.{is_client, answer, makes}
 use Rattle.posix_calls.specs.WellFormed.{IsWithinLimits}
 use Rattle.posix_calls.specs.declared.call.Call.{Call}
 use Rattle.posix_calls.specs.declared.errno.Errno.TheVariants as errno
-use Rattle.posix_calls.specs.declared.deed.Spot.{Spot}
-use Rattle.posix_calls.specs.declared.deed.Deed.{Deed}
-use Rattle.posix_calls.specs.declared.deed.Deed.TheVariants.{Tell, NewDir, NewFile, OpenFile, CloseFile, Write, Resize, RemoveDir, AddName, DropName, Move}
-use Rattle.posix_calls.specs.declared.deed.Replaced.{Replaced}
-use Rattle.posix_calls.specs.declared.deed.Replaced.TheVariants.{Nothing, OldFile, OldDir}
+use Rattle.posix_calls.specs.declared.operation.Location.{Location}
+use Rattle.posix_calls.specs.declared.operation.Operation.{Operation}
+use Rattle.posix_calls.specs.declared.operation.Operation.TheVariants.{Tell, NewDir, NewFile, OpenFile, CloseFile, Write, Resize, RemoveDir, AddName, DropName, Move}
+use Rattle.posix_calls.specs.declared.operation.Replaced.{Replaced}
+use Rattle.posix_calls.specs.declared.operation.Replaced.TheVariants.{Nothing, OldFile, OldDir}
 use Rattle.posix_calls.proofs.Able.{Able}
 use Rattle.posix_calls.proofs.Lasting.{IsAnswered, answered}
 use Rattle.posix_calls.proofs.Passing.{decide_able}
@@ -33,7 +33,7 @@ use Rattle.call_effects.specs.Fits.{IsNew, IsRoom, IsEntry, IsUsedFile, Fits}
 use Rattle.call_effects.proofs.Changes.{fair_of, tree_dir}
 use Rattle.call_effects.proofs.GrowthAsked.{growth_as_asked}
 use Rattle.call_effects.proofs.Inodes.{get_inodes}
-use Rattle.call_effects.proofs.SpelledAsks.{HasBytes, IsInFile, of_run, decide_fine, growth_few}
+use Rattle.call_effects.proofs.SpelledQuery.{HasBytes, IsInFile, of_run, decide_fine, growth_few}
 use Rattle.call_effects.proofs.Steps.{answer_fits}
 use Rattle.call_effects.proofs.Views.{views_same, file_count}
 use Rattle.call_effects.proofs.WellFormed.{well_formed}
@@ -52,7 +52,7 @@ record IsSpelled (es : List Effect) : Type 0 where
 as_record : (es : List Effect) (units : ℕ) → units < 2 ^ 32 → IsSpelled es → grammar.IsRecord (record { units = units; effects = es })
 as_record es units small is = record { units = small; some = is.some; few = is.few; fit = is.fit }
 
-in_file : (t : Tree) (deed : Deed) → Able t deed → IsInFile deed
+in_file : (t : Tree) (operation : Operation) → Able t operation → IsInFile operation
 in_file t (Tell answer) able = tt
 in_file t (NewDir at) able = tt
 in_file t (NewFile at number reads writes) able = tt
@@ -75,14 +75,14 @@ module _ (g : Graph) (d : Descriptors) (sound : IsSound g d) where
   new_inode : (i : ℕ) → IsNew g i → grammar.IsInode i
   new_inode i new = let low = new.low in (omega (arith, low), new.high)
 
-  room_inode : (at : Spot) → IsRoom g at → grammar.IsInode at.parent
+  room_inode : (at : Location) → IsRoom g at → grammar.IsInode at.parent
   room_inode at room = inode at.parent kind.Directory (ap kind_of room.is)
 
-  entry_inode : (at : Spot) (e : ℕ × Kind) → IsEntry g at e → grammar.IsInode at.parent
+  entry_inode : (at : Location) (e : ℕ × Kind) → IsEntry g at e → grammar.IsInode at.parent
   entry_inode at e entry = inode at.parent kind.Directory (ap kind_of entry.is)
 
   -- what has a name is a node
-  named_inode : (at : Spot) (e : ℕ × Kind) → IsEntry g at e → grammar.IsInode e.0
+  named_inode : (at : Location) (e : ℕ × Kind) → IsEntry g at e → grammar.IsInode e.0
   named_inode at e entry = inode e.0 e.1 (sound.typed.kinds at.parent entry.names entry.entries at.name e entry.is entry.there)
 
   file_inode : (i : ℕ) → IsUsedFile g d i → grammar.IsInode i
@@ -92,7 +92,7 @@ module _ (g : Graph) (d : Descriptors) (sound : IsSound g d) where
   file_names i f = file_count g d i (fair_of g d sound) (ap kind_of f.is)
 
   module _ (within : IsWithinLimits t) where
-    entry_name : (at : Spot) (e : ℕ × Kind) → IsEntry g at e → is_name at.name ≡ true
+    entry_name : (at : Location) (e : ℕ × Kind) → IsEntry g at e → is_name at.name ≡ true
     entry_name at e entry =
         within.valid at.parent at.name e.0
         (ap (λ o. fin.get (entries_of o) at.name) (tree_dir g d at.parent entry.names entry.entries entry.is) ∙ get_inodes entry.entries at.name ∙ ap (option_map (λ (x : ℕ × Kind). x.0)) entry.there)
@@ -100,14 +100,14 @@ module _ (g : Graph) (d : Descriptors) (sound : IsSound g d) where
     fewer_names : (i : ℕ) → IsUsedFile g d i → stored (g i) - 1 ≤ 1000
     fewer_names i f = let same = file_names i f in let had = within.names i in omega (arith, same, had)
 
-    leaves : (at : Spot) (e : ℕ × Kind) → IsEntry g at e → grammar.IsInode at.parent × (is_name at.name ≡ true)
+    leaves : (at : Location) (e : ℕ × Kind) → IsEntry g at e → grammar.IsInode at.parent × (is_name at.name ≡ true)
     leaves at e entry = (entry_inode at e entry, entry_name at e entry)
 
-    moved_fits : (from to : Spot) (i : ℕ) (b : Bool) (k : Kind) → IsEntry g from (i, k) → grammar.IsInode to.parent → is_name to.name ≡ true → AllFit (effects_of g 0 (Move from to i b Nothing))
+    moved_fits : (from to : Location) (i : ℕ) (b : Bool) (k : Kind) → IsEntry g from (i, k) → grammar.IsInode to.parent → is_name to.name ≡ true → AllFit (effects_of g 0 (Move from to i b Nothing))
     moved_fits from to i b k entry parent valid = (leaves from (i, k) entry, ((parent, named_inode from (i, k) entry, valid), tt))
 
     -- a rename, whatever it puts out of its place
-    move_spelled : (own : Own) (new : ℕ) (from to : Spot) (i : ℕ) (b : Bool) (replaced : Replaced) → Fits g d own (Move from to i b replaced) → is_name to.name ≡ true → IsSpelled (effects_of g new (Move from to i b replaced))
+    move_spelled : (own : Own) (new : ℕ) (from to : Location) (i : ℕ) (b : Bool) (replaced : Replaced) → Fits g d own (Move from to i b replaced) → is_name to.name ≡ true → IsSpelled (effects_of g new (Move from to i b replaced))
     move_spelled own new from to i b Nothing (entry, clear, room) valid = record { some = omega arith; few = omega arith; fit = moved_fits from to i b _ entry (room_inode to room) valid }
     move_spelled own new from to i b (OldFile j) (entry, clear, old) valid = record {
       some = omega arith;
@@ -120,7 +120,7 @@ module _ (g : Graph) (d : Descriptors) (sound : IsSound g d) where
       fit = (leaves to (j, kind.Directory) old.1, (named_inode to (j, kind.Directory) old.1, moved_fits from to i b _ entry (entry_inode to (j, kind.Directory) old.1) valid));
     }
 
-    spelled : (own : Own) (new : ℕ) (deed : Deed) → (makes deed ≡ true → IsNew g new) → Fits g d own deed → Able t deed → HasBytes deed → changes deed ≡ true → IsSpelled (effects_of g new deed)
+    spelled : (own : Own) (new : ℕ) (operation : Operation) → (makes operation ≡ true → IsNew g new) → Fits g d own operation → Able t operation → HasBytes operation → changes operation ≡ true → IsSpelled (effects_of g new operation)
     spelled own new (Tell answer) free fits able bytes e = absurd cc
     spelled own new (NewDir at) free room able bytes e = record { some = omega arith; few = omega arith; fit = (new_inode new (free refl), ((room_inode at room, new_inode new (free refl), able.valid), ((new_inode new (free refl), omega arith), tt))) }
     spelled own new (NewFile at number reads writes) free (room, num) able bytes e = record { some = omega arith; few = omega arith; fit = (new_inode new (free refl), ((room_inode at room, new_inode new (free refl), able.valid), ((new_inode new (free refl), omega arith), tt))) }
@@ -140,26 +140,26 @@ module _ (g : Graph) (d : Descriptors) (sound : IsSound g d) where
 
 -- ---- an answered call
 
-answer_in : (g : Graph) (d : Descriptors) (client : ℕ) (c : Call) (deed : Deed) → IsSound g d → answer_over g d client c ≡ Ok deed → IsAnswered (state_of g d) client c deed
-answer_in g d client c deed sound e =
-    answered (state_of g d) client c deed (ap (λ v. if is_client client then run v (decide (d client) c) else Err errno.Invalid) (views_same g d (fair_of g d sound)) ∙ e)
+answer_in : (g : Graph) (d : Descriptors) (client : ℕ) (c : Call) (operation : Operation) → IsSound g d → answer_over g d client c ≡ Ok operation → IsAnswered (state_of g d) client c operation
+answer_in g d client c operation sound e =
+    answered (state_of g d) client c operation (ap (λ v. if is_client client then run v (decide (d client) c) else Err errno.Invalid) (views_same g d (fair_of g d sound)) ∙ e)
 
-pub record_spelled : (g : Graph) (d : Descriptors) (client new units : ℕ) (c : Call) (deed : Deed) → IsSound g d → IsWithinLimits (state_of g d).tree → answer_over g d client c ≡ Ok deed → (makes deed ≡ true → IsNew g new) → changes deed ≡ true → units < 2 ^ 32
-    → grammar.IsRecord (record { units = units; effects = effects_of g new deed })
-record_spelled g d client new units c deed sound within e free some small =
-    let came = answer_in g d client c deed sound e in
+pub record_spelled : (g : Graph) (d : Descriptors) (client new units : ℕ) (c : Call) (operation : Operation) → IsSound g d → IsWithinLimits (state_of g d).tree → answer_over g d client c ≡ Ok operation → (makes operation ≡ true → IsNew g new) → changes operation ≡ true → units < 2 ^ 32
+    → grammar.IsRecord (record { units = units; effects = effects_of g new operation })
+record_spelled g d client new units c operation sound within e free some small =
+    let came = answer_in g d client c operation sound e in
     let v = view_of (state_of g d).tree in
-    as_record (effects_of g new deed) units small
-    (spelled g d sound within (d client) new deed free (answer_fits g d client c deed sound e) (decide_able (state_of g d) (well_formed g d sound) client c deed came.is)
-    (of_run HasBytes v (decide (d client) c) deed (decide_fine (d client) c) came.is) some)
+    as_record (effects_of g new operation) units small
+    (spelled g d sound within (d client) new operation free (answer_fits g d client c operation sound e) (decide_able (state_of g d) (well_formed g d sound) client c operation came.is)
+    (of_run HasBytes v (decide (d client) c) operation (decide_fine (d client) c) came.is) some)
 
-pub growth_small : (g : Graph) (d : Descriptors) (client new : ℕ) (c : Call) (deed : Deed) → IsSound g d → answer_over g d client c ≡ Ok deed → (makes deed ≡ true → IsNew g new) → growth g (effects_of g new deed) ≤ 256
-growth_small g d client new c deed sound e free =
-    let came = answer_in g d client c deed sound e in
-    let able = decide_able (state_of g d) (well_formed g d sound) client c deed came.is in
-    of_run (λ n. n ≤ 256) (graph_view g d) _ (growth g (effects_of g new deed)) (growth_few deed (in_file (state_of g d).tree deed able)) (growth_as_asked g d sound (d client) new deed free (answer_fits g d client c deed sound e))
+pub growth_small : (g : Graph) (d : Descriptors) (client new : ℕ) (c : Call) (operation : Operation) → IsSound g d → answer_over g d client c ≡ Ok operation → (makes operation ≡ true → IsNew g new) → growth g (effects_of g new operation) ≤ 256
+growth_small g d client new c operation sound e free =
+    let came = answer_in g d client c operation sound e in
+    let able = decide_able (state_of g d) (well_formed g d sound) client c operation came.is in
+    of_run (λ n. n ≤ 256) (graph_view g d) _ (growth g (effects_of g new operation)) (growth_few operation (in_file (state_of g d).tree operation able)) (growth_as_asked g d sound (d client) new operation free (answer_fits g d client c operation sound e))
 
-pub unchanged : (g : Graph) (new : ℕ) (deed : Deed) → changes deed ≡ false → effects_of g new deed ≡ []
+pub unchanged : (g : Graph) (new : ℕ) (operation : Operation) → changes operation ≡ false → effects_of g new operation ≡ []
 unchanged g new (Tell answer) e = refl
 unchanged g new (NewDir at) e = absurd cc
 unchanged g new (NewFile at number reads writes) e = absurd cc

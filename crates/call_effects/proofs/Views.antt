@@ -5,7 +5,7 @@ use Rattle.std.proofs.lemmas.Bool.Decides.{eqb_tells}
 use Rattle.posix_calls.specs.Tree.{Descriptors, is_open, names_of, names_in, sum_up_to}
 use Rattle.file_graph.specs.Graph.{Graph, Node, FileBody, DirBody}
 use Rattle.file_graph.specs.declared.effect.Kind.TheVariants as kind
-use Rattle.posix_calls.specs.Asks.{view_of, seen, dir_test}
+use Rattle.posix_calls.specs.Query.{view_of, seen, dir_test}
 use Rattle.call_effects.specs.Effects.{stored}
 use Rattle.call_effects.specs.Wholes.{tree_of, tree_node, keep, kept, kind_of, body_kind, one_if, graph_view, node_is_dir, node_seen}
 use Rattle.call_effects.proofs.Changes.{file, named, IsFair}

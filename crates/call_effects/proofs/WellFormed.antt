@@ -3,7 +3,7 @@ use Rattle.std.proofs.Common.{◌≡◌, ◌≢◌, ◌⊎◌, inl, inr, ℕ, �
 use Rattle.std.specs.Prelude.{option_map, ◌&&◌, not, IsSome, if◌then◌else◌}
 use Rattle.std.proofs.lemmas.Bool.Decides.{eqb_tells}
 use Rattle.posix_calls.specs.Tree.{Descriptors, is_open, names_of}
-use Rattle.posix_calls.specs.Asks.{dir_test}
+use Rattle.posix_calls.specs.Query.{dir_test}
 use Rattle.posix_calls.specs.WellFormed.{IsDirectory, IsFile, IsWellFormed}
 use Rattle.file_graph.specs.Graph.{Graph, Node, FileBody, DirBody}
 use Rattle.file_graph.specs.declared.effect.Kind.{Kind}

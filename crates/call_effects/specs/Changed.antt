@@ -1,10 +1,10 @@
--- Which deeds change the graph.
+-- Which operations change the graph.
 use Rattle.std.specs.Prelude.{Bool, true, false}
-use Rattle.posix_calls.specs.declared.deed.Deed.{Deed}
-use Rattle.posix_calls.specs.declared.deed.Deed.TheVariants.{Tell, OpenFile, CloseFile}
+use Rattle.posix_calls.specs.declared.operation.Operation.{Operation}
+use Rattle.posix_calls.specs.declared.operation.Operation.TheVariants.{Tell, OpenFile, CloseFile}
 
--- whether a deed has effects; to tell, to open a file as it is and to close one have none
-abbrev pub changes : Deed → Bool
+-- whether a operation has effects; to tell, to open a file as it is and to close one have none
+abbrev pub changes : Operation → Bool
 changes (Tell answer) = false
 changes (OpenFile i empties number reads writes) = empties
 changes (CloseFile i number) = false

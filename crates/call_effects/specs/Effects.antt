@@ -1,10 +1,10 @@
--- The effects on a graph that a call's deed is.
+-- The effects on a graph that a call's operation is.
 use Rattle.std.specs.Prelude.{ℕ, ◌+◌, ◌-◌, List, [], ◌∷◌, ◌++◌, Bool, true, false, Option, Some, None, if◌then◌else◌}
-use Rattle.posix_calls.specs.declared.deed.Spot.{Spot}
-use Rattle.posix_calls.specs.declared.deed.Deed.{Deed}
-use Rattle.posix_calls.specs.declared.deed.Deed.TheVariants.{Tell, NewDir, NewFile, OpenFile, CloseFile, Write, Resize, RemoveDir, AddName, DropName, Move}
-use Rattle.posix_calls.specs.declared.deed.Replaced.{Replaced}
-use Rattle.posix_calls.specs.declared.deed.Replaced.TheVariants.{Nothing, OldFile, OldDir}
+use Rattle.posix_calls.specs.declared.operation.Location.{Location}
+use Rattle.posix_calls.specs.declared.operation.Operation.{Operation}
+use Rattle.posix_calls.specs.declared.operation.Operation.TheVariants.{Tell, NewDir, NewFile, OpenFile, CloseFile, Write, Resize, RemoveDir, AddName, DropName, Move}
+use Rattle.posix_calls.specs.declared.operation.Replaced.{Replaced}
+use Rattle.posix_calls.specs.declared.operation.Replaced.TheVariants.{Nothing, OldFile, OldDir}
 use Rattle.file_graph.specs.Graph.{Graph, Node}
 use Rattle.file_graph.specs.declared.effect.Kind.{Kind}
 use Rattle.file_graph.specs.declared.effect.Kind.TheVariants as kind
@@ -22,19 +22,19 @@ kind_if true = kind.Directory
 kind_if false = kind.File
 
 -- a new node of a kind, with its one name
-abbrev pub making : ℕ → Kind → Spot → List Effect
+abbrev pub making : ℕ → Kind → Location → List Effect
 making new k at = effect.Make new k ∷ effect.Enter at.parent new k at.name ∷ effect.Names new 1 ∷ []
 
 -- one name fewer of a file that has so many
-abbrev pub dropping : Spot → ℕ → ℕ → List Effect
+abbrev pub dropping : Location → ℕ → ℕ → List Effect
 dropping at i names = effect.Leave at.parent at.name ∷ effect.Names i (names - 1) ∷ []
 
 -- a directory less, and its name
-abbrev pub removing : Spot → ℕ → List Effect
+abbrev pub removing : Location → ℕ → List Effect
 removing at i = effect.Leave at.parent at.name ∷ effect.Drop i ∷ []
 
 -- what a rename puts out of its place; a file has so many names
-abbrev pub replacing : ℕ → Spot → Replaced → List Effect
+abbrev pub replacing : ℕ → Location → Replaced → List Effect
 replacing names at Nothing = []
 replacing names at (OldFile j) = dropping at j names
 replacing names at (OldDir j) = removing at j
@@ -46,14 +46,14 @@ replaced_file (OldFile j) = Some j
 replaced_file (OldDir j) = None
 
 -- the file that gets another number of names
-abbrev pub recounted : Deed → Option ℕ
+abbrev pub recounted : Operation → Option ℕ
 recounted (AddName at i) = Some i
 recounted (DropName at i) = Some i
 recounted (Move from to i is_dir replaced) = replaced_file replaced
 recounted _ = None
 
--- the effects of a deed, where a new node has the number new, and the file that gets another number of names has so many
-abbrev pub effects_by : ℕ → ℕ → Deed → List Effect
+-- the effects of a operation, where a new node has the number new, and the file that gets another number of names has so many
+abbrev pub effects_by : ℕ → ℕ → Operation → List Effect
 effects_by names new (Tell answer) = []
 effects_by names new (NewDir at) = making new kind.Directory at
 effects_by names new (NewFile at number reads writes) = making new kind.File at
@@ -71,6 +71,6 @@ abbrev pub stored_at : Graph → Option ℕ → ℕ
 stored_at g None = 0
 stored_at g (Some i) = stored (g i)
 
--- the effects of a deed over a graph, where a new node has the number new
-abbrev pub effects_of : Graph → ℕ → Deed → List Effect
-effects_of g new deed = effects_by (stored_at g (recounted deed)) new deed
+-- the effects of a operation over a graph, where a new node has the number new
+abbrev pub effects_of : Graph → ℕ → Operation → List Effect
+effects_of g new operation = effects_by (stored_at g (recounted operation)) new operation

@@ -1,4 +1,4 @@
--- When a deed is one that a call may come to over a graph and descriptors.
+-- When a operation is one that a call may come to over a graph and descriptors.
 use Rattle.std.specs.Prelude.{◌≡◌, ◌≢◌, ℕ, ◌<◌, ◌≤◌, List, false, ◌&&◌, not, ◌==◌, Some, None, Ok}
 use Rattle.std.specs.FinMap as fin
 use Rattle.posix_calls.specs.Content.{Entries}
@@ -6,11 +6,11 @@ use Rattle.posix_calls.specs.Tree.{Tree, set_node, Descriptors, Own, is_open}
 use Rattle.posix_calls.specs.declared.descriptor.Descriptor.{Descriptor}
 use Rattle.posix_calls.specs.Resolve.{resolve}
 use Rattle.posix_calls.specs.declared.limits.TheConstants.{ROOT, MAX_INODE, MAX_DESCRIPTORS}
-use Rattle.posix_calls.specs.declared.deed.Spot.{Spot}
-use Rattle.posix_calls.specs.declared.deed.Deed.{Deed}
-use Rattle.posix_calls.specs.declared.deed.Deed.TheVariants.{Tell, NewDir, NewFile, OpenFile, CloseFile, Write, Resize, RemoveDir, AddName, DropName, Move}
-use Rattle.posix_calls.specs.declared.deed.Replaced.{Replaced}
-use Rattle.posix_calls.specs.declared.deed.Replaced.TheVariants.{Nothing, OldFile, OldDir}
+use Rattle.posix_calls.specs.declared.operation.Location.{Location}
+use Rattle.posix_calls.specs.declared.operation.Operation.{Operation}
+use Rattle.posix_calls.specs.declared.operation.Operation.TheVariants.{Tell, NewDir, NewFile, OpenFile, CloseFile, Write, Resize, RemoveDir, AddName, DropName, Move}
+use Rattle.posix_calls.specs.declared.operation.Replaced.{Replaced}
+use Rattle.posix_calls.specs.declared.operation.Replaced.TheVariants.{Nothing, OldFile, OldDir}
 use Rattle.file_graph.specs.Graph.{Graph, FileBody, DirBody}
 use Rattle.file_graph.specs.declared.effect.Kind.{Kind}
 use Rattle.file_graph.specs.declared.effect.Kind.TheVariants as kind
@@ -24,14 +24,14 @@ pub record IsNew (g : Graph) (i : ℕ) : Type 0 where
   pub none : g i ≡ None
 
 -- a name that is free in a directory
-pub record IsRoom (g : Graph) (at : Spot) : Type 0 where
+pub record IsRoom (g : Graph) (at : Location) : Type 0 where
   pub names : ℕ
   pub entries : Entries (ℕ × Kind)
   pub is : g at.parent ≡ Some (record { names = names; body = DirBody entries })
   pub none : fin.get entries at.name ≡ None
 
 -- a name of a node in a directory
-pub record IsEntry (g : Graph) (at : Spot) (e : ℕ × Kind) : Type 0 where
+pub record IsEntry (g : Graph) (at : Location) (e : ℕ × Kind) : Type 0 where
   pub names : ℕ
   pub entries : Entries (ℕ × Kind)
   pub is : g at.parent ≡ Some (record { names = names; body = DirBody entries })
@@ -52,7 +52,7 @@ pub record IsEmptyDir (g : Graph) (i : ℕ) : Type 0 where
   pub none : fin.len entries ≡ 0
 
 -- what a rename puts out of its place is another node there, of this kind
-abbrev pub FitsReplaced : Graph → Descriptors → Spot → ℕ → Replaced → Type 0
+abbrev pub FitsReplaced : Graph → Descriptors → Location → ℕ → Replaced → Type 0
 FitsReplaced g held to i Nothing = IsRoom g to
 FitsReplaced g held to i (OldFile j) = (i ≢ j) × IsEntry g to (j, kind.File) × IsUsedFile g held j
 FitsReplaced g held to i (OldDir j) = (i ≢ j) × IsEntry g to (j, kind.Directory) × IsEmptyDir g j
@@ -74,8 +74,8 @@ pub record IsHeld (own : Own) (number i : ℕ) : Type 0 where
   pub is : own number ≡ Some what
   pub inode : what.inode ≡ i
 
--- a deed of a client with these descriptors is possible as it stands
-abbrev pub Fits : Graph → Descriptors → Own → Deed → Type 0
+-- a operation of a client with these descriptors is possible as it stands
+abbrev pub Fits : Graph → Descriptors → Own → Operation → Type 0
 Fits g held own (Tell answer) = Unit {0}
 Fits g held own (NewDir at) = IsRoom g at
 Fits g held own (NewFile at number reads writes) = IsRoom g at × IsNumber own number

@@ -3,10 +3,10 @@ use Rattle.std.specs.Prelude.{◌≡◌, ℕ, ◌==◌, ◌&&◌, List, Bool, tr
 use Rattle.std.specs.List.{list_any}
 use Rattle.std.specs.FinMap as fin
 use Rattle.posix_calls.specs.Tree.{Own, Descriptors, any_up_to}
-use Rattle.posix_calls.specs.Asks.{Seen, Asks, Look, View, Part, Known, IsPart, run, run_part}
+use Rattle.posix_calls.specs.Query.{Seen, Query, Look, View, Part, Known, IsPart, run, run_part}
 use Rattle.posix_calls.specs.Decide.{decide}
-use Rattle.posix_calls.specs.Deeds.{is_client, makes, own_after}
-use Rattle.posix_calls.specs.declared.deed.Deed.{Deed}
+use Rattle.posix_calls.specs.Operations.{is_client, makes, own_after}
+use Rattle.posix_calls.specs.declared.operation.Operation.{Operation}
 use Rattle.posix_calls.specs.declared.call.Call.{Call}
 use Rattle.posix_calls.specs.declared.limits.TheConstants.{ROOT, MAX_INODE}
 use Rattle.file_graph.specs.Graph.{Graph, Node, FileBody, DirBody, after_effects}
@@ -85,17 +85,17 @@ abbrev pub stored_view : Graph → View
 stored_view g = record { is_dir = λ i. option_map node_is_dir (g i); node = λ i. option_map node_seen (g i) }
 
 -- once a part has answered what it can, what is left begins with a look at this inode, of which it knows no node
-pub record IsLookedAtNext (p : Part) (i : ℕ) (q : Asks Deed) : Type 0 where
-  pub next : Option Seen → Asks Deed
+pub record IsLookedAtNext (p : Part) (i : ℕ) (q : Query Operation) : Type 0 where
+  pub next : Option Seen → Query Operation
   pub unknown : p.node i ≡ None
   pub same : (v : View) → IsPart p v → run v q ≡ run v (Look i next)
 
--- by what the client knows a call comes to this deed, with these effects, and a new node gets a number that was granted
-pub record IsPlanned (k : Knowledge) (call : Call) (new : ℕ) (deed : Deed) (es : List Effect) : Type 0 where
-  pub comes : run_part (part_of k) (decide k.own call) ≡ Known (Ok deed)
-  pub effects : run_part (part_of k) (effects_asked new deed) ≡ Known (Ok es)
-  pub number : makes deed ≡ true → k.granted new ≡ true
+-- by what the client knows a call comes to this operation, with these effects, and a new node gets a number that was granted
+pub record IsPlanned (k : Knowledge) (call : Call) (new : ℕ) (operation : Operation) (es : List Effect) : Type 0 where
+  pub comes : run_part (part_of k) (decide k.own call) ≡ Known (Ok operation)
+  pub effects : run_part (part_of k) (effects_asked new operation) ≡ Known (Ok es)
+  pub number : makes operation ≡ true → k.granted new ≡ true
 
 -- what the client knows after it: its copies with the effects, its descriptors, and the numbers that it has not used
-abbrev pub knows_after : Knowledge → ℕ → Deed → List Effect → Knowledge
-knows_after k new deed es = record { client = k.client; own = own_after new k.own deed; copies = λ i. option_map (λ copy. after_effects (λ j. copy) es i) (k.copies i); granted = λ i. k.granted i && not (makes deed && i == new) }
+abbrev pub knows_after : Knowledge → ℕ → Operation → List Effect → Knowledge
+knows_after k new operation es = record { client = k.client; own = own_after new k.own operation; copies = λ i. option_map (λ copy. after_effects (λ j. copy) es i) (k.copies i); granted = λ i. k.granted i && not (makes operation && i == new) }

@@ -1,22 +1,22 @@
--- What is told by a record that was made, or by a deed that was handed back.
+-- What is told by a record that was made, or by a operation that was handed back.
 use Rattle.std.specs.Prelude.{ℕ, List, [], ◌∷◌, Result, Ok, Err}
-use Rattle.posix_calls.specs.declared.deed.Spot.{Spot}
-use Rattle.posix_calls.specs.declared.deed.Deed.{Deed}
-use Rattle.posix_calls.specs.declared.deed.Deed.TheVariants.{Move}
-use Rattle.posix_calls.specs.declared.deed.NoDeed.{NoDeed}
-use Rattle.posix_calls.specs.declared.deed.Replaced.{Replaced}
-use Rattle.posix_calls.specs.declared.deed.Replaced.TheVariants.{Nothing, OldFile, OldDir}
+use Rattle.posix_calls.specs.declared.operation.Location.{Location}
+use Rattle.posix_calls.specs.declared.operation.Operation.{Operation}
+use Rattle.posix_calls.specs.declared.operation.Operation.TheVariants.{Move}
+use Rattle.posix_calls.specs.declared.operation.DecideError.{DecideError}
+use Rattle.posix_calls.specs.declared.operation.Replaced.{Replaced}
+use Rattle.posix_calls.specs.declared.operation.Replaced.TheVariants.{Nothing, OldFile, OldDir}
 use Rattle.file_graph.specs.declared.effect.Effect.{Effect}
 use Rattle.file_graph.specs.declared.effect.Effect.TheVariants as effect
 use Rattle.log_record.specs.declared.format.Record.{Record}
 
 -- the effects of a record, or why there is none
-abbrev pub effects_told : Result Record (NoDeed × Deed) → Result (List Effect) NoDeed
+abbrev pub effects_told : Result Record (DecideError × Operation) → Result (List Effect) DecideError
 effects_told (Ok made) = Ok made.effects
 effects_told (Err back) = Err back.0
 
 -- the name of what a rename puts out of its place leaves its directory
-abbrev pub leaving_first : Spot → Replaced → List Effect
+abbrev pub leaving_first : Location → Replaced → List Effect
 leaving_first to Nothing = []
 leaving_first to (OldFile j) = effect.Leave to.parent to.name ∷ []
 leaving_first to (OldDir j) = effect.Leave to.parent to.name ∷ []
@@ -28,6 +28,6 @@ putting_out names (OldFile j) = effect.Names j names ∷ []
 putting_out names (OldDir j) = effect.Drop j ∷ []
 
 -- the first effect of a rename, if its name is needed for a second one
-abbrev pub copied : Deed → List Effect
+abbrev pub copied : Operation → List Effect
 copied (Move from to i is_dir replaced) = leaving_first to replaced
 copied _ = []

@@ -1,42 +1,42 @@
--- The record of a deed, as questions: the effects that it has, and by how many units they may raise the graph.
+-- The record of a operation, as questions: the effects that it has, and by how many units they may raise the graph.
 use Rattle.std.specs.Prelude.{ℕ, ◌+◌, ◌-◌, ◌==◌, max, List, length, Option, Some, None, if◌then◌else◌}
 use Rattle.std.specs.FinMap as fin
 use Rattle.posix_calls.specs.Content.{file_units, directory_units}
-use Rattle.posix_calls.specs.Asks.{Asks, Gives, ◌>>=◌}
+use Rattle.posix_calls.specs.Query.{Query, Gives, ◌>>=◌}
 use Rattle.posix_calls.specs.Walk.{entries_at, bytes_at, names_at}
-use Rattle.posix_calls.specs.declared.deed.Spot.{Spot}
-use Rattle.posix_calls.specs.declared.deed.Deed.{Deed}
-use Rattle.posix_calls.specs.declared.deed.Deed.TheVariants.{NewDir, NewFile, Write, Resize, AddName, Move}
-use Rattle.posix_calls.specs.declared.deed.Replaced.{Replaced}
-use Rattle.posix_calls.specs.declared.deed.Replaced.TheVariants.{Nothing, OldFile, OldDir}
+use Rattle.posix_calls.specs.declared.operation.Location.{Location}
+use Rattle.posix_calls.specs.declared.operation.Operation.{Operation}
+use Rattle.posix_calls.specs.declared.operation.Operation.TheVariants.{NewDir, NewFile, Write, Resize, AddName, Move}
+use Rattle.posix_calls.specs.declared.operation.Replaced.{Replaced}
+use Rattle.posix_calls.specs.declared.operation.Replaced.TheVariants.{Nothing, OldFile, OldDir}
 use Rattle.file_graph.specs.declared.effect.Effect.{Effect}
 use Rattle.call_effects.specs.Effects.{recounted, effects_by}
 
 -- how many names a file has, if there is one to ask for
-abbrev pub names_if : Option ℕ → Asks ℕ
+abbrev pub names_if : Option ℕ → Query ℕ
 names_if None = Gives 0
 names_if (Some i) = names_at i
 
--- the effects of a deed, where a new node has the number new; of the tree they depend on a file's number of names alone
-abbrev pub effects_asked : ℕ → Deed → Asks (List Effect)
-effects_asked new deed = names_if (recounted deed) >>= (λ names. Gives (effects_by names new deed))
+-- the effects of a operation, where a new node has the number new; of the tree they depend on a file's number of names alone
+abbrev pub effects_asked : ℕ → Operation → Query (List Effect)
+effects_asked new operation = names_if (recounted operation) >>= (λ names. Gives (effects_by names new operation))
 
 -- the rise of a file from one size to another; a fall is no rise
 abbrev pub file_rise : ℕ → ℕ → ℕ
 file_rise old new = file_units new - file_units old
 
 -- the rise of a directory that gets one more entry
-abbrev pub entry_rise : ℕ → Asks ℕ
+abbrev pub entry_rise : ℕ → Query ℕ
 entry_rise dir = entries_at dir >>= (λ entries. Gives (directory_units (fin.len entries + 1) - directory_units (fin.len entries)))
 
 -- by how many units a rename may raise the directory that it moves something to
-abbrev pub move_rise : Spot → Spot → Replaced → Asks ℕ
+abbrev pub move_rise : Location → Location → Replaced → Query ℕ
 move_rise from to Nothing = if from.parent == to.parent then Gives 0 else entry_rise to.parent
 move_rise from to (OldFile j) = Gives 0
 move_rise from to (OldDir j) = Gives 0
 
--- by how many units a deed raises the inodes that its effects touch, each by itself
-abbrev pub growth_asked : Deed → Asks ℕ
+-- by how many units a operation raises the inodes that its effects touch, each by itself
+abbrev pub growth_asked : Operation → Query ℕ
 growth_asked (NewDir at) = entry_rise at.parent >>= (λ rise. Gives (directory_units 0 + rise))
 growth_asked (NewFile at number reads writes) = entry_rise at.parent >>= (λ rise. Gives (file_units 0 + rise))
 growth_asked (Write i at bytes) = bytes_at i >>= (λ old. Gives (file_rise (length old) (max (length old) (at + length bytes))))

@@ -5,7 +5,7 @@ use Rattle.posix_calls.specs.Content.{Entries}
 use Rattle.posix_calls.specs.Tree.{Tree, Descriptors, State, names_of, is_open}
 use Rattle.posix_calls.specs.declared.descriptor.Descriptor.{Descriptor}
 use Rattle.posix_calls.specs.Tree as tree
-use Rattle.posix_calls.specs.Asks.{View, Seen, File, Dir}
+use Rattle.posix_calls.specs.Query.{View, Seen, File, Dir}
 use Rattle.posix_calls.specs.Resolve.{resolve}
 use Rattle.posix_calls.specs.WellFormed.{IsDirectory}
 use Rattle.posix_calls.specs.declared.limits.TheConstants.{ROOT, MAX_INODE, MAX_CLIENTS, MAX_DESCRIPTORS}

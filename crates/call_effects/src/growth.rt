@@ -4,33 +4,33 @@ ghost use Rattle.posix_calls.specs.Content.{file_units, directory_units};
 ghost use Rattle.call_effects.specs.Records.{file_rise, entry_rise, move_rise, growth_asked};
 ghost use Rattle.call_effects.specs.Rises.{new_rise, size_rise};
 
-use posix_calls::{Deed, NoDeed, Replaced, Spot, TreeAnswers, UNIT_BYTES, UNIT_ENTRIES, known};
+use posix_calls::{Operation, DecideError, Replaced, Location, TreeAnswers, UNIT_BYTES, UNIT_ENTRIES, known};
 
-/// By how many units a deed raises the graph at most: the rises of the inodes that its effects touch, each by itself. No fall
+/// By how many units a operation raises the graph at most: the rises of the inodes that its effects touch, each by itself. No fall
 /// is set against a rise.
 ///
-/// Of the tree, the directory that gets an entry or the file that gets another length has to be known; `Lacks` names it. No
-/// other error comes. A deed that a call came to grows by a few hundred units at most.
-pub fn growth_of<T: TreeAnswers>(tree: &T, deed: &Deed) -> Result<u64, NoDeed>
-    ensures { Tells (T.part tree.now) (growth_asked deed.now) result }
+/// Of the tree, the directory that gets an entry or the file that gets another length has to be known; `Missing` names it. No
+/// other error comes. A operation that a call came to grows by a few hundred units at most.
+pub fn growth_of<T: TreeAnswers>(tree: &T, operation: &Operation) -> Result<u64, DecideError>
+    ensures { Tells (T.part tree.now) (growth_asked operation.now) result }
 {
-    match deed {
-        Deed::NewDir { at } => new_rise(tree, at.parent, directory_units(0)),
-        Deed::NewFile { at, .. } => new_rise(tree, at.parent, file_units(0)),
-        Deed::Write { inode, at, bytes } => write_rise(tree, *inode, *at, bytes.len()),
-        Deed::Resize { inode, len } => resize_rise(tree, *inode, *len),
-        Deed::AddName { at, .. } => entry_rise(tree, at.parent),
-        Deed::Move {
+    match operation {
+        Operation::NewDir { at } => new_rise(tree, at.parent, directory_units(0)),
+        Operation::NewFile { at, .. } => new_rise(tree, at.parent, file_units(0)),
+        Operation::Write { inode, at, bytes } => write_rise(tree, *inode, *at, bytes.len()),
+        Operation::Resize { inode, len } => resize_rise(tree, *inode, *len),
+        Operation::AddName { at, .. } => entry_rise(tree, at.parent),
+        Operation::Move {
             from,
             to,
             replaced,
             ..
         } => move_rise(tree, from, to, *replaced),
-        Deed::Tell { .. } => Ok(0),
-        Deed::OpenFile { .. } => Ok(0),
-        Deed::CloseFile { .. } => Ok(0),
-        Deed::RemoveDir { .. } => Ok(0),
-        Deed::DropName { .. } => Ok(0),
+        Operation::Tell { .. } => Ok(0),
+        Operation::OpenFile { .. } => Ok(0),
+        Operation::CloseFile { .. } => Ok(0),
+        Operation::RemoveDir { .. } => Ok(0),
+        Operation::DropName { .. } => Ok(0),
     }
 }
 
@@ -52,7 +52,7 @@ fn file_units(len: u128) -> u64
 }
 
 // The rise of a directory that gets one more entry.
-fn entry_rise<T: TreeAnswers>(tree: &T, dir: u32) -> Result<u64, NoDeed>
+fn entry_rise<T: TreeAnswers>(tree: &T, dir: u32) -> Result<u64, DecideError>
     ensures tells { Tells (T.part tree.now) (entry_rise dir) result }
     ensures small { IfOk result (λ rise. rise < 2 ^ 33) }
 {
@@ -61,7 +61,7 @@ fn entry_rise<T: TreeAnswers>(tree: &T, dir: u32) -> Result<u64, NoDeed>
 }
 
 // The units of a new node, and the rise of its directory.
-fn new_rise<T: TreeAnswers>(tree: &T, dir: u32, units: u64) -> Result<u64, NoDeed>
+fn new_rise<T: TreeAnswers>(tree: &T, dir: u32, units: u64) -> Result<u64, DecideError>
     requires { units < 2 ^ 54 }
     ensures { Tells (T.part tree.now) (new_rise units dir) result }
 {
@@ -72,10 +72,10 @@ fn new_rise<T: TreeAnswers>(tree: &T, dir: u32, units: u64) -> Result<u64, NoDee
 // The rise of a directory that something moves to: what is put out makes room for it.
 fn move_rise<T: TreeAnswers>(
     tree: &T,
-    from: &Spot,
-    to: &Spot,
+    from: &Location,
+    to: &Location,
     replaced: Replaced,
-) -> Result<u64, NoDeed>
+) -> Result<u64, DecideError>
     ensures { Tells (T.part tree.now) (move_rise from.now to.now replaced) result }
 {
     match replaced {
@@ -96,7 +96,7 @@ fn file_rise(old: u128, new: u128) -> u64
 }
 
 // The rise of a file that so many bytes are put into at an offset.
-fn write_rise<T: TreeAnswers>(tree: &T, inode: u32, at: u64, count: usize) -> Result<u64, NoDeed>
+fn write_rise<T: TreeAnswers>(tree: &T, inode: u32, at: u64, count: usize) -> Result<u64, DecideError>
     ensures { Tells (T.part tree.now) (size_rise (λ old. max old (at + count)) inode) result }
 {
     let old = known(tree.file_size(inode), inode)? as u128;
@@ -105,7 +105,7 @@ fn write_rise<T: TreeAnswers>(tree: &T, inode: u32, at: u64, count: usize) -> Re
 }
 
 // The rise of a file that is cut or grown to a length.
-fn resize_rise<T: TreeAnswers>(tree: &T, inode: u32, len: u64) -> Result<u64, NoDeed>
+fn resize_rise<T: TreeAnswers>(tree: &T, inode: u32, len: u64) -> Result<u64, DecideError>
     ensures { Tells (T.part tree.now) (size_rise (λ old. len) inode) result }
 {
     let old = known(tree.file_size(inode), inode)?;

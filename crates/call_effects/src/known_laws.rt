@@ -3,11 +3,11 @@
 ghost use Rattle.std.specs.Prelude.{◌≡◌, ◌≢◌, ℕ, Bool, List, [], Option, Some, None, IsSome, Result, Ok, Err, true, false, ◌&&◌, if◌then◌else◌};
 ghost use Rattle.posix_calls.specs.Path.{reading};
 ghost use Rattle.posix_calls.specs.Tree.{Descriptors, with_own};
-ghost use Rattle.posix_calls.specs.Asks.{Known, Lacks, IsPart, IsLeft, run, run_part};
+ghost use Rattle.posix_calls.specs.Query.{Known, Missing, IsPart, IsLeft, run, run_part};
 ghost use Rattle.posix_calls.specs.Decide.{decide, is_senseless, lowest_free};
-ghost use Rattle.posix_calls.specs.Deeds.{makes, reply_of, own_after, Step};
-ghost use Rattle.posix_calls.specs.declared.deed.Spot.{Spot};
-ghost use Rattle.posix_calls.specs.declared.deed.Deed.{Deed};
+ghost use Rattle.posix_calls.specs.Operations.{makes, reply_of, own_after, Step};
+ghost use Rattle.posix_calls.specs.declared.operation.Location.{Location};
+ghost use Rattle.posix_calls.specs.declared.operation.Operation.{Operation};
 ghost use Rattle.posix_calls.specs.declared.call.Call.{Call};
 ghost use Rattle.posix_calls.specs.declared.call.Call.TheVariants.{Open, Truncate, Mkdir, Rmdir, Link, Unlink, Rename};
 ghost use Rattle.posix_calls.specs.declared.call.Flags.{Flags};
@@ -37,21 +37,21 @@ pub fn part_is_of_the_whole()
     ensures { (k : Knowledge) (g : Graph) (held : Descriptors) → IsSound g held → Agrees k g held → IsPart (part_of k) (stored_view g) }
 {}
 
-/// What a call comes to by what a client knows, a deed or an error, it comes to over the whole; so do the effects of a deed
+/// What a call comes to by what a client knows, a operation or an error, it comes to over the whole; so do the effects of a operation
 /// that fits, and its growth.
 pub fn known_answer_is_of_the_whole()
-    ensures call { (k : Knowledge) (g : Graph) (held : Descriptors) (call : Call) (result : Result Deed Errno) → IsSound g held → Agrees k g held → run_part (part_of k) (decide k.own call) ≡ Known result → answer_over g held k.client call ≡ result }
-    ensures effects { (k : Knowledge) (g : Graph) (held : Descriptors) (new : ℕ) (deed : Deed) (es : List Effect) → IsSound g held → Agrees k g held → Fits g held (held k.client) deed → run_part (part_of k) (effects_asked new deed) ≡ Known (Ok es) → effects_of g new deed ≡ es }
-    ensures growth { (k : Knowledge) (g : Graph) (held : Descriptors) (deed : Deed) (units : ℕ) → IsSound g held → Agrees k g held → Fits g held (held k.client) deed → run_part (part_of k) (growth_asked deed) ≡ Known (Ok units) → run (graph_view g held) (growth_asked deed) ≡ Ok units }
+    ensures call { (k : Knowledge) (g : Graph) (held : Descriptors) (call : Call) (result : Result Operation Errno) → IsSound g held → Agrees k g held → run_part (part_of k) (decide k.own call) ≡ Known result → answer_over g held k.client call ≡ result }
+    ensures effects { (k : Knowledge) (g : Graph) (held : Descriptors) (new : ℕ) (operation : Operation) (es : List Effect) → IsSound g held → Agrees k g held → Fits g held (held k.client) operation → run_part (part_of k) (effects_asked new operation) ≡ Known (Ok es) → effects_of g new operation ≡ es }
+    ensures growth { (k : Knowledge) (g : Graph) (held : Descriptors) (operation : Operation) (units : ℕ) → IsSound g held → Agrees k g held → Fits g held (held k.client) operation → run_part (part_of k) (growth_asked operation) ≡ Known (Ok units) → run (graph_view g held) (growth_asked operation) ≡ Ok units }
 {}
 
 /// A call that a client decides by what it knows is one step of the file tree, in every sound whole that agrees: where it
-/// comes to a deed, with the deed's effects and the client's descriptors after it, and the whole is sound again, and has grown
+/// comes to a operation, with the operation's effects and the client's descriptors after it, and the whole is sound again, and has grown
 /// by the units that the client counts; where it comes to an error, the whole stays.
 pub fn known_call_is_a_step()
-    ensures done { (k : Knowledge) (g : Graph) (held : Descriptors) (call : Call) (new : ℕ) (deed : Deed) (es : List Effect) → IsSound g held → Agrees k g held → IsPlanned k call new deed es → Step (state_of g held) k.client call (reply_of deed) (state_of (after_effects g es) (with_own held k.client (own_after new k.own deed))) }
-    ensures sound { (k : Knowledge) (g : Graph) (held : Descriptors) (call : Call) (new : ℕ) (deed : Deed) (es : List Effect) → IsSound g held → Agrees k g held → IsPlanned k call new deed es → IsSound (after_effects g es) (with_own held k.client (own_after new k.own deed)) }
-    ensures growth { (k : Knowledge) (g : Graph) (held : Descriptors) (call : Call) (new : ℕ) (deed : Deed) (es : List Effect) (units : ℕ) → IsSound g held → Agrees k g held → IsPlanned k call new deed es → run_part (part_of k) (growth_asked deed) ≡ Known (Ok units) → growth g es ≡ units }
+    ensures done { (k : Knowledge) (g : Graph) (held : Descriptors) (call : Call) (new : ℕ) (operation : Operation) (es : List Effect) → IsSound g held → Agrees k g held → IsPlanned k call new operation es → Step (state_of g held) k.client call (reply_of operation) (state_of (after_effects g es) (with_own held k.client (own_after new k.own operation))) }
+    ensures sound { (k : Knowledge) (g : Graph) (held : Descriptors) (call : Call) (new : ℕ) (operation : Operation) (es : List Effect) → IsSound g held → Agrees k g held → IsPlanned k call new operation es → IsSound (after_effects g es) (with_own held k.client (own_after new k.own operation)) }
+    ensures growth { (k : Knowledge) (g : Graph) (held : Descriptors) (call : Call) (new : ℕ) (operation : Operation) (es : List Effect) (units : ℕ) → IsSound g held → Agrees k g held → IsPlanned k call new operation es → run_part (part_of k) (growth_asked operation) ≡ Known (Ok units) → growth g es ≡ units }
     ensures refused { (k : Knowledge) (g : Graph) (held : Descriptors) (call : Call) (errno : Errno) → IsSound g held → Agrees k g held → run_part (part_of k) (decide k.own call) ≡ Known (Err errno) → Step (state_of g held) k.client call (Failed errno) (state_of g held) }
 {}
 
@@ -59,38 +59,38 @@ pub fn known_call_is_a_step()
 /// has not used agree with the whole again. So does what another client knows, where that has no copy of an inode that the
 /// effects touch, and was not granted the new number.
 pub fn known_call_keeps_agreement()
-    ensures own { (k : Knowledge) (g : Graph) (held : Descriptors) (call : Call) (new : ℕ) (deed : Deed) (es : List Effect) → IsSound g held → Agrees k g held → IsPlanned k call new deed es → Agrees (knows_after k new deed es) (after_effects g es) (with_own held k.client (own_after new k.own deed)) }
-    ensures others { (k other : Knowledge) (g : Graph) (held : Descriptors) (call : Call) (new : ℕ) (deed : Deed) (es : List Effect) → IsSound g held → Agrees k g held → IsPlanned k call new deed es → Agrees other g held → other.client ≢ k.client → ((i : ℕ) (copy : Option Node) → other.copies i ≡ Some copy → is_among i (touches es) ≡ false) → (makes deed ≡ true → other.granted new ≡ false) → Agrees other (after_effects g es) (with_own held k.client (own_after new k.own deed)) }
+    ensures own { (k : Knowledge) (g : Graph) (held : Descriptors) (call : Call) (new : ℕ) (operation : Operation) (es : List Effect) → IsSound g held → Agrees k g held → IsPlanned k call new operation es → Agrees (knows_after k new operation es) (after_effects g es) (with_own held k.client (own_after new k.own operation)) }
+    ensures others { (k other : Knowledge) (g : Graph) (held : Descriptors) (call : Call) (new : ℕ) (operation : Operation) (es : List Effect) → IsSound g held → Agrees k g held → IsPlanned k call new operation es → Agrees other g held → other.client ≢ k.client → ((i : ℕ) (copy : Option Node) → other.copies i ≡ Some copy → is_among i (touches es) ≡ false) → (makes operation ≡ true → other.granted new ≡ false) → Agrees other (after_effects g es) (with_own held k.client (own_after new k.own operation)) }
 {}
 
 /// A copy of a directory tells of each inode that its entries name whether that is a directory: no copy of the inode is needed
 /// for this.
 pub fn copied_entries_tell_kinds()
-    ensures { (k : Knowledge) (g : Graph) (held : Descriptors) (at : Spot) (i : ℕ) (is_dir : Bool) → IsSound g held → Agrees k g held → IsEntry (copied k) at (i, kind_if is_dir) → (part_of k).is_dir i ≡ Some (Some is_dir) }
+    ensures { (k : Knowledge) (g : Graph) (held : Descriptors) (at : Location) (i : ℕ) (is_dir : Bool) → IsSound g held → Agrees k g held → IsEntry (copied k) at (i, kind_if is_dir) → (part_of k).is_dir i ≡ Some (Some is_dir) }
 {}
 
 /// An inode that is lacking is the first that a call asks of and that the client has no answer to, in the order of the call's
 /// errors. What is lacking is the node there, and never its kind alone; the client has no copy of it, and in every sound whole
-/// that agrees there is a node. For a deed's effects and growth too there is a node where one is lacking, and no copy.
-pub fn lacking_is_asked_next()
-    ensures first { (k : Knowledge) (call : Call) (i : ℕ) → run_part (part_of k) (decide k.own call) ≡ Lacks i → IsLeft (part_of k) i (decide k.own call) }
-    ensures looked { (k : Knowledge) (g : Graph) (held : Descriptors) (call : Call) (i : ℕ) → IsSound g held → Agrees k g held → run_part (part_of k) (decide k.own call) ≡ Lacks i → IsLookedAtNext (part_of k) i (decide k.own call) }
-    ensures there { (k : Knowledge) (g : Graph) (held : Descriptors) (call : Call) (i : ℕ) → IsSound g held → Agrees k g held → run_part (part_of k) (decide k.own call) ≡ Lacks i → IsSome (kept g held i) }
-    ensures no_copy { (k : Knowledge) (call : Call) (i : ℕ) → run_part (part_of k) (decide k.own call) ≡ Lacks i → k.copies i ≡ None }
-    ensures effects_there { (k : Knowledge) (g : Graph) (held : Descriptors) (new : ℕ) (deed : Deed) (i : ℕ) → IsSound g held → Agrees k g held → Fits g held (held k.client) deed → run_part (part_of k) (effects_asked new deed) ≡ Lacks i → IsSome (kept g held i) }
-    ensures effects_no_copy { (k : Knowledge) (new : ℕ) (deed : Deed) (i : ℕ) → run_part (part_of k) (effects_asked new deed) ≡ Lacks i → k.copies i ≡ None }
-    ensures growth_there { (k : Knowledge) (g : Graph) (held : Descriptors) (deed : Deed) (i : ℕ) → IsSound g held → Agrees k g held → Fits g held (held k.client) deed → run_part (part_of k) (growth_asked deed) ≡ Lacks i → IsSome (kept g held i) }
-    ensures growth_no_copy { (k : Knowledge) (deed : Deed) (i : ℕ) → run_part (part_of k) (growth_asked deed) ≡ Lacks i → k.copies i ≡ None }
+/// that agrees there is a node. For a operation's effects and growth too there is a node where one is lacking, and no copy.
+pub fn missing_is_asked_next()
+    ensures first { (k : Knowledge) (call : Call) (i : ℕ) → run_part (part_of k) (decide k.own call) ≡ Missing i → IsLeft (part_of k) i (decide k.own call) }
+    ensures looked { (k : Knowledge) (g : Graph) (held : Descriptors) (call : Call) (i : ℕ) → IsSound g held → Agrees k g held → run_part (part_of k) (decide k.own call) ≡ Missing i → IsLookedAtNext (part_of k) i (decide k.own call) }
+    ensures there { (k : Knowledge) (g : Graph) (held : Descriptors) (call : Call) (i : ℕ) → IsSound g held → Agrees k g held → run_part (part_of k) (decide k.own call) ≡ Missing i → IsSome (kept g held i) }
+    ensures no_copy { (k : Knowledge) (call : Call) (i : ℕ) → run_part (part_of k) (decide k.own call) ≡ Missing i → k.copies i ≡ None }
+    ensures effects_there { (k : Knowledge) (g : Graph) (held : Descriptors) (new : ℕ) (operation : Operation) (i : ℕ) → IsSound g held → Agrees k g held → Fits g held (held k.client) operation → run_part (part_of k) (effects_asked new operation) ≡ Missing i → IsSome (kept g held i) }
+    ensures effects_no_copy { (k : Knowledge) (new : ℕ) (operation : Operation) (i : ℕ) → run_part (part_of k) (effects_asked new operation) ≡ Missing i → k.copies i ≡ None }
+    ensures growth_there { (k : Knowledge) (g : Graph) (held : Descriptors) (operation : Operation) (i : ℕ) → IsSound g held → Agrees k g held → Fits g held (held k.client) operation → run_part (part_of k) (growth_asked operation) ≡ Missing i → IsSome (kept g held i) }
+    ensures growth_no_copy { (k : Knowledge) (operation : Operation) (i : ℕ) → run_part (part_of k) (growth_asked operation) ≡ Missing i → k.copies i ≡ None }
 {}
 
 /// An inode of which a client got a copy is lacking no longer, and what a client knew it still knows with more copies.
-pub fn served_copy_is_lacking_no_longer()
-    ensures call { (k : Knowledge) (i : ℕ) (copy : Option Node) (call : Call) → run_part (part_of (with_copy k i copy)) (decide k.own call) ≢ Lacks i }
-    ensures effects { (k : Knowledge) (i : ℕ) (copy : Option Node) (new : ℕ) (deed : Deed) → run_part (part_of (with_copy k i copy)) (effects_asked new deed) ≢ Lacks i }
-    ensures growth { (k : Knowledge) (i : ℕ) (copy : Option Node) (deed : Deed) → run_part (part_of (with_copy k i copy)) (growth_asked deed) ≢ Lacks i }
-    ensures call_known { (k more : Knowledge) (g : Graph) (held : Descriptors) (call : Call) (result : Result Deed Errno) → IsSound g held → Agrees k g held → Agrees more g held → HasCopies more k → run_part (part_of k) (decide k.own call) ≡ Known result → run_part (part_of more) (decide k.own call) ≡ Known result }
-    ensures effects_known { (k more : Knowledge) (g : Graph) (held : Descriptors) (new : ℕ) (deed : Deed) (es : List Effect) → IsSound g held → Agrees k g held → Agrees more g held → HasCopies more k → run_part (part_of k) (effects_asked new deed) ≡ Known (Ok es) → run_part (part_of more) (effects_asked new deed) ≡ Known (Ok es) }
-    ensures growth_known { (k more : Knowledge) (g : Graph) (held : Descriptors) (deed : Deed) (units : ℕ) → IsSound g held → Agrees k g held → Agrees more g held → HasCopies more k → run_part (part_of k) (growth_asked deed) ≡ Known (Ok units) → run_part (part_of more) (growth_asked deed) ≡ Known (Ok units) }
+pub fn served_copy_is_missing_no_longer()
+    ensures call { (k : Knowledge) (i : ℕ) (copy : Option Node) (call : Call) → run_part (part_of (with_copy k i copy)) (decide k.own call) ≢ Missing i }
+    ensures effects { (k : Knowledge) (i : ℕ) (copy : Option Node) (new : ℕ) (operation : Operation) → run_part (part_of (with_copy k i copy)) (effects_asked new operation) ≢ Missing i }
+    ensures growth { (k : Knowledge) (i : ℕ) (copy : Option Node) (operation : Operation) → run_part (part_of (with_copy k i copy)) (growth_asked operation) ≢ Missing i }
+    ensures call_known { (k more : Knowledge) (g : Graph) (held : Descriptors) (call : Call) (result : Result Operation Errno) → IsSound g held → Agrees k g held → Agrees more g held → HasCopies more k → run_part (part_of k) (decide k.own call) ≡ Known result → run_part (part_of more) (decide k.own call) ≡ Known result }
+    ensures effects_known { (k more : Knowledge) (g : Graph) (held : Descriptors) (new : ℕ) (operation : Operation) (es : List Effect) → IsSound g held → Agrees k g held → Agrees more g held → HasCopies more k → run_part (part_of k) (effects_asked new operation) ≡ Known (Ok es) → run_part (part_of more) (effects_asked new operation) ≡ Known (Ok es) }
+    ensures growth_known { (k more : Knowledge) (g : Graph) (held : Descriptors) (operation : Operation) (units : ℕ) → IsSound g held → Agrees k g held → Agrees more g held → HasCopies more k → run_part (part_of k) (growth_asked operation) ≡ Known (Ok units) → run_part (part_of more) (growth_asked operation) ≡ Known (Ok units) }
 {}
 
 /// A call on the root that every tree refuses is refused by what any client knows, with no copy at all: the root is known to be

@@ -2,10 +2,10 @@
 
 ghost use Rattle.std.specs.Prelude.{◌≡◌, ℕ, ◌≤◌, None, Ok, Err, true};
 ghost use Rattle.posix_calls.specs.Tree.{Descriptors, opening};
-ghost use Rattle.posix_calls.specs.Asks.{view_of};
-ghost use Rattle.posix_calls.specs.Deeds.{makes, reply_of, held_after, state_after, Step};
+ghost use Rattle.posix_calls.specs.Query.{view_of};
+ghost use Rattle.posix_calls.specs.Operations.{makes, reply_of, held_after, state_after, Step};
 ghost use Rattle.posix_calls.specs.WellFormed.{IsWellFormed};
-ghost use Rattle.posix_calls.specs.declared.deed.Deed.{Deed};
+ghost use Rattle.posix_calls.specs.declared.operation.Operation.{Operation};
 ghost use Rattle.posix_calls.specs.declared.call.Call.{Call};
 ghost use Rattle.posix_calls.specs.declared.call.Reply.TheVariants.{Failed};
 ghost use Rattle.posix_calls.specs.declared.errno.Errno.{Errno};
@@ -27,25 +27,25 @@ pub fn stored_counts_are_the_counted_names()
     ensures { (g : Graph) (held : Descriptors) → IsSound g held → view_of ((state_of g held).tree) ≡ graph_view g held }
 {}
 
-/// A deed that fits a sound graph is its effects: the graph after them is sound, and stands, with the descriptors after the
-/// deed, for the state after it.
-pub fn deed_is_its_effects()
-    ensures state { (g : Graph) (held : Descriptors) (client new : ℕ) (deed : Deed) → 1 ≤ client → client ≤ MAX_CLIENTS → IsSound g held → (makes deed ≡ true → IsNew g new) → Fits g held (held client) deed → state_of (after_effects g (effects_of g new deed)) (held_after client new held deed) ≡ state_after client new (state_of g held) deed }
-    ensures sound { (g : Graph) (held : Descriptors) (client new : ℕ) (deed : Deed) → 1 ≤ client → client ≤ MAX_CLIENTS → IsSound g held → (makes deed ≡ true → IsNew g new) → Fits g held (held client) deed → IsSound (after_effects g (effects_of g new deed)) (held_after client new held deed) }
+/// A operation that fits a sound graph is its effects: the graph after them is sound, and stands, with the descriptors after the
+/// operation, for the state after it.
+pub fn operation_is_its_effects()
+    ensures state { (g : Graph) (held : Descriptors) (client new : ℕ) (operation : Operation) → 1 ≤ client → client ≤ MAX_CLIENTS → IsSound g held → (makes operation ≡ true → IsNew g new) → Fits g held (held client) operation → state_of (after_effects g (effects_of g new operation)) (held_after client new held operation) ≡ state_after client new (state_of g held) operation }
+    ensures sound { (g : Graph) (held : Descriptors) (client new : ℕ) (operation : Operation) → 1 ≤ client → client ≤ MAX_CLIENTS → IsSound g held → (makes operation ≡ true → IsNew g new) → Fits g held (held client) operation → IsSound (after_effects g (effects_of g new operation)) (held_after client new held operation) }
 {}
 
-/// What a call comes to over a sound graph fits it: no deed is asked of a file that isn't there, of a name that is taken, or
+/// What a call comes to over a sound graph fits it: no operation is asked of a file that isn't there, of a name that is taken, or
 /// of a directory that would become its own ancestor.
-pub fn answered_deed_fits()
-    ensures { (g : Graph) (held : Descriptors) (client : ℕ) (call : Call) (deed : Deed) → IsSound g held → answer_over g held client call ≡ Ok deed → Fits g held (held client) deed }
+pub fn answered_operation_fits()
+    ensures { (g : Graph) (held : Descriptors) (client : ℕ) (call : Call) (operation : Operation) → IsSound g held → answer_over g held client call ≡ Ok operation → Fits g held (held client) operation }
 {}
 
 /// Every call over a sound graph is one step of the file tree that the graph and the descriptors stand for. Where it comes to
-/// a deed, the graph after the deed's effects stands for the state after the step, and is sound again; where it comes to an
+/// a operation, the graph after the operation's effects stands for the state after the step, and is sound again; where it comes to an
 /// error, the state stays.
 pub fn call_is_a_step()
-    ensures done { (g : Graph) (held : Descriptors) (client new : ℕ) (call : Call) (deed : Deed) → IsSound g held → answer_over g held client call ≡ Ok deed → (makes deed ≡ true → IsNew g new) → Step (state_of g held) client call (reply_of deed) (state_of (after_effects g (effects_of g new deed)) (held_after client new held deed)) }
-    ensures sound { (g : Graph) (held : Descriptors) (client new : ℕ) (call : Call) (deed : Deed) → IsSound g held → answer_over g held client call ≡ Ok deed → (makes deed ≡ true → IsNew g new) → IsSound (after_effects g (effects_of g new deed)) (held_after client new held deed) }
+    ensures done { (g : Graph) (held : Descriptors) (client new : ℕ) (call : Call) (operation : Operation) → IsSound g held → answer_over g held client call ≡ Ok operation → (makes operation ≡ true → IsNew g new) → Step (state_of g held) client call (reply_of operation) (state_of (after_effects g (effects_of g new operation)) (held_after client new held operation)) }
+    ensures sound { (g : Graph) (held : Descriptors) (client new : ℕ) (call : Call) (operation : Operation) → IsSound g held → answer_over g held client call ≡ Ok operation → (makes operation ≡ true → IsNew g new) → IsSound (after_effects g (effects_of g new operation)) (held_after client new held operation) }
     ensures refused { (g : Graph) (held : Descriptors) (client : ℕ) (call : Call) (errno : Errno) → IsSound g held → answer_over g held client call ≡ Err errno → Step (state_of g held) client call (Failed errno) (state_of g held) }
 {}
 

@@ -1,8 +1,8 @@
 //! What a call of a client changes, as a record for its log, and that this is one step of the file tree.
 //!
 //! `specs/Wholes.antt` says which state of the file tree a graph of inodes and descriptors stand for, and when the two are sound;
-//! `specs/Effects.antt` which effects a deed has, and `specs/Known.antt` what a client knows of the whole. `decide` of
-//! `posix_calls` gives a call's deed, `growth_of` the units that it may need, and `record_of` makes its record: all three ask
+//! `specs/Effects.antt` which effects a operation has, and `specs/Known.antt` what a client knows of the whole. `decide` of
+//! `posix_calls` gives a call's operation, `growth_of` the units that it may need, and `record_of` makes its record: all three ask
 //! whoever knows the tree or a part of it. That this is right is told by the laws: over a whole (`laws`), of effects and
 //! units (`record_laws`), and for a client that knows a part (`known_laws`).
 #![tactic(auto)]
@@ -18,15 +18,15 @@ pub use changed::has_effects;
 pub use growth::growth_of;
 pub use known_laws::{
     copied_entries_tell_kinds, known_answer_is_of_the_whole, known_call_is_a_step,
-    known_call_keeps_agreement, lacking_is_asked_next, no_call_meets_a_file_that_is_gone,
-    part_is_of_the_whole, root_is_refused_without_a_copy, served_copy_is_lacking_no_longer,
+    known_call_keeps_agreement, missing_is_asked_next, no_call_meets_a_file_that_is_gone,
+    part_is_of_the_whole, root_is_refused_without_a_copy, served_copy_is_missing_no_longer,
 };
 pub use laws::{
-    answered_deed_fits, call_is_a_step, deed_is_its_effects, fresh_graph_stands_for_the_opening,
+    answered_operation_fits, call_is_a_step, operation_is_its_effects, fresh_graph_stands_for_the_opening,
     sound_graph_is_well_formed, stored_counts_are_the_counted_names,
 };
 pub use record::record_of;
 pub use record_laws::{
-    answered_deeds_have_spellings, asked_effects_are_the_deeds, asked_growth_is_the_effects_growth,
+    answered_operations_have_spellings, asked_effects_are_the_operations, asked_growth_is_the_effects_growth,
     growth_is_local,
 };

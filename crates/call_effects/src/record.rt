@@ -1,7 +1,7 @@
 ghost use Rattle.std.specs.Prelude.{◌≡◌, ◌+◌, ◌-◌, ◌^◌, ◌<◌, ◌≤◌, [], ◌∷◌, ◌++◌, length, IfOk, IfErr, OnOk, vec_len, if◌then◌else◌};
 ghost use Rattle.std.specs.Vec.{vec_capacity};
 ghost use Rattle.posix_calls.specs.Answers.{Tells};
-ghost use Rattle.posix_calls.specs.declared.deed.Deed.TheVariants.{AddName};
+ghost use Rattle.posix_calls.specs.declared.operation.Operation.TheVariants.{AddName};
 ghost use Rattle.file_graph.specs.declared.effect.Effect.TheVariants.{Size, Leave, Enter};
 ghost use Rattle.call_effects.specs.Effects.{recounted, kind_if, making, dropping, removing, replacing, effects_by};
 ghost use Rattle.call_effects.specs.Records.{names_if, effects_asked};
@@ -9,50 +9,50 @@ ghost use Rattle.call_effects.specs.Recorded.{effects_told, leaving_first, putti
 
 use file_graph::{Effect, Effects, Kind};
 use log_record::Record;
-use posix_calls::{Deed, NoDeed, Replaced, Spot, TreeAnswers, known};
+use posix_calls::{Operation, DecideError, Replaced, Location, TreeAnswers, known};
 use std::alloc::{AllocError, Global};
 
-// No deed has more effects.
+// No operation has more effects.
 const MOST_EFFECTS: usize = 4;
 
-/// The record of a deed, with its effects and these units; a node that the deed makes gets the number `new`. A deed that
+/// The record of a operation, with its effects and these units; a node that the operation makes gets the number `new`. A operation that
 /// changes nothing (`has_effects`) has a record without effects, which has no spelling and is not to be logged.
 ///
-/// The names and bytes of the deed go into the record, but for one name that two effects of a rename need. Of the tree, the
-/// file that gets another number of names has to be known; `Lacks` names it. Memory is taken before anything is moved, so the
-/// deed is handed back with each error; `Memory` may stand in place of any answer, and does where a file's names would pass
+/// The names and bytes of the operation go into the record, but for one name that two effects of a rename need. Of the tree, the
+/// file that gets another number of names has to be known; `Missing` names it. Memory is taken before anything is moved, so the
+/// operation is handed back with each error; `Memory` may stand in place of any answer, and does where a file's names would pass
 /// 32 bits.
 pub fn record_of<T: TreeAnswers>(
     alloc: Global,
     tree: &T,
-    deed: Deed,
+    operation: Operation,
     new: u32,
     units: u32,
-) -> Result<Record, (NoDeed, Deed)>
-    ensures tells { Tells (T.part tree.now) (effects_asked new deed) (effects_told result) }
+) -> Result<Record, (DecideError, Operation)>
+    ensures tells { Tells (T.part tree.now) (effects_asked new operation) (effects_told result) }
     ensures units { IfOk result (λ made. made.units ≡ units) }
-    ensures back { IfErr result (λ back. back.1 ≡ deed) }
+    ensures back { IfErr result (λ back. back.1 ≡ operation) }
 {
-    let names = match names_if(tree, recounted(&deed)) {
+    let names = match names_if(tree, recounted(&operation)) {
         Ok(names) => names,
-        Err(why) => return Err((why, deed)),
+        Err(why) => return Err((why, operation)),
     };
-    let room = match room_for(alloc, &deed) {
+    let room = match room_for(alloc, &operation) {
         Ok(room) => room,
-        Err(_) => return Err((NoDeed::Memory, deed)),
+        Err(_) => return Err((DecideError::Memory, operation)),
     };
-    let effects = effects_by(room, names, new, deed);
+    let effects = effects_by(room, names, new, operation);
     Ok(Record { units, effects })
 }
 
 // The file that gets another number of names.
-fn recounted(deed: &Deed) -> Option<u32>
-    ensures { result ≡ recounted deed.now }
+fn recounted(operation: &Operation) -> Option<u32>
+    ensures { result ≡ recounted operation.now }
 {
-    match deed {
-        Deed::AddName { inode, .. } => Some(*inode),
-        Deed::DropName { inode, .. } => Some(*inode),
-        Deed::Move {
+    match operation {
+        Operation::AddName { inode, .. } => Some(*inode),
+        Operation::DropName { inode, .. } => Some(*inode),
+        Operation::Move {
             replaced: Replaced::OldFile { inode },
             ..
         } => Some(*inode),
@@ -61,7 +61,7 @@ fn recounted(deed: &Deed) -> Option<u32>
 }
 
 // How many names a file has; one more can be counted.
-fn names_if<T: TreeAnswers>(tree: &T, inode: Option<u32>) -> Result<u32, NoDeed>
+fn names_if<T: TreeAnswers>(tree: &T, inode: Option<u32>) -> Result<u32, DecideError>
     ensures tells { Tells (T.part tree.now) (names_if inode) result }
     ensures fits { IfOk result (λ names. names + 1 < 2 ^ 32) }
 {
@@ -70,18 +70,18 @@ fn names_if<T: TreeAnswers>(tree: &T, inode: Option<u32>) -> Result<u32, NoDeed>
     };
     let names = known(tree.file_names(inode), inode)?;
     if names == u32::MAX {
-        return Err(NoDeed::Memory);
+        return Err(DecideError::Memory);
     }
     Ok(names)
 }
 
-// Room for the effects of a deed, with the first of them in it where its name is copied.
-fn room_for(alloc: Global, deed: &Deed) -> Result<Vec<Effect>, AllocError>
-    ensures copied { IfOk result (λ effects. effects.items ≡ copied deed.now) }
+// Room for the effects of a operation, with the first of them in it where its name is copied.
+fn room_for(alloc: Global, operation: &Operation) -> Result<Vec<Effect>, AllocError>
+    ensures copied { IfOk result (λ effects. effects.items ≡ copied operation.now) }
     ensures room { IfOk result (λ effects. MOST_EFFECTS ≤ vec_capacity effects) }
 {
     let mut effects = Vec::with_capacity(alloc, MOST_EFFECTS)?;
-    if let Deed::Move { to, replaced, .. } = deed {
+    if let Operation::Move { to, replaced, .. } = operation {
         leave_first(alloc, &mut effects, to, *replaced)?;
     }
     Ok(effects)
@@ -91,7 +91,7 @@ fn room_for(alloc: Global, deed: &Deed) -> Result<Vec<Effect>, AllocError>
 fn leave_first(
     alloc: Global,
     effects: &mut Vec<Effect>,
-    to: &Spot,
+    to: &Location,
     replaced: Replaced,
 ) -> Result<(), AllocError>
     requires { vec_len effects.old < vec_capacity effects.old }
@@ -119,25 +119,25 @@ fn put(effects: &mut Vec<Effect>, effect: Effect)
     effects.push(effect).unwrap();
 }
 
-// The effects of a deed, into which its names and bytes go.
-fn effects_by(effects: Vec<Effect>, names: u32, new: u32, deed: Deed) -> Effects
-    requires copied { effects.items ≡ copied deed }
+// The effects of a operation, into which its names and bytes go.
+fn effects_by(effects: Vec<Effect>, names: u32, new: u32, operation: Operation) -> Effects
+    requires copied { effects.items ≡ copied operation }
     requires room { MOST_EFFECTS ≤ vec_capacity effects }
     requires fits { names + 1 < 2 ^ 32 }
-    ensures { result ≡ effects_by names new deed }
+    ensures { result ≡ effects_by names new operation }
 {
-    match deed {
-        Deed::Tell { .. } => Effects::from_vec(effects),
-        Deed::NewDir { at } => making(effects, new, Kind::Directory, at),
-        Deed::NewFile { at, .. } => making(effects, new, Kind::File, at),
-        Deed::OpenFile { inode, empties, .. } => emptying(effects, inode, empties),
-        Deed::CloseFile { .. } => Effects::from_vec(effects),
-        Deed::Write { inode, at, bytes } => alone(effects, Effect::Bytes { inode, at, bytes }),
-        Deed::Resize { inode, len } => alone(effects, Effect::Size { inode, size: len }),
-        Deed::RemoveDir { at, inode } => removing(effects, at, inode),
-        Deed::AddName { at, inode } => adding(effects, at, inode, names),
-        Deed::DropName { at, inode } => dropping(effects, at, inode, names),
-        Deed::Move {
+    match operation {
+        Operation::Tell { .. } => Effects::from_vec(effects),
+        Operation::NewDir { at } => making(effects, new, Kind::Directory, at),
+        Operation::NewFile { at, .. } => making(effects, new, Kind::File, at),
+        Operation::OpenFile { inode, empties, .. } => emptying(effects, inode, empties),
+        Operation::CloseFile { .. } => Effects::from_vec(effects),
+        Operation::Write { inode, at, bytes } => alone(effects, Effect::Bytes { inode, at, bytes }),
+        Operation::Resize { inode, len } => alone(effects, Effect::Size { inode, size: len }),
+        Operation::RemoveDir { at, inode } => removing(effects, at, inode),
+        Operation::AddName { at, inode } => adding(effects, at, inode, names),
+        Operation::DropName { at, inode } => dropping(effects, at, inode, names),
+        Operation::Move {
             from,
             to,
             inode,
@@ -167,7 +167,7 @@ fn emptying(effects: Vec<Effect>, inode: u32, empties: bool) -> Effects
     Effects::from_vec(effects)
 }
 
-fn making(mut effects: Vec<Effect>, new: u32, kind: Kind, at: Spot) -> Effects
+fn making(mut effects: Vec<Effect>, new: u32, kind: Kind, at: Location) -> Effects
     requires none { effects.items ≡ [] }
     requires room { MOST_EFFECTS ≤ vec_capacity effects }
     ensures { result ≡ making new kind at }
@@ -184,7 +184,7 @@ fn making(mut effects: Vec<Effect>, new: u32, kind: Kind, at: Spot) -> Effects
     Effects::from_vec(effects)
 }
 
-fn adding(mut effects: Vec<Effect>, at: Spot, inode: u32, names: u32) -> Effects
+fn adding(mut effects: Vec<Effect>, at: Location, inode: u32, names: u32) -> Effects
     requires none { effects.items ≡ [] }
     requires room { MOST_EFFECTS ≤ vec_capacity effects }
     requires fits { names + 1 < 2 ^ 32 }
@@ -201,7 +201,7 @@ fn adding(mut effects: Vec<Effect>, at: Spot, inode: u32, names: u32) -> Effects
     Effects::from_vec(effects)
 }
 
-fn dropping(mut effects: Vec<Effect>, at: Spot, inode: u32, names: u32) -> Effects
+fn dropping(mut effects: Vec<Effect>, at: Location, inode: u32, names: u32) -> Effects
     requires none { effects.items ≡ [] }
     requires room { MOST_EFFECTS ≤ vec_capacity effects }
     ensures { result ≡ dropping at inode names }
@@ -217,7 +217,7 @@ fn dropping(mut effects: Vec<Effect>, at: Spot, inode: u32, names: u32) -> Effec
     Effects::from_vec(effects)
 }
 
-fn removing(mut effects: Vec<Effect>, at: Spot, inode: u32) -> Effects
+fn removing(mut effects: Vec<Effect>, at: Location, inode: u32) -> Effects
     requires none { effects.items ≡ [] }
     requires room { MOST_EFFECTS ≤ vec_capacity effects }
     ensures { result ≡ removing at inode }
@@ -230,8 +230,8 @@ fn removing(mut effects: Vec<Effect>, at: Spot, inode: u32) -> Effects
 fn moving(
     mut effects: Vec<Effect>,
     names: u32,
-    from: Spot,
-    to: Spot,
+    from: Location,
+    to: Location,
     inode: u32,
     kind: Kind,
     replaced: Replaced,
@@ -267,7 +267,7 @@ fn kind_if(is_dir: bool) -> Kind
 }
 
 // A name of an inode is entered.
-fn entering(at: Spot, inode: u32, kind: Kind) -> Effect
+fn entering(at: Location, inode: u32, kind: Kind) -> Effect
     ensures { result ≡ Enter at.parent inode kind at.name }
 {
     Effect::Enter {
@@ -279,7 +279,7 @@ fn entering(at: Spot, inode: u32, kind: Kind) -> Effect
 }
 
 // A name leaves its directory.
-fn leaving(at: Spot) -> Effect
+fn leaving(at: Location) -> Effect
     ensures { result ≡ Leave at.parent at.name }
 {
     Effect::Leave {

@@ -6,7 +6,7 @@ use Rattle.std.specs.FinMap.Entries.{below_all}
 use Rattle.std.specs.Ordering.{nat_cmp, is_lt}
 use Rattle.std.specs.Cmp.Lexicographic.{slice_cmp, nat_list_cmp_total}
 use Rattle.posix_calls.specs.Content.{Entries}
-use Rattle.posix_calls.specs.Asks.{Dir}
+use Rattle.posix_calls.specs.Query.{Dir}
 use Rattle.posix_calls.specs.Walk.{entries_seen}
 use Rattle.posix_calls.specs.Answers.{entry_in, count_in, listed_in}
 use Rattle.posix_calls.proofs.Directory.{entries-empty, names_same}

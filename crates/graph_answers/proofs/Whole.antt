@@ -1,7 +1,7 @@
 -- A graph answers as it stands stored.
 use Rattle.std.proofs.Common.{◌≡◌, Bool, true, false, Option, Some, None}
 use Rattle.std.specs.Prelude.{if◌then◌else◌}
-use Rattle.posix_calls.specs.Asks.{Seen, IsPart}
+use Rattle.posix_calls.specs.Query.{Seen, IsPart}
 use Rattle.file_graph.specs.Graph.{Graph}
 use Rattle.call_effects.specs.Known.{stored_view}
 use Rattle.graph_answers.specs.Whole.{whole_of, seen_at, is_counted}

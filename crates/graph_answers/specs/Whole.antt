@@ -1,6 +1,6 @@
 -- What a plain graph answers as a file tree that is known whole.
 use Rattle.std.specs.Prelude.{ℕ, Bool, nat_lt, Option, Some, None, option_map, if◌then◌else◌}
-use Rattle.posix_calls.specs.Asks.{Seen, Part}
+use Rattle.posix_calls.specs.Query.{Seen, Part}
 use Rattle.posix_calls.specs.Answers.{count_in}
 use Rattle.file_graph.specs.Graph.{Graph}
 use Rattle.call_effects.specs.Wholes.{node_is_dir, node_seen}

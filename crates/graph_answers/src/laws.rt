@@ -1,5 +1,5 @@
 //! What holds of every graph.
-ghost use Rattle.posix_calls.specs.Asks.{IsPart};
+ghost use Rattle.posix_calls.specs.Query.{IsPart};
 ghost use Rattle.file_graph.specs.Graph.{Graph};
 ghost use Rattle.call_effects.specs.Known.{stored_view};
 ghost use Rattle.graph_answers.specs.Whole.{whole_of};

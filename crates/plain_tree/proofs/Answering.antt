@@ -5,7 +5,7 @@ use Rattle.std.specs.FinMap as fin
 use Rattle.posix_calls.proofs.Counts.{order}
 use Rattle.posix_calls.proofs.Directory.{entries-empty}
 use Rattle.posix_calls.specs.Tree.{Node, File, Dir, entries_of}
-use Rattle.posix_calls.specs.Asks.{Asks, Gives, Refuses, IsDir, Look, View, Found, Known, Lacks, run, run_part, seen, whole}
+use Rattle.posix_calls.specs.Query.{Query, Gives, Refuses, IsDir, Look, View, Found, Known, Missing, run, run_part, seen, whole}
 use Rattle.posix_calls.specs.Walk.{entries_seen}
 use Rattle.plain_tree.specs.Plain.{tree_of}
 use Rattle.std.proofs.lemmas.Bool.{ltb-false}
@@ -16,20 +16,20 @@ entries_are_seen n None = refl
 entries_are_seen n (Some (File bytes)) = refl
 entries_are_seen n (Some (Dir entries)) = refl
 
-pub whole_knows : {A : Type 0} (v : View) (q : Asks A) → run_part (whole v) q ≡ Known (run v q)
+pub whole_knows : {A : Type 0} (v : View) (q : Query A) → run_part (whole v) q ≡ Known (run v q)
 unfolding run_part run
 whole_knows v (Gives x) = refl
 whole_knows v (Refuses e) = refl
 whole_knows v (IsDir i next) = whole_knows v (next (v.is_dir i))
 whole_knows v (Look i next) = whole_knows v (next (v.node i))
 
-pub known_lacks_nothing : {A : Type 0} (v : View) (q : Asks A) (i : ℕ) → run_part (whole v) q ≡ Lacks i → ⊥
+pub known_lacks_nothing : {A : Type 0} (v : View) (q : Query A) (i : ℕ) → run_part (whole v) q ≡ Missing i → ⊥
 known_lacks_nothing v q i e = apart (run v q) i (sym (whole_knows v q) ∙ e)
   where
-    apart : {A : Type 0} (r : _) (i : ℕ) → ◌≡◌ {A = Found A} (Known r) (Lacks i) → ⊥
+    apart : {A : Type 0} (r : _) (i : ℕ) → ◌≡◌ {A = Found A} (Known r) (Missing i) → ⊥
     apart r i e = absurd cc
 
-pub known_of : {A : Type 0} (v : View) (q : Asks A) (r : _) → run_part (whole v) q ≡ Known r → run v q ≡ r
+pub known_of : {A : Type 0} (v : View) (q : Query A) (r : _) → run_part (whole v) q ≡ Known r → run v q ≡ r
 known_of v q r e = same (run v q) r (sym (whole_knows v q) ∙ e)
   where
     same : {A : Type 0} (x y : _) → ◌≡◌ {A = Found A} (Known x) (Known y) → x ≡ y

@@ -5,12 +5,12 @@ use Rattle.std.proofs.lemmas.Bool.Decides.{nat_tests}
 use Rattle.std.proofs.lemmas.List.{get_or_default}
 use Rattle.posix_calls.specs.Tree.{Own, State}
 use Rattle.posix_calls.specs.Own.{own_of}
-use Rattle.posix_calls.specs.Asks.{Known, run, run_part, view_of, whole}
+use Rattle.posix_calls.specs.Query.{Known, run, run_part, view_of, whole}
 use Rattle.posix_calls.specs.Decide.{decide}
-use Rattle.posix_calls.specs.Deeds.{answer, Follows, Step, makes, is_client}
+use Rattle.posix_calls.specs.Operations.{answer, Follows, Step, makes, is_client}
 use Rattle.posix_calls.specs.Exact.{IsLowest, IsAnswered, IsGivenUp}
 use Rattle.plain_tree.specs.Plain.{Stored, IsSound, tree_of, held_of, state_of, IsDone, IsDropped}
-use Rattle.posix_calls.specs.declared.deed.Deed.{Deed}
+use Rattle.posix_calls.specs.declared.operation.Operation.{Operation}
 use Rattle.posix_calls.specs.declared.call.Call.{Call}
 use Rattle.posix_calls.specs.declared.call.Reply.{Reply}
 use Rattle.posix_calls.specs.declared.call.Reply.TheVariants.{Failed}
@@ -38,7 +38,7 @@ pub outside : (client : ℕ) → (client ≡ 0) ⊎ (8 < client) → is_client c
 outside client (inl e) = grind (arith, nat_tests)
 outside client (inr e) = grind (arith, nat_tests)
 
-pub answer_is : (s : Stored) (client : ℕ) (call : Call) (row : Row) (r : Result Deed Errno) → is_client client ≡ true → held_of s.rows client ≡ own_of row
+pub answer_is : (s : Stored) (client : ℕ) (call : Call) (row : Row) (r : Result Operation Errno) → is_client client ≡ true → held_of s.rows client ≡ own_of row
     → run_part (whole (view_of (tree_of s.nodes))) (decide (own_of row) call) ≡ Known r → answer (state_of s) client call ≡ r
 answer_is s client call row r among held known =
     let v = view_of (tree_of s.nodes) in
@@ -47,13 +47,13 @@ answer_is s client call row r among held known =
     ∙ ap (λ (own : Own). run v (decide own call)) held
     ∙ cc
 
-pub exact_of : (old after : State) (client : ℕ) (call : Call) (deed : Deed) (r : Reply) → answer old client call ≡ Ok deed → IsDone old client deed r after ⊎ IsDropped old deed r after
+pub exact_of : (old after : State) (client : ℕ) (call : Call) (operation : Operation) (r : Reply) → answer old client call ≡ Ok operation → IsDone old client operation r after ⊎ IsDropped old operation r after
     → IsAnswered old client call r after ⊎ IsGivenUp old client call r after
-exact_of old after client call deed r e (inl done) =
-    let lowest : (d : Deed) → answer old client call ≡ Ok d → makes d ≡ true → IsLowest old.tree done.0 = λ d f m. let same : deed ≡ d = cc in done.1 (ap makes same ∙ m) in
+exact_of old after client call operation r e (inl done) =
+    let lowest : (d : Operation) → answer old client call ≡ Ok d → makes d ≡ true → IsLowest old.tree done.0 = λ d f m. let same : operation ≡ d = cc in done.1 (ap makes same ∙ m) in
     inl (done.0, lowest, subst (λ a. Follows old client done.0 a r after) (sym e) (λ m. (done.1 m).free, done.2, done.3))
-exact_of old after client call deed r e (inr (inl gone, same)) = inr (inl gone, same)
-exact_of old after client call deed r e (inr (inr full, same)) = inr (inr (full.0, (deed, e, full.1), full.2), same)
+exact_of old after client call operation r e (inr (inl gone, same)) = inr (inl gone, same)
+exact_of old after client call operation r e (inr (inr full, same)) = inr (inr (full.0, (operation, e, full.1), full.2), same)
 
 pub step_of : (old after : State) (client : ℕ) (call : Call) (r : Reply) → IsAnswered old client call r after ⊎ IsGivenUp old client call r after → Step old client call r after
 step_of old after client call r (inl done) = inl (done.0, done.2)
@@ -65,12 +65,12 @@ pub refused_of : (s : Stored) (client : ℕ) (call : Call) (e : Errno) → answe
 refused_of s client call e is =
     (0, λ d f m. absurd (cc), subst (λ a. Follows (state_of s) client 0 a (Failed e) (state_of s)) (sym is) (refl, refl))
 
--- the deed of a client's call was done or given up; what is stored is seen as one value
-pub came_of : (held now : Stored) (client : ℕ) (call : Call) (deed : Deed) (r : Reply) (after : State) (row : Row) → held ≡ now → 0 < client → client ≤ 8 → length held.rows ≡ 8 → row ≡ get_or held.rows (client - 1) row
-    → run_part (whole (view_of (tree_of now.nodes))) (decide (own_of row) call) ≡ Known (Ok deed) → IsDone (state_of held) client deed r after ⊎ IsDropped (state_of held) deed r after → IsAnswered (state_of now) client call r after ⊎ IsGivenUp (state_of now) client call r after
-came_of held now client call deed r after row seen low high rows is known done =
+-- the operation of a client's call was done or given up; what is stored is seen as one value
+pub came_of : (held now : Stored) (client : ℕ) (call : Call) (operation : Operation) (r : Reply) (after : State) (row : Row) → held ≡ now → 0 < client → client ≤ 8 → length held.rows ≡ 8 → row ≡ get_or held.rows (client - 1) row
+    → run_part (whole (view_of (tree_of now.nodes))) (decide (own_of row) call) ≡ Known (Ok operation) → IsDone (state_of held) client operation r after ⊎ IsDropped (state_of held) operation r after → IsAnswered (state_of now) client call r after ⊎ IsGivenUp (state_of now) client call r after
+came_of held now client call operation r after row seen low high rows is known done =
     let own = ap (λ (s : Stored). held_of s.rows client) (sym seen) ∙ row_of held.rows client row low (omega (arith, rows, high)) is in
-    exact_of (state_of now) after client call deed r (answer_is now client call row (Ok deed) (among client low high) own known) (subst (λ (s : Stored). IsDone (state_of s) client deed r after ⊎ IsDropped (state_of s) deed r after) seen done)
+    exact_of (state_of now) after client call operation r (answer_is now client call row (Ok operation) (among client low high) own known) (subst (λ (s : Stored). IsDone (state_of s) client operation r after ⊎ IsDropped (state_of s) operation r after) seen done)
 
 -- the state stays sound
 pub sound_after : (old after : State) (client : ℕ) (call : Call) (r : Reply) → IsSound old → Step old client call r after → IsSound after

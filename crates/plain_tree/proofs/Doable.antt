@@ -2,15 +2,15 @@
 use Rattle.std.proofs.Common.{◌≡◌, ℕ, true, Some, None, Ok, refl, sym, ap, ◌∙◌, arith}
 use Rattle.std.specs.Prelude.{option_map}
 use Rattle.posix_calls.specs.Tree.{Tree, Own, State, IsBare}
-use Rattle.posix_calls.specs.Asks.{run, view_of, dir_test}
+use Rattle.posix_calls.specs.Query.{run, view_of, dir_test}
 use Rattle.posix_calls.specs.Decide.{decide}
 use Rattle.plain_tree.specs.Plain.{IsSound, IsHeld, Replaces, IsSmall, IsPlaced, IsDoable}
 use Rattle.posix_calls.specs.WellFormed.{IsDirectory}
-use Rattle.posix_calls.specs.declared.deed.Spot.{Spot}
-use Rattle.posix_calls.specs.declared.deed.Deed.{Deed}
-use Rattle.posix_calls.specs.declared.deed.Deed.TheVariants.{Tell, NewDir, NewFile, OpenFile, CloseFile, Write, Resize, RemoveDir, AddName, DropName, Move}
-use Rattle.posix_calls.specs.declared.deed.Replaced.{Replaced}
-use Rattle.posix_calls.specs.declared.deed.Replaced.TheVariants.{Nothing, OldFile, OldDir}
+use Rattle.posix_calls.specs.declared.operation.Location.{Location}
+use Rattle.posix_calls.specs.declared.operation.Operation.{Operation}
+use Rattle.posix_calls.specs.declared.operation.Operation.TheVariants.{Tell, NewDir, NewFile, OpenFile, CloseFile, Write, Resize, RemoveDir, AddName, DropName, Move}
+use Rattle.posix_calls.specs.declared.operation.Replaced.{Replaced}
+use Rattle.posix_calls.specs.declared.operation.Replaced.TheVariants.{Nothing, OldFile, OldDir}
 use Rattle.posix_calls.specs.declared.call.Call.{Call}
 use Rattle.posix_calls.proofs.Changes.{entry, entry_parent, bare_file}
 use Rattle.posix_calls.proofs.Trees.{tree_of, range_of}
@@ -19,7 +19,7 @@ use Rattle.posix_calls.proofs.Able.{Able}
 use Rattle.posix_calls.proofs.Calls.{decide_fits}
 use Rattle.posix_calls.proofs.Passing.{decide_able}
 
-small : (t : Tree) (deed : Deed) → Able t deed → IsSmall deed
+small : (t : Tree) (operation : Operation) → Able t operation → IsSmall operation
 small t (Tell answer) able = tt
 small t (NewDir at) able = tt
 small t (NewFile at number reads writes) able = tt
@@ -34,27 +34,27 @@ small t (Move from to i is_dir replaced) able = tt
 
 module _ (s : State) (sound : IsSound s) where
   -- a name's directory is there, and has an inode number
-  held : (at : Spot) → IsDirectory (s.tree at.parent) → IsHeld s.tree at
+  held : (at : Location) → IsDirectory (s.tree at.parent) → IsHeld s.tree at
   held at dir = (range_of s.tree at.parent true (tree_of s sound.0) dir, λ none. let clash : None ≡ Some true = sym (ap (option_map dir_test) none) ∙ dir in absurd cc)
 
-  named : (at : Spot) (i : ℕ) → entry s.tree at ≡ Some i → IsHeld s.tree at
+  named : (at : Location) (i : ℕ) → entry s.tree at ≡ Some i → IsHeld s.tree at
   named at i is = held at (entry_parent (s.tree at.parent) at.name i is)
 
   bare_open : (own : Own) (number i : ℕ) (client : ℕ) → s.descriptors client ≡ own → Fits s.tree own (CloseFile i number) → IsBare (s.tree i)
   bare_open own number i client is fits =
       bare_file (s.tree i) (ap (λ (k : ℕ). option_map dir_test (s.tree k)) (sym fits.2) ∙ sound.0.opened client number fits.0 (ap (λ (own : Own). own number) is ∙ fits.1))
 
-  replaces : (to : Spot) (i : ℕ) (replaced : Replaced) → FitsReplaced s.tree to i replaced → Replaces s.tree to i replaced
+  replaces : (to : Location) (i : ℕ) (replaced : Replaced) → FitsReplaced s.tree to i replaced → Replaces s.tree to i replaced
   replaces to i Nothing fits = fits.none
   replaces to i (OldFile j) fits = (fits.0, fits.1, bare_file (s.tree j) fits.2)
   replaces to i (OldDir j) fits = (fits.0, fits.1, fits.3)
 
-  goal_held : (to : Spot) (i : ℕ) (replaced : Replaced) → FitsReplaced s.tree to i replaced → IsHeld s.tree to
+  goal_held : (to : Location) (i : ℕ) (replaced : Replaced) → FitsReplaced s.tree to i replaced → IsHeld s.tree to
   goal_held to i Nothing fits = held to fits.directory
   goal_held to i (OldFile j) fits = named to j fits.1
   goal_held to i (OldDir j) fits = named to j fits.1
 
-  placed : (client : ℕ) (deed : Deed) → Fits s.tree (s.descriptors client) deed → IsPlaced s.tree deed
+  placed : (client : ℕ) (operation : Operation) → Fits s.tree (s.descriptors client) operation → IsPlaced s.tree operation
   placed client (Tell answer) fits = tt
   placed client (NewDir at) fits = held at fits.directory
   placed client (NewFile at number reads writes) fits = (fits.1.few, held at fits.0.directory)
@@ -67,5 +67,5 @@ module _ (s : State) (sound : IsSound s) where
   placed client (DropName at i) fits = (named at i fits.0, bare_file (s.tree i) fits.1)
   placed client (Move from to i is_dir replaced) fits = (named from i fits.0, goal_held to i replaced fits.1, (fits.0, replaces to i replaced fits.1))
 
-  pub doable : (client : ℕ) (call : Call) (deed : Deed) → run (view_of s.tree) (decide (s.descriptors client) call) ≡ Ok deed → IsDoable s.tree deed
-  doable client call deed e = (small s.tree deed (decide_able s sound.0 client call deed e), sound.1.names, placed client deed (decide_fits s sound.0 client call deed e))
+  pub doable : (client : ℕ) (call : Call) (operation : Operation) → run (view_of s.tree) (decide (s.descriptors client) call) ≡ Ok operation → IsDoable s.tree operation
+  doable client call operation e = (small s.tree operation (decide_able s sound.0 client call operation e), sound.1.names, placed client operation (decide_fits s sound.0 client call operation e))

@@ -7,11 +7,11 @@ use Rattle.std.proofs.lemmas.Bool.{cases_eq}
 use Rattle.std.proofs.lemmas.Bool.Decides.{nat_tests}
 use Rattle.posix_calls.specs.Content.{Entries}
 use Rattle.posix_calls.specs.Tree.{Node, Tree, Dir, set_node, entries_of, names_in, names_of, sum_up_to, is_open, Descriptors}
-use Rattle.posix_calls.specs.Deeds.{entered, left, less_replaced}
-use Rattle.plain_tree.specs.Plain.{less_put_out, at_spot, IsMovable}
-use Rattle.posix_calls.specs.declared.deed.Spot.{Spot}
-use Rattle.posix_calls.specs.declared.deed.Replaced.{Replaced}
-use Rattle.posix_calls.specs.declared.deed.Replaced.TheVariants.{Nothing, OldFile, OldDir}
+use Rattle.posix_calls.specs.Operations.{entered, left, less_replaced}
+use Rattle.plain_tree.specs.Plain.{less_put_out, at_location, IsMovable}
+use Rattle.posix_calls.specs.declared.operation.Location.{Location}
+use Rattle.posix_calls.specs.declared.operation.Replaced.{Replaced}
+use Rattle.posix_calls.specs.declared.operation.Replaced.TheVariants.{Nothing, OldFile, OldDir}
 use Rattle.posix_calls.specs.declared.limits.TheConstants.{MAX_INODE}
 use Rattle.posix_calls.proofs.Directory.{names_same}
 use Rattle.posix_calls.proofs.Counts.{order, counted, counted_is, counted_insert, alike, put_back}
@@ -59,10 +59,10 @@ abbrev less_name : Option Node → List ℕ → Option Node
 less_name o a = Some (Dir (fin.remove (entries_of o) a))
 
 -- two names, of which one is put in and the other taken out
-abbrev AreApart : Spot → Spot → Type 0
+abbrev AreApart : Location → Location → Type 0
 AreApart from to = from.parent ≡ to.parent → from.name ≢ to.name
 
-swapped : (t : Tree) (from to : Spot) (i : ℕ) → AreApart from to → left (entered t to i) from ≡ entered (left t from) to i
+swapped : (t : Tree) (from to : Location) (i : ℕ) → AreApart from to → left (entered t to i) from ≡ entered (left t from) to i
 swapped t from to i apart =
     elim (cases_eq from.parent to.parent) [
       | inl same ↦
@@ -85,7 +85,7 @@ swapped t from to i apart =
     ]
 
 -- a name that was taken out first
-pub renewed : (t : Tree) (to : Spot) (i : ℕ) → entered (left t to) to i ≡ entered t to i
+pub renewed : (t : Tree) (to : Location) (i : ℕ) → entered (left t to) to i ≡ entered t to i
 renewed t to i =
     let p = to.parent in
     ap (λ (o : Option Node). set_node (left t to) p (with_name o to.name i)) (set_there t p (less_name (t p) to.name))
@@ -93,20 +93,20 @@ renewed t to i =
     ∙ ap (λ (m : Entries ℕ). set_node t p (Some (Dir m))) (put_back (entries_of (t p)) to.name i)
 
 -- another node goes before or after
-left_apart : (t : Tree) (at : Spot) (j : ℕ) → j ≢ at.parent → left (set_node t j None) at ≡ set_node (left t at) j None
+left_apart : (t : Tree) (at : Location) (j : ℕ) → j ≢ at.parent → left (set_node t j None) at ≡ set_node (left t at) j None
 left_apart t at j apart =
     ap (λ (o : Option Node). set_node (set_node t j None) at.parent (less_name o at.name)) (set_other t j at.parent None (λ e. apart (sym e)))
     ∙ set_swap t j at.parent None (less_name (t at.parent) at.name) apart
 
-entered_apart : (t : Tree) (at : Spot) (i j : ℕ) → j ≢ at.parent → entered (set_node t j None) at i ≡ set_node (entered t at i) j None
+entered_apart : (t : Tree) (at : Location) (i j : ℕ) → j ≢ at.parent → entered (set_node t j None) at i ≡ set_node (entered t at i) j None
 entered_apart t at i j apart =
     ap (λ (o : Option Node). set_node (set_node t j None) at.parent (with_name o at.name i)) (set_other t j at.parent None (λ e. apart (sym e)))
     ∙ set_swap t j at.parent None (with_name (t at.parent) at.name i) apart
 
-kept : (t : Tree) (from to : Spot) (i : ℕ) → AreApart from to → left (entered t to i) from ≡ entered (left (left t to) from) to i
+kept : (t : Tree) (from to : Location) (i : ℕ) → AreApart from to → left (entered t to i) from ≡ entered (left (left t to) from) to i
 kept t from to i apart = ap (λ (u : Tree). left u from) (sym (renewed t to i)) ∙ swapped (left t to) from to i apart
 
-gone : (t : Tree) (from to : Spot) (i j : ℕ) → AreApart from to → j ≢ from.parent → j ≢ to.parent
+gone : (t : Tree) (from to : Location) (i j : ℕ) → AreApart from to → j ≢ from.parent → j ≢ to.parent
     → left (set_node (entered t to i) j None) from ≡ entered (left (set_node (left t to) j None) from) to i
 gone t from to i j apart off_from off_to =
     left_apart (entered t to i) from j off_from
@@ -126,7 +126,7 @@ put_in_one o b i j apart =
     let count : counted j (fin.insert e b i) ≡ counted j (fin.remove e b) = omega (arith, more, none, same) in
     counted_is j (fin.insert e b i) ∙ count ∙ sym (counted_is j (fin.remove e b))
 
-put_in_at : (t : Tree) (to : Spot) (i j d : ℕ) → i ≢ j → names_in j (entered t to i d) ≡ names_in j (left t to d)
+put_in_at : (t : Tree) (to : Location) (i j d : ℕ) → i ≢ j → names_in j (entered t to i d) ≡ names_in j (left t to d)
 put_in_at t to i j d apart = either (d == to.parent) (with_name (t to.parent) to.name i) (less_name (t to.parent) to.name) (put_in_one (t to.parent) to.name i j apart)
   where
     either : (b : Bool) (x y : Option Node) → names_in j x ≡ names_in j y → names_in j (if b then x else t d) ≡ names_in j (if b then y else t d)
@@ -134,32 +134,32 @@ put_in_at t to i j d apart = either (d == to.parent) (with_name (t to.parent) to
     either false x y same = refl
 
 -- so it does in the whole tree
-same_names : (t : Tree) (to : Spot) (i j : ℕ) → i ≢ j → names_of (entered t to i) j ≡ names_of (left t to) j
+same_names : (t : Tree) (to : Location) (i j : ℕ) → i ≢ j → names_of (entered t to i) j ≡ names_of (left t to) j
 unfolding names_of
 same_names t to i j apart = ap (sum_up_to MAX_INODE) (λ k d. put_in_at t to i j d apart k)
 
 -- ---- a move
 
-pub off_parent : (t : Tree) (at : Spot) (j n : ℕ) → at_spot t at ≡ Some n → entries_of (t j) ≡ fin.empty → j ≢ at.parent
+pub off_parent : (t : Tree) (at : Location) (j n : ℕ) → at_location t at ≡ Some n → entries_of (t j) ≡ fin.empty → j ≢ at.parent
 off_parent t at j n there empty same =
     let nothing : fin.get (entries_of (t at.parent)) at.name ≡ None = ap (λ (m : ℕ). fin.get (entries_of (t m)) at.name) (sym same) ∙ ap (λ (e : Entries ℕ). fin.get e at.name) empty ∙ fin.get-empty order at.name in
     absurd (cc)
 
-spots_apart : (t : Tree) (from to : Spot) (i : ℕ) (o : Option ℕ) → at_spot t from ≡ Some i → at_spot t to ≡ o → Some i ≢ o → AreApart from to
-spots_apart t from to i o there is other same names =
+locations_apart : (t : Tree) (from to : Location) (i : ℕ) (o : Option ℕ) → at_location t from ≡ Some i → at_location t to ≡ o → Some i ≢ o → AreApart from to
+locations_apart t from to i o there is other same names =
     other (sym there ∙ ap (λ (n : ℕ). fin.get (entries_of (t n)) from.name) same ∙ ap (fin.get (entries_of (t to.parent))) names ∙ is)
 
 both : (b : Bool) (x y : Tree → Tree) (u v : Tree) (f g : Tree → Tree) → f (x u) ≡ g (x v) → f (y u) ≡ g (y v) → f (cond b (x u) (y u)) ≡ g (cond b (x v) (y v))
 both true x y u v f g p q = p
 both false x y u v f g p q = q
 
-pub moved : (held : Descriptors) (t : Tree) (from to : Spot) (i : ℕ) (replaced : Replaced) → IsMovable t from to i replaced
+pub moved : (held : Descriptors) (t : Tree) (from to : Location) (i : ℕ) (replaced : Replaced) → IsMovable t from to i replaced
     → left (less_put_out held (entered t to i) replaced) from ≡ entered (left (less_replaced held t to replaced) from) to i
-moved held t from to i Nothing h = swapped t from to i (spots_apart t from to i None h.0 h.1 (λ e. absurd cc))
+moved held t from to i Nothing h = swapped t from to i (locations_apart t from to i None h.0 h.1 (λ e. absurd cc))
 moved held t from to i (OldDir j) h =
-    gone t from to i j (spots_apart t from to i (Some j) h.0 h.1.1 (λ e. h.1.0 (cc))) (off_parent t from j i h.0 h.1.2) (off_parent t to j j h.1.1 h.1.2)
+    gone t from to i j (locations_apart t from to i (Some j) h.0 h.1.1 (λ e. h.1.0 (cc))) (off_parent t from j i h.0 h.1.2) (off_parent t to j j h.1.1 h.1.2)
 moved held t from to i (OldFile j) h =
-    let apart : AreApart from to = spots_apart t from to i (Some j) h.0 h.1.1 (λ e. h.1.0 (cc)) in
+    let apart : AreApart from to = locations_apart t from to i (Some j) h.0 h.1.1 (λ e. h.1.0 (cc)) in
     let test : (n : ℕ) → Bool = λ n. (n == 0) && not (is_open held j) in
     ap (λ (n : ℕ). left (cond (test n) (set_node (entered t to i) j None) (entered t to i)) from) (same_names t to i j h.1.0)
     ∙ both (test (names_of (left t to) j)) (λ u. set_node u j None) (λ u. u) (entered t to i) (left t to) (λ u. left u from) (λ u. entered (left u from) to i)

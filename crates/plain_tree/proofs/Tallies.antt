@@ -6,12 +6,12 @@ use Rattle.std.proofs.lemmas.Bool.{cases_lt}
 use Rattle.std.proofs.lemmas.List.{get_or_past}
 use Rattle.std.specs.FinMap as fin
 use Rattle.posix_calls.specs.Tree.{Node, Tree, Dir, set_node, entries_of, names_in, names_of, IsBare}
-use Rattle.posix_calls.specs.Deeds.{entered, left}
-use Rattle.plain_tree.specs.Plain.{tree_of, count_at, one_for, at_spot, IsBareReplaced, IsInode, IsCounted, Replaces}
-use Rattle.posix_calls.specs.declared.deed.Replaced.{Replaced}
-use Rattle.posix_calls.specs.declared.deed.Replaced.TheVariants.{Nothing, OldFile, OldDir}
+use Rattle.posix_calls.specs.Operations.{entered, left}
+use Rattle.plain_tree.specs.Plain.{tree_of, count_at, one_for, at_location, IsBareReplaced, IsInode, IsCounted, Replaces}
+use Rattle.posix_calls.specs.declared.operation.Replaced.{Replaced}
+use Rattle.posix_calls.specs.declared.operation.Replaced.TheVariants.{Nothing, OldFile, OldDir}
 use Rattle.posix_calls.specs.Content.{Entries}
-use Rattle.posix_calls.specs.declared.deed.Spot.{Spot}
+use Rattle.posix_calls.specs.declared.operation.Location.{Location}
 use Rattle.posix_calls.specs.declared.limits.TheConstants.{MAX_INODE}
 use Rattle.posix_calls.proofs.Sums.{names_of-set_node, all_zero}
 use Rattle.posix_calls.proofs.Counts.{counted, counted_is, absent}
@@ -23,7 +23,7 @@ use Rattle.std.proofs.lemmas.Bool.Decides.{eqb_tells}
 
 -- ---- how many there are
 
-less_none : (t : Tree) (at : Spot) → IsInode at.parent → at_spot t at ≡ None → (k : ℕ) → names_of (left t at) k + 0 ≡ names_of t k
+less_none : (t : Tree) (at : Location) → IsInode at.parent → at_location t at ≡ None → (k : ℕ) → names_of (left t at) k + 0 ≡ names_of t k
 less_none t at place none k =
     let change : names_of (left t at) k + names_in k (t at.parent) ≡ names_of t k + counted k (fin.remove (entries_of (t at.parent)) at.name)
     = names_of-set_node t at.parent k (Some (Dir (fin.remove (entries_of (t at.parent)) at.name))) place.0 place.1 ∙ ap (λ n. names_of t k + n) (counted_is k (fin.remove (entries_of (t at.parent)) at.name)) in
@@ -32,26 +32,26 @@ less_none t at place none k =
     omega (arith, change, before, same)
 
 -- the inode under a name that goes has one fewer
-pub names_left : (t : Tree) (at : Spot) → IsInode at.parent → (k : ℕ) → names_of (left t at) k + one_for (at_spot t at) k ≡ names_of t k
+pub names_left : (t : Tree) (at : Location) → IsInode at.parent → (k : ℕ) → names_of (left t at) k + one_for (at_location t at) k ≡ names_of t k
 names_left t at place k =
-    elim (at_spot t at) as (λ (o : Option ℕ). at_spot t at ≡ o → names_of (left t at) k + one_for o k ≡ names_of t k) [
+    elim (at_location t at) as (λ (o : Option ℕ). at_location t at ≡ o → names_of (left t at) k + one_for o k ≡ names_of t k) [
       | None ↦ λ none. less_none t at place none k
       | Some i ↦ λ is. left_names t at i is place.0 place.1 k
     ] refl
 
-pub named_most : (t : Tree) (at : Spot) → IsInode at.parent → (k : ℕ) → one_for (at_spot t at) k ≤ names_of t k
+pub named_most : (t : Tree) (at : Location) → IsInode at.parent → (k : ℕ) → one_for (at_location t at) k ≤ names_of t k
 named_most t at place k = let e = names_left t at place k in omega (arith, e)
 
 -- a name that comes is one more, once what is there went
-pub names_entered : (t : Tree) (at : Spot) (i : ℕ) → IsInode at.parent → (k : ℕ) → names_of (entered t at i) k ≡ names_of (left t at) k + one_for (Some i) k
+pub names_entered : (t : Tree) (at : Location) (i : ℕ) → IsInode at.parent → (k : ℕ) → names_of (entered t at i) k ≡ names_of (left t at) k + one_for (Some i) k
 names_entered t at i place k = ap (λ (u : Tree). names_of u k) (sym (renewed t at i)) ∙ entered_names (left t at) at i (left_here t at) place.0 place.1 k
 
 -- ---- what has no entries still has none
 
-pub bare_entered : (t : Tree) (at : Spot) (i j : ℕ) → j ≢ at.parent → IsBare (t j) → IsBare (entered t at i j)
+pub bare_entered : (t : Tree) (at : Location) (i j : ℕ) → j ≢ at.parent → IsBare (t j) → IsBare (entered t at i j)
 bare_entered t at i j apart bare = ap entries_of (set_other t at.parent j (Some (Dir (fin.insert (entries_of (t at.parent)) at.name i))) apart) ∙ bare
 
-pub bare_left : (t : Tree) (at : Spot) (j : ℕ) → IsBare (t j) → IsBare (left t at j)
+pub bare_left : (t : Tree) (at : Location) (j : ℕ) → IsBare (t j) → IsBare (left t at j)
 bare_left t at j bare =
     elim (eqb_tells j at.parent) [
       | inl same ↦
@@ -64,7 +64,7 @@ bare_left t at j bare =
       | inr off ↦ ap entries_of (set_other t at.parent j (Some (Dir (fin.remove (entries_of (t at.parent)) at.name))) off.1) ∙ bare
     ]
 
-pub bare_put_out : (t : Tree) (to : Spot) (i : ℕ) (replaced : Replaced) → Replaces t to i replaced → IsBareReplaced (entered t to i) replaced
+pub bare_put_out : (t : Tree) (to : Location) (i : ℕ) (replaced : Replaced) → Replaces t to i replaced → IsBareReplaced (entered t to i) replaced
 bare_put_out t to i Nothing h = tt
 bare_put_out t to i (OldFile j) h = bare_entered t to i j (off_parent t to j j h.1 h.2) h.2
 bare_put_out t to i (OldDir j) h = bare_entered t to i j (off_parent t to j j h.1 h.2) h.2
@@ -94,12 +94,12 @@ counted_if (Ok a) counts old new i x was before after ok err = counted_set count
 counted_if (Err e) counts old new i x was before after ok err = counted_same counts counts old new was refl err
 
 -- what was stored, and the inode under a name
-module _ (counts made : List ℕ) (old : Nodes) (at : Spot) (o : Option ℕ) (was : IsCounted counts old) (same : count_at made ≡ count_at counts) (place : IsInode at.parent) (is : o ≡ at_spot (tree_of old) at) where
+module _ (counts made : List ℕ) (old : Nodes) (at : Location) (o : Option ℕ) (was : IsCounted counts old) (same : count_at made ≡ count_at counts) (place : IsInode at.parent) (is : o ≡ at_location (tree_of old) at) where
   -- it has a name that can go
   pub can_go : (k : ℕ) → one_for o k ≤ count_at made k
   can_go k =
       let most = named_most (tree_of old) at place k in
-      let one : one_for o k ≡ one_for (at_spot (tree_of old) at) k = ap (λ (p : Option ℕ). one_for p k) is in
+      let one : one_for o k ≡ one_for (at_location (tree_of old) at) k = ap (λ (p : Option ℕ). one_for p k) is in
       let now : count_at made k ≡ count_at counts k = ap (λ (f : ℕ → ℕ). f k) same in
       let before = was k in
       omega (arith, most, one, now, before)
@@ -116,7 +116,7 @@ module _ (counts made : List ℕ) (old : Nodes) (at : Spot) (o : Option ℕ) (wa
     counted_left new tree k =
         let all : names_of (tree_of new) k ≡ names_of (left (tree_of old) at) k = ap (λ (t : Tree). names_of t k) tree in
         let less = names_left (tree_of old) at place k in
-        let one : one_for o k ≡ one_for (at_spot (tree_of old) at) k = ap (λ (p : Option ℕ). one_for p k) is in
+        let one : one_for o k ≡ one_for (at_location (tree_of old) at) k = ap (λ (p : Option ℕ). one_for p k) is in
         let now : count_at made k ≡ count_at counts k = ap (λ (f : ℕ → ℕ). f k) same in
         let before = was k in
         let stored = fewer k in
@@ -127,7 +127,7 @@ module _ (counts made : List ℕ) (old : Nodes) (at : Spot) (o : Option ℕ) (wa
         let all : names_of (tree_of new) k ≡ names_of (entered (tree_of old) at i) k = ap (λ (t : Tree). names_of t k) tree in
         let come = names_entered (tree_of old) at i place k in
         let less = names_left (tree_of old) at place k in
-        let one : one_for o k ≡ one_for (at_spot (tree_of old) at) k = ap (λ (p : Option ℕ). one_for p k) is in
+        let one : one_for o k ≡ one_for (at_location (tree_of old) at) k = ap (λ (p : Option ℕ). one_for p k) is in
         let now : count_at made k ≡ count_at counts k = ap (λ (f : ℕ → ℕ). f k) same in
         let before = was k in
         let stored = fewer k in

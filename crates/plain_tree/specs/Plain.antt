@@ -3,13 +3,13 @@ use Rattle.std.specs.Prelude.{◌≡◌, ◌≢◌, ◌⊎◌, length, true, ℕ
 use Rattle.std.specs.FinMap as fin
 use Rattle.posix_calls.specs.Tree.{Node, Tree, set_node, entries_of, IsBare, names_of, Descriptors, State, set_descriptor}
 use Rattle.posix_calls.specs.Own.{own_of}
-use Rattle.posix_calls.specs.Deeds.{less_unused, makes, reply_of, state_after}
+use Rattle.posix_calls.specs.Operations.{less_unused, makes, reply_of, state_after}
 use Rattle.posix_calls.specs.Exact.{IsLowest, IsTaken}
-use Rattle.posix_calls.specs.declared.deed.Spot.{Spot}
-use Rattle.posix_calls.specs.declared.deed.Replaced.{Replaced}
-use Rattle.posix_calls.specs.declared.deed.Replaced.TheVariants.{Nothing, OldFile, OldDir}
-use Rattle.posix_calls.specs.declared.deed.Deed.{Deed}
-use Rattle.posix_calls.specs.declared.deed.Deed.TheVariants.{Tell, NewDir, NewFile, OpenFile, CloseFile, Write, Resize, RemoveDir, AddName, DropName, Move}
+use Rattle.posix_calls.specs.declared.operation.Location.{Location}
+use Rattle.posix_calls.specs.declared.operation.Replaced.{Replaced}
+use Rattle.posix_calls.specs.declared.operation.Replaced.TheVariants.{Nothing, OldFile, OldDir}
+use Rattle.posix_calls.specs.declared.operation.Operation.{Operation}
+use Rattle.posix_calls.specs.declared.operation.Operation.TheVariants.{Tell, NewDir, NewFile, OpenFile, CloseFile, Write, Resize, RemoveDir, AddName, DropName, Move}
 use Rattle.posix_calls.specs.WellFormed.{IsWellFormed, IsWithinLimits}
 use Rattle.posix_calls.specs.declared.call.Reply.{Reply}
 use Rattle.posix_calls.specs.declared.call.Reply.TheVariants.{Failed}
@@ -69,46 +69,46 @@ less_put_out held t (OldFile j) = less_unused held t j
 less_put_out held t (OldDir j) = set_node t j None
 
 -- the inode under a name
-abbrev pub at_spot : Tree → Spot → Option ℕ
-at_spot t at = fin.get (entries_of (t at.parent)) at.name
+abbrev pub at_location : Tree → Location → Option ℕ
+at_location t at = fin.get (entries_of (t at.parent)) at.name
 
 -- another inode is at the new name, and has no entries
-abbrev pub IsReplaceable : Tree → Spot → ℕ → ℕ → Type 0
-IsReplaceable t to i j = (i ≢ j) × (at_spot t to ≡ Some j) × IsBare (t j)
+abbrev pub IsReplaceable : Tree → Location → ℕ → ℕ → Type 0
+IsReplaceable t to i j = (i ≢ j) × (at_location t to ≡ Some j) × IsBare (t j)
 
 -- what is put out of its place is at the new name
-abbrev pub Replaces : Tree → Spot → ℕ → Replaced → Type 0
-Replaces t to i Nothing = at_spot t to ≡ None
+abbrev pub Replaces : Tree → Location → ℕ → Replaced → Type 0
+Replaces t to i Nothing = at_location t to ≡ None
 Replaces t to i (OldFile j) = IsReplaceable t to i j
 Replaces t to i (OldDir j) = IsReplaceable t to i j
 
 -- an inode at one name can move to another
-abbrev pub IsMovable : Tree → Spot → Spot → ℕ → Replaced → Type 0
-IsMovable t from to i replaced = (at_spot t from ≡ Some i) × Replaces t to i replaced
+abbrev pub IsMovable : Tree → Location → Location → ℕ → Replaced → Type 0
+IsMovable t from to i replaced = (at_location t from ≡ Some i) × Replaces t to i replaced
 
 -- these nodes and rows as a state
 abbrev pub state_in : List (Option Node) → List (List (Option Descriptor)) → State
 state_in nodes rows = state_of (record { nodes = nodes; rows = rows })
 
--- ---- deeds
+-- ---- operations
 
--- a deed that does more than tell
-abbrev pub IsChange : Deed → Type 0
+-- a operation that does more than tell
+abbrev pub IsChange : Operation → Type 0
 IsChange (Tell answer) = ⊥
 IsChange _ = Unit {0}
 
 -- no more bytes than a file may have
-abbrev pub IsSmall : Deed → Type 0
+abbrev pub IsSmall : Operation → Type 0
 IsSmall (Write i at bytes) = length bytes ≤ MAX_FILE
 IsSmall _ = Unit {0}
 
--- a deed that closes nothing
-abbrev pub IsNoClose : Deed → Type 0
+-- a operation that closes nothing
+abbrev pub IsNoClose : Operation → Type 0
 IsNoClose (CloseFile i number) = ⊥
 IsNoClose _ = Unit {0}
 
--- what a deed opens, and its number
-abbrev pub opened_by : ℕ → Deed → Option (ℕ × Descriptor)
+-- what a operation opens, and its number
+abbrev pub opened_by : ℕ → Operation → Option (ℕ × Descriptor)
 opened_by new (NewFile at number reads writes) = Some (number, record { inode = new; reads = reads; writes = writes })
 opened_by new (OpenFile i empties number reads writes) = Some (number, record { inode = i; reads = reads; writes = writes })
 opened_by new _ = None
@@ -124,11 +124,11 @@ HasNumber None = Unit {0}
 HasNumber (Some (number, what)) = number < MAX_DESCRIPTORS
 
 -- a name's directory is there, under a number that a node can have
-abbrev pub IsHeld : Tree → Spot → Type 0
+abbrev pub IsHeld : Tree → Location → Type 0
 IsHeld t at = IsInode at.parent × (t at.parent ≢ None)
 
 -- names come and go in directories that are there, what is written or goes has no entries, descriptors have numbers, and what moves can move
-abbrev pub IsPlaced : Tree → Deed → Type 0
+abbrev pub IsPlaced : Tree → Operation → Type 0
 IsPlaced t (Tell answer) = Unit {0}
 IsPlaced t (NewDir at) = IsHeld t at
 IsPlaced t (NewFile at number reads writes) = (number < MAX_DESCRIPTORS) × IsHeld t at
@@ -145,14 +145,14 @@ IsPlaced t (Move from to i is_dir replaced) = IsHeld t from × IsHeld t to × Is
 abbrev pub HasFewNames : Tree → Type 0
 HasFewNames t = (i : ℕ) → names_of t i ≤ MAX_NAMES
 
--- a deed that a call can come to
-abbrev pub IsDoable : Tree → Deed → Type 0
-IsDoable t deed = IsSmall deed × HasFewNames t × IsPlaced t deed
+-- a operation that a call can come to
+abbrev pub IsDoable : Tree → Operation → Type 0
+IsDoable t operation = IsSmall operation × HasFewNames t × IsPlaced t operation
 
--- the deed was done, and a node that it makes has the lowest number that is free
-abbrev pub IsDone : State → ℕ → Deed → Reply → State → Type 0
-IsDone old client deed r after = (new : ℕ) × (makes deed ≡ true → IsLowest old.tree new) × (r ≡ reply_of deed) × (after ≡ state_after client new old deed)
+-- the operation was done, and a node that it makes has the lowest number that is free
+abbrev pub IsDone : State → ℕ → Operation → Reply → State → Type 0
+IsDone old client operation r after = (new : ℕ) × (makes operation ≡ true → IsLowest old.tree new) × (r ≡ reply_of operation) × (after ≡ state_after client new old operation)
 
 -- memory ran out, or the inode numbers for a new node; nothing changed
-abbrev pub IsDropped : State → Deed → Reply → State → Type 0
-IsDropped old deed r after = ((r ≡ Failed errno.NoMemory) ⊎ ((r ≡ Failed errno.NoSpace) × (makes deed ≡ true) × IsTaken old.tree)) × (after ≡ old)
+abbrev pub IsDropped : State → Operation → Reply → State → Type 0
+IsDropped old operation r after = ((r ≡ Failed errno.NoMemory) ⊎ ((r ≡ Failed errno.NoSpace) × (makes operation ≡ true) × IsTaken old.tree)) × (after ≡ old)

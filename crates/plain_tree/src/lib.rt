@@ -4,7 +4,7 @@
 //! `posix_calls` say: a new node gets the lowest inode number that is free.
 #![tactic(auto)]
 
-mod deeds;
+mod operations;
 mod name_counts;
 mod node;
 mod nodes;

@@ -2,7 +2,7 @@ ghost use Rattle.std.specs.Prelude.{◌≡◌, ℕ, Option, None, Some, length, 
 ghost use Rattle.std.specs.FinMap as fin;
 ghost use Rattle.posix_calls.specs.Content.{resized, written};
 ghost use Rattle.posix_calls.specs.Tree.{File, Dir, bytes_of, entries_of};
-ghost use Rattle.posix_calls.specs.Asks.{dir_test};
+ghost use Rattle.posix_calls.specs.Query.{dir_test};
 ghost use Rattle.plain_tree.specs.Bodies.{node_of};
 
 use node_bodies::{FileBytes, NameMap};

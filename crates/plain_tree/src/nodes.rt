@@ -1,16 +1,16 @@
 ghost use Rattle.std.specs.Prelude.{◌≡◌, ◌≤◌, ◌<◌, ◌-◌, ℕ, [], Option, None, Some, length, OnOk, OnErr, get_or, MatchOption, IsTrue, ◌↔◌};
 ghost use Rattle.posix_calls.specs.Content.{resized, written};
 ghost use Rattle.posix_calls.specs.Tree.{File, bytes_of, set_node, any_up_to, refers_to, names_of, is_open, IsBare};
-ghost use Rattle.posix_calls.specs.Deeds.{entered, left, less_unused};
+ghost use Rattle.posix_calls.specs.Operations.{entered, left, less_unused};
 ghost use Rattle.posix_calls.specs.Own.{own_of};
 ghost use Rattle.posix_calls.specs.Exact.{IsLowest, IsTaken};
-ghost use Rattle.plain_tree.specs.Plain.{tree_of, held_of, at_spot, IsInode};
+ghost use Rattle.plain_tree.specs.Plain.{tree_of, held_of, at_location, IsInode};
 ghost use Rattle.posix_calls.specs.declared.limits.TheConstants.{MAX_NAMES};
 
 use crate::name_counts::{make_counts, name_came, name_count, name_went};
 use crate::node::PlainNode;
 use posix_calls::{
-    Descriptor, MAX_CLIENTS, MAX_DESCRIPTORS, MAX_INODE, OwnDescriptors, ROOT, Spot,
+    Descriptor, MAX_CLIENTS, MAX_DESCRIPTORS, MAX_INODE, OwnDescriptors, ROOT, Location,
 };
 use std::alloc::{AllocError, Global};
 use std::marker::Model;
@@ -94,7 +94,7 @@ impl PlainNodes {
     }
 
     /// Puts an inode under a name, in place of what is there. Where there is no memory for it, the tree stays as it was.
-    pub fn enter(&mut self, alloc: Global, at: Spot, inode: u32) -> Result<(), AllocError>
+    pub fn enter(&mut self, alloc: Global, at: Location, inode: u32) -> Result<(), AllocError>
         requires place { IsInode at.parent }
         requires few { names_of (tree_of self.old) inode ≤ MAX_NAMES }
         ensures ok { OnOk result (tree_of self.new ≡ entered (tree_of self.old) at inode) }
@@ -110,7 +110,7 @@ impl PlainNodes {
     }
 
     /// Takes a name out.
-    pub fn leave(&mut self, alloc: Global, at: &Spot)
+    pub fn leave(&mut self, alloc: Global, at: &Location)
         requires room { at.now.parent < length self.old }
         requires place { IsInode at.now.parent }
         ensures tree { tree_of self.new ≡ left (tree_of self.old) at.now }
@@ -185,7 +185,7 @@ fn clear(nodes: &mut Vec<PlainNode>, inode: u32)
     }
 }
 
-fn enter(alloc: Global, nodes: &mut Vec<PlainNode>, at: Spot, inode: u32) -> Result<(), AllocError>
+fn enter(alloc: Global, nodes: &mut Vec<PlainNode>, at: Location, inode: u32) -> Result<(), AllocError>
     ensures ok { OnOk result (tree_of nodes.new.items ≡ entered (tree_of nodes.old.items) at inode) }
     ensures err { OnErr result (tree_of nodes.new.items ≡ tree_of nodes.old.items) }
     ensures longer { length nodes.old.items ≤ length nodes.new.items }
@@ -194,7 +194,7 @@ fn enter(alloc: Global, nodes: &mut Vec<PlainNode>, at: Spot, inode: u32) -> Res
     nodes[at.parent as usize].enter(alloc, at.name, inode)
 }
 
-fn leave(alloc: Global, nodes: &mut Vec<PlainNode>, at: &Spot)
+fn leave(alloc: Global, nodes: &mut Vec<PlainNode>, at: &Location)
     requires { at.now.parent < length nodes.old.items }
     ensures tree { tree_of nodes.new.items ≡ left (tree_of nodes.old.items) at.now }
     ensures kept { length nodes.new.items ≡ length nodes.old.items }
@@ -225,8 +225,8 @@ fn resize(alloc: Global, nodes: &mut Vec<PlainNode>, inode: u32, len: u64) -> Re
 }
 
 // The inode under a name.
-fn entry_in(nodes: &[PlainNode], at: &Spot) -> Option<u32>
-    ensures { result ≡ at_spot (tree_of nodes.now) at.now }
+fn entry_in(nodes: &[PlainNode], at: &Location) -> Option<u32>
+    ensures { result ≡ at_location (tree_of nodes.now) at.now }
 {
     match nodes.get(at.parent as usize) {
         Some(node) => node.entry(at.name.as_slice()),

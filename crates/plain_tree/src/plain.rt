@@ -1,17 +1,17 @@
 ghost use Rattle.std.specs.Prelude.{◌≡◌, ◌⊎◌, ◌≤◌, ◌<◌, ℕ, true, Ok, Some, length, option_map, IfOk, OnOk, OnErr, MatchOption, None};
 ghost use Rattle.posix_calls.specs.Tree.{opening, empty_tree};
-ghost use Rattle.posix_calls.specs.Asks.{view_of, whole};
+ghost use Rattle.posix_calls.specs.Query.{view_of, whole};
 ghost use Rattle.posix_calls.specs.Answers.{description_of};
-ghost use Rattle.posix_calls.specs.Deeds.{Step, makes, reply_of, state_after, tree_after};
+ghost use Rattle.posix_calls.specs.Operations.{Step, makes, reply_of, state_after, tree_after};
 ghost use Rattle.posix_calls.specs.Exact.{IsAnswered, IsGivenUp, IsLowest, IsTaken};
 ghost use Rattle.plain_tree.specs.Plain.{tree_of, held_of, state_of, state_in, opened_by, IsChange, IsNoClose, IsSmall, IsDoable, IsDone, IsDropped};
 ghost use Rattle.posix_calls.specs.declared.call.Reply.TheVariants.{Failed};
 
-use crate::deeds::{close_at, drop_name, empty_if, make, move_name, open_if, remove_dir};
+use crate::operations::{close_at, drop_name, empty_if, make, move_name, open_if, remove_dir};
 use crate::node::PlainNode;
 use crate::nodes::{PlainNodes, lowest_free};
 use posix_calls::{
-    Bytes, Call, Deed, Description, Descriptor, Errno, MAX_CLIENTS, Names, NoDeed, OwnDescriptors,
+    Bytes, Call, Operation, Description, Descriptor, Errno, MAX_CLIENTS, Names, DecideError, OwnDescriptors,
     ROOT, Reply, TreeAnswers, decide,
 };
 use std::alloc::{AllocError, Global};
@@ -63,12 +63,12 @@ impl PlainTree {
             };
         }
         match decide(self.alloc, self, &self.rows[client as usize - 1], call) {
-            Ok(deed) => carry_out(self.alloc, &mut self.nodes, &mut self.rows, client, deed),
-            Err(NoDeed::Refused { errno }) => Reply::Failed { errno },
-            Err(NoDeed::Memory) => Reply::Failed {
+            Ok(operation) => carry_out(self.alloc, &mut self.nodes, &mut self.rows, client, operation),
+            Err(DecideError::Refused { errno }) => Reply::Failed { errno },
+            Err(DecideError::Memory) => Reply::Failed {
                 errno: Errno::NoMemory,
             },
-            Err(NoDeed::Lacks { .. }) => unreachable!(),
+            Err(DecideError::Missing { .. }) => unreachable!(),
         }
     }
 }
@@ -173,48 +173,48 @@ fn no_descriptors(alloc: Global, clients: u32) -> Result<Vec<OwnDescriptors>, Al
     Ok(rows)
 }
 
-// Carries a deed out, and answers the call.
+// Carries a operation out, and answers the call.
 fn carry_out(
     alloc: Global,
     nodes: &mut PlainNodes,
     rows: &mut Vec<OwnDescriptors>,
     client: u32,
-    deed: Deed,
+    operation: Operation,
 ) -> Reply
     requires low { 0 < client }
     requires high { client ≤ length rows.old.items }
-    requires doable { IsDoable (tree_of nodes.old) deed }
-    ensures done { IsDone (state_in nodes.old rows.old.items) client deed result (state_in nodes.new rows.new.items) ⊎ IsDropped (state_in nodes.old rows.old.items) deed result (state_in nodes.new rows.new.items) }
+    requires doable { IsDoable (tree_of nodes.old) operation }
+    ensures done { IsDone (state_in nodes.old rows.old.items) client operation result (state_in nodes.new rows.new.items) ⊎ IsDropped (state_in nodes.old rows.old.items) operation result (state_in nodes.new rows.new.items) }
     ensures kept { length rows.new.items ≡ length rows.old.items }
 {
-    match deed {
-        Deed::Tell { answer } => answer,
-        deed => change(alloc, nodes, rows, client, deed),
+    match operation {
+        Operation::Tell { answer } => answer,
+        operation => change(alloc, nodes, rows, client, operation),
     }
 }
 
-// Carries out a deed that changes something.
+// Carries out a operation that changes something.
 fn change(
     alloc: Global,
     nodes: &mut PlainNodes,
     rows: &mut Vec<OwnDescriptors>,
     client: u32,
-    deed: Deed,
+    operation: Operation,
 ) -> Reply
     requires low { 0 < client }
     requires high { client ≤ length rows.old.items }
-    requires doable { IsDoable (tree_of nodes.old) deed }
-    requires change { IsChange deed }
-    ensures done { IsDone (state_in nodes.old rows.old.items) client deed result (state_in nodes.new rows.new.items) ⊎ IsDropped (state_in nodes.old rows.old.items) deed result (state_in nodes.new rows.new.items) }
+    requires doable { IsDoable (tree_of nodes.old) operation }
+    requires change { IsChange operation }
+    ensures done { IsDone (state_in nodes.old rows.old.items) client operation result (state_in nodes.new rows.new.items) ⊎ IsDropped (state_in nodes.old rows.old.items) operation result (state_in nodes.new rows.new.items) }
     ensures kept { length rows.new.items ≡ length rows.old.items }
 {
-    let reply = reply_to(&deed);
-    let Some(inode) = new_inode(nodes.as_slice(), &deed) else {
+    let reply = reply_to(&operation);
+    let Some(inode) = new_inode(nodes.as_slice(), &operation) else {
         return Reply::Failed {
             errno: Errno::NoSpace,
         };
     };
-    match apply(alloc, nodes, rows, client, inode, deed) {
+    match apply(alloc, nodes, rows, client, inode, operation) {
         Ok(()) => reply,
         Err(_) => Reply::Failed {
             errno: Errno::NoMemory,
@@ -223,83 +223,83 @@ fn change(
 }
 
 // What a change is answered.
-fn reply_to(deed: &Deed) -> Reply
-    requires change { IsChange deed.now }
-    requires small { IsSmall deed.now }
-    ensures { result ≡ reply_of deed.now }
+fn reply_to(operation: &Operation) -> Reply
+    requires change { IsChange operation.now }
+    requires small { IsSmall operation.now }
+    ensures { result ≡ reply_of operation.now }
 {
-    match deed {
-        Deed::NewFile { descriptor, .. } => Reply::Opened {
+    match operation {
+        Operation::NewFile { descriptor, .. } => Reply::Opened {
             descriptor: *descriptor,
         },
-        Deed::OpenFile { descriptor, .. } => Reply::Opened {
+        Operation::OpenFile { descriptor, .. } => Reply::Opened {
             descriptor: *descriptor,
         },
-        Deed::Write { bytes, .. } => Reply::Wrote {
+        Operation::Write { bytes, .. } => Reply::Wrote {
             count: bytes.len() as u32,
         },
         _ => Reply::Done,
     }
 }
 
-// The number of the node that a deed makes; what makes none needs none.
-fn new_inode(nodes: &[PlainNode], deed: &Deed) -> Option<u32>
-    ensures { MatchOption result ((makes deed.now ≡ true) × IsTaken (tree_of nodes.now)) (λ i. makes deed.now ≡ true → IsLowest (tree_of nodes.now) i) }
+// The number of the node that a operation makes; what makes none needs none.
+fn new_inode(nodes: &[PlainNode], operation: &Operation) -> Option<u32>
+    ensures { MatchOption result ((makes operation.now ≡ true) × IsTaken (tree_of nodes.now)) (λ i. makes operation.now ≡ true → IsLowest (tree_of nodes.now) i) }
 {
-    if makes_node(deed) {
+    if makes_node(operation) {
         return lowest_free(nodes);
     }
     Some(0)
 }
 
-fn makes_node(deed: &Deed) -> bool
-    ensures { result ≡ makes deed.now }
+fn makes_node(operation: &Operation) -> bool
+    ensures { result ≡ makes operation.now }
 {
-    match deed {
-        Deed::NewDir { .. } => true,
-        Deed::NewFile { .. } => true,
+    match operation {
+        Operation::NewDir { .. } => true,
+        Operation::NewFile { .. } => true,
         _ => false,
     }
 }
 
-// Carries a deed out, where a new node gets this number. Where there is no memory for it, all stays as it was.
+// Carries a operation out, where a new node gets this number. Where there is no memory for it, all stays as it was.
 fn apply(
     alloc: Global,
     nodes: &mut PlainNodes,
     rows: &mut Vec<OwnDescriptors>,
     client: u32,
     new: u32,
-    deed: Deed,
+    operation: Operation,
 ) -> Result<(), AllocError>
     requires low { 0 < client }
     requires high { client ≤ length rows.old.items }
-    requires doable { IsDoable (tree_of nodes.old) deed }
-    requires lowest { makes deed ≡ true → IsLowest (tree_of nodes.old) new }
-    ensures ok { OnOk result (state_in nodes.new rows.new.items ≡ state_after client new (state_in nodes.old rows.old.items) deed) }
+    requires doable { IsDoable (tree_of nodes.old) operation }
+    requires lowest { makes operation ≡ true → IsLowest (tree_of nodes.old) new }
+    ensures ok { OnOk result (state_in nodes.new rows.new.items ≡ state_after client new (state_in nodes.old rows.old.items) operation) }
     ensures err { OnErr result (state_in nodes.new rows.new.items ≡ state_in nodes.old rows.old.items) }
     ensures kept { length rows.new.items ≡ length rows.old.items }
 {
-    match deed {
-        Deed::CloseFile { inode, descriptor } => {
+    match operation {
+        Operation::CloseFile { inode, descriptor } => {
             close_at(rows, client, descriptor);
             nodes.drop_unused(rows, inode);
             Ok(())
         }
-        deed => {
-            let opened = opened_by(&deed, new);
-            apply_to_tree(alloc, nodes, rows, new, deed)?;
+        operation => {
+            let opened = opened_by(&operation, new);
+            apply_to_tree(alloc, nodes, rows, new, operation)?;
             open_if(rows, client, opened);
             Ok(())
         }
     }
 }
 
-// What a deed opens, and its number.
-fn opened_by(deed: &Deed, new: u32) -> Option<(u32, Descriptor)>
-    ensures { result ≡ opened_by new deed.now }
+// What a operation opens, and its number.
+fn opened_by(operation: &Operation, new: u32) -> Option<(u32, Descriptor)>
+    ensures { result ≡ opened_by new operation.now }
 {
-    match deed {
-        Deed::NewFile {
+    match operation {
+        Operation::NewFile {
             descriptor,
             reads,
             writes,
@@ -312,7 +312,7 @@ fn opened_by(deed: &Deed, new: u32) -> Option<(u32, Descriptor)>
                 writes: *writes,
             },
         )),
-        Deed::OpenFile {
+        Operation::OpenFile {
             inode,
             descriptor,
             reads,
@@ -330,30 +330,30 @@ fn opened_by(deed: &Deed, new: u32) -> Option<(u32, Descriptor)>
     }
 }
 
-// Carries out what a deed that closes nothing does to the tree.
+// Carries out what a operation that closes nothing does to the tree.
 fn apply_to_tree(
     alloc: Global,
     nodes: &mut PlainNodes,
     rows: &[OwnDescriptors],
     new: u32,
-    deed: Deed,
+    operation: Operation,
 ) -> Result<(), AllocError>
-    requires stays { IsNoClose deed }
-    requires doable { IsDoable (tree_of nodes.old) deed }
-    requires lowest { makes deed ≡ true → IsLowest (tree_of nodes.old) new }
-    ensures ok { OnOk result (tree_of nodes.new ≡ tree_after (held_of rows.now) new (tree_of nodes.old) deed) }
+    requires stays { IsNoClose operation }
+    requires doable { IsDoable (tree_of nodes.old) operation }
+    requires lowest { makes operation ≡ true → IsLowest (tree_of nodes.old) new }
+    ensures ok { OnOk result (tree_of nodes.new ≡ tree_after (held_of rows.now) new (tree_of nodes.old) operation) }
     ensures err { OnErr result (tree_of nodes.new ≡ tree_of nodes.old) }
 {
-    match deed {
-        Deed::NewDir { at } => make(alloc, nodes, at, new, PlainNode::directory(alloc)),
-        Deed::NewFile { at, .. } => make(alloc, nodes, at, new, PlainNode::file(alloc)),
-        Deed::OpenFile { inode, empties, .. } => empty_if(alloc, nodes, inode, empties),
-        Deed::Write { inode, at, bytes } => nodes.write(alloc, inode, at, bytes.as_slice()),
-        Deed::Resize { inode, len } => nodes.resize(alloc, inode, len),
-        Deed::RemoveDir { at, inode } => remove_dir(alloc, nodes, &at, inode),
-        Deed::AddName { at, inode } => nodes.enter(alloc, at, inode),
-        Deed::DropName { at, inode } => drop_name(alloc, nodes, rows, &at, inode),
-        Deed::Move {
+    match operation {
+        Operation::NewDir { at } => make(alloc, nodes, at, new, PlainNode::directory(alloc)),
+        Operation::NewFile { at, .. } => make(alloc, nodes, at, new, PlainNode::file(alloc)),
+        Operation::OpenFile { inode, empties, .. } => empty_if(alloc, nodes, inode, empties),
+        Operation::Write { inode, at, bytes } => nodes.write(alloc, inode, at, bytes.as_slice()),
+        Operation::Resize { inode, len } => nodes.resize(alloc, inode, len),
+        Operation::RemoveDir { at, inode } => remove_dir(alloc, nodes, &at, inode),
+        Operation::AddName { at, inode } => nodes.enter(alloc, at, inode),
+        Operation::DropName { at, inode } => drop_name(alloc, nodes, rows, &at, inode),
+        Operation::Move {
             from,
             to,
             inode,

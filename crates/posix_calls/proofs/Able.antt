@@ -1,17 +1,17 @@
--- When a deed keeps the limits, and that the tree after it then does.
+-- When a operation keeps the limits, and that the tree after it then does.
 use Rattle.std.proofs.Common.{◌≡◌, ◌≢◌, ◌⊎◌, inl, inr, ℕ, ◌+◌, ◌<◌, ◌≤◌, length, refl, Some, None, Option, cond, ap, sym, ◌∙◌, subst, Bool, true, false, arith, ◌==◌, if◌then◌else◌}
 use Rattle.std.specs.Prelude.{◌&&◌, not, option_map}
 use Rattle.std.proofs.lemmas.Bool.Decides.{eqb_tells}
 use Rattle.std.specs.FinMap as fin
 use Rattle.posix_calls.specs.Name.{is_name}
 use Rattle.posix_calls.specs.Tree.{Tree, Node, Descriptors, State, set_node, names_of, is_open, entries_of}
-use Rattle.posix_calls.specs.Asks.{dir_test}
-use Rattle.posix_calls.specs.declared.deed.Spot.{Spot}
-use Rattle.posix_calls.specs.declared.deed.Deed.{Deed}
-use Rattle.posix_calls.specs.declared.deed.Replaced.{Replaced}
-use Rattle.posix_calls.specs.declared.deed.Deed.TheVariants.{NewDir, NewFile, Write, Resize, AddName, Move}
-use Rattle.posix_calls.specs.declared.deed.Replaced.TheVariants.{Nothing, OldFile, OldDir}
-use Rattle.posix_calls.specs.Deeds.{entered, left, less_unused, less_replaced}
+use Rattle.posix_calls.specs.Query.{dir_test}
+use Rattle.posix_calls.specs.declared.operation.Location.{Location}
+use Rattle.posix_calls.specs.declared.operation.Operation.{Operation}
+use Rattle.posix_calls.specs.declared.operation.Replaced.{Replaced}
+use Rattle.posix_calls.specs.declared.operation.Operation.TheVariants.{NewDir, NewFile, Write, Resize, AddName, Move}
+use Rattle.posix_calls.specs.declared.operation.Replaced.TheVariants.{Nothing, OldFile, OldDir}
+use Rattle.posix_calls.specs.Operations.{entered, left, less_unused, less_replaced}
 use Rattle.posix_calls.specs.WellFormed.{IsWellFormed, IsWithinLimits}
 use Rattle.posix_calls.proofs.Changes.{IsBare, IsRoom, entry, bare_file, bare_names, set_there, set_other, entered_names, left_names, off_one, bare_same}
 use Rattle.posix_calls.proofs.Trees.{tree_of, range_of, parent_range}
@@ -20,18 +20,18 @@ use Rattle.posix_calls.proofs.Fits.{FitsReplaced, IsLess, less_none, less_if, ba
 use Rattle.posix_calls.proofs.Within.{AreNodesWithin, IsNodeWithin, none_within, set_within, left_within, entered_within, remove_length, removed_length}
 
 -- a directory with room for one more name
-pub record IsFew (t : Tree) (at : Spot) : Type 0 where
+pub record IsFew (t : Tree) (at : Location) : Type 0 where
   pub few : fin.len (entries_of (t at.parent)) < 3584
   pub valid : is_name at.name ≡ true
 
 -- where a rename replaces nothing, the name stays in its directory, or there is room
-abbrev pub HasRoom : Tree → Spot → Spot → Replaced → Type 0
+abbrev pub HasRoom : Tree → Location → Location → Replaced → Type 0
 HasRoom t from to Nothing = (from.parent ≡ to.parent) ⊎ (fin.len (entries_of (t to.parent)) < 3584)
 HasRoom t from to (OldFile j) = Unit {0}
 HasRoom t from to (OldDir j) = Unit {0}
 
--- a deed passes no limit
-abbrev pub Able : Tree → Deed → Type 0
+-- a operation passes no limit
+abbrev pub Able : Tree → Operation → Type 0
 Able t (NewDir at) = IsFew t at
 Able t (NewFile at number reads writes) = IsFew t at
 Able t (Write i at bytes) = at + length bytes ≤ 1048576
@@ -70,7 +70,7 @@ lesser_unused t held i nodes bare low high = if_unused (names_of t i == 0 && not
   if_unused false = record { nodes = nodes; names = λ k. same_le (names_of t k) (names_of t k) refl }
 
 -- a name goes
-pub lesser_left : (s : State) (at : Spot) (i : ℕ) → IsWellFormed s → AreNodesWithin s.tree → entry s.tree at ≡ Some i → IsLesser s.tree (left s.tree at)
+pub lesser_left : (s : State) (at : Location) (i : ℕ) → IsWellFormed s → AreNodesWithin s.tree → entry s.tree at ≡ Some i → IsLesser s.tree (left s.tree at)
 lesser_left s at i fine nodes is = record {
   nodes = left_within s.tree at nodes;
   names = λ k. let range = parent_range s.tree at i (tree_of s fine) is in let change = left_names s.tree at i is range.0 range.1 k in omega (arith, change);
@@ -85,7 +85,7 @@ at_most : (b : Bool) → cond b 1 0 ≤ 1
 at_most true = omega arith
 at_most false = omega arith
 
-pub within_made : (s : State) (at : Spot) (i : ℕ) (x : Node) → IsWellFormed s → IsWithinLimits s.tree → IsRoom s.tree at → IsFew s.tree at → s.tree i ≡ None → 1 < i → i ≤ 1024 → IsBare (Some x) → IsNodeWithin (Some x) → IsWithinLimits (entered (set_node s.tree i (Some x)) at i)
+pub within_made : (s : State) (at : Location) (i : ℕ) (x : Node) → IsWellFormed s → IsWithinLimits s.tree → IsRoom s.tree at → IsFew s.tree at → s.tree i ≡ None → 1 < i → i ≤ 1024 → IsBare (Some x) → IsNodeWithin (Some x) → IsWithinLimits (entered (set_node s.tree i (Some x)) at i)
 within_made s at i x fine within room few free low high new small =
     let t = s.tree in
     let made = set_node t i (Some x) in
@@ -110,7 +110,7 @@ within_made s at i x fine within room few free low high new small =
       valid = λ j. (nodes j).valid;
     }
 
-pub within_added : (s : State) (at : Spot) (i : ℕ) → IsWellFormed s → IsWithinLimits s.tree → IsRoom s.tree at → IsFew s.tree at → names_of s.tree i < 1000 → IsWithinLimits (entered s.tree at i)
+pub within_added : (s : State) (at : Location) (i : ℕ) → IsWellFormed s → IsWithinLimits s.tree → IsRoom s.tree at → IsFew s.tree at → names_of s.tree i < 1000 → IsWithinLimits (entered s.tree at i)
 within_added s at i fine within room few names =
     let t = s.tree in
     let range = range_of t at.parent true (tree_of s fine) room.directory in
@@ -133,7 +133,7 @@ within_added s at i fine within room few names =
 
 -- ---- a name moves
 
-left_len : (t : Tree) (at : Spot) (d : ℕ) → fin.len (entries_of (left t at d)) ≤ fin.len (entries_of (t d))
+left_len : (t : Tree) (at : Location) (d : ℕ) → fin.len (entries_of (left t at d)) ≤ fin.len (entries_of (t d))
 left_len t at d = elim (eqb_tells d at.parent) [
   | inl same ↦
       let less = remove_length (entries_of (t at.parent)) at.name in
@@ -144,32 +144,32 @@ left_len t at d = elim (eqb_tells d at.parent) [
 ]
 
 -- a directory that has lost a name has room
-left_few : (t : Tree) (at : Spot) (i : ℕ) → AreNodesWithin t → entry t at ≡ Some i → fin.len (entries_of (left t at at.parent)) < 3584
+left_few : (t : Tree) (at : Location) (i : ℕ) → AreNodesWithin t → entry t at ≡ Some i → fin.len (entries_of (left t at at.parent)) < 3584
 left_few t at i nodes is =
     let less = removed_length (entries_of (t at.parent)) at.name i 3584 is (nodes at.parent).entries in
     let now : fin.len (entries_of (left t at at.parent)) ≡ fin.len (fin.remove (entries_of (t at.parent)) at.name) = ap (λ o. fin.len (entries_of o)) (set_there t at.parent _) in
     omega (arith, less, now)
 
-within_moved : (s : State) (from to : Spot) (i : ℕ) → IsWellFormed s → IsWithinLimits s.tree → entry s.tree from ≡ Some i → IsRoom s.tree to → fin.len (entries_of (left s.tree from to.parent)) < 3584 → is_name to.name ≡ true → IsWithinLimits (entered (left s.tree from) to i)
+within_moved : (s : State) (from to : Location) (i : ℕ) → IsWellFormed s → IsWithinLimits s.tree → entry s.tree from ≡ Some i → IsRoom s.tree to → fin.len (entries_of (left s.tree from to.parent)) < 3584 → is_name to.name ≡ true → IsWithinLimits (entered (left s.tree from) to i)
 within_moved s from to i fine within is room few valid =
     lesser_within s.tree (entered (left s.tree from) to i) within (record {
       nodes = entered_within (left s.tree from) to i (left_within s.tree from (nodes_of s.tree within)) few valid;
       names = λ k. same_le (names_of (entered (left s.tree from) to i) k) (names_of s.tree k) (moved_names s from to i fine is room k);
     })
 
-room_for : (s : State) (from to : Spot) (i : ℕ) → IsWithinLimits s.tree → entry s.tree from ≡ Some i → (from.parent ≡ to.parent) ⊎ (fin.len (entries_of (s.tree to.parent)) < 3584) → fin.len (entries_of (left s.tree from to.parent)) < 3584
+room_for : (s : State) (from to : Location) (i : ℕ) → IsWithinLimits s.tree → entry s.tree from ≡ Some i → (from.parent ≡ to.parent) ⊎ (fin.len (entries_of (s.tree to.parent)) < 3584) → fin.len (entries_of (left s.tree from to.parent)) < 3584
 room_for s from to i within is (inl same) = subst (λ d. fin.len (entries_of (left s.tree from d)) < 3584) same (left_few s.tree from i (nodes_of s.tree within) is)
 room_for s from to i within is (inr few) = let less = left_len s.tree from to.parent in omega (arith, less, few)
 
 -- where something was replaced, its name has made room
-room_replaced : (t u : Tree) (from to : Spot) (j k : ℕ) → AreNodesWithin t → entry t to ≡ Some j → IsLess (left t to) u k → fin.len (entries_of (left u from to.parent)) < 3584
+room_replaced : (t u : Tree) (from to : Location) (j k : ℕ) → AreNodesWithin t → entry t to ≡ Some j → IsLess (left t to) u k → fin.len (entries_of (left u from to.parent)) < 3584
 room_replaced t u from to j k nodes is less =
     let few = left_few t to j nodes is in
     let same : fin.len (entries_of (u to.parent)) ≡ fin.len (entries_of (left t to to.parent)) = ap fin.len (less.entries to.parent) in
     let fewer = left_len u from to.parent in
     omega (arith, few, same, fewer)
 
-pub within_replaced : (s : State) (from to : Spot) (i : ℕ) (replaced : Replaced) → IsWellFormed s → IsWithinLimits s.tree → entry s.tree from ≡ Some i → FitsReplaced s.tree to i replaced → is_name to.name ≡ true → HasRoom s.tree from to replaced
+pub within_replaced : (s : State) (from to : Location) (i : ℕ) (replaced : Replaced) → IsWellFormed s → IsWithinLimits s.tree → entry s.tree from ≡ Some i → FitsReplaced s.tree to i replaced → is_name to.name ≡ true → HasRoom s.tree from to replaced
     → IsWithinLimits (entered (left (less_replaced s.descriptors s.tree to replaced) from) to i)
 within_replaced s from to i Nothing fine within is fits valid room = within_moved s from to i fine within is fits (room_for s from to i within is room) valid
 within_replaced s from to i (OldFile j) fine within is fits valid room =

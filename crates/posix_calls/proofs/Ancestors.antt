@@ -3,8 +3,8 @@ use Rattle.std.proofs.Common.{◌≡◌, inl, inr, ℕ, List, [], ◌∷◌, ref
 use Rattle.std.proofs.lemmas.Bool.Decides.{eqb_tells}
 use Rattle.std.specs.FinMap as fin
 use Rattle.posix_calls.specs.Tree.{Tree, State, names_of, entries_of}
-use Rattle.posix_calls.specs.declared.deed.Spot.{Spot}
-use Rattle.posix_calls.specs.Deeds.{left}
+use Rattle.posix_calls.specs.declared.operation.Location.{Location}
+use Rattle.posix_calls.specs.Operations.{left}
 use Rattle.posix_calls.specs.Resolve.{child, then_from, resolve_from}
 use Rattle.posix_calls.specs.WellFormed.{IsDirectory, IsWellFormed}
 use Rattle.posix_calls.proofs.Changes.{entry, entry_parent, left_names, has_name, set_other, on_one}
@@ -12,8 +12,8 @@ use Rattle.posix_calls.proofs.Reached.{Edge, Chain, path_chain, child_ok}
 use Rattle.posix_calls.proofs.Trees.{tree_of, reached_of, parent_range}
 use Rattle.posix_calls.proofs.Moved.{named_not_root}
 
-abbrev spot : ℕ → List ℕ → Spot
-spot d name = record { parent = d; name = name }
+abbrev location : ℕ → List ℕ → Location
+location d name = record { parent = d; name = name }
 
 -- an inode with one name is in one directory
 one_parent : (s : State) (a b c : ℕ) → IsWellFormed s → names_of s.tree c ≡ 1 → Edge s.tree a c → Edge s.tree b c → b ≡ a
@@ -22,12 +22,12 @@ one_parent s a b c fine one e f = elim (eqb_tells b a) [
   | inr off ↦
       let t = s.tree in
       let tree = tree_of s fine in
-      let range = parent_range t (spot a e.0) c tree e.1 in
-      let range_b = parent_range t (spot b f.0) c tree f.1 in
-      let less = left_names t (spot a e.0) c e.1 range.0 range.1 c in
+      let range = parent_range t (location a e.0) c tree e.1 in
+      let range_b = parent_range t (location b f.0) c tree f.1 in
+      let less = left_names t (location a e.0) c e.1 range.0 range.1 c in
       let it = on_one c in
-      let stays : entry (left t (spot a e.0)) (spot b f.0) ≡ Some c = ap (λ o. fin.get (entries_of o) f.0) (set_other t a b _ off.1) ∙ f.1 in
-      let more = has_name (left t (spot a e.0)) (spot b f.0) c stays range_b.0 range_b.1 in
+      let stays : entry (left t (location a e.0)) (location b f.0) ≡ Some c = ap (λ o. fin.get (entries_of o) f.0) (set_other t a b _ off.1) ∙ f.1 in
+      let more = has_name (left t (location a e.0)) (location b f.0) c stays range_b.0 range_b.1 in
       absurd (omega (arith, less, it, more, one))
 ]
 
@@ -55,7 +55,7 @@ round_up : (s : State) (a c : ℕ) → IsWellFormed s → Edge s.tree a c → Is
 round_up s a c fine e round =
     let t = s.tree in
     let dir : IsDirectory (t c) = entry_parent (t c) round.way.0.0 round.first round.way.0.1 in
-    let one = fine.one_name c dir (named_not_root s (spot a e.0) c fine e.1) in
+    let one = fine.one_name c dir (named_not_root s (location a e.0) c fine e.1) in
     let l = last_of t c round.first round.steps c round.way in
     let same : l.before ≡ a = one_parent s a l.before c fine one e l.edge in
     record { first = c; steps = l.steps; way = (e, subst (Chain t c l.steps) same l.way) }
@@ -78,7 +78,7 @@ path_round t i name names e =
 no_root : (s : State) → IsWellFormed s → IsRound s.tree 1 → ⊥
 no_root s fine round =
     let l = last_of s.tree 1 round.first round.steps 1 round.way in
-    named_not_root s (spot l.before l.edge.0) 1 fine l.edge.1 refl
+    named_not_root s (location l.before l.edge.0) 1 fine l.edge.1 refl
 
 -- and to the root, which has no name
 pub no_round : (s : State) (i : ℕ) (name : List ℕ) (names : List (List ℕ)) → IsWellFormed s → IsDirectory (s.tree i) → resolve_from s.tree (name ∷ names) i ≡ Ok i → ⊥

@@ -1,7 +1,7 @@
 -- How questions run: one after another, and by a part as by the whole.
 use Rattle.std.proofs.Common.{◌≡◌, ℕ, Bool, refl, Option, Ok, Err, Result}
 use Rattle.posix_calls.specs.declared.errno.Errno.{Errno}
-use Rattle.posix_calls.specs.Asks.{Seen, Asks, Gives, Refuses, IsDir, Look, ◌>>=◌, View, run}
+use Rattle.posix_calls.specs.Query.{Seen, Query, Gives, Refuses, IsDir, Look, ◌>>=◌, View, run}
 
 -- what a first answer leads to
 abbrev pub then_run : {A B : Type 0} → Result A Errno → (A → Result B Errno) → Result B Errno
@@ -9,7 +9,7 @@ then_run (Ok x) f = f x
 then_run (Err e) f = Err e
 
 -- questions one after another run one after another
-pub run_bind : {A B : Type 0} (v : View) (q : Asks A) (f : A → Asks B) → run v (q >>= f) ≡ then_run (run v q) (λ x. run v (f x))
+pub run_bind : {A B : Type 0} (v : View) (q : Query A) (f : A → Query B) → run v (q >>= f) ≡ then_run (run v q) (λ x. run v (f x))
 unfolding run ◌>>=◌
 run_bind v (Gives x) f = refl
 run_bind v (Refuses x) f = refl
@@ -27,12 +27,12 @@ unfolding run
 run_refuses A v e = refl
 
 -- a question is answered by the view
-pub run_is_dir : {A : Type 0} (v : View) (i : ℕ) (next : Option Bool → Asks A) → run v (IsDir i next) ≡ run v (next (v.is_dir i))
+pub run_is_dir : {A : Type 0} (v : View) (i : ℕ) (next : Option Bool → Query A) → run v (IsDir i next) ≡ run v (next (v.is_dir i))
 unfolding run
 run_is_dir v i next = refl
 
 -- so is a look
-pub run_look : {A : Type 0} (v : View) (i : ℕ) (next : Option Seen → Asks A) → run v (Look i next) ≡ run v (next (v.node i))
+pub run_look : {A : Type 0} (v : View) (i : ℕ) (next : Option Seen → Query A) → run v (Look i next) ≡ run v (next (v.node i))
 unfolding run
 run_look v i next = refl
 

@@ -6,39 +6,39 @@ use Rattle.std.specs.Result.{IsErrAnd}
 use Rattle.std.proofs.lemmas.Bool.Decides.{nat_tests}
 use Rattle.std.proofs.lemmas.Result.{err_from_is_err_and}
 use Rattle.posix_calls.specs.declared.errno.Errno.{Errno}
-use Rattle.posix_calls.specs.declared.deed.NoDeed.{NoDeed}
-use Rattle.posix_calls.specs.declared.deed.NoDeed.TheVariants.{Refused, Lacks, Memory}
+use Rattle.posix_calls.specs.declared.operation.DecideError.{DecideError}
+use Rattle.posix_calls.specs.declared.operation.DecideError.TheVariants.{Refused, Missing, Memory}
 use Rattle.posix_calls.specs.declared.errno.Errno.TheVariants.{NoMemory}
-use Rattle.posix_calls.specs.Asks.{Seen, File, Dir, Asks, Gives, Refuses, IsDir, Look, ◌>>=◌, Part, Found, Known, run_part}
-use Rattle.posix_calls.specs.Asks as asks
+use Rattle.posix_calls.specs.Query.{Seen, File, Dir, Query, Gives, Refuses, IsDir, Look, ◌>>=◌, Part, Found, Known, run_part}
+use Rattle.posix_calls.specs.Query as query
 use Rattle.posix_calls.specs.Walk.{refuse, said}
-use Rattle.posix_calls.specs.Answers.{Tells, no_deed, description_of}
+use Rattle.posix_calls.specs.Answers.{Tells, decide_error, description_of}
 use Rattle.posix_calls.specs.Decide.{described, opened, write_at}
 use Rattle.posix_calls.specs.declared.descriptor.Descriptor.{Descriptor}
 use Rattle.posix_calls.specs.declared.limits.TheConstants.{MAX_FILE}
 use Rattle.posix_calls.specs.declared.errno.Errno.TheVariants as errno
-use Rattle.posix_calls.specs.declared.deed.Deed.TheVariants.{Tell, Write}
-use Rattle.posix_calls.specs.declared.deed.Description.TheVariants as description
+use Rattle.posix_calls.specs.declared.operation.Operation.TheVariants.{Tell, Write}
+use Rattle.posix_calls.specs.declared.operation.Description.TheVariants as description
 use Rattle.posix_calls.specs.declared.call.Reply.TheVariants as reply
 
 -- what a first answer leads to
 abbrev pub then_found : {A B : Type 0} → Found A → (A → Found B) → Found B
 then_found (Known (Ok x)) f = f x
 then_found (Known (Err e)) f = Known (Err e)
-then_found (asks.Lacks i) f = asks.Lacks i
+then_found (query.Missing i) f = query.Missing i
 
 -- questions one after another come to what the first leads to
-pub part_bind : {A B : Type 0} (p : Part) (q : Asks A) (f : A → Asks B) → run_part p (q >>= f) ≡ then_found (run_part p q) (λ x. run_part p (f x))
+pub part_bind : {A B : Type 0} (p : Part) (q : Query A) (f : A → Query B) → run_part p (q >>= f) ≡ then_found (run_part p q) (λ x. run_part p (f x))
 unfolding run_part ◌>>=◌
 part_bind p (Gives x) f = refl
 part_bind p (Refuses e) f = refl
 part_bind {B = B} p (IsDir i next) f =
-    elim (p.is_dir i) as (λ o. ◌≡◌ {A = Found B} (elim o [ None ↦ asks.Lacks i | Some a ↦ run_part p (next a >>= f) ]) (then_found (elim o [ None ↦ asks.Lacks i | Some a ↦ run_part p (next a) ]) (λ x. run_part p (f x)))) [
+    elim (p.is_dir i) as (λ o. ◌≡◌ {A = Found B} (elim o [ None ↦ query.Missing i | Some a ↦ run_part p (next a >>= f) ]) (then_found (elim o [ None ↦ query.Missing i | Some a ↦ run_part p (next a) ]) (λ x. run_part p (f x)))) [
       | None ↦ refl
       | Some a ↦ part_bind p (next a) f
     ]
 part_bind {B = B} p (Look i next) f =
-    elim (p.node i) as (λ o. ◌≡◌ {A = Found B} (elim o [ None ↦ asks.Lacks i | Some a ↦ run_part p (next a >>= f) ]) (then_found (elim o [ None ↦ asks.Lacks i | Some a ↦ run_part p (next a) ]) (λ x. run_part p (f x)))) [
+    elim (p.node i) as (λ o. ◌≡◌ {A = Found B} (elim o [ None ↦ query.Missing i | Some a ↦ run_part p (next a >>= f) ]) (then_found (elim o [ None ↦ query.Missing i | Some a ↦ run_part p (next a) ]) (λ x. run_part p (f x)))) [
       | None ↦ refl
       | Some a ↦ part_bind p (next a) f
     ]
@@ -54,29 +54,29 @@ part_refuses A p e = refl
 -- ---- a result, an error
 
 -- what is found is told
-pub tells_ok : {A : Type 0} {p : Part} {q : Asks A} {x : A} → run_part p q ≡ Known (Ok x) → Tells p q (Ok x)
-tells_ok {x = x} is = record { gives = λ y h. let same : x ≡ y = cc in is ∙ ap (λ z. Known (Ok z)) same; refuses = λ e h. absurd (cc); lacks = λ i h. absurd (cc) }
+pub tells_ok : {A : Type 0} {p : Part} {q : Query A} {x : A} → run_part p q ≡ Known (Ok x) → Tells p q (Ok x)
+tells_ok {x = x} is = record { gives = λ y h. let same : x ≡ y = cc in is ∙ ap (λ z. Known (Ok z)) same; refuses = λ e h. absurd (cc); missing = λ i h. absurd (cc) }
 
-pub tells_err : {A : Type 0} {p : Part} {q : Asks A} {e : Errno} → run_part p q ≡ Known (Err e) → Tells p q (Err (Refused e))
-tells_err {e = e} is = record { gives = λ y h. absurd (cc); refuses = λ d h. let same : e ≡ d = cc in is ∙ ap (λ z. Known (Err z)) same; lacks = λ i h. absurd (cc) }
+pub tells_err : {A : Type 0} {p : Part} {q : Query A} {e : Errno} → run_part p q ≡ Known (Err e) → Tells p q (Err (Refused e))
+tells_err {e = e} is = record { gives = λ y h. absurd (cc); refuses = λ d h. let same : e ≡ d = cc in is ∙ ap (λ z. Known (Err z)) same; missing = λ i h. absurd (cc) }
 
-pub tells_lack : {A : Type 0} {p : Part} {q : Asks A} {i : ℕ} → run_part p q ≡ asks.Lacks i → Tells p q (Err (Lacks i))
-tells_lack {i = i} is = record { gives = λ y h. absurd (cc); refuses = λ d h. absurd (cc); lacks = λ j h. let same : i ≡ j = cc in is ∙ ap (λ z. asks.Lacks z) same }
+pub tells_missing : {A : Type 0} {p : Part} {q : Query A} {i : ℕ} → run_part p q ≡ query.Missing i → Tells p q (Err (Missing i))
+tells_missing {i = i} is = record { gives = λ y h. absurd (cc); refuses = λ d h. absurd (cc); missing = λ j h. let same : i ≡ j = cc in is ∙ ap (λ z. query.Missing z) same }
 
 -- want of memory says nothing
-pub tells_memory : {A : Type 0} (p : Part) (q : Asks A) → Tells p q (Err Memory)
-tells_memory p q = record { gives = λ y h. absurd (cc); refuses = λ d h. absurd (cc); lacks = λ j h. absurd (cc) }
+pub tells_memory : {A : Type 0} (p : Part) (q : Query A) → Tells p q (Err Memory)
+tells_memory p q = record { gives = λ y h. absurd (cc); refuses = λ d h. absurd (cc); missing = λ j h. absurd (cc) }
 
 -- what comes to the same is told by the same
-pub tells_same : {A : Type 0} {p : Part} {q r : Asks A} {s : Result A NoDeed} → run_part p q ≡ run_part p r → Tells p r s → Tells p q s
-tells_same is h = record { gives = λ y e. is ∙ h.gives y e; refuses = λ e t. is ∙ h.refuses e t; lacks = λ i t. is ∙ h.lacks i t }
+pub tells_same : {A : Type 0} {p : Part} {q r : Query A} {s : Result A DecideError} → run_part p q ≡ run_part p r → Tells p r s → Tells p q s
+tells_same is h = record { gives = λ y e. is ∙ h.gives y e; refuses = λ e t. is ∙ h.refuses e t; missing = λ i t. is ∙ h.missing i t }
 
 -- the exit of a `?` tells what was told there
-pub exits : {A : Type 0} {p : Part} {q : Asks A} {r : Result A NoDeed} {s : NoDeed} → IsErrAnd r (λ t. t ≡ s) → Tells p q (Err s) → Tells p q r
+pub exits : {A : Type 0} {p : Part} {q : Query A} {r : Result A DecideError} {s : DecideError} → IsErrAnd r (λ t. t ≡ s) → Tells p q (Err s) → Tells p q r
 exits {p = p} {q = q} {r = r} is h = let e = err_from_is_err_and r is in subst (λ z. Tells p q z) (sym (e.1 ∙ ap (λ z. Err z) e.2)) h
 
 -- the same question is told by the same
-pub tells_is : {A : Type 0} {p : Part} {q t : Asks A} {r : Result A NoDeed} → q ≡ t → Tells p t r → Tells p q r
+pub tells_is : {A : Type 0} {p : Part} {q t : Query A} {r : Result A DecideError} → q ≡ t → Tells p t r → Tells p q r
 tells_is {p = p} {r = r} is h = subst (λ z. Tells p z r) (sym is) h
 
 -- what is given is told
@@ -93,21 +93,21 @@ refuses {A = A} {p = p} {e = e} = tells_err (part_refuses A p e)
 -- ---- one after another
 
 -- after a result comes what it leads to
-pub bind_gives : {A B : Type 0} {p : Part} {q : Asks A} (f : A → Asks B) {x : A} {r : Result B NoDeed} → Tells p q (Ok x) → Tells p (f x) r → Tells p (q >>= f) r
+pub bind_gives : {A B : Type 0} {p : Part} {q : Query A} (f : A → Query B) {x : A} {r : Result B DecideError} → Tells p q (Ok x) → Tells p (f x) r → Tells p (q >>= f) r
 bind_gives {p = p} {q = q} f {x = x} h rest = tells_same (part_bind p q f ∙ ap (λ z. then_found z (λ y. run_part p (f y))) (h.gives x refl)) rest
 
 -- after a stop comes nothing
-pub bind_stops : {A B : Type 0} {p : Part} {q : Asks A} (f : A → Asks B) {s : NoDeed} → Tells p q (Err s) → Tells p (q >>= f) (Err s)
+pub bind_stops : {A B : Type 0} {p : Part} {q : Query A} (f : A → Query B) {s : DecideError} → Tells p q (Err s) → Tells p (q >>= f) (Err s)
 bind_stops {p = p} {q = q} f {s = Refused e} h = tells_err (part_bind p q f ∙ ap (λ z. then_found z (λ y. run_part p (f y))) (h.refuses e refl))
-bind_stops {p = p} {q = q} f {s = Lacks i} h = tells_lack (part_bind p q f ∙ ap (λ z. then_found z (λ y. run_part p (f y))) (h.lacks i refl))
+bind_stops {p = p} {q = q} f {s = Missing i} h = tells_missing (part_bind p q f ∙ ap (λ z. then_found z (λ y. run_part p (f y))) (h.missing i refl))
 bind_stops {p = p} {q = q} f {s = Memory} h = tells_memory p (q >>= f)
 
 -- a test that does not hold is passed
-pub passes : {B : Type 0} {p : Part} (e : Errno) {b : Bool} (f : Unit {0} → Asks B) {r : Result B NoDeed} → b ≡ false → Tells p (f tt) r → Tells p (refuse e b >>= f) r
+pub passes : {B : Type 0} {p : Part} (e : Errno) {b : Bool} (f : Unit {0} → Query B) {r : Result B DecideError} → b ≡ false → Tells p (f tt) r → Tells p (refuse e b >>= f) r
 passes {p = p} e {b = b} f {r = r} clear rest = subst (λ z. Tells p (refuse e z >>= f) r) (sym clear) (bind_gives f gives rest)
 
 -- one that does is refused
-pub fails : {B : Type 0} {p : Part} (e : Errno) {b : Bool} (f : Unit {0} → Asks B) {s : NoDeed} → s ≡ Refused e → b ≡ true → Tells p (refuse e b >>= f) (Err s)
+pub fails : {B : Type 0} {p : Part} (e : Errno) {b : Bool} (f : Unit {0} → Query B) {s : DecideError} → s ≡ Refused e → b ≡ true → Tells p (refuse e b >>= f) (Err s)
 fails {p = p} e {b = b} f {s = s} why holds = subst (λ z. Tells p (refuse e z >>= f) (Err s)) (sym holds) (bind_stops f (subst (λ z. Tells p (refuse e true) (Err z)) (sym why) refuses))
 
 -- two tests in one
@@ -122,10 +122,10 @@ or_right true h = refl
 or_right false h = h
 
 -- a branch that is taken
-pub if_holds : {A : Type 0} {p : Part} {b : Bool} {q : Asks A} (t : Asks A) {r : Result A NoDeed} → b ≡ true → Tells p q r → Tells p (if b then q else t) r
+pub if_holds : {A : Type 0} {p : Part} {b : Bool} {q : Query A} (t : Query A) {r : Result A DecideError} → b ≡ true → Tells p q r → Tells p (if b then q else t) r
 if_holds {p = p} {q = q} t {r = r} e h = subst (λ z. Tells p (if z then q else t) r) (sym e) h
 
-pub if_fails : {A : Type 0} {p : Part} {b : Bool} (q : Asks A) {t : Asks A} {r : Result A NoDeed} → b ≡ false → Tells p t r → Tells p (if b then q else t) r
+pub if_fails : {A : Type 0} {p : Part} {b : Bool} (q : Query A) {t : Query A} {r : Result A DecideError} → b ≡ false → Tells p t r → Tells p (if b then q else t) r
 if_fails {p = p} q {t = t} {r = r} e h = subst (λ z. Tells p (if z then q else t) r) (sym e) h
 
 pub same_if : {A : Type 0} (n m : ℕ) (x y : A) → n ≡ m → (if n == m then x else y) ≡ x
@@ -137,47 +137,47 @@ apart_if n m x y e = grind (arith, nat_tests)
 -- ---- questions
 
 -- a question that is answered leads on
-pub is_dir_known : {A : Type 0} {p : Part} {i : ℕ} {next : Option Bool → Asks A} {o : Option Bool} {r : Result A NoDeed} → p.is_dir i ≡ Some o → Tells p (next o) r → Tells p (IsDir i next) r
+pub is_dir_known : {A : Type 0} {p : Part} {i : ℕ} {next : Option Bool → Query A} {o : Option Bool} {r : Result A DecideError} → p.is_dir i ≡ Some o → Tells p (next o) r → Tells p (IsDir i next) r
 unfolding run_part
-is_dir_known {p = p} {i = i} {next = next} is rest = tells_same (ap (λ z. elim z [ None ↦ asks.Lacks i | Some a ↦ run_part p (next a) ]) is) rest
+is_dir_known {p = p} {i = i} {next = next} is rest = tells_same (ap (λ z. elim z [ None ↦ query.Missing i | Some a ↦ run_part p (next a) ]) is) rest
 
 -- one that is not is lacked
-pub is_dir_lacks : {A : Type 0} {p : Part} {i : ℕ} {next : Option Bool → Asks A} {s : NoDeed} → s ≡ Lacks i → p.is_dir i ≡ None → Tells p (IsDir i next) (Err s)
+pub is_dir_missing : {A : Type 0} {p : Part} {i : ℕ} {next : Option Bool → Query A} {s : DecideError} → s ≡ Missing i → p.is_dir i ≡ None → Tells p (IsDir i next) (Err s)
 unfolding run_part
-is_dir_lacks {p = p} {i = i} {next = next} lack is = subst (λ z. Tells p (IsDir i next) (Err z)) (sym lack) (tells_lack (ap (λ z. elim z [ None ↦ asks.Lacks i | Some a ↦ run_part p (next a) ]) is))
+is_dir_missing {p = p} {i = i} {next = next} lack is = subst (λ z. Tells p (IsDir i next) (Err z)) (sym lack) (tells_missing (ap (λ z. elim z [ None ↦ query.Missing i | Some a ↦ run_part p (next a) ]) is))
 
 -- the same of a look, by what is told of the node
-pub look_known : {A C : Type 0} {p : Part} {i : ℕ} (g : Option Seen → C) (next : C → Asks A) {y : C} {r : Result A NoDeed} → option_map g (p.node i) ≡ Some y → Tells p (next y) r → Tells p (Look i (λ s. next (g s))) r
+pub look_known : {A C : Type 0} {p : Part} {i : ℕ} (g : Option Seen → C) (next : C → Query A) {y : C} {r : Result A DecideError} → option_map g (p.node i) ≡ Some y → Tells p (next y) r → Tells p (Look i (λ s. next (g s))) r
 unfolding run_part
 look_known {A = A} {p = p} {i = i} g next {y = y} is rest =
-    tells_same (elim (p.node i) as (λ z. option_map g z ≡ Some y → ◌≡◌ {A = Found A} (elim z [ None ↦ asks.Lacks i | Some a ↦ run_part p (next (g a)) ]) (run_part p (next y))) [
+    tells_same (elim (p.node i) as (λ z. option_map g z ≡ Some y → ◌≡◌ {A = Found A} (elim z [ None ↦ query.Missing i | Some a ↦ run_part p (next (g a)) ]) (run_part p (next y))) [
       | None ↦ λ h. absurd (cc)
       | Some a ↦ λ h. let same : g a ≡ y = cc in ap (λ z. run_part p (next z)) same
     ] is) rest
 
-pub look_lacks : {A C : Type 0} {p : Part} {i : ℕ} (g : Option Seen → C) (next : Option Seen → Asks A) {s : NoDeed} → s ≡ Lacks i → option_map g (p.node i) ≡ None → Tells p (Look i next) (Err s)
+pub look_missing : {A C : Type 0} {p : Part} {i : ℕ} (g : Option Seen → C) (next : Option Seen → Query A) {s : DecideError} → s ≡ Missing i → option_map g (p.node i) ≡ None → Tells p (Look i next) (Err s)
 unfolding run_part
-look_lacks {A = A} {p = p} {i = i} g next lack is =
-    subst (λ z. Tells p (Look i next) (Err z)) (sym lack) (tells_lack (elim (p.node i) as (λ z. option_map g z ≡ None → ◌≡◌ {A = Found A} (elim z [ None ↦ asks.Lacks i | Some a ↦ run_part p (next a) ]) (asks.Lacks i)) [
+look_missing {A = A} {p = p} {i = i} g next lack is =
+    subst (λ z. Tells p (Look i next) (Err z)) (sym lack) (tells_missing (elim (p.node i) as (λ z. option_map g z ≡ None → ◌≡◌ {A = Found A} (elim z [ None ↦ query.Missing i | Some a ↦ run_part p (next a) ]) (query.Missing i)) [
       | None ↦ λ h. refl
       | Some a ↦ λ h. absurd (cc)
     ] is))
 
 -- a look of which not all is told
-pub look_seen : {A C : Type 0} {p : Part} {i : ℕ} (g : Option Seen → C) (next : Option Seen → Asks A) {y : C} {r : Result A NoDeed} → option_map g (p.node i) ≡ Some y → ((s : Option Seen) → g s ≡ y → Tells p (next s) r) → Tells p (Look i next) r
+pub look_seen : {A C : Type 0} {p : Part} {i : ℕ} (g : Option Seen → C) (next : Option Seen → Query A) {y : C} {r : Result A DecideError} → option_map g (p.node i) ≡ Some y → ((s : Option Seen) → g s ≡ y → Tells p (next s) r) → Tells p (Look i next) r
 unfolding run_part
 look_seen {p = p} {i = i} g next {y = y} {r = r} is rest =
     elim (p.node i) as (λ z. p.node i ≡ z → option_map g z ≡ Some y → Tells p (Look i next) r) [
       | None ↦ λ at h. absurd (cc)
-      | Some a ↦ λ at h. let same : g a ≡ y = cc in tells_same (ap (λ z. elim z [ None ↦ asks.Lacks i | Some a ↦ run_part p (next a) ]) at) (rest a same)
+      | Some a ↦ λ at h. let same : g a ≡ y = cc in tells_same (ap (λ z. elim z [ None ↦ query.Missing i | Some a ↦ run_part p (next a) ]) at) (rest a same)
     ] refl is
 
-pub bind_look : {B C D : Type 0} {p : Part} (i : ℕ) (h : Option Seen → C) (g : Option Seen → D) (f : C → Asks B) {y : D} {r : Result B NoDeed} → option_map g (p.node i) ≡ Some y → ((s : Option Seen) → g s ≡ y → Tells p (f (h s)) r) → Tells p (Look i (λ s. Gives (h s)) >>= f) r
+pub bind_look : {B C D : Type 0} {p : Part} (i : ℕ) (h : Option Seen → C) (g : Option Seen → D) (f : C → Query B) {y : D} {r : Result B DecideError} → option_map g (p.node i) ≡ Some y → ((s : Option Seen) → g s ≡ y → Tells p (f (h s)) r) → Tells p (Look i (λ s. Gives (h s)) >>= f) r
 unfolding ◌>>=◌
 bind_look i h g f is rest = look_seen g (λ s. f (h s)) is rest
 
-pub bind_look_lacks : {B C D : Type 0} {p : Part} (i : ℕ) (h : Option Seen → C) (g : Option Seen → D) (f : C → Asks B) {s : NoDeed} → s ≡ Lacks i → option_map g (p.node i) ≡ None → Tells p (Look i (λ s. Gives (h s)) >>= f) (Err s)
-bind_look_lacks i h g f lack is = bind_stops f (look_lacks g _ lack is)
+pub bind_look_missing : {B C D : Type 0} {p : Part} (i : ℕ) (h : Option Seen → C) (g : Option Seen → D) (f : C → Query B) {s : DecideError} → s ≡ Missing i → option_map g (p.node i) ≡ None → Tells p (Look i (λ s. Gives (h s)) >>= f) (Err s)
+bind_look_missing i h g f lack is = bind_stops f (look_missing g _ lack is)
 
 -- what stat tells of a node
 pub file_told : {p : Part} (s : Option Seen) (size names : ℕ) → description_of s ≡ Some (description.File size names) → Tells p (described s) (Ok (Tell (reply.File size names)))
@@ -214,7 +214,7 @@ pub opened_passes : {p : Part} (test : Descriptor → Bool) {o : Option Descript
 opened_passes {p = p} test d is passes = subst (λ z. Tells p (opened test z) (Ok d.inode)) (sym is) (if_holds (Refuses errno.BadDescriptor) passes gives)
 
 -- what does not pass is refused
-pub opened_fails : {p : Part} (test : Descriptor → Bool) {o : Option Descriptor} (d : Descriptor) {s : NoDeed} → o ≡ Some d → s ≡ Refused errno.BadDescriptor → test d ≡ false → Tells p (opened test o) (Err s)
+pub opened_fails : {p : Part} (test : Descriptor → Bool) {o : Option Descriptor} (d : Descriptor) {s : DecideError} → o ≡ Some d → s ≡ Refused errno.BadDescriptor → test d ≡ false → Tells p (opened test o) (Err s)
 opened_fails {p = p} test d {s = s} is why fails = subst (λ z. Tells p (opened test z) (Err s)) (sym is) (if_fails (Gives d.inode) fails (subst (λ z. Tells {A = ℕ} p (Refuses errno.BadDescriptor) (Err z)) (sym why) refuses))
 
 -- so is what is not open
@@ -235,14 +235,14 @@ not_true false e = absurd (cc)
 pub said_ok : {A : Type 0} {p : Part} {r : Result A Errno} {x : A} → r ≡ Ok x → Tells p (said r) (Ok x)
 said_ok {p = p} {x = x} is = subst (λ z. Tells p (said z) (Ok x)) (sym is) gives
 
-refused_as : {A : Type 0} (p : Part) (e : Errno) → Tells {A = A} p (Refuses e) (Err (no_deed e))
+refused_as : {A : Type 0} (p : Part) (e : Errno) → Tells {A = A} p (Refuses e) (Err (decide_error e))
 refused_as p NoMemory = tells_memory p (Refuses NoMemory)
 refused_as p e = refuses
 
 -- so is why it was not
-pub said_err : {A : Type 0} {p : Part} {r : Result A Errno} {e : Errno} → (e ≡ NoMemory) ⊎ (r ≡ Err e) → Tells p (said r) (Err (no_deed e))
+pub said_err : {A : Type 0} {p : Part} {r : Result A Errno} {e : Errno} → (e ≡ NoMemory) ⊎ (r ≡ Err e) → Tells p (said r) (Err (decide_error e))
 said_err {p = p} {r = r} {e = e} why =
     elim why [
-      | inl memory ↦ subst (λ z. Tells p (said r) (Err (no_deed z))) (sym memory) (tells_memory p (said r))
-      | inr is ↦ subst (λ z. Tells p (said z) (Err (no_deed e))) (sym is) (refused_as p e)
+      | inl memory ↦ subst (λ z. Tells p (said r) (Err (decide_error z))) (sym memory) (tells_memory p (said r))
+      | inr is ↦ subst (λ z. Tells p (said z) (Err (decide_error e))) (sym is) (refused_as p e)
     ]

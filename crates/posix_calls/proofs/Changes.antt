@@ -7,20 +7,20 @@ use Rattle.std.specs.FinMap as fin
 use Rattle.posix_calls.specs.Content.{Entries}
 use Rattle.posix_calls.specs.Tree.{Tree, Node, File, Dir, set_node, entries_of, names_of, names_in, sum_up_to}
 use Rattle.posix_calls.specs.declared.limits.TheConstants.{MAX_INODE}
-use Rattle.posix_calls.specs.Asks.{dir_test}
-use Rattle.posix_calls.specs.declared.deed.Spot.{Spot}
-use Rattle.posix_calls.specs.Deeds.{entered, left}
+use Rattle.posix_calls.specs.Query.{dir_test}
+use Rattle.posix_calls.specs.declared.operation.Location.{Location}
+use Rattle.posix_calls.specs.Operations.{entered, left}
 pub use Rattle.posix_calls.specs.Tree.{IsBare}
 use Rattle.posix_calls.specs.WellFormed.{IsDirectory, IsFile}
 use Rattle.posix_calls.proofs.Sums.{names_of-set_node, same_if, there_if}
 use Rattle.posix_calls.proofs.Counts.{order, counted, counted_is, counted_insert, counted_remove, counted_empty, gone, get_left, none_left, get_other, get_other_insert, get_here, insert_back}
 
 -- what a name in a directory leads to
-abbrev pub entry : Tree → Spot → Option ℕ
+abbrev pub entry : Tree → Location → Option ℕ
 entry t at = fin.get (entries_of (t at.parent)) at.name
 
 -- a name that is free in a directory
-pub record IsRoom (t : Tree) (at : Spot) : Type 0 where
+pub record IsRoom (t : Tree) (at : Location) : Type 0 where
   pub directory : IsDirectory (t at.parent)
   pub none : entry t at ≡ None
 
@@ -73,7 +73,7 @@ module _ (t : Tree) (i : ℕ) (x : Option Node) (bare : IsBare (t i)) (new : IsB
   pub bare_entries : (d : ℕ) → entries_of (set_node t i x d) ≡ entries_of (t d)
   bare_entries d = set_alike entries_of t i x (new ∙ sym bare) d
 
-  pub bare_same : (at : Spot) → entry (set_node t i x) at ≡ entry t at
+  pub bare_same : (at : Location) → entry (set_node t i x) at ≡ entry t at
   bare_same at = ap (λ m. fin.get m at.name) (bare_entries at.parent)
 
   bare_at : (k d : ℕ) → names_in k (set_node t i x d) ≡ names_in k (t d)
@@ -85,7 +85,7 @@ module _ (t : Tree) (i : ℕ) (x : Option Node) (bare : IsBare (t i)) (new : IsB
 
 -- ---- a name comes
 
-module _ (t : Tree) (at : Spot) (i : ℕ) where
+module _ (t : Tree) (at : Location) (i : ℕ) where
   abbrev after_in : Option Node
   after_in = Some (Dir (fin.insert (entries_of (t at.parent)) at.name i))
 
@@ -95,7 +95,7 @@ module _ (t : Tree) (at : Spot) (i : ℕ) where
   pub entered_here : entry (entered t at i) at ≡ Some i
   entered_here = ap (λ o. fin.get (entries_of o) at.name) (set_there t at.parent after_in) ∙ get_here (entries_of (t at.parent)) at.name i
 
-  pub entered_back : (x : Spot) (j : ℕ) → entry (entered t at i) x ≡ Some j → (j ≡ i) ⊎ (entry t x ≡ Some j)
+  pub entered_back : (x : Location) (j : ℕ) → entry (entered t at i) x ≡ Some j → (j ≡ i) ⊎ (entry t x ≡ Some j)
   entered_back x j e = elim (eqb_tells x.parent at.parent) [
     | inl same ↦ elim (insert_back (entries_of (t at.parent)) at.name x.name i j (sym (ap (λ b. fin.get (entries_of (cond b after_in (t x.parent))) x.name) same.0) ∙ e)) [
       | inl new ↦ inl new
@@ -104,7 +104,7 @@ module _ (t : Tree) (at : Spot) (i : ℕ) where
     | inr off ↦ inr (sym (ap (λ o. fin.get (entries_of o) x.name) (set_other t at.parent x.parent after_in off.1)) ∙ e)
   ]
 
-  pub entered_keeps : entry t at ≡ None → (x : Spot) (j : ℕ) → entry t x ≡ Some j → entry (entered t at i) x ≡ Some j
+  pub entered_keeps : entry t at ≡ None → (x : Location) (j : ℕ) → entry t x ≡ Some j → entry (entered t at i) x ≡ Some j
   entered_keeps none x j e = elim (eqb_tells x.parent at.parent) [
     | inl same ↦
         let here : fin.get (entries_of (t at.parent)) x.name ≡ Some j = ap (λ d. fin.get (entries_of (t d)) x.name) (sym same.1) ∙ e in
@@ -123,7 +123,7 @@ module _ (t : Tree) (at : Spot) (i : ℕ) where
 
 -- ---- a name goes
 
-module _ (t : Tree) (at : Spot) where
+module _ (t : Tree) (at : Location) where
   abbrev after_out : Option Node
   after_out = Some (Dir (fin.remove (entries_of (t at.parent)) at.name))
 
@@ -133,19 +133,19 @@ module _ (t : Tree) (at : Spot) where
   pub left_here : entry (left t at) at ≡ None
   left_here = ap (λ o. fin.get (entries_of o) at.name) (set_there t at.parent after_out) ∙ gone (entries_of (t at.parent)) at.name
 
-  pub left_back : (x : Spot) (j : ℕ) → entry (left t at) x ≡ Some j → entry t x ≡ Some j
+  pub left_back : (x : Location) (j : ℕ) → entry (left t at) x ≡ Some j → entry t x ≡ Some j
   left_back x j e = elim (eqb_tells x.parent at.parent) [
     | inl same ↦ ap (λ d. fin.get (entries_of (t d)) x.name) same.1 ∙ get_left (entries_of (t at.parent)) at.name x.name j (sym (ap (λ b. fin.get (entries_of (cond b after_out (t x.parent))) x.name) same.0) ∙ e)
     | inr off ↦ sym (ap (λ o. fin.get (entries_of o) x.name) (set_other t at.parent x.parent after_out off.1)) ∙ e
   ]
 
-  pub left_none : (x : Spot) → entry t x ≡ None → entry (left t at) x ≡ None
+  pub left_none : (x : Location) → entry t x ≡ None → entry (left t at) x ≡ None
   left_none x e = elim (eqb_tells x.parent at.parent) [
     | inl same ↦ ap (λ b. fin.get (entries_of (cond b after_out (t x.parent))) x.name) same.0 ∙ none_left (entries_of (t at.parent)) at.name x.name (ap (λ d. fin.get (entries_of (t d)) x.name) (sym same.1) ∙ e)
     | inr off ↦ ap (λ o. fin.get (entries_of o) x.name) (set_other t at.parent x.parent after_out off.1) ∙ e
   ]
 
-  pub left_keeps : (i : ℕ) → entry t at ≡ Some i → (x : Spot) (j : ℕ) → j ≢ i → entry t x ≡ Some j → entry (left t at) x ≡ Some j
+  pub left_keeps : (i : ℕ) → entry t at ≡ Some i → (x : Location) (j : ℕ) → j ≢ i → entry t x ≡ Some j → entry (left t at) x ≡ Some j
   left_keeps i is x j other e = elim (eqb_tells x.parent at.parent) [
     | inl same ↦
         let here : fin.get (entries_of (t at.parent)) x.name ≡ Some j = ap (λ d. fin.get (entries_of (t d)) x.name) (sym same.1) ∙ e in
@@ -163,7 +163,7 @@ module _ (t : Tree) (at : Spot) where
       omega (arith, change, before, less)
 
 -- what is named has a name
-pub has_name : (t : Tree) (at : Spot) (i : ℕ) → entry t at ≡ Some i → 1 ≤ at.parent → at.parent ≤ 1024 → 1 ≤ names_of t i
+pub has_name : (t : Tree) (at : Location) (i : ℕ) → entry t at ≡ Some i → 1 ≤ at.parent → at.parent ≤ 1024 → 1 ≤ names_of t i
 has_name t at i is low high =
     let less : names_of (left t at) i + cond (i == i) 1 0 ≡ names_of t i = left_names t at i is low high i in
     let one : ◌≡◌ {A = ℕ} (cond (i == i) 1 0) 1 = ap (λ b. cond b 1 0) (eq-eqb i i refl) in

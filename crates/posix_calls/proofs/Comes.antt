@@ -9,7 +9,7 @@ use Rattle.posix_calls.specs.declared.errno.Errno.{Errno}
 use Rattle.posix_calls.specs.declared.errno.Errno.TheVariants as errno
 use Rattle.posix_calls.specs.Tree.{Tree, Node, File, Dir, Own, names_of, entries_of}
 use Rattle.posix_calls.specs.declared.descriptor.Descriptor.{Descriptor}
-use Rattle.posix_calls.specs.Asks.{Seen, Asks, Gives, Refuses, IsDir, Look, ◌>>=◌, View, run, view_of, seen, dir_test}
+use Rattle.posix_calls.specs.Query.{Seen, Query, Gives, Refuses, IsDir, Look, ◌>>=◌, View, run, view_of, seen, dir_test}
 use Rattle.posix_calls.specs.Walk.{Place, refuse, is_true, kind_at, entries_seen, entries_at, directory, directory_if, walk, is_there, there}
 use Rattle.posix_calls.specs.Decide.{opened, lowest_free, number_or}
 use Rattle.posix_calls.specs.WellFormed.{IsDirectory}
@@ -17,7 +17,7 @@ use Rattle.posix_calls.proofs.Changes.{IsBare, entry}
 use Rattle.posix_calls.proofs.Reached.{Avoids, Chain, Edge}
 
 -- what came of questions one after another came of each
-pub bind_ok : {A B : Type 0} (v : View) (q : Asks A) (f : A → Asks B) (b : B) → run v (q >>= f) ≡ Ok b → (a : A) × (run v q ≡ Ok a) × (run v (f a) ≡ Ok b)
+pub bind_ok : {A B : Type 0} (v : View) (q : Query A) (f : A → Query B) (b : B) → run v (q >>= f) ≡ Ok b → (a : A) × (run v q ≡ Ok a) × (run v (f a) ≡ Ok b)
 unfolding run ◌>>=◌
 bind_ok v (Gives x) f b e = (x, refl, e)
 bind_ok v (Refuses x) f b e = absurd (cc)
@@ -98,8 +98,8 @@ directory_is t (Some i) c e = by_kind (t i) refl e where
 
 -- where a walk of one name or more ends
 pub record IsPlace (t : Tree) (place : Place) : Type 0 where
-  pub directory : IsDirectory (t place.spot.parent)
-  pub inode : place.inode ≡ entry t place.spot
+  pub directory : IsDirectory (t place.location.parent)
+  pub inode : place.inode ≡ entry t place.location
 
 pub place_is : (t : Tree) (from : ℕ) (way : List ℕ) (name : List ℕ) (names : List (List ℕ)) (place : Place) → IsDirectory (t from) → run (view_of t) (walk from way (name ∷ names)) ≡ Ok place → IsPlace t place
 unfolding walk
@@ -118,7 +118,7 @@ place_is t from way name (next ∷ names) place is e =
 pub record IsWalk (t : Tree) (i from : ℕ) (way : List ℕ) (place : Place) : Type 0 where
   pub steps : List ℕ
   pub clear : Avoids i steps
-  pub chain : Chain t from steps place.spot.parent
+  pub chain : Chain t from steps place.location.parent
   pub before : list_any (λ d. d == i) (from ∷ way) ≡ false
 
 pub walk_is : (t : Tree) (i from : ℕ) (way : List ℕ) (name : List ℕ) (names : List (List ℕ)) (place : Place) → run (view_of t) (walk from way (name ∷ names)) ≡ Ok place → list_any (λ d. d == i) place.walked ≡ false → IsWalk t i from way place
@@ -127,7 +127,7 @@ walk_is t i from way name [] place e apart =
     let v = view_of t in
     let s = bind_ok v _ _ _ e in
     let made = given v s.2 in
-    record { steps = []; clear = tt; chain = ap (λ p. p.spot.parent) made; before = ap (λ p. list_any (λ d. d == i) p.walked) made ∙ apart }
+    record { steps = []; clear = tt; chain = ap (λ p. p.location.parent) made; before = ap (λ p. list_any (λ d. d == i) p.walked) made ∙ apart }
 walk_is t i from way name (next ∷ names) place e apart =
     let v = view_of t in
     let s = bind_ok v _ _ _ e in

@@ -1,8 +1,8 @@
 -- When a file goes: with its last name and its last descriptor.
 use Rattle.std.proofs.Common.{◌≡◌, [], ◌∷◌, true, false, refl, Some, None, ◌∙◌}
 use Rattle.posix_calls.specs.Tree.{File, State, empty_tree, set_node, set_descriptor, names_of, is_open, any_up_to}
-use Rattle.posix_calls.specs.declared.deed.Deed.TheVariants.{CloseFile}
-use Rattle.posix_calls.specs.Deeds.{state_after}
+use Rattle.posix_calls.specs.declared.operation.Operation.TheVariants.{CloseFile}
+use Rattle.posix_calls.specs.Operations.{state_after}
 use Rattle.posix_calls.proofs.Changes.{bare_names}
 use Rattle.posix_calls.proofs.Settled.{no_names}
 

@@ -1,17 +1,17 @@
--- When a deed fits a state, and that the state after it is then well-formed.
+-- When a operation fits a state, and that the state after it is then well-formed.
 use Rattle.std.proofs.Common.{◌≡◌, ◌≢◌, ℕ, ◌<◌, ◌≤◌, List, [], ◌∷◌, refl, Some, None, cond, ap, sym, ◌∙◌, subst, Bool, true, false, ◌==◌, if◌then◌else◌}
 use Rattle.std.specs.Prelude.{option_map, ◌&&◌, not}
 use Rattle.std.specs.FinMap as fin
 use Rattle.posix_calls.specs.Content.{written, resized}
 use Rattle.posix_calls.specs.Tree.{Tree, File, Dir, with_own, Own, State, set_node, names_of, is_open, bytes_of, entries_of}
 use Rattle.posix_calls.specs.declared.descriptor.Descriptor.{Descriptor}
-use Rattle.posix_calls.specs.Asks.{dir_test}
-use Rattle.posix_calls.specs.declared.deed.Spot.{Spot}
-use Rattle.posix_calls.specs.declared.deed.Deed.{Deed}
-use Rattle.posix_calls.specs.declared.deed.Replaced.{Replaced}
-use Rattle.posix_calls.specs.declared.deed.Deed.TheVariants.{Tell, NewDir, NewFile, OpenFile, CloseFile, Write, Resize, RemoveDir, AddName, DropName, Move}
-use Rattle.posix_calls.specs.declared.deed.Replaced.TheVariants.{Nothing, OldFile, OldDir}
-use Rattle.posix_calls.specs.Deeds.{entered, left, less_unused, less_replaced, tree_after, makes, IsFree, state_after}
+use Rattle.posix_calls.specs.Query.{dir_test}
+use Rattle.posix_calls.specs.declared.operation.Location.{Location}
+use Rattle.posix_calls.specs.declared.operation.Operation.{Operation}
+use Rattle.posix_calls.specs.declared.operation.Replaced.{Replaced}
+use Rattle.posix_calls.specs.declared.operation.Operation.TheVariants.{Tell, NewDir, NewFile, OpenFile, CloseFile, Write, Resize, RemoveDir, AddName, DropName, Move}
+use Rattle.posix_calls.specs.declared.operation.Replaced.TheVariants.{Nothing, OldFile, OldDir}
+use Rattle.posix_calls.specs.Operations.{entered, left, less_unused, less_replaced, tree_after, makes, IsFree, state_after}
 use Rattle.posix_calls.specs.WellFormed.{IsDirectory, IsFile, IsWellFormed}
 use Rattle.posix_calls.proofs.Changes.{IsBare, IsRoom, entry, entry_parent, bare_entry, bare_file, bare_entries, set_there, set_other, entered_kind, left_kind, left_here, left_keeps}
 use Rattle.posix_calls.proofs.Reached.{Avoids, Chain, nowhere, chain_moves}
@@ -25,13 +25,13 @@ pub record IsNumber (own : Own) (number : ℕ) : Type 0 where
   pub free : own number ≡ None
 
 -- what a rename puts out of its place has that name, and is another inode than the one that moves
-abbrev pub FitsReplaced : Tree → Spot → ℕ → Replaced → Type 0
+abbrev pub FitsReplaced : Tree → Location → ℕ → Replaced → Type 0
 FitsReplaced t to i Nothing = IsRoom t to
 FitsReplaced t to i (OldFile j) = (i ≢ j) × (entry t to ≡ Some j) × IsFile (t j)
 FitsReplaced t to i (OldDir j) = (i ≢ j) × (entry t to ≡ Some j) × IsDirectory (t j) × IsBare (t j)
 
--- a deed finds what it needs
-abbrev pub Fits : Tree → Own → Deed → Type 0
+-- a operation finds what it needs
+abbrev pub Fits : Tree → Own → Operation → Type 0
 Fits t own (Tell answer) = Unit {0}
 Fits t own (NewDir at) = IsRoom t at
 Fits t own (NewFile at number reads writes) = IsRoom t at × IsNumber own number
@@ -63,14 +63,14 @@ avoids_bare : (t : Tree) (j a : ℕ) (qs : List ℕ) (q : ℕ) → IsBare (t j) 
 avoids_bare t j a [] q bare other e = tt
 avoids_bare t j a (c ∷ qs) q bare other e = (λ same. nowhere t j qs q bare other (subst (λ x. Chain t x qs q) same e.1), avoids_bare t j c qs q bare other e.1)
 
-module _ (s : State) (u : Tree) (from to : Spot) (i j : ℕ) (is : entry s.tree from ≡ Some i) (other : i ≢ j) (there : entry s.tree to ≡ Some j) (bare : IsBare (s.tree j)) (less : IsLess (left s.tree to) u j) where
+module _ (s : State) (u : Tree) (from to : Location) (i j : ℕ) (is : entry s.tree from ≡ Some i) (other : i ≢ j) (there : entry s.tree to ≡ Some j) (bare : IsBare (s.tree j)) (less : IsLess (left s.tree to) u j) where
   parent : IsDirectory (s.tree to.parent)
   parent = entry_parent (s.tree to.parent) to.name j there
 
   pub parent_apart : to.parent ≢ j
   parent_apart same = bare_entry (s.tree j) to.name j bare (ap (λ k. entry s.tree (record { parent = k; name = to.name })) (sym same) ∙ there)
 
-  same_entry : (x : Spot) → entry u x ≡ entry (left s.tree to) x
+  same_entry : (x : Location) → entry u x ≡ entry (left s.tree to) x
   same_entry x = ap (λ m. fin.get m x.name) (less.entries x.parent)
 
   -- then the moved name finds what it needs
@@ -84,10 +84,10 @@ module _ (s : State) (u : Tree) (from to : Spot) (i j : ℕ) (is : entry s.tree 
   moved_after fine way = moved_fine (record { tree = u; descriptors = s.descriptors }) from to i fine from_after room_after
       (way.0, way.1, chain_moves s.tree u j (λ a c off e. (e.0, same_entry (record { parent = a; name = e.0 }) ∙ left_keeps s.tree to j there (record { parent = a; name = e.0 }) c off e.1)) 1 way.0 to.parent (avoids_bare s.tree j 1 way.0 to.parent bare parent_apart way.2) way.2)
 
-pub bare_left : (t : Tree) (to : Spot) (j : ℕ) → entry t to ≡ Some j → IsBare (t j) → IsBare (left t to j)
+pub bare_left : (t : Tree) (to : Location) (j : ℕ) → entry t to ≡ Some j → IsBare (t j) → IsBare (left t to j)
 bare_left t to j there bare = ap entries_of (set_other t to.parent j _ (λ same. bare_entry (t j) to.name j bare (ap (λ k. entry t (record { parent = k; name = to.name })) same ∙ there))) ∙ bare
 
-replaced_fine : (s : State) (from to : Spot) (i : ℕ) (replaced : Replaced) → IsWellFormed s → entry s.tree from ≡ Some i → FitsReplaced s.tree to i replaced → IsWay s.tree i to.parent
+replaced_fine : (s : State) (from to : Location) (i : ℕ) (replaced : Replaced) → IsWellFormed s → entry s.tree from ≡ Some i → FitsReplaced s.tree to i replaced → IsWay s.tree i to.parent
     → IsWellFormed (record { tree = entered (left (less_replaced s.descriptors s.tree to replaced) from) to i; descriptors = s.descriptors })
 replaced_fine s from to i Nothing fine is fits way = moved_fine s from to i fine is fits way
 replaced_fine s from to i (OldFile j) fine is fits way =
@@ -99,12 +99,12 @@ replaced_fine s from to i (OldDir j) fine is fits way =
     let less = less_none (left s.tree to) j (bare_left s.tree to j fits.1 fits.3) in
     moved_after s (set_node (left s.tree to) j None) from to i j is fits.0 fits.1 fits.3 less (removed_fine s to j fine fits.1 fits.2 fits.3) way
 
--- ---- every deed
+-- ---- every operation
 
--- where a deed leaves the descriptors, they are those that there were
-kept_held : (s : State) (client new : ℕ) (deed : Deed) → IsWellFormed (record { tree = tree_after s.descriptors new s.tree deed; descriptors = s.descriptors })
-    → IsWellFormed (record { tree = tree_after (with_own s.descriptors client (s.descriptors client)) new s.tree deed; descriptors = with_own s.descriptors client (s.descriptors client) })
-kept_held s client new deed fine = subst (λ held. IsWellFormed (record { tree = tree_after held new s.tree deed; descriptors = held })) (sym (with_same s.descriptors client)) fine
+-- where a operation leaves the descriptors, they are those that there were
+kept_held : (s : State) (client new : ℕ) (operation : Operation) → IsWellFormed (record { tree = tree_after s.descriptors new s.tree operation; descriptors = s.descriptors })
+    → IsWellFormed (record { tree = tree_after (with_own s.descriptors client (s.descriptors client)) new s.tree operation; descriptors = with_own s.descriptors client (s.descriptors client) })
+kept_held s client new operation fine = subst (λ held. IsWellFormed (record { tree = tree_after held new s.tree operation; descriptors = held })) (sym (with_same s.descriptors client)) fine
 
 opened_if : (s : State) (client number i : ℕ) (empties r w : Bool) → IsWellFormed s → IsFile (s.tree i) → 1 ≤ client → client ≤ 8 → IsNumber (s.descriptors client) number
     → IsWellFormed (record { tree = if empties then set_node s.tree i (Some (File [])) else s.tree; descriptors = more_held s.descriptors client number i r w })
@@ -112,13 +112,13 @@ opened_if s client number i true r w fine file low high num =
     opened_fine (record { tree = set_node s.tree i (Some (File [])); descriptors = s.descriptors }) client number i r w (written_fine s i [] fine file) (ap (option_map dir_test) (set_there s.tree i (Some (File [])))) low high num.few num.free
 opened_if s client number i false r w fine file low high num = opened_fine s client number i r w fine file low high num.few num.free
 
--- the state after a deed that fits is well-formed
-pub deed_fine : (s : State) (client new : ℕ) (deed : Deed) → IsWellFormed s → 1 ≤ client → client ≤ 8 → Fits s.tree (s.descriptors client) deed → (makes deed ≡ true → IsFree s.tree new) → IsWellFormed (state_after client new s deed)
-deed_fine s client new (Tell answer) fine low high fits free = kept_held s client new (Tell answer) fine
-deed_fine s client new (NewDir at) fine low high fits free =
+-- the state after a operation that fits is well-formed
+pub operation_fine : (s : State) (client new : ℕ) (operation : Operation) → IsWellFormed s → 1 ≤ client → client ≤ 8 → Fits s.tree (s.descriptors client) operation → (makes operation ≡ true → IsFree s.tree new) → IsWellFormed (state_after client new s operation)
+operation_fine s client new (Tell answer) fine low high fits free = kept_held s client new (Tell answer) fine
+operation_fine s client new (NewDir at) fine low high fits free =
     let f = free refl in
     kept_held s client new (NewDir at) (made_fine s at new (Dir fin.empty) fine fits f.none f.low f.high refl)
-deed_fine s client new (NewFile at number r w) fine low high fits free =
+operation_fine s client new (NewFile at number r w) fine low high fits free =
     let f = free refl in
     let room = fits.0 in
     let made = set_node s.tree new (Some (File [])) in
@@ -128,11 +128,11 @@ deed_fine s client new (NewFile at number r w) fine low high fits free =
     (made_fine s at new (File []) fine room f.none f.low f.high refl)
     (entered_kind made at new parent new ∙ ap (option_map dir_test) (set_there s.tree new (Some (File []))))
     low high fits.1.few fits.1.free
-deed_fine s client new (OpenFile i empties number r w) fine low high fits free = opened_if s client number i empties r w fine fits.0 low high fits.1
-deed_fine s client new (CloseFile i number) fine low high fits free = closed_fine s client number i fits.0 fine fits.1 fits.2
-deed_fine s client new (Write i at bytes) fine low high fits free = kept_held s client new (Write i at bytes) (written_fine s i (written at bytes (bytes_of (s.tree i))) fine fits)
-deed_fine s client new (Resize i len) fine low high fits free = kept_held s client new (Resize i len) (written_fine s i (resized len (bytes_of (s.tree i))) fine fits)
-deed_fine s client new (RemoveDir at i) fine low high fits free = kept_held s client new (RemoveDir at i) (removed_fine s at i fine fits.0 fits.1 fits.2)
-deed_fine s client new (AddName at i) fine low high fits free = kept_held s client new (AddName at i) (added_fine s at i fine fits.0 fits.1)
-deed_fine s client new (DropName at i) fine low high fits free = kept_held s client new (DropName at i) (dropped_fine s at i fine fits.0 fits.1)
-deed_fine s client new (Move from to i is_dir replaced) fine low high fits free = kept_held s client new (Move from to i is_dir replaced) (replaced_fine s from to i replaced fine fits.0 fits.1 fits.2)
+operation_fine s client new (OpenFile i empties number r w) fine low high fits free = opened_if s client number i empties r w fine fits.0 low high fits.1
+operation_fine s client new (CloseFile i number) fine low high fits free = closed_fine s client number i fits.0 fine fits.1 fits.2
+operation_fine s client new (Write i at bytes) fine low high fits free = kept_held s client new (Write i at bytes) (written_fine s i (written at bytes (bytes_of (s.tree i))) fine fits)
+operation_fine s client new (Resize i len) fine low high fits free = kept_held s client new (Resize i len) (written_fine s i (resized len (bytes_of (s.tree i))) fine fits)
+operation_fine s client new (RemoveDir at i) fine low high fits free = kept_held s client new (RemoveDir at i) (removed_fine s at i fine fits.0 fits.1 fits.2)
+operation_fine s client new (AddName at i) fine low high fits free = kept_held s client new (AddName at i) (added_fine s at i fine fits.0 fits.1)
+operation_fine s client new (DropName at i) fine low high fits free = kept_held s client new (DropName at i) (dropped_fine s at i fine fits.0 fits.1)
+operation_fine s client new (Move from to i is_dir replaced) fine low high fits free = kept_held s client new (Move from to i is_dir replaced) (replaced_fine s from to i replaced fine fits.0 fits.1 fits.2)

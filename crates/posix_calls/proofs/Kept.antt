@@ -1,11 +1,11 @@
--- What each change by a deed leaves of a well-formed state: files that are written, opened and closed.
+-- What each change by a operation leaves of a well-formed state: files that are written, opened and closed.
 use Rattle.std.proofs.Common.{◌≡◌, ◌≢◌, ◌⊎◌, inl, inr, ℕ, ◌<◌, ◌≤◌, List, refl, Some, None, Option, ap, sym, ◌∙◌, subst, Bool, true, false, arith, ◌==◌, if◌then◌else◌}
 use Rattle.std.specs.Prelude.{option_map, is_some, ◌&&◌, not}
 use Rattle.std.proofs.lemmas.Bool.Decides.{eqb_tells}
 use Rattle.posix_calls.specs.Tree.{Tree, Node, File, Descriptors, State, set_node, set_own, with_own, names_of, is_open}
 use Rattle.posix_calls.specs.declared.descriptor.Descriptor.{Descriptor}
-use Rattle.posix_calls.specs.Asks.{dir_test}
-use Rattle.posix_calls.specs.Deeds.{less_unused}
+use Rattle.posix_calls.specs.Query.{dir_test}
+use Rattle.posix_calls.specs.Operations.{less_unused}
 use Rattle.posix_calls.specs.WellFormed.{IsDirectory, IsFile, IsWellFormed}
 use Rattle.posix_calls.proofs.Changes.{bare_file, bare_same, bare_names, set_there, set_other}
 use Rattle.posix_calls.proofs.Reached.{AreReached, reached_beside}

@@ -7,13 +7,13 @@ use Rattle.posix_calls.specs.declared.errno.Errno.TheVariants as errno
 use Rattle.posix_calls.specs.declared.call.Call.{Call}
 use Rattle.posix_calls.specs.declared.call.Reply.{Reply}
 use Rattle.posix_calls.specs.Tree.{State}
-use Rattle.posix_calls.specs.Asks.{run, view_of}
+use Rattle.posix_calls.specs.Query.{run, view_of}
 use Rattle.posix_calls.specs.Decide.{decide}
-use Rattle.posix_calls.specs.declared.deed.Deed.{Deed}
-use Rattle.posix_calls.specs.Deeds.{is_client, answer, Follows, Step}
+use Rattle.posix_calls.specs.declared.operation.Operation.{Operation}
+use Rattle.posix_calls.specs.Operations.{is_client, answer, Follows, Step}
 use Rattle.posix_calls.specs.Run.{Turn, Run}
 use Rattle.posix_calls.specs.WellFormed.{IsWellFormed}
-use Rattle.posix_calls.proofs.Fits.{Fits, deed_fine}
+use Rattle.posix_calls.proofs.Fits.{Fits, operation_fine}
 use Rattle.posix_calls.proofs.Calls.{decide_fits}
 
 both : (a b : Bool) → (a && b) ≡ true → (a ≡ true) × (b ≡ true)
@@ -21,24 +21,24 @@ both true b e = (refl, e)
 both false b e = absurd (cc)
 
 -- an answer that is no error came of a client's call
-pub record IsAnswered (s : State) (client : ℕ) (c : Call) (deed : Deed) : Type 0 where
+pub record IsAnswered (s : State) (client : ℕ) (c : Call) (operation : Operation) : Type 0 where
   pub low : 1 ≤ client
   pub high : client ≤ 8
-  pub is : run (view_of s.tree) (decide (s.descriptors client) c) ≡ Ok deed
+  pub is : run (view_of s.tree) (decide (s.descriptors client) c) ≡ Ok operation
 
-pub answered : (s : State) (client : ℕ) (c : Call) (deed : Deed) → answer s client c ≡ Ok deed → IsAnswered s client c deed
-answered s client c deed e = elim (is_client client) as (λ b. is_client client ≡ b → ◌≡◌ {A = Result Deed Errno} (cond b (run (view_of s.tree) (decide (s.descriptors client) c)) (Err errno.Invalid)) (Ok deed) → IsAnswered s client c deed) [
+pub answered : (s : State) (client : ℕ) (c : Call) (operation : Operation) → answer s client c ≡ Ok operation → IsAnswered s client c operation
+answered s client c operation e = elim (is_client client) as (λ b. is_client client ≡ b → ◌≡◌ {A = Result Operation Errno} (cond b (run (view_of s.tree) (decide (s.descriptors client) c)) (Err errno.Invalid)) (Ok operation) → IsAnswered s client c operation) [
   | true ↦ λ is came. let r = both (nat_le 1 client) (nat_le client 8) is in record { low = leb-true 1 client r.0; high = leb-true client 8 r.1; is = came }
   | false ↦ λ is came. absurd (cc)
 ] refl e
 
-follows_fine : (s : State) (client new : ℕ) (a : Result Deed Errno) (r : Reply) (after : State) → IsWellFormed s → ((deed : Deed) → a ≡ Ok deed → (1 ≤ client) × (client ≤ 8) × Fits s.tree (s.descriptors client) deed) → Follows s client new a r after → IsWellFormed after
+follows_fine : (s : State) (client new : ℕ) (a : Result Operation Errno) (r : Reply) (after : State) → IsWellFormed s → ((operation : Operation) → a ≡ Ok operation → (1 ≤ client) × (client ≤ 8) × Fits s.tree (s.descriptors client) operation) → Follows s client new a r after → IsWellFormed after
 follows_fine s client new (Err e) r after fine fits f = subst IsWellFormed (sym f.1) fine
-follows_fine s client new (Ok deed) r after fine fits f = let at = fits deed refl in subst IsWellFormed (sym f.2) (deed_fine s client new deed fine at.0 at.1 at.2 f.0)
+follows_fine s client new (Ok operation) r after fine fits f = let at = fits operation refl in subst IsWellFormed (sym f.2) (operation_fine s client new operation fine at.0 at.1 at.2 f.0)
 
 -- a step leaves the state well-formed
 pub step_fine : (old : State) (client : ℕ) (c : Call) (r : Reply) (after : State) → IsWellFormed old → Step old client c r after → IsWellFormed after
-step_fine old client c r after fine (inl f) = follows_fine old client f.0 (answer old client c) r after fine (λ deed e. let is = answered old client c deed e in (is.low, is.high, decide_fits old fine client c deed is.is)) f.1
+step_fine old client c r after fine (inl f) = follows_fine old client f.0 (answer old client c) r after fine (λ operation e. let is = answered old client c operation e in (is.low, is.high, decide_fits old fine client c operation is.is)) f.1
 step_fine old client c r after fine (inr g) = subst IsWellFormed (sym g.3) fine
 
 -- so does a run

@@ -1,10 +1,10 @@
--- What each change by a deed leaves of a well-formed state: names that come, go and move.
+-- What each change by a operation leaves of a well-formed state: names that come, go and move.
 use Rattle.std.proofs.Common.{◌≡◌, ◌≢◌, inl, inr, ℕ, ◌+◌, ◌<◌, ◌≤◌, List, refl, Some, None, cond, ap, sym, ◌∙◌, subst, Bool, true, false, arith, ◌==◌}
 use Rattle.std.specs.Prelude.{option_map, is_some}
 use Rattle.posix_calls.specs.Tree.{Tree, Node, State, set_node, entries_of, names_of}
-use Rattle.posix_calls.specs.Asks.{dir_test}
-use Rattle.posix_calls.specs.declared.deed.Spot.{Spot}
-use Rattle.posix_calls.specs.Deeds.{entered, left, less_unused}
+use Rattle.posix_calls.specs.Query.{dir_test}
+use Rattle.posix_calls.specs.declared.operation.Location.{Location}
+use Rattle.posix_calls.specs.Operations.{entered, left, less_unused}
 use Rattle.posix_calls.specs.WellFormed.{IsDirectory, IsFile, IsWellFormed}
 use Rattle.posix_calls.proofs.Changes.{IsBare, IsRoom, entry, entry_parent, bare_entry, bare_file, bare_same, bare_names, set_there, set_other, entered_kind, entered_here, entered_keeps, entered_names, left_kind, left_none, left_keeps, left_names, off_one, on_one}
 use Rattle.posix_calls.proofs.Reached.{Avoids, Chain, reached_beside, reached_moved, reached_new}
@@ -12,14 +12,14 @@ use Rattle.posix_calls.proofs.Trees.{tree_of, reached_of, range_of, parent_range
 use Rattle.posix_calls.proofs.Kept.{not_both, file_not_root, dirs_set, unused_fine}
 
 -- what is named is not the root
-pub named_not_root : (s : State) (at : Spot) (i : ℕ) → IsWellFormed s → entry s.tree at ≡ Some i → i ≢ 1
+pub named_not_root : (s : State) (at : Location) (i : ℕ) → IsWellFormed s → entry s.tree at ≡ Some i → i ≢ 1
 named_not_root s at i fine is same =
     let one = named_once s.tree at i (tree_of s fine) is in
     let zero_names : names_of s.tree i ≡ 0 = ap (names_of s.tree) same ∙ fine.root_names in
     omega (arith, one, zero_names)
 
 -- no other inode's names change where a name goes
-left_names_other : (s : State) (at : Spot) (i : ℕ) → IsWellFormed s → entry s.tree at ≡ Some i → (j : ℕ) → j ≢ i → names_of (left s.tree at) j ≡ names_of s.tree j
+left_names_other : (s : State) (at : Location) (i : ℕ) → IsWellFormed s → entry s.tree at ≡ Some i → (j : ℕ) → j ≢ i → names_of (left s.tree at) j ≡ names_of s.tree j
 left_names_other s at i fine is j off =
     let range = parent_range s.tree at i (tree_of s fine) is in
     let change = left_names s.tree at i is range.0 range.1 j in
@@ -28,7 +28,7 @@ left_names_other s at i fine is j off =
 
 -- ---- a file loses a name
 
-pub dropped_fine : (s : State) (at : Spot) (i : ℕ) → IsWellFormed s → entry s.tree at ≡ Some i → IsFile (s.tree i) → IsWellFormed (record { tree = less_unused s.descriptors (left s.tree at) i; descriptors = s.descriptors })
+pub dropped_fine : (s : State) (at : Location) (i : ℕ) → IsWellFormed s → entry s.tree at ≡ Some i → IsFile (s.tree i) → IsWellFormed (record { tree = less_unused s.descriptors (left s.tree at) i; descriptors = s.descriptors })
 dropped_fine s at i fine is file =
     let t = s.tree in
     let parent : IsDirectory (t at.parent) = entry_parent (t at.parent) at.name i is in
@@ -44,7 +44,7 @@ dropped_fine s at i fine is file =
 
 -- ---- an empty directory goes
 
-pub removed_fine : (s : State) (at : Spot) (i : ℕ) → IsWellFormed s → entry s.tree at ≡ Some i → IsDirectory (s.tree i) → IsBare (s.tree i) → IsWellFormed (record { tree = set_node (left s.tree at) i None; descriptors = s.descriptors })
+pub removed_fine : (s : State) (at : Location) (i : ℕ) → IsWellFormed s → entry s.tree at ≡ Some i → IsDirectory (s.tree i) → IsBare (s.tree i) → IsWellFormed (record { tree = set_node (left s.tree at) i None; descriptors = s.descriptors })
 removed_fine s at i fine is dir bare =
     let t = s.tree in
     let tree = tree_of s fine in
@@ -87,7 +87,7 @@ removed_fine s at i fine is dir bare =
 
 -- ---- a file has one more name
 
-pub added_fine : (s : State) (at : Spot) (i : ℕ) → IsWellFormed s → IsRoom s.tree at → IsFile (s.tree i) → IsWellFormed (record { tree = entered s.tree at i; descriptors = s.descriptors })
+pub added_fine : (s : State) (at : Location) (i : ℕ) → IsWellFormed s → IsRoom s.tree at → IsFile (s.tree i) → IsWellFormed (record { tree = entered s.tree at i; descriptors = s.descriptors })
 added_fine s at i fine room file =
     let t = s.tree in
     let tree = tree_of s fine in
@@ -113,7 +113,7 @@ added_fine s at i fine room file =
 
 -- ---- a node is made
 
-pub made_fine : (s : State) (at : Spot) (i : ℕ) (x : Node) → IsWellFormed s → IsRoom s.tree at → s.tree i ≡ None → 1 < i → i ≤ 1024 → IsBare (Some x) → IsWellFormed (record { tree = entered (set_node s.tree i (Some x)) at i; descriptors = s.descriptors })
+pub made_fine : (s : State) (at : Location) (i : ℕ) (x : Node) → IsWellFormed s → IsRoom s.tree at → s.tree i ≡ None → 1 < i → i ≤ 1024 → IsBare (Some x) → IsWellFormed (record { tree = entered (set_node s.tree i (Some x)) at i; descriptors = s.descriptors })
 made_fine s at i x fine room free low high new =
     let t = s.tree in
     let tree = tree_of s fine in
@@ -154,14 +154,14 @@ abbrev pub IsWay : Tree → ℕ → ℕ → Type 0
 IsWay t i q = (qs : List ℕ) × Avoids i qs × Chain t 1 qs q
 
 -- no names' number changes
-pub moved_names : (s : State) (from to : Spot) (i : ℕ) → IsWellFormed s → entry s.tree from ≡ Some i → IsRoom s.tree to → (k : ℕ) → names_of (entered (left s.tree from) to i) k ≡ names_of s.tree k
+pub moved_names : (s : State) (from to : Location) (i : ℕ) → IsWellFormed s → entry s.tree from ≡ Some i → IsRoom s.tree to → (k : ℕ) → names_of (entered (left s.tree from) to i) k ≡ names_of s.tree k
 moved_names s from to i fine is room k =
     let tree = tree_of s fine in
     let old_range = parent_range s.tree from i tree is in
     let range = range_of s.tree to.parent true tree room.directory in
     entered_names (left s.tree from) to i (left_none s.tree from to room.none) range.0 range.1 k ∙ left_names s.tree from i is old_range.0 old_range.1 k
 
-pub moved_fine : (s : State) (from to : Spot) (i : ℕ) → IsWellFormed s → entry s.tree from ≡ Some i → IsRoom s.tree to → IsWay s.tree i to.parent → IsWellFormed (record { tree = entered (left s.tree from) to i; descriptors = s.descriptors })
+pub moved_fine : (s : State) (from to : Location) (i : ℕ) → IsWellFormed s → entry s.tree from ≡ Some i → IsRoom s.tree to → IsWay s.tree i to.parent → IsWellFormed (record { tree = entered (left s.tree from) to i; descriptors = s.descriptors })
 moved_fine s from to i fine is room way =
     let t = s.tree in
     let tree = tree_of s fine in

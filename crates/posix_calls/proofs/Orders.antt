@@ -5,11 +5,11 @@ use Rattle.std.specs.FinMap as fin
 use Rattle.posix_calls.specs.Content.{Entries}
 use Rattle.posix_calls.specs.declared.errno.Errno.TheVariants as errno
 use Rattle.posix_calls.specs.declared.call.Reply.TheVariants as reply
-use Rattle.posix_calls.specs.Asks.{View, Seen, File, Dir, run}
+use Rattle.posix_calls.specs.Query.{View, Seen, File, Dir, run}
 use Rattle.posix_calls.specs.Walk.{walk}
 use Rattle.posix_calls.specs.Decide.{open_path, pwrite, truncate, mkdir, link, rename, stat}
-use Rattle.posix_calls.specs.declared.deed.Deed.TheVariants.{Tell, NewFile, Move}
-use Rattle.posix_calls.specs.declared.deed.Replaced.TheVariants.{Nothing, OldFile}
+use Rattle.posix_calls.specs.declared.operation.Operation.TheVariants.{Tell, NewFile, Move}
+use Rattle.posix_calls.specs.declared.operation.Replaced.TheVariants.{Nothing, OldFile}
 use Rattle.posix_calls.proofs.Answers.{runs}
 use Rattle.posix_calls.proofs.Rows.{one_of, closed, full, reading, writing, r, rt, rc}
 

@@ -8,11 +8,11 @@ use Rattle.posix_calls.specs.Tree as N
 use Rattle.posix_calls.specs.declared.errno.Errno.TheVariants as errno
 use Rattle.posix_calls.specs.declared.call.Flags.{Flags}
 use Rattle.posix_calls.specs.declared.call.Reply.TheVariants as reply
-use Rattle.posix_calls.specs.Asks.{run, view_of}
+use Rattle.posix_calls.specs.Query.{run, view_of}
 use Rattle.posix_calls.specs.Walk.{walk}
 use Rattle.posix_calls.specs.Decide.{open_path, close, pread, pwrite, truncate, mkdir, rmdir, link, unlink, rename, list_path, stat}
-use Rattle.posix_calls.specs.declared.deed.Deed.TheVariants.{Tell, NewDir, NewFile, CloseFile, Write, RemoveDir, DropName, Move}
-use Rattle.posix_calls.specs.declared.deed.Replaced.TheVariants.{Nothing}
+use Rattle.posix_calls.specs.declared.operation.Operation.TheVariants.{Tell, NewDir, NewFile, CloseFile, Write, RemoveDir, DropName, Move}
+use Rattle.posix_calls.specs.declared.operation.Replaced.TheVariants.{Nothing}
 use Rattle.posix_calls.proofs.Answers.{runs}
 use Rattle.posix_calls.proofs.Directory.{lists}
 

@@ -5,7 +5,7 @@ use Rattle.std.proofs.lemmas.Bool.{ltb-false, ltb-true}
 use Rattle.std.proofs.lemmas.Bool.Decides.{eqb_tells}
 use Rattle.std.specs.FinMap as fin
 use Rattle.posix_calls.specs.Tree.{Tree, Node, File, Dir, State, entries_of, empty_tree, opening, names_of, names_in, sum_up_to}
-use Rattle.posix_calls.specs.Asks.{dir_test}
+use Rattle.posix_calls.specs.Query.{dir_test}
 use Rattle.posix_calls.specs.Run.{settled_tree, settled}
 use Rattle.posix_calls.specs.Resolve.{resolve_from}
 use Rattle.posix_calls.specs.WellFormed.{IsDirectory, IsFile, IsWellFormed}

@@ -2,9 +2,9 @@
 use Rattle.std.proofs.Common.{◌≡◌, inl, inr, ℕ, List, [], ◌∷◌, ◌++◌, ◌==◌, Bool, true, false, refl, Ok, Err, Result, ap, sym, ◌∙◌, subst, cond}
 use Rattle.std.proofs.lemmas.Bool.Decides.{eqb_tells}
 use Rattle.posix_calls.specs.Tree.{Descriptors, State, with_own}
-use Rattle.posix_calls.specs.declared.deed.Deed.{Deed}
-use Rattle.posix_calls.specs.declared.deed.Deed.TheVariants.{Tell, NewDir, NewFile, OpenFile, CloseFile, Write, Resize, RemoveDir, AddName, DropName, Move}
-use Rattle.posix_calls.specs.Deeds.{makes, reply_of, state_after, answer, Follows, Step}
+use Rattle.posix_calls.specs.declared.operation.Operation.{Operation}
+use Rattle.posix_calls.specs.declared.operation.Operation.TheVariants.{Tell, NewDir, NewFile, OpenFile, CloseFile, Write, Resize, RemoveDir, AddName, DropName, Move}
+use Rattle.posix_calls.specs.Operations.{makes, reply_of, state_after, answer, Follows, Step}
 use Rattle.posix_calls.specs.Run.{Turn, Run}
 use Rattle.posix_calls.specs.declared.errno.Errno.{Errno}
 use Rattle.posix_calls.specs.declared.call.Call.{Call}
@@ -12,17 +12,17 @@ use Rattle.posix_calls.specs.declared.call.Reply.{Reply}
 use Rattle.posix_calls.specs.declared.call.Reply.TheVariants as reply
 
 -- an answer has one reply
-pub reply_same : (old : State) (client i j : ℕ) (a : Result Deed Errno) (r s : Reply) (n m : State) → Follows old client i a r n → Follows old client j a s m → r ≡ s
+pub reply_same : (old : State) (client i j : ℕ) (a : Result Operation Errno) (r s : Reply) (n m : State) → Follows old client i a r n → Follows old client j a s m → r ≡ s
 reply_same old client i j (Err e) r s n m f g = f.0 ∙ sym g.0
-reply_same old client i j (Ok deed) r s n m f g = f.1 ∙ sym g.1
+reply_same old client i j (Ok operation) r s n m f g = f.1 ∙ sym g.1
 
 -- and, for each number of a new node, one state
-pub state_same : (old : State) (client i : ℕ) (a : Result Deed Errno) (r s : Reply) (n m : State) → Follows old client i a r n → Follows old client i a s m → n ≡ m
+pub state_same : (old : State) (client i : ℕ) (a : Result Operation Errno) (r s : Reply) (n m : State) → Follows old client i a r n → Follows old client i a s m → n ≡ m
 state_same old client i (Err e) r s n m f g = f.1 ∙ sym g.1
-state_same old client i (Ok deed) r s n m f g = f.2 ∙ sym g.2
+state_same old client i (Ok operation) r s n m f g = f.2 ∙ sym g.2
 
 -- where no node is made, the number does not matter
-pub number_unused : (old : State) (client i j : ℕ) (deed : Deed) → makes deed ≡ false → state_after client i old deed ≡ state_after client j old deed
+pub number_unused : (old : State) (client i j : ℕ) (operation : Operation) → makes operation ≡ false → state_after client i old operation ≡ state_after client j old operation
 number_unused old client i j (Tell answer) e = refl
 number_unused old client i j (NewDir at) e = absurd (cc)
 number_unused old client i j (NewFile at number reads writes) e = absurd (cc)
@@ -50,8 +50,8 @@ with_same held client = λ t c n. own_kept (c == client) held client c n (is_sam
 pub told_changes_nothing : (old : State) (client i : ℕ) (r : Reply) → state_after client i old (Tell r) ≡ old
 told_changes_nothing old client i r = ap (λ (held : Descriptors). record { tree = old.tree; descriptors = held }) (with_same old.descriptors client)
 
--- only a deed that tells can be answered by an error
-pub failed_tells : (old : State) (client i : ℕ) (deed : Deed) (e : Errno) → reply.Failed e ≡ reply_of deed → state_after client i old deed ≡ old
+-- only a operation that tells can be answered by an error
+pub failed_tells : (old : State) (client i : ℕ) (operation : Operation) (e : Errno) → reply.Failed e ≡ reply_of operation → state_after client i old operation ≡ old
 failed_tells old client i (Tell r) e is = told_changes_nothing old client i r
 failed_tells old client i (NewDir at) e is = absurd (cc)
 failed_tells old client i (NewFile at number reads writes) e is = absurd (cc)
@@ -64,9 +64,9 @@ failed_tells old client i (AddName at k) e is = absurd (cc)
 failed_tells old client i (DropName at k) e is = absurd (cc)
 failed_tells old client i (Move from to k is_dir replaced) e is = absurd (cc)
 
-failed_follows : (old : State) (client i : ℕ) (a : Result Deed Errno) (e : Errno) (new : State) → Follows old client i a (reply.Failed e) new → new ≡ old
+failed_follows : (old : State) (client i : ℕ) (a : Result Operation Errno) (e : Errno) (new : State) → Follows old client i a (reply.Failed e) new → new ≡ old
 failed_follows old client i (Err x) e new f = f.1
-failed_follows old client i (Ok deed) e new f = f.2 ∙ failed_tells old client i deed e f.1
+failed_follows old client i (Ok operation) e new f = f.2 ∙ failed_tells old client i operation e f.1
 
 -- an error changes nothing
 pub failed_step : (old : State) (client : ℕ) (c : Call) (e : Errno) (new : State) → Step old client c (reply.Failed e) new → new ≡ old

@@ -4,9 +4,9 @@ use Rattle.std.proofs.lemmas.Bool.Decides.{eqb_tells}
 use Rattle.std.specs.Prelude.{option_map, IsSome, is_some}
 use Rattle.posix_calls.specs.Tree.{Tree, Node, Descriptors, State, set_node, names_of, is_open}
 use Rattle.posix_calls.specs.declared.descriptor.Descriptor.{Descriptor}
-use Rattle.posix_calls.specs.Asks.{dir_test}
-use Rattle.posix_calls.specs.declared.deed.Spot.{Spot}
-use Rattle.posix_calls.specs.Deeds.{entered, left}
+use Rattle.posix_calls.specs.Query.{dir_test}
+use Rattle.posix_calls.specs.declared.operation.Location.{Location}
+use Rattle.posix_calls.specs.Operations.{entered, left}
 use Rattle.posix_calls.specs.WellFormed.{IsDirectory, IsFile, IsWellFormed}
 use Rattle.posix_calls.proofs.Changes.{entry, entry_parent, set_other, entered_kind, left_kind, has_name}
 use Rattle.posix_calls.proofs.Reached.{AreReached, path_chain, chain_path}
@@ -38,21 +38,21 @@ some_alike o p same is = sym (some_map o) ∙ ap is_some same ∙ some_map p ∙
 pub range_of : (t : Tree) (i : ℕ) (b : Bool) → IsTree t → option_map dir_test (t i) ≡ Some b → (1 ≤ i) × (i ≤ 1024)
 range_of t i b tree is = tree.inodes i (some_kind (t i) b is)
 
-pub parent_range : (t : Tree) (at : Spot) (i : ℕ) → IsTree t → entry t at ≡ Some i → (1 ≤ at.parent) × (at.parent ≤ 1024)
+pub parent_range : (t : Tree) (at : Location) (i : ℕ) → IsTree t → entry t at ≡ Some i → (1 ≤ at.parent) × (at.parent ≤ 1024)
 parent_range t at i tree is = range_of t at.parent true tree (entry_parent (t at.parent) at.name i is)
 
-pub named_once : (t : Tree) (at : Spot) (i : ℕ) → IsTree t → entry t at ≡ Some i → 1 ≤ names_of t i
+pub named_once : (t : Tree) (at : Location) (i : ℕ) → IsTree t → entry t at ≡ Some i → 1 ≤ names_of t i
 named_once t at i tree is = let range = parent_range t at i tree is in has_name t at i is range.0 range.1
 
 -- ---- the tree after a change
 
-pub tree_entered : (t : Tree) (at : Spot) (i : ℕ) → IsTree t → IsDirectory (t at.parent) → IsTree (entered t at i)
+pub tree_entered : (t : Tree) (at : Location) (i : ℕ) → IsTree t → IsDirectory (t at.parent) → IsTree (entered t at i)
 tree_entered t at i tree is = record {
   root = entered_kind t at i is 1 ∙ tree.root;
   inodes = λ j some. tree.inodes j (some_alike (t j) (entered t at i j) (sym (entered_kind t at i is j)) some);
 }
 
-pub tree_left : (t : Tree) (at : Spot) → IsTree t → IsDirectory (t at.parent) → IsTree (left t at)
+pub tree_left : (t : Tree) (at : Location) → IsTree t → IsDirectory (t at.parent) → IsTree (left t at)
 tree_left t at tree is = record {
   root = left_kind t at is 1 ∙ tree.root;
   inodes = λ j some. tree.inodes j (some_alike (t j) (left t at j) (sym (left_kind t at is j)) some);
@@ -72,7 +72,7 @@ none_there None e = refl
 none_there (Some x) e = absurd (cc)
 
 -- every entry names a node
-pub node_of : (s : State) (at : Spot) (i : ℕ) → IsWellFormed s → entry s.tree at ≡ Some i → IsSome (s.tree i)
+pub node_of : (s : State) (at : Location) (i : ℕ) → IsWellFormed s → entry s.tree at ≡ Some i → IsSome (s.tree i)
 node_of s at i fine is = elim (s.tree i) as (λ o. s.tree i ≡ o → IsSome o) [
   | None ↦ λ none.
       let one = named_once s.tree at i (tree_of s fine) is in

@@ -4,15 +4,15 @@ use Rattle.std.proofs.lemmas.List.{take_more, take_all, drop_all}
 use Rattle.std.specs.Prelude.{option_map}
 use Rattle.std.specs.List.{list_any}
 use Rattle.posix_calls.specs.declared.errno.Errno.{Errno}
-use Rattle.posix_calls.specs.declared.deed.NoDeed.{NoDeed}
-use Rattle.posix_calls.specs.declared.deed.NoDeed.TheVariants.{Refused, Lacks, Memory}
+use Rattle.posix_calls.specs.declared.operation.DecideError.{DecideError}
+use Rattle.posix_calls.specs.declared.operation.DecideError.TheVariants.{Refused, Missing, Memory}
 use Rattle.posix_calls.specs.declared.walk.Landing.{Landing}
 use Rattle.posix_calls.specs.declared.limits.TheConstants.{ROOT}
-use Rattle.posix_calls.specs.Asks.{Seen, Asks, Gives, Refuses, IsDir, Look, ◌>>=◌, Part, Found, Known, run_part, run, view_of, seen, dir_test}
-use Rattle.posix_calls.specs.Asks as asks
+use Rattle.posix_calls.specs.Query.{Seen, Query, Gives, Refuses, IsDir, Look, ◌>>=◌, Part, Found, Known, run_part, run, view_of, seen, dir_test}
+use Rattle.posix_calls.specs.Query as query
 use Rattle.posix_calls.specs.Walk.{Place, root_place, walk, prefix, led, directory, directory_if, entries_seen, there}
 use Rattle.posix_calls.specs.Answers.{Tells, entry_in, count_in, last_name, landing_of, landing, place_at, child_at}
-use Rattle.posix_calls.proofs.Chain.{then_found, part_bind, part_gives, tells_ok, tells_err, tells_lack, tells_memory, tells_same, bind_stops, gives, look_lacks}
+use Rattle.posix_calls.proofs.Chain.{then_found, part_bind, part_gives, tells_ok, tells_err, tells_missing, tells_memory, tells_same, bind_stops, gives, look_missing}
 use Rattle.std.specs.FinMap as fin
 use Rattle.posix_calls.specs.Content.{Entries}
 use Rattle.posix_calls.specs.Tree.{Tree, Node, File, Dir, names_of}
@@ -62,13 +62,13 @@ prefix_resolves t (name ∷ names) es is = walk_resolves t name names [] ROOT es
 
 -- ---- how questions are grouped
 
-then_assoc : {A B C : Type 0} (p : Part) (found : Found A) (w : A → Asks B) (f : B → Asks C) → then_found (then_found found (λ x. run_part p (w x))) (λ y. run_part p (f y)) ≡ then_found found (λ x. run_part p (w x >>= f))
+then_assoc : {A B C : Type 0} (p : Part) (found : Found A) (w : A → Query B) (f : B → Query C) → then_found (then_found found (λ x. run_part p (w x))) (λ y. run_part p (f y)) ≡ then_found found (λ x. run_part p (w x >>= f))
 then_assoc p (Known (Ok x)) w f = sym (part_bind p (w x) f)
 then_assoc p (Known (Err e)) w f = refl
-then_assoc p (asks.Lacks i) w f = refl
+then_assoc p (query.Missing i) w f = refl
 
 -- how questions are grouped does not matter
-pub part_assoc : {A B C : Type 0} (p : Part) (q : Asks A) (w : A → Asks B) (f : B → Asks C) → run_part p (q >>= w >>= f) ≡ run_part p (q >>= (λ x. w x >>= f))
+pub part_assoc : {A B C : Type 0} (p : Part) (q : Query A) (w : A → Query B) (f : B → Query C) → run_part p (q >>= w >>= f) ≡ run_part p (q >>= (λ x. w x >>= f))
 part_assoc p q w f =
     part_bind p (q >>= w) f
     ∙ ap (λ z. then_found z (λ y. run_part p (f y))) (part_bind p q w)
@@ -110,7 +110,7 @@ same_step {p = p} {watched = watched} {dir = dir} {name = name} before last w =
     ∙ part_assoc p (child_at dir name) (λ child. walk child (dir ∷ w.way) (before ++ last ∷ [])) (λ place. Gives (landing_of watched place))
 
 -- where a step ends the walk, that is told
-pub walked_stops : {p : Part} {watched : ℕ} {names : List (List ℕ)} {dir : ℕ} {passed : Bool} {name : List ℕ} (before : List (List ℕ)) (last : List ℕ) {s : NoDeed} → Walked p watched names dir passed (name ∷ (before ++ last ∷ [])) → Tells p (child_at dir name) (Err s) → Tells p (landing watched names) (Err s)
+pub walked_stops : {p : Part} {watched : ℕ} {names : List (List ℕ)} {dir : ℕ} {passed : Bool} {name : List ℕ} (before : List (List ℕ)) (last : List ℕ) {s : DecideError} → Walked p watched names dir passed (name ∷ (before ++ last ∷ [])) → Tells p (child_at dir name) (Err s) → Tells p (landing watched names) (Err s)
 walked_stops before last w h = tells_same (same_step before last w) (bind_stops _ h)
 
 -- otherwise it goes on
@@ -127,11 +127,11 @@ unfolding walk ◌>>=◌
 last_is p watched dir way name = refl
 
 -- what is not known of the last directory is lacked
-pub walked_lacks : {C : Type 0} {p : Part} {watched : ℕ} {names : List (List ℕ)} {dir : ℕ} {passed : Bool} {last : List ℕ} {s : NoDeed} (g : Option Seen → C) → Walked p watched names dir passed (last ∷ []) → s ≡ Lacks dir → option_map g (p.node dir) ≡ None → Tells p (landing watched names) (Err s)
-walked_lacks {p = p} {watched = watched} {dir = dir} {last = last} g w lack is = tells_same (w.same ∙ last_is p watched dir w.way last) (look_lacks g _ lack is)
+pub walked_missing : {C : Type 0} {p : Part} {watched : ℕ} {names : List (List ℕ)} {dir : ℕ} {passed : Bool} {last : List ℕ} {s : DecideError} (g : Option Seen → C) → Walked p watched names dir passed (last ∷ []) → s ≡ Missing dir → option_map g (p.node dir) ≡ None → Tells p (landing watched names) (Err s)
+walked_missing {p = p} {watched = watched} {dir = dir} {last = last} g w lack is = tells_same (w.same ∙ last_is p watched dir w.way last) (look_missing g _ lack is)
 
 -- what is known is where the walk leads
-lands : (p : Part) (dir : ℕ) (name : List ℕ) (passed : Bool) (o : Option ℕ) (n : ℕ) (s : Option (Option Seen)) → option_map (entry_in name) s ≡ Some o → option_map count_in s ≡ Some n → ◌≡◌ {A = Found Landing} (elim s [ None ↦ asks.Lacks dir | Some a ↦ run_part {A = Landing} p (Gives (record { parent = dir; inode = entry_in name a; entries = count_in a; passed = passed })) ]) (Known (Ok (record { parent = dir; inode = o; entries = n; passed = passed })))
+lands : (p : Part) (dir : ℕ) (name : List ℕ) (passed : Bool) (o : Option ℕ) (n : ℕ) (s : Option (Option Seen)) → option_map (entry_in name) s ≡ Some o → option_map count_in s ≡ Some n → ◌≡◌ {A = Found Landing} (elim s [ None ↦ query.Missing dir | Some a ↦ run_part {A = Landing} p (Gives (record { parent = dir; inode = entry_in name a; entries = count_in a; passed = passed })) ]) (Known (Ok (record { parent = dir; inode = o; entries = n; passed = passed })))
 lands p dir name passed o n None e h = absurd (cc)
 lands p dir name passed o n (Some a) e h =
     let at : entry_in name a ≡ o = cc in
@@ -194,54 +194,54 @@ walked_last {p = p} {watched = watched} {names = names} {dir = dir} {passed = pa
 abbrev pub value_or : {A : Type 0} → A → Found A → A
 value_or d (Known (Ok x)) = x
 value_or d (Known (Err e)) = d
-value_or d (asks.Lacks i) = d
+value_or d (query.Missing i) = d
 
 -- what was found after another was found after its value
 found_after : {A B : Type 0} (found : Found A) (k : A → Found B) (y : B) → then_found found k ≡ Known (Ok y) → (x : A) × (found ≡ Known (Ok x)) × (k x ≡ Known (Ok y))
 found_after (Known (Ok x)) k y e = (x, refl, e)
 found_after (Known (Err d)) k y e = absurd (cc)
-found_after (asks.Lacks i) k y e = absurd (cc)
+found_after (query.Missing i) k y e = absurd (cc)
 
-named_here : (p : Part) (dir : ℕ) (way : List ℕ) (name : List ℕ) (place : Place) (s : Option (Option Seen)) → elim s [ None ↦ asks.Lacks dir | Some a ↦ run_part {A = Place} p (Gives (record { spot = record { parent = dir; name = name }; inode = entry_in name a; walked = dir ∷ way; entries = count_in a })) ] ≡ Known (Ok place) → place.spot.name ≡ name
+named_here : (p : Part) (dir : ℕ) (way : List ℕ) (name : List ℕ) (place : Place) (s : Option (Option Seen)) → elim s [ None ↦ query.Missing dir | Some a ↦ run_part {A = Place} p (Gives (record { location = record { parent = dir; name = name }; inode = entry_in name a; walked = dir ∷ way; entries = count_in a })) ] ≡ Known (Ok place) → place.location.name ≡ name
 unfolding run_part
 named_here p dir way name place None e = absurd (cc)
-named_here p dir way name place (Some a) e = sym (ap (λ z. (value_or root_place z).spot.name) e)
+named_here p dir way name place (Some a) e = sym (ap (λ z. (value_or root_place z).location.name) e)
 
 -- a walk leads to a place of the last name
-named : (p : Part) (names : List (List ℕ)) (dir : ℕ) (way : List ℕ) (place : Place) → run_part p (walk dir way names) ≡ Known (Ok place) → place.spot.name ≡ last_name names
+named : (p : Part) (names : List (List ℕ)) (dir : ℕ) (way : List ℕ) (place : Place) → run_part p (walk dir way names) ≡ Known (Ok place) → place.location.name ≡ last_name names
 unfolding run_part walk ◌>>=◌
-named p [] dir way place e = sym (ap (λ z. (value_or root_place z).spot.name) e)
+named p [] dir way place e = sym (ap (λ z. (value_or root_place z).location.name) e)
 named p (name ∷ []) dir way place e = named_here p dir way name place (p.node dir) e
 named p (name ∷ next ∷ names) dir way place e =
     let after = found_after (run_part p (child_at dir name)) (λ c. run_part p (walk c (dir ∷ way) (next ∷ names))) place (sym (part_bind p (child_at dir name) (λ c. walk c (dir ∷ way) (next ∷ names))) ∙ e) in
     named p (next ∷ names) after.0 (dir ∷ way) place after.2
 
 -- what follows a walk may use what is kept of its place
-pub bind_place : {B : Type 0} {p : Part} (watched : ℕ) (names : List (List ℕ)) {to : Landing} (f : Place → Asks B) {r : Result B NoDeed} → Tells p (landing watched names) (Ok to) → ((walked : List ℕ) → list_any (λ d. d == watched) walked ≡ to.passed → Tells p (f (place_at names to walked)) r) → Tells p (prefix names >>= f) r
+pub bind_place : {B : Type 0} {p : Part} (watched : ℕ) (names : List (List ℕ)) {to : Landing} (f : Place → Query B) {r : Result B DecideError} → Tells p (landing watched names) (Ok to) → ((walked : List ℕ) → list_any (λ d. d == watched) walked ≡ to.passed → Tells p (f (place_at names to walked)) r) → Tells p (prefix names >>= f) r
 bind_place {p = p} watched names {to = to} f {r = r} h rest =
     let after = found_after (run_part p (prefix names)) (λ place. run_part p (Gives (landing_of watched place))) to (sym (part_bind p (prefix names) (λ place. Gives (landing_of watched place))) ∙ h.gives to refl) in
     let place : Place = after.0 in
     let land : landing_of watched place ≡ to = ap (value_or to) (sym (part_gives p (landing_of watched place)) ∙ after.2) in
-    let name : place.spot.name ≡ last_name names = named p names ROOT [] place after.1 in
+    let name : place.location.name ≡ last_name names = named p names ROOT [] place after.1 in
     let same : place_at names to place.walked ≡ place =
     ap (λ t. place_at names t place.walked) (sym land)
-    ∙ ap (λ (n : List ℕ). record { spot = record { parent = place.spot.parent; name = n }; inode = place.inode; walked = place.walked; entries = place.entries }) (sym name) in
+    ∙ ap (λ (n : List ℕ). record { location = record { parent = place.location.parent; name = n }; inode = place.inode; walked = place.walked; entries = place.entries }) (sym name) in
     tells_same (part_bind p (prefix names) f ∙ ap (λ z. then_found z (λ x. run_part p (f x))) after.1) (subst (λ z. Tells p (f z) r) same (rest place.walked (ap (λ t. t.passed) land)))
 
 err_before : {A B : Type 0} (p : Part) (found : Found A) (g : A → B) (e : Errno) → then_found found (λ x. run_part p (Gives (g x))) ≡ Known (Err e) → found ≡ Known (Err e)
 err_before p (Known (Ok x)) g e h = absurd (let clash : Known (Ok (g x)) ≡ Known (Err e) = sym (part_gives p (g x)) ∙ h in cc)
 err_before p (Known (Err d)) g e h = let same : d ≡ e = cc in ap (λ z. Known (Err z)) same
-err_before p (asks.Lacks i) g e h = absurd (cc)
+err_before p (query.Missing i) g e h = absurd (cc)
 
-lack_before : {A B : Type 0} (p : Part) (found : Found A) (g : A → B) (i : ℕ) → then_found found (λ x. run_part p (Gives (g x))) ≡ asks.Lacks i → found ≡ asks.Lacks i
-lack_before p (Known (Ok x)) g i h = absurd (let clash : Known (Ok (g x)) ≡ asks.Lacks i = sym (part_gives p (g x)) ∙ h in cc)
-lack_before p (Known (Err d)) g i h = absurd (cc)
-lack_before p (asks.Lacks j) g i h = let same : j ≡ i = cc in ap (λ z. asks.Lacks z) same
+missing_before : {A B : Type 0} (p : Part) (found : Found A) (g : A → B) (i : ℕ) → then_found found (λ x. run_part p (Gives (g x))) ≡ query.Missing i → found ≡ query.Missing i
+missing_before p (Known (Ok x)) g i h = absurd (let clash : Known (Ok (g x)) ≡ query.Missing i = sym (part_gives p (g x)) ∙ h in cc)
+missing_before p (Known (Err d)) g i h = absurd (cc)
+missing_before p (query.Missing j) g i h = let same : j ≡ i = cc in ap (λ z. query.Missing z) same
 
 -- where the walk stops, nothing follows
-pub bind_place_stops : {B : Type 0} {p : Part} (watched : ℕ) (names : List (List ℕ)) (f : Place → Asks B) {s : NoDeed} → Tells p (landing watched names) (Err s) → Tells p (prefix names >>= f) (Err s)
+pub bind_place_stops : {B : Type 0} {p : Part} (watched : ℕ) (names : List (List ℕ)) (f : Place → Query B) {s : DecideError} → Tells p (landing watched names) (Err s) → Tells p (prefix names >>= f) (Err s)
 bind_place_stops {p = p} watched names f {s = Refused e} h =
     bind_stops f (tells_err (err_before p (run_part p (prefix names)) (landing_of watched) e (sym (part_bind p (prefix names) (λ place. Gives (landing_of watched place))) ∙ h.refuses e refl)))
-bind_place_stops {p = p} watched names f {s = Lacks i} h =
-    bind_stops f (tells_lack (lack_before p (run_part p (prefix names)) (landing_of watched) i (sym (part_bind p (prefix names) (λ place. Gives (landing_of watched place))) ∙ h.lacks i refl)))
+bind_place_stops {p = p} watched names f {s = Missing i} h =
+    bind_stops f (tells_missing (missing_before p (run_part p (prefix names)) (landing_of watched) i (sym (part_bind p (prefix names) (λ place. Gives (landing_of watched place))) ∙ h.missing i refl)))
 bind_place_stops {p = p} watched names f {s = Memory} h = tells_memory p (prefix names >>= f)

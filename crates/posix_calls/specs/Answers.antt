@@ -2,15 +2,15 @@
 use Rattle.std.specs.Prelude.{◌≡◌, ℕ, List, [], ◌∷◌, map, take, drop, length, ◌==◌, Option, Some, None, Result, Ok, Err}
 use Rattle.std.specs.FinMap as fin
 use Rattle.std.specs.List.{list_any}
-use Rattle.posix_calls.specs.Asks.{Seen, File, Dir, Asks, Gives, Look, ◌>>=◌, Part, Known, run_part}
-use Rattle.posix_calls.specs.Asks as asks
+use Rattle.posix_calls.specs.Query.{Seen, File, Dir, Query, Gives, Look, ◌>>=◌, Part, Known, run_part}
+use Rattle.posix_calls.specs.Query as query
 use Rattle.posix_calls.specs.Walk.{Place, entries_seen, bytes_seen, directory, prefix}
 use Rattle.posix_calls.specs.declared.errno.Errno.{Errno}
 use Rattle.posix_calls.specs.declared.errno.Errno.TheVariants.{NoMemory}
-use Rattle.posix_calls.specs.declared.deed.NoDeed.{NoDeed}
-use Rattle.posix_calls.specs.declared.deed.NoDeed.TheVariants.{Refused, Lacks, Memory}
-use Rattle.posix_calls.specs.declared.deed.Description.{Description}
-use Rattle.posix_calls.specs.declared.deed.Description.TheVariants as description
+use Rattle.posix_calls.specs.declared.operation.DecideError.{DecideError}
+use Rattle.posix_calls.specs.declared.operation.DecideError.TheVariants.{Refused, Missing, Memory}
+use Rattle.posix_calls.specs.declared.operation.Description.{Description}
+use Rattle.posix_calls.specs.declared.operation.Description.TheVariants as description
 use Rattle.posix_calls.specs.declared.walk.Landing.{Landing}
 
 -- ---- of one node
@@ -51,29 +51,29 @@ last_name (name ∷ next ∷ names) = last_name (next ∷ names)
 
 -- what a call needs of a place beside its name, and whether the walk went through an inode
 abbrev pub landing_of : ℕ → Place → Landing
-landing_of watched place = record { parent = place.spot.parent; inode = place.inode; entries = place.entries; passed = list_any (λ d. d == watched) place.walked }
+landing_of watched place = record { parent = place.location.parent; inode = place.inode; entries = place.entries; passed = list_any (λ d. d == watched) place.walked }
 
 -- a place by what is kept of it
 abbrev pub place_at : List (List ℕ) → Landing → List ℕ → Place
-place_at names to walked = record { spot = record { parent = to.parent; name = last_name names }; inode = to.inode; walked = walked; entries = to.entries }
+place_at names to walked = record { location = record { parent = to.parent; name = last_name names }; inode = to.inode; walked = walked; entries = to.entries }
 
 -- that of the place to which the walk along a path leads
-abbrev pub landing : ℕ → List (List ℕ) → Asks Landing
+abbrev pub landing : ℕ → List (List ℕ) → Query Landing
 landing watched names = prefix names >>= (λ place. Gives (landing_of watched place))
 
 -- the directory under a name of a directory
-abbrev pub child_at : ℕ → List ℕ → Asks ℕ
+abbrev pub child_at : ℕ → List ℕ → Query ℕ
 child_at dir name = Look dir (λ s. directory (entry_in name s))
 
 -- ---- of a decision
 
--- an error as the reason for no deed
-abbrev pub no_deed : Errno → NoDeed
-no_deed NoMemory = Memory
-no_deed e = Refused e
+-- an error as the reason for no operation
+abbrev pub decide_error : Errno → DecideError
+decide_error NoMemory = Memory
+decide_error e = Refused e
 
 -- by what is known, a result is what the questions come to, an error too, and what is lacked is what they lack; want of memory says nothing
-pub record Tells {A : Type 0} (p : Part) (q : Asks A) (result : Result A NoDeed) : Type 0 where
+pub record Tells {A : Type 0} (p : Part) (q : Query A) (result : Result A DecideError) : Type 0 where
   pub gives : (x : A) → result ≡ Ok x → run_part p q ≡ Known (Ok x)
   pub refuses : (e : Errno) → result ≡ Err (Refused e) → run_part p q ≡ Known (Err e)
-  pub lacks : (i : ℕ) → result ≡ Err (Lacks i) → run_part p q ≡ asks.Lacks i
+  pub missing : (i : ℕ) → result ≡ Err (Missing i) → run_part p q ≡ query.Missing i

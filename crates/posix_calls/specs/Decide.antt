@@ -1,11 +1,11 @@
--- Each call's errors in their order, and the deed that it comes to if none holds.
+-- Each call's errors in their order, and the operation that it comes to if none holds.
 use Rattle.std.specs.Prelude.{ℕ, zero, suc, ◌+◌, List, [], ◌∷◌, map, take, drop, length, Bool, true, false, ◌&&◌, ◌||◌, not, ◌==◌, nat_lt, nat_le, Option, Some, None, if◌then◌else◌}
 use Rattle.std.specs.FinMap as fin
 use Rattle.std.specs.List.{list_any}
 use Rattle.posix_calls.specs.Path.{reading}
 use Rattle.posix_calls.specs.Tree.{Own}
 use Rattle.posix_calls.specs.declared.descriptor.Descriptor.{Descriptor}
-use Rattle.posix_calls.specs.Asks.{Seen, File, Dir, Asks, Gives, Refuses, Look, ◌>>=◌}
+use Rattle.posix_calls.specs.Query.{Seen, File, Dir, Query, Gives, Refuses, Look, ◌>>=◌}
 use Rattle.posix_calls.specs.Walk.{Place, refuse, said, entries_at, bytes_at, bytes_seen, names_at, kind_at, prefix, is_root, is_there, there, is_full}
 use Rattle.posix_calls.specs.declared.limits.TheConstants.{MAX_DESCRIPTORS, MAX_FILE, MAX_NAMES, MAX_TRANSFER}
 use Rattle.posix_calls.specs.declared.errno.Errno.TheVariants as errno
@@ -13,15 +13,15 @@ use Rattle.posix_calls.specs.declared.call.Flags.{Flags}
 use Rattle.posix_calls.specs.declared.call.Call.{Call}
 use Rattle.posix_calls.specs.declared.call.Call.TheVariants as call
 use Rattle.posix_calls.specs.declared.call.Reply.TheVariants as reply
-use Rattle.posix_calls.specs.declared.deed.Deed.{Deed}
-use Rattle.posix_calls.specs.declared.deed.Deed.TheVariants.{Tell, NewDir, NewFile, OpenFile, CloseFile, Write, Resize, RemoveDir, AddName, DropName, Move}
-use Rattle.posix_calls.specs.declared.deed.Replaced.{Replaced}
-use Rattle.posix_calls.specs.declared.deed.Replaced.TheVariants.{Nothing, OldFile, OldDir}
+use Rattle.posix_calls.specs.declared.operation.Operation.{Operation}
+use Rattle.posix_calls.specs.declared.operation.Operation.TheVariants.{Tell, NewDir, NewFile, OpenFile, CloseFile, Write, Resize, RemoveDir, AddName, DropName, Move}
+use Rattle.posix_calls.specs.declared.operation.Replaced.{Replaced}
+use Rattle.posix_calls.specs.declared.operation.Replaced.TheVariants.{Nothing, OldFile, OldDir}
 
 -- ---- descriptors
 
 -- the inode that is open, where the descriptor passes
-abbrev pub opened : (Descriptor → Bool) → Option Descriptor → Asks ℕ
+abbrev pub opened : (Descriptor → Bool) → Option Descriptor → Query ℕ
 opened test None = Refuses errno.BadDescriptor
 opened test (Some d) = if test d then Gives d.inode else Refuses errno.BadDescriptor
 
@@ -31,7 +31,7 @@ lowest_free own n zero = None
 lowest_free own n (suc many) = elim (own n) [ None ↦ Some n | Some d ↦ lowest_free own (n + 1) many ]
 
 -- the number, or an error where none is free
-abbrev pub number_or : Option ℕ → Asks ℕ
+abbrev pub number_or : Option ℕ → Query ℕ
 number_or None = Refuses errno.TooManyOpen
 number_or (Some n) = Gives n
 
@@ -42,22 +42,22 @@ abbrev pub is_senseless : Flags → Bool
 is_senseless f = (f.truncate && not f.write) || (f.exclusive && not f.create) || (not f.read && not f.write)
 
 -- whether there are bytes to take away
-abbrev pub empties : Bool → ℕ → Asks Bool
+abbrev pub empties : Bool → ℕ → Query Bool
 empties false i = Gives false
 empties true i = Look i (λ s. Gives (nat_lt 0 (length (bytes_seen s))))
 
 -- what is there is opened, and what is not there is made
-abbrev pub open_there : Place → ℕ → Flags → Option ℕ → Asks Deed
+abbrev pub open_there : Place → ℕ → Flags → Option ℕ → Query Operation
 open_there place number f (Some i) = do
   empty ← empties f.truncate i
   Gives (OpenFile i empty number f.read f.write)
 open_there place number f None = do
   _ ← refuse errno.NoEntry (not f.create)
   _ ← refuse errno.NoSpace (is_full place)
-  Gives (NewFile place.spot number f.read f.write)
+  Gives (NewFile place.location number f.read f.write)
 
 -- what follows once the path is read
-abbrev pub open_at : Own → List (List ℕ) → Flags → Asks Deed
+abbrev pub open_at : Own → List (List ℕ) → Flags → Query Operation
 open_at own names f = do
   _ ← refuse errno.Invalid (is_senseless f)
   number ← number_or (lowest_free own 0 MAX_DESCRIPTORS)
@@ -68,19 +68,19 @@ open_at own names f = do
   open_there place number f place.inode
 
 -- a file is opened, and made first where it is not there and the flags say so
-unfoldable pub open_path : Own → List ℕ → Flags → Asks Deed
+unfoldable pub open_path : Own → List ℕ → Flags → Query Operation
 open_path own path f = do
   names ← said (reading path)
   open_at own names f
 
 -- a number is given back
-unfoldable pub close : Own → ℕ → Asks Deed
+unfoldable pub close : Own → ℕ → Query Operation
 close own number = do
   i ← opened (λ d. true) (own number)
   Gives (CloseFile i number)
 
 -- the bytes present, up to as many as asked; none at or past the end
-unfoldable pub pread : Own → ℕ → ℕ → ℕ → Asks Deed
+unfoldable pub pread : Own → ℕ → ℕ → ℕ → Query Operation
 pread own number at count = do
   i ← opened (λ d. d.reads) (own number)
   _ ← refuse errno.Invalid (nat_lt MAX_TRANSFER count)
@@ -88,14 +88,14 @@ pread own number at count = do
   Gives (Tell (reply.Read (take count (drop at bytes))))
 
 -- no bytes are written at once, and change nothing
-abbrev pub write_at : ℕ → ℕ → List ℕ → Asks Deed
+abbrev pub write_at : ℕ → ℕ → List ℕ → Query Operation
 write_at i at [] = Gives (Tell (reply.Wrote 0))
 write_at i at (b ∷ bytes) = do
   _ ← refuse errno.FileTooBig (nat_lt MAX_FILE (at + length (b ∷ bytes)))
   Gives (Write i at (b ∷ bytes))
 
 -- bytes are put at an offset
-unfoldable pub pwrite : Own → ℕ → ℕ → List ℕ → Asks Deed
+unfoldable pub pwrite : Own → ℕ → ℕ → List ℕ → Query Operation
 pwrite own number at bytes = do
   i ← opened (λ d. d.writes) (own number)
   _ ← refuse errno.Invalid (nat_lt MAX_TRANSFER (length bytes))
@@ -104,7 +104,7 @@ pwrite own number at bytes = do
 -- ---- truncate, mkdir, rmdir, link, unlink
 
 -- a file is cut or grown to a length; where it has that already nothing changes
-unfoldable pub truncate : List ℕ → ℕ → Asks Deed
+unfoldable pub truncate : List ℕ → ℕ → Query Operation
 truncate path len = do
   names ← said (reading path)
   place ← prefix names
@@ -116,16 +116,16 @@ truncate path len = do
   Gives (if length bytes == len then Tell reply.Done else Resize i len)
 
 -- an empty directory is made
-unfoldable pub mkdir : List ℕ → Asks Deed
+unfoldable pub mkdir : List ℕ → Query Operation
 mkdir path = do
   names ← said (reading path)
   place ← prefix names
   _ ← refuse errno.Exists (is_there place.inode)
   _ ← refuse errno.NoSpace (is_full place)
-  Gives (NewDir place.spot)
+  Gives (NewDir place.location)
 
 -- what follows once the path is read
-abbrev pub rmdir_at : List (List ℕ) → Asks Deed
+abbrev pub rmdir_at : List (List ℕ) → Query Operation
 rmdir_at names = do
   _ ← refuse errno.Busy (is_root names)
   place ← prefix names
@@ -134,16 +134,16 @@ rmdir_at names = do
   _ ← refuse errno.NotDirectory (not is_dir)
   entries ← entries_at i
   _ ← refuse errno.NotEmpty (nat_lt 0 (fin.len entries))
-  Gives (RemoveDir place.spot i)
+  Gives (RemoveDir place.location i)
 
 -- an empty directory goes
-unfoldable pub rmdir : List ℕ → Asks Deed
+unfoldable pub rmdir : List ℕ → Query Operation
 rmdir path = do
   names ← said (reading path)
   rmdir_at names
 
 -- what follows once both paths are read
-abbrev pub link_at : List (List ℕ) → List (List ℕ) → Asks Deed
+abbrev pub link_at : List (List ℕ) → List (List ℕ) → Query Operation
 link_at old_names new_names = do
   from ← prefix old_names
   i ← there from.inode
@@ -154,27 +154,27 @@ link_at old_names new_names = do
   names ← names_at i
   _ ← refuse errno.TooManyLinks (nat_le MAX_NAMES names)
   _ ← refuse errno.NoSpace (is_full to)
-  Gives (AddName to.spot i)
+  Gives (AddName to.location i)
 
 -- a file has one more name
-unfoldable pub link : List ℕ → List ℕ → Asks Deed
+unfoldable pub link : List ℕ → List ℕ → Query Operation
 link old new = do
   old_names ← said (reading old)
   new_names ← said (reading new)
   link_at old_names new_names
 
 -- what follows once the path is read
-abbrev pub unlink_at : List (List ℕ) → Asks Deed
+abbrev pub unlink_at : List (List ℕ) → Query Operation
 unlink_at names = do
   _ ← refuse errno.Busy (is_root names)
   place ← prefix names
   i ← there place.inode
   is_dir ← kind_at place.inode
   _ ← refuse errno.NotPermitted is_dir
-  Gives (DropName place.spot i)
+  Gives (DropName place.location i)
 
 -- a file has one name fewer
-unfoldable pub unlink : List ℕ → Asks Deed
+unfoldable pub unlink : List ℕ → Query Operation
 unlink path = do
   names ← said (reading path)
   unlink_at names
@@ -182,16 +182,16 @@ unlink path = do
 -- ---- rename
 
 -- a directory is replaced if it is empty
-abbrev pub replacing_dir : ℕ → Asks Replaced
+abbrev pub replacing_dir : ℕ → Query Replaced
 replacing_dir j = do
   entries ← entries_at j
   _ ← refuse errno.NotEmpty (nat_lt 0 (fin.len entries))
   Gives (OldDir j)
 
 -- what is at the new name is replaced if it is of the old one's kind; a name in another directory needs room
-abbrev pub replacing : Place → Place → Bool → Option ℕ → Asks Replaced
+abbrev pub replacing : Place → Place → Bool → Option ℕ → Query Replaced
 replacing from to old_dir None = do
-  _ ← refuse errno.NoSpace (not (from.spot.parent == to.spot.parent) && is_full to)
+  _ ← refuse errno.NoSpace (not (from.location.parent == to.location.parent) && is_full to)
   Gives Nothing
 replacing from to old_dir (Some j) = do
   new_dir ← kind_at (Some j)
@@ -205,14 +205,14 @@ is_inode i None = false
 is_inode i (Some j) = i == j
 
 -- the name moves
-abbrev pub renamed : Place → Place → ℕ → Asks Deed
+abbrev pub renamed : Place → Place → ℕ → Query Operation
 renamed from to i = do
   old_dir ← kind_at from.inode
   replaced ← replacing from to old_dir to.inode
-  Gives (Move from.spot to.spot i old_dir replaced)
+  Gives (Move from.location to.location i old_dir replaced)
 
 -- what follows once both paths are read
-abbrev pub rename_at : List (List ℕ) → List (List ℕ) → Asks Deed
+abbrev pub rename_at : List (List ℕ) → List (List ℕ) → Query Operation
 rename_at old_names new_names = do
   _ ← refuse errno.Busy (is_root old_names || is_root new_names)
   from ← prefix old_names
@@ -222,7 +222,7 @@ rename_at old_names new_names = do
   if is_inode i to.inode then Gives (Tell reply.Done) else renamed from to i
 
 -- a name moves, in place of what was there; between two names of one node nothing changes
-unfoldable pub rename : List ℕ → List ℕ → Asks Deed
+unfoldable pub rename : List ℕ → List ℕ → Query Operation
 rename old new = do
   old_names ← said (reading old)
   new_names ← said (reading new)
@@ -231,7 +231,7 @@ rename old new = do
 -- ---- list, stat
 
 -- what follows once the path is read
-abbrev pub list_at : List (List ℕ) → Asks Deed
+abbrev pub list_at : List (List ℕ) → Query Operation
 list_at names = do
   place ← prefix names
   i ← there place.inode
@@ -241,19 +241,19 @@ list_at names = do
   Gives (Tell (reply.Listed (map (λ e. e.0) (fin.entries entries))))
 
 -- all names in a directory, in the order of their bytes
-unfoldable pub list_path : List ℕ → Asks Deed
+unfoldable pub list_path : List ℕ → Query Operation
 list_path path = do
   names ← said (reading path)
   list_at names
 
 -- what there is to say of a node
-abbrev pub described : Option Seen → Asks Deed
+abbrev pub described : Option Seen → Query Operation
 described None = Refuses errno.NoEntry
 described (Some (File names bytes)) = Gives (Tell (reply.File (length bytes) names))
 described (Some (Dir entries)) = Gives (Tell (reply.Dir (fin.len entries)))
 
 -- what is at a path
-unfoldable pub stat : List ℕ → Asks Deed
+unfoldable pub stat : List ℕ → Query Operation
 stat path = do
   names ← said (reading path)
   place ← prefix names
@@ -261,7 +261,7 @@ stat path = do
   Look i described
 
 -- what a call of a client with these descriptors asks, and comes to
-abbrev pub decide : Own → Call → Asks Deed
+abbrev pub decide : Own → Call → Query Operation
 decide own (call.Open path flags) = open_path own path flags
 decide own (call.Close number) = close own number
 decide own (call.Pread number at count) = pread own number at count

@@ -1,8 +1,8 @@
 -- Steps of a tree that gives each new node the lowest number that is free.
 use Rattle.std.specs.Prelude.{◌≡◌, ◌≢◌, ◌⊎◌, true, ℕ, ◌<◌, ◌≤◌, None, Ok}
 use Rattle.posix_calls.specs.Tree.{Tree, State}
-use Rattle.posix_calls.specs.Deeds.{IsFree, Follows, answer, makes}
-use Rattle.posix_calls.specs.declared.deed.Deed.{Deed}
+use Rattle.posix_calls.specs.Operations.{IsFree, Follows, answer, makes}
+use Rattle.posix_calls.specs.declared.operation.Operation.{Operation}
 use Rattle.posix_calls.specs.declared.call.Call.{Call}
 use Rattle.posix_calls.specs.declared.call.Reply.{Reply}
 use Rattle.posix_calls.specs.declared.call.Reply.TheVariants.{Failed}
@@ -20,8 +20,8 @@ IsTaken t = (i : ℕ) → ROOT < i → i ≤ MAX_INODE → t i ≢ None
 
 -- the call was answered, and a node that it makes has the lowest number that is free
 abbrev pub IsAnswered : State → ℕ → Call → Reply → State → Type 0
-IsAnswered old client call r after = (new : ℕ) × ((deed : Deed) → answer old client call ≡ Ok deed → makes deed ≡ true → IsLowest old.tree new) × Follows old client new (answer old client call) r after
+IsAnswered old client call r after = (new : ℕ) × ((operation : Operation) → answer old client call ≡ Ok operation → makes operation ≡ true → IsLowest old.tree new) × Follows old client new (answer old client call) r after
 
 -- memory ran out, or the inode numbers for the node that the call makes; nothing changed
 abbrev pub IsGivenUp : State → ℕ → Call → Reply → State → Type 0
-IsGivenUp old client call r after = ((r ≡ Failed errno.NoMemory) ⊎ ((r ≡ Failed errno.NoSpace) × ((deed : Deed) × (answer old client call ≡ Ok deed) × (makes deed ≡ true)) × IsTaken old.tree)) × (after ≡ old)
+IsGivenUp old client call r after = ((r ≡ Failed errno.NoMemory) ⊎ ((r ≡ Failed errno.NoSpace) × ((operation : Operation) × (answer old client call ≡ Ok operation) × (makes operation ≡ true)) × IsTaken old.tree)) × (after ≡ old)

@@ -3,10 +3,10 @@ pub mod Content
 pub mod Errno
 pub mod Path
 pub mod Tree
-pub mod Asks
+pub mod Query
 pub mod Walk
 pub mod Decide
-pub mod Deeds
+pub mod Operations
 pub mod Exact
 pub mod Run
 pub mod Resolve

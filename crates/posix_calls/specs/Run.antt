@@ -1,7 +1,7 @@
 -- Calls one after another, and what is left where nobody has a file open.
 use Rattle.std.specs.Prelude.{◌≡◌, ℕ, List, [], ◌∷◌, ◌||◌, ◌==◌, nat_lt, None, if◌then◌else◌}
 use Rattle.posix_calls.specs.Tree.{Tree, State, names_of}
-use Rattle.posix_calls.specs.Deeds.{Step}
+use Rattle.posix_calls.specs.Operations.{Step}
 use Rattle.posix_calls.specs.declared.limits.TheConstants.{ROOT}
 use Rattle.posix_calls.specs.declared.call.Call.{Call}
 use Rattle.posix_calls.specs.declared.call.Reply.{Reply}

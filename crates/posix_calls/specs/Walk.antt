@@ -2,19 +2,19 @@
 use Rattle.std.specs.Prelude.{ℕ, List, [], ◌∷◌, Bool, true, false, nat_le, Option, Some, None, Result, Ok, Err}
 use Rattle.std.specs.FinMap as fin
 use Rattle.posix_calls.specs.Content.{Entries}
-use Rattle.posix_calls.specs.Asks.{Seen, File, Dir, Asks, Gives, Refuses, IsDir, Look, ◌>>=◌}
+use Rattle.posix_calls.specs.Query.{Seen, File, Dir, Query, Gives, Refuses, IsDir, Look, ◌>>=◌}
 use Rattle.posix_calls.specs.declared.limits.TheConstants.{ROOT, MAX_ENTRIES}
-use Rattle.posix_calls.specs.declared.deed.Spot.{Spot}
+use Rattle.posix_calls.specs.declared.operation.Location.{Location}
 use Rattle.posix_calls.specs.declared.errno.Errno.{Errno}
 use Rattle.posix_calls.specs.declared.errno.Errno.TheVariants as errno
 
 -- this error, where the test holds
-abbrev pub refuse : Errno → Bool → Asks (Unit {0})
+abbrev pub refuse : Errno → Bool → Query (Unit {0})
 refuse e true = Refuses e
 refuse e false = Gives tt
 
 -- what was read, or why it was not
-abbrev pub said : {A : Type 0} → Result A Errno → Asks A
+abbrev pub said : {A : Type 0} → Result A Errno → Query A
 said (Ok x) = Gives x
 said (Err e) = Refuses e
 
@@ -27,7 +27,7 @@ entries_seen (Some (File names bytes)) = fin.empty
 entries_seen (Some (Dir entries)) = entries
 
 -- the entries of the directory at an inode
-abbrev pub entries_at : ℕ → Asks (Entries ℕ)
+abbrev pub entries_at : ℕ → Query (Entries ℕ)
 entries_at i = Look i (λ s. Gives (entries_seen s))
 
 -- the bytes of a file; what is none has none
@@ -37,7 +37,7 @@ bytes_seen (Some (File names bytes)) = bytes
 bytes_seen (Some (Dir entries)) = []
 
 -- the bytes of the file at an inode
-abbrev pub bytes_at : ℕ → Asks (List ℕ)
+abbrev pub bytes_at : ℕ → Query (List ℕ)
 bytes_at i = Look i (λ s. Gives (bytes_seen s))
 
 -- how many names a file has
@@ -47,7 +47,7 @@ names_seen (Some (File names bytes)) = names
 names_seen (Some (Dir entries)) = 0
 
 -- how many names the file at an inode has
-abbrev pub names_at : ℕ → Asks ℕ
+abbrev pub names_at : ℕ → Query ℕ
 names_at i = Look i (λ s. Gives (names_seen s))
 
 -- what is not there is no directory
@@ -56,7 +56,7 @@ is_true None = false
 is_true (Some b) = b
 
 -- whether there is a directory
-abbrev pub kind_at : Option ℕ → Asks Bool
+abbrev pub kind_at : Option ℕ → Query Bool
 kind_at None = Gives false
 kind_at (Some i) = IsDir i (λ o. Gives (is_true o))
 
@@ -64,39 +64,39 @@ kind_at (Some i) = IsDir i (λ o. Gives (is_true o))
 
 -- where a path leads: a name, the inode there, the directories walked, and how many entries the last of them has
 pub record Place : Type 0 where
-  pub spot : Spot
+  pub location : Location
   pub inode : Option ℕ
   pub walked : List ℕ
   pub entries : ℕ
 
 -- the root is no directory's entry
 abbrev pub root_place : Place
-root_place = record { spot = record { parent = 0; name = [] }; inode = Some ROOT; walked = []; entries = 0 }
+root_place = record { location = record { parent = 0; name = [] }; inode = Some ROOT; walked = []; entries = 0 }
 
 -- a directory is walked through, a file is not
-abbrev pub directory_if : ℕ → Option Bool → Asks ℕ
+abbrev pub directory_if : ℕ → Option Bool → Query ℕ
 directory_if i None = Refuses errno.NoEntry
 directory_if i (Some false) = Refuses errno.NotDirectory
 directory_if i (Some true) = Gives i
 
 -- the directory that a component leads to
-abbrev pub directory : Option ℕ → Asks ℕ
+abbrev pub directory : Option ℕ → Query ℕ
 directory None = Refuses errno.NoEntry
 directory (Some i) = IsDir i (directory_if i)
 
 -- the walk from a directory to the parent of the last name; `way` is what was walked before
-unfoldable pub walk : ℕ → List ℕ → List (List ℕ) → Asks Place
+unfoldable pub walk : ℕ → List ℕ → List (List ℕ) → Query Place
 walk dir way [] = Gives root_place
 walk dir way (name ∷ []) = do
   entries ← entries_at dir
-  Gives (record { spot = record { parent = dir; name = name }; inode = fin.get entries name; walked = dir ∷ way; entries = fin.len entries })
+  Gives (record { location = record { parent = dir; name = name }; inode = fin.get entries name; walked = dir ∷ way; entries = fin.len entries })
 walk dir way (name ∷ next ∷ names) = do
   entries ← entries_at dir
   child ← directory (fin.get entries name)
   walk child (dir ∷ way) (next ∷ names)
 
 -- the walk from the root
-abbrev pub prefix : List (List ℕ) → Asks Place
+abbrev pub prefix : List (List ℕ) → Query Place
 prefix names = walk ROOT [] names
 
 -- whether a path is `/`
@@ -110,16 +110,16 @@ is_there None = false
 is_there (Some i) = true
 
 -- the inode, or an error where nothing is there
-abbrev pub there : Option ℕ → Asks ℕ
+abbrev pub there : Option ℕ → Query ℕ
 there None = Refuses errno.NoEntry
 there (Some i) = Gives i
 
 -- the inode that a walk led to
-abbrev pub led : Place → Asks ℕ
+abbrev pub led : Place → Query ℕ
 led place = there place.inode
 
 -- the inode that the walk along a path leads to
-abbrev pub inode_at : List (List ℕ) → Asks ℕ
+abbrev pub inode_at : List (List ℕ) → Query ℕ
 inode_at names = prefix names >>= led
 
 -- whether the directory takes no more names

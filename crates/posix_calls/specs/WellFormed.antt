@@ -4,7 +4,7 @@ use Rattle.std.specs.FinMap as fin
 use Rattle.posix_calls.specs.Name.{is_name}
 use Rattle.posix_calls.specs.Tree.{Node, Tree, bytes_of, entries_of, State, names_of, is_open}
 use Rattle.posix_calls.specs.declared.descriptor.Descriptor.{Descriptor}
-use Rattle.posix_calls.specs.Asks.{dir_test}
+use Rattle.posix_calls.specs.Query.{dir_test}
 use Rattle.posix_calls.specs.Resolve.{resolve}
 use Rattle.posix_calls.specs.declared.limits.TheConstants.{ROOT, MAX_INODE, MAX_CLIENTS, MAX_DESCRIPTORS, MAX_FILE, MAX_ENTRIES, MAX_NAMES}
 

@@ -3,7 +3,7 @@ ghost use Rattle.posix_calls.specs.Decide.{decide};
 ghost use Rattle.posix_calls.specs.Own.{own_of};
 
 use crate::call::Call;
-use crate::deed::{Deed, NoDeed};
+use crate::operation::{Operation, DecideError};
 use crate::descriptor_calls::{close, open, pread, pwrite};
 use crate::dir_calls::{mkdir, rmdir};
 use crate::file_calls::{truncate, unlink};
@@ -13,19 +13,19 @@ use crate::tree_answers::TreeAnswers;
 use crate::two_path_calls::{link, rename};
 use std::alloc::Global;
 
-/// What a call comes to, for a client with these descriptors: the deed, or else the first error of the call in the order of
-/// its profile. Nothing is changed; who decides carries the deed out.
+/// What a call comes to, for a client with these descriptors: the operation, or else the first error of the call in the order of
+/// its profile. Nothing is changed; who decides carries the operation out.
 ///
 /// The tree may be known in part. What the call needs is asked for in the order of its errors, and the first inode of which more
-/// has to be known is answered by `Lacks`; once it is known, the same call may be decided again. Where an answer comes, it is that
-/// of every tree of which this is a part. Memory is taken for the names of the paths and for what the deed carries; `Memory` may
+/// has to be known is answered by `Missing`; once it is known, the same call may be decided again. Where an answer comes, it is that
+/// of every tree of which this is a part. Memory is taken for the names of the paths and for what the operation carries; `Memory` may
 /// stand in place of any answer.
 pub fn decide<T: TreeAnswers>(
     alloc: Global,
     tree: &T,
     own: &OwnDescriptors,
     call: &Call,
-) -> Result<Deed, NoDeed>
+) -> Result<Operation, DecideError>
     ensures { Tells (T.part tree.now) (decide (own_of own.now) call.now) result }
 {
     match call {

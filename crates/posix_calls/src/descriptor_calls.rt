@@ -1,7 +1,7 @@
 // What the calls that take or give a descriptor come to: open, close, pread, pwrite.
 ghost use Rattle.std.specs.Prelude.{◌≡◌, ◌&&◌, ◌+◌, nat_lt, true};
 ghost use Rattle.posix_calls.specs.Walk.{is_there};
-ghost use Rattle.posix_calls.specs.Asks.{Part};
+ghost use Rattle.posix_calls.specs.Query.{Part};
 ghost use Rattle.posix_calls.specs.Answers.{Tells};
 ghost use Rattle.posix_calls.specs.Own.{own_of};
 ghost use Rattle.posix_calls.specs.declared.limits.TheConstants.{MAX_DESCRIPTORS};
@@ -9,13 +9,13 @@ ghost use Rattle.posix_calls.specs.Decide.{is_senseless, number_or, lowest_free,
 
 use crate::bytes::Bytes;
 use crate::call::{Flags, Reply};
-use crate::deed::{Deed, NoDeed};
+use crate::operation::{Operation, DecideError};
 use crate::errno::Errno;
 use crate::limits::{MAX_FILE, MAX_TRANSFER};
 use crate::own::OwnDescriptors;
 use crate::path::Path;
 use crate::tree_answers::{TreeAnswers, known};
-use crate::walk::{Landing, kind_at, prefix, read_path, refuse_if, spot};
+use crate::walk::{Landing, kind_at, prefix, read_path, refuse_if, location};
 use std::alloc::Global;
 
 impl Flags {
@@ -37,19 +37,19 @@ impl Flags {
 }
 
 // The lowest number that is free.
-fn free_number(own: &OwnDescriptors) -> Result<u32, NoDeed>
+fn free_number(own: &OwnDescriptors) -> Result<u32, DecideError>
     ensures { (p : Part) → Tells p (number_or (lowest_free (own_of own.now) 0 MAX_DESCRIPTORS)) result }
 {
     match own.lowest_free() {
         Some(number) => Ok(number),
-        None => Err(NoDeed::Refused {
+        None => Err(DecideError::Refused {
             errno: Errno::TooManyOpen,
         }),
     }
 }
 
 // Whether there are bytes to take away.
-fn empties<T: TreeAnswers>(tree: &T, truncate: bool, inode: u32) -> Result<bool, NoDeed>
+fn empties<T: TreeAnswers>(tree: &T, truncate: bool, inode: u32) -> Result<bool, DecideError>
     ensures { Tells (T.part tree.now) (empties truncate inode) result }
 {
     if !truncate {
@@ -65,7 +65,7 @@ pub(crate) fn open<T: TreeAnswers>(
     own: &OwnDescriptors,
     bytes: &[u8],
     flags: Flags,
-) -> Result<Deed, NoDeed>
+) -> Result<Operation, DecideError>
     ensures { Tells (T.part tree.now) (open_path (own_of own.now) bytes.now flags) result }
 {
     let path = read_path(alloc, bytes)?;
@@ -79,7 +79,7 @@ fn open_at<T: TreeAnswers>(
     own: &OwnDescriptors,
     path: &Path,
     flags: Flags,
-) -> Result<Deed, NoDeed>
+) -> Result<Operation, DecideError>
     ensures { Tells (T.part tree.now) (open_at (own_of own.now) path.now flags) result }
 {
     refuse_if(flags.is_senseless(), Errno::Invalid)?;
@@ -91,8 +91,8 @@ fn open_at<T: TreeAnswers>(
     let Some(inode) = to.inode else {
         refuse_if(!flags.create, Errno::NoEntry)?;
         refuse_if(to.is_full(), Errno::NoSpace)?;
-        let at = spot(alloc, to.parent, path)?;
-        return Ok(Deed::NewFile {
+        let at = location(alloc, to.parent, path)?;
+        return Ok(Operation::NewFile {
             at,
             descriptor,
             reads: flags.read,
@@ -100,7 +100,7 @@ fn open_at<T: TreeAnswers>(
         });
     };
     let empties = empties(tree, flags.truncate, inode)?;
-    Ok(Deed::OpenFile {
+    Ok(Operation::OpenFile {
         inode,
         empties,
         descriptor,
@@ -110,23 +110,23 @@ fn open_at<T: TreeAnswers>(
 }
 
 // The inode that is open at a number.
-fn open_inode(own: &OwnDescriptors, number: u32) -> Result<u32, NoDeed>
+fn open_inode(own: &OwnDescriptors, number: u32) -> Result<u32, DecideError>
     ensures { (p : Part) → Tells p (opened (λ d. true) (own_of own.now number)) result }
 {
     match own.get(number) {
         Some(descriptor) => Ok(descriptor.inode),
-        None => Err(NoDeed::Refused {
+        None => Err(DecideError::Refused {
             errno: Errno::BadDescriptor,
         }),
     }
 }
 
 // The inode that is open at a number for reading.
-fn readable_inode(own: &OwnDescriptors, number: u32) -> Result<u32, NoDeed>
+fn readable_inode(own: &OwnDescriptors, number: u32) -> Result<u32, DecideError>
     ensures { (p : Part) → Tells p (opened (λ d. d.reads) (own_of own.now number)) result }
 {
     let Some(descriptor) = own.get(number) else {
-        return Err(NoDeed::Refused {
+        return Err(DecideError::Refused {
             errno: Errno::BadDescriptor,
         });
     };
@@ -135,11 +135,11 @@ fn readable_inode(own: &OwnDescriptors, number: u32) -> Result<u32, NoDeed>
 }
 
 // The inode that is open at a number for writing.
-fn writable_inode(own: &OwnDescriptors, number: u32) -> Result<u32, NoDeed>
+fn writable_inode(own: &OwnDescriptors, number: u32) -> Result<u32, DecideError>
     ensures { (p : Part) → Tells p (opened (λ d. d.writes) (own_of own.now number)) result }
 {
     let Some(descriptor) = own.get(number) else {
-        return Err(NoDeed::Refused {
+        return Err(DecideError::Refused {
             errno: Errno::BadDescriptor,
         });
     };
@@ -147,11 +147,11 @@ fn writable_inode(own: &OwnDescriptors, number: u32) -> Result<u32, NoDeed>
     Ok(descriptor.inode)
 }
 
-pub(crate) fn close(own: &OwnDescriptors, number: u32) -> Result<Deed, NoDeed>
+pub(crate) fn close(own: &OwnDescriptors, number: u32) -> Result<Operation, DecideError>
     ensures { (p : Part) → Tells p (close (own_of own.now) number) result }
 {
     let inode = open_inode(own, number)?;
-    Ok(Deed::CloseFile {
+    Ok(Operation::CloseFile {
         inode,
         descriptor: number,
     })
@@ -164,14 +164,14 @@ pub(crate) fn pread<T: TreeAnswers>(
     number: u32,
     at: u64,
     count: u64,
-) -> Result<Deed, NoDeed>
+) -> Result<Operation, DecideError>
     ensures { Tells (T.part tree.now) (pread (own_of own.now) number at count) result }
 {
     let inode = readable_inode(own, number)?;
     refuse_if(count > MAX_TRANSFER as u64, Errno::Invalid)?;
     let answer = tree.read(alloc, inode, at, count)?;
     let bytes = known(answer, inode)?;
-    Ok(Deed::Tell {
+    Ok(Operation::Tell {
         answer: Reply::Read { bytes },
     })
 }
@@ -182,19 +182,19 @@ pub(crate) fn pwrite(
     number: u32,
     at: u64,
     bytes: &[u8],
-) -> Result<Deed, NoDeed>
+) -> Result<Operation, DecideError>
     ensures { (p : Part) → Tells p (pwrite (own_of own.now) number at bytes.now) result }
 {
     let inode = writable_inode(own, number)?;
     refuse_if(bytes.len() > MAX_TRANSFER, Errno::Invalid)?;
     if bytes.is_empty() {
-        return Ok(Deed::Tell {
+        return Ok(Operation::Tell {
             answer: Reply::Wrote { count: 0 },
         });
     }
     refuse_if(ends_behind(at, bytes.len()), Errno::FileTooBig)?;
     let bytes = Bytes::copy_of(alloc, bytes)?;
-    Ok(Deed::Write { inode, at, bytes })
+    Ok(Operation::Write { inode, at, bytes })
 }
 
 // Whether so many bytes from an offset on end behind the greatest size of a file.

@@ -3,25 +3,25 @@ ghost use Rattle.std.specs.Prelude.{◌≡◌};
 ghost use Rattle.posix_calls.specs.Answers.{Tells};
 ghost use Rattle.posix_calls.specs.Decide.{mkdir, rmdir, rmdir_at};
 
-use crate::deed::{Deed, NoDeed};
+use crate::operation::{Operation, DecideError};
 use crate::errno::Errno;
 use crate::path::Path;
 use crate::tree_answers::{TreeAnswers, known};
-use crate::walk::{kind_at, prefix, read_path, refuse_if, refuse_root, spot, there};
+use crate::walk::{kind_at, prefix, read_path, refuse_if, refuse_root, location, there};
 use std::alloc::Global;
 
-pub(crate) fn mkdir<T: TreeAnswers>(alloc: Global, tree: &T, bytes: &[u8]) -> Result<Deed, NoDeed>
+pub(crate) fn mkdir<T: TreeAnswers>(alloc: Global, tree: &T, bytes: &[u8]) -> Result<Operation, DecideError>
     ensures { Tells (T.part tree.now) (mkdir bytes.now) result }
 {
     let path = read_path(alloc, bytes)?;
     let to = prefix(tree, &path)?;
     refuse_if(to.is_there(), Errno::Exists)?;
     refuse_if(to.is_full(), Errno::NoSpace)?;
-    let at = spot(alloc, to.parent, &path)?;
-    Ok(Deed::NewDir { at })
+    let at = location(alloc, to.parent, &path)?;
+    Ok(Operation::NewDir { at })
 }
 
-pub(crate) fn rmdir<T: TreeAnswers>(alloc: Global, tree: &T, bytes: &[u8]) -> Result<Deed, NoDeed>
+pub(crate) fn rmdir<T: TreeAnswers>(alloc: Global, tree: &T, bytes: &[u8]) -> Result<Operation, DecideError>
     ensures { Tells (T.part tree.now) (rmdir bytes.now) result }
 {
     let path = read_path(alloc, bytes)?;
@@ -29,7 +29,7 @@ pub(crate) fn rmdir<T: TreeAnswers>(alloc: Global, tree: &T, bytes: &[u8]) -> Re
 }
 
 // What follows once the path is read.
-fn rmdir_at<T: TreeAnswers>(alloc: Global, tree: &T, path: &Path) -> Result<Deed, NoDeed>
+fn rmdir_at<T: TreeAnswers>(alloc: Global, tree: &T, path: &Path) -> Result<Operation, DecideError>
     ensures { Tells (T.part tree.now) (rmdir_at path.now) result }
 {
     refuse_root(path)?;
@@ -39,6 +39,6 @@ fn rmdir_at<T: TreeAnswers>(alloc: Global, tree: &T, path: &Path) -> Result<Deed
     refuse_if(!is_dir, Errno::NotDirectory)?;
     let entries = known(tree.entry_count(inode), inode)?;
     refuse_if(entries > 0, Errno::NotEmpty)?;
-    let at = spot(alloc, to.parent, path)?;
-    Ok(Deed::RemoveDir { at, inode })
+    let at = location(alloc, to.parent, path)?;
+    Ok(Operation::RemoveDir { at, inode })
 }

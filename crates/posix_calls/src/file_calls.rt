@@ -4,12 +4,12 @@ ghost use Rattle.posix_calls.specs.Answers.{Tells};
 ghost use Rattle.posix_calls.specs.Decide.{truncate, unlink, unlink_at};
 
 use crate::call::Reply;
-use crate::deed::{Deed, NoDeed};
+use crate::operation::{Operation, DecideError};
 use crate::errno::Errno;
 use crate::limits::MAX_FILE;
 use crate::path::Path;
 use crate::tree_answers::{TreeAnswers, known};
-use crate::walk::{kind_at, prefix, read_path, refuse_if, refuse_root, spot, there};
+use crate::walk::{kind_at, prefix, read_path, refuse_if, refuse_root, location, there};
 use std::alloc::Global;
 
 pub(crate) fn truncate<T: TreeAnswers>(
@@ -17,7 +17,7 @@ pub(crate) fn truncate<T: TreeAnswers>(
     tree: &T,
     bytes: &[u8],
     len: u64,
-) -> Result<Deed, NoDeed>
+) -> Result<Operation, DecideError>
     ensures { Tells (T.part tree.now) (truncate bytes.now len) result }
 {
     let path = read_path(alloc, bytes)?;
@@ -28,14 +28,14 @@ pub(crate) fn truncate<T: TreeAnswers>(
     refuse_if(len > MAX_FILE, Errno::FileTooBig)?;
     let size = known(tree.file_size(inode), inode)?;
     if size == len {
-        return Ok(Deed::Tell {
+        return Ok(Operation::Tell {
             answer: Reply::Done,
         });
     }
-    Ok(Deed::Resize { inode, len })
+    Ok(Operation::Resize { inode, len })
 }
 
-pub(crate) fn unlink<T: TreeAnswers>(alloc: Global, tree: &T, bytes: &[u8]) -> Result<Deed, NoDeed>
+pub(crate) fn unlink<T: TreeAnswers>(alloc: Global, tree: &T, bytes: &[u8]) -> Result<Operation, DecideError>
     ensures { Tells (T.part tree.now) (unlink bytes.now) result }
 {
     let path = read_path(alloc, bytes)?;
@@ -43,7 +43,7 @@ pub(crate) fn unlink<T: TreeAnswers>(alloc: Global, tree: &T, bytes: &[u8]) -> R
 }
 
 // What follows once the path is read.
-fn unlink_at<T: TreeAnswers>(alloc: Global, tree: &T, path: &Path) -> Result<Deed, NoDeed>
+fn unlink_at<T: TreeAnswers>(alloc: Global, tree: &T, path: &Path) -> Result<Operation, DecideError>
     ensures { Tells (T.part tree.now) (unlink_at path.now) result }
 {
     refuse_root(path)?;
@@ -51,6 +51,6 @@ fn unlink_at<T: TreeAnswers>(alloc: Global, tree: &T, path: &Path) -> Result<Dee
     let inode = there(to.inode)?;
     let is_dir = kind_at(tree, to.inode)?;
     refuse_if(is_dir, Errno::NotPermitted)?;
-    let at = spot(alloc, to.parent, path)?;
-    Ok(Deed::DropName { at, inode })
+    let at = location(alloc, to.parent, path)?;
+    Ok(Operation::DropName { at, inode })
 }

@@ -4,10 +4,10 @@ ghost use Rattle.std.specs.Prelude.{◌≡◌, ◌≢◌, ◌∷◌, ◌++◌, �
 ghost use Rattle.std.specs.FinMap.{get};
 ghost use Rattle.posix_calls.specs.Content.{Entries};
 ghost use Rattle.posix_calls.specs.Tree.{Tree, Dir, State, entries_of, opening};
-ghost use Rattle.posix_calls.specs.Asks.{Asks, View, Part, Known, Lacks, IsPart, IsLeft, run, run_part, view_of};
+ghost use Rattle.posix_calls.specs.Query.{Query, View, Part, Known, Missing, IsPart, IsLeft, run, run_part, view_of};
 ghost use Rattle.posix_calls.specs.Walk.{inode_at};
-ghost use Rattle.posix_calls.specs.declared.deed.Deed.{Deed};
-ghost use Rattle.posix_calls.specs.Deeds.{makes, state_after, answer, Follows, Step};
+ghost use Rattle.posix_calls.specs.declared.operation.Operation.{Operation};
+ghost use Rattle.posix_calls.specs.Operations.{makes, state_after, answer, Follows, Step};
 ghost use Rattle.posix_calls.specs.Run.{Turn, Run, settled};
 ghost use Rattle.posix_calls.specs.Resolve.{resolve, resolve_from};
 ghost use Rattle.posix_calls.specs.WellFormed.{IsDirectory, IsWellFormed, IsWithinLimits};
@@ -22,7 +22,7 @@ ghost use Rattle.posix_calls.specs.declared.call.Reply.TheVariants.{Failed};
 pub fn step_is_determined()
     ensures reply { (old : State) (client : ℕ) (call : Call) (i j : ℕ) (r s : Reply) (m n : State) → Follows old client i (answer old client call) r m → Follows old client j (answer old client call) s n → r ≡ s }
     ensures state { (old : State) (client : ℕ) (call : Call) (i : ℕ) (r s : Reply) (m n : State) → Follows old client i (answer old client call) r m → Follows old client i (answer old client call) s n → m ≡ n }
-    ensures number { (old : State) (client i j : ℕ) (deed : Deed) → makes deed ≡ false → state_after client i old deed ≡ state_after client j old deed }
+    ensures number { (old : State) (client i j : ℕ) (operation : Operation) → makes operation ≡ false → state_after client i old operation ≡ state_after client j old operation }
 {}
 
 /// A call that is answered by an error leaves the state as it was.
@@ -38,8 +38,8 @@ pub fn runs_split_anywhere()
 
 /// What a part of a tree can tell of a call is what the whole tells; where it lacks an inode, that inode is asked for next.
 pub fn part_answers_as_the_whole()
-    ensures known { (p : Part) (v : View) → IsPart p v → (q : Asks Deed) (r : Result Deed Errno) → run_part p q ≡ Known r → run v q ≡ r }
-    ensures lacks { (p : Part) (q : Asks Deed) (i : ℕ) → run_part p q ≡ Lacks i → IsLeft p i q }
+    ensures known { (p : Part) (v : View) → IsPart p v → (q : Query Operation) (r : Result Operation Errno) → run_part p q ≡ Known r → run v q ≡ r }
+    ensures missing { (p : Part) (q : Query Operation) (i : ℕ) → run_part p q ≡ Missing i → IsLeft p i q }
 {}
 
 /// The walk of a call leads to the inode that its path names, or is refused by the first error on the way.

@@ -5,14 +5,14 @@
 //! they say the same.
 //!
 //! What a call is to be answered, and what it makes of the file tree, are definitions of `specs/`: the questions that it asks,
-//! its errors in their order (`Decide`), and what it does where none holds (`Deeds`). `decide` answers them for whoever knows the
+//! its errors in their order (`Decide`), and what it does where none holds (`Operations`). `decide` answers them for whoever knows the
 //! tree or a part of it (`TreeAnswers`), and the functions of `laws` say what holds of every step. `plain_tree` has a tree that runs.
 #![tactic(auto)]
 
 mod bytes;
 mod call;
 mod decision;
-mod deed;
+mod operation;
 mod descriptor;
 mod descriptor_calls;
 mod dir_calls;
@@ -22,7 +22,7 @@ mod laws;
 mod limits;
 mod name;
 mod names;
-mod no_deed;
+mod decide_error;
 mod own;
 mod path;
 mod tell_calls;
@@ -33,7 +33,7 @@ mod walk;
 pub use bytes::Bytes;
 pub use call::{Call, Flags, Reply};
 pub use decision::decide;
-pub use deed::{Deed, Description, NoDeed, Replaced, Spot};
+pub use operation::{Operation, Description, DecideError, Replaced, Location};
 pub use descriptor::Descriptor;
 pub use errno::Errno;
 pub use laws::{

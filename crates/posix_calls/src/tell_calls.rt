@@ -4,14 +4,14 @@ ghost use Rattle.posix_calls.specs.Answers.{Tells};
 ghost use Rattle.posix_calls.specs.Decide.{list_path, list_at, stat};
 
 use crate::call::Reply;
-use crate::deed::{Deed, Description, NoDeed};
+use crate::operation::{Operation, Description, DecideError};
 use crate::errno::Errno;
 use crate::path::Path;
 use crate::tree_answers::{TreeAnswers, known};
 use crate::walk::{kind_at, prefix, read_path, refuse_if, there};
 use std::alloc::Global;
 
-pub(crate) fn list<T: TreeAnswers>(alloc: Global, tree: &T, bytes: &[u8]) -> Result<Deed, NoDeed>
+pub(crate) fn list<T: TreeAnswers>(alloc: Global, tree: &T, bytes: &[u8]) -> Result<Operation, DecideError>
     ensures { Tells (T.part tree.now) (list_path bytes.now) result }
 {
     let path = read_path(alloc, bytes)?;
@@ -19,7 +19,7 @@ pub(crate) fn list<T: TreeAnswers>(alloc: Global, tree: &T, bytes: &[u8]) -> Res
 }
 
 // What follows once the path is read.
-fn list_at<T: TreeAnswers>(alloc: Global, tree: &T, path: &Path) -> Result<Deed, NoDeed>
+fn list_at<T: TreeAnswers>(alloc: Global, tree: &T, path: &Path) -> Result<Operation, DecideError>
     ensures { Tells (T.part tree.now) (list_at path.now) result }
 {
     let to = prefix(tree, path)?;
@@ -28,12 +28,12 @@ fn list_at<T: TreeAnswers>(alloc: Global, tree: &T, path: &Path) -> Result<Deed,
     refuse_if(!is_dir, Errno::NotDirectory)?;
     let answer = tree.names(alloc, inode)?;
     let names = known(answer, inode)?;
-    Ok(Deed::Tell {
+    Ok(Operation::Tell {
         answer: Reply::Listed { names },
     })
 }
 
-pub(crate) fn stat<T: TreeAnswers>(alloc: Global, tree: &T, bytes: &[u8]) -> Result<Deed, NoDeed>
+pub(crate) fn stat<T: TreeAnswers>(alloc: Global, tree: &T, bytes: &[u8]) -> Result<Operation, DecideError>
     ensures { Tells (T.part tree.now) (stat bytes.now) result }
 {
     let path = read_path(alloc, bytes)?;
@@ -41,15 +41,15 @@ pub(crate) fn stat<T: TreeAnswers>(alloc: Global, tree: &T, bytes: &[u8]) -> Res
     let inode = there(to.inode)?;
     let answer = known(tree.describe(inode), inode)?;
     let Some(description) = answer else {
-        return Err(NoDeed::Refused {
+        return Err(DecideError::Refused {
             errno: Errno::NoEntry,
         });
     };
     match description {
-        Description::File { size, names } => Ok(Deed::Tell {
+        Description::File { size, names } => Ok(Operation::Tell {
             answer: Reply::File { size, names },
         }),
-        Description::Dir { entries } => Ok(Deed::Tell {
+        Description::Dir { entries } => Ok(Operation::Tell {
             answer: Reply::Dir { entries },
         }),
     }

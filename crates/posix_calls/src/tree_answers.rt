@@ -1,11 +1,11 @@
 ghost use Rattle.std.specs.Prelude.{◌≡◌, Some, None, option_map, IfOk, IfErr};
-ghost use Rattle.posix_calls.specs.Asks.{Part};
+ghost use Rattle.posix_calls.specs.Query.{Part};
 ghost use Rattle.posix_calls.specs.Answers.{entry_in, count_in, listed_in, size_in, range_in, description_of};
 ghost use Rattle.posix_calls.specs.Walk.{names_seen};
-ghost use Rattle.posix_calls.specs.declared.deed.NoDeed.TheVariants.{Lacks};
+ghost use Rattle.posix_calls.specs.declared.operation.DecideError.TheVariants.{Missing};
 
 use crate::bytes::Bytes;
-use crate::deed::{Description, NoDeed};
+use crate::operation::{Description, DecideError};
 use crate::names::Names;
 use std::alloc::{AllocError, Global};
 
@@ -58,12 +58,12 @@ pub trait TreeAnswers {
 }
 
 /// What was answered of an inode, or that more has to be known of it.
-pub fn known<A: Drop>(answer: Option<A>, inode: u32) -> Result<A, NoDeed>
+pub fn known<A: Drop>(answer: Option<A>, inode: u32) -> Result<A, DecideError>
     ensures known { IfOk result (λ x. answer ≡ Some x) }
-    ensures lacks { IfErr result (λ why. (why ≡ Lacks inode) × (answer ≡ None)) }
+    ensures missing { IfErr result (λ why. (why ≡ Missing inode) × (answer ≡ None)) }
 {
     match answer {
         Some(x) => Ok(x),
-        None => Err(NoDeed::Lacks { inode }),
+        None => Err(DecideError::Missing { inode }),
     }
 }

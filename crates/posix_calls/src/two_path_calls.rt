@@ -5,12 +5,12 @@ ghost use Rattle.posix_calls.specs.Walk.{is_full};
 ghost use Rattle.posix_calls.specs.Decide.{link, link_at, rename, rename_at, replacing, is_inode};
 
 use crate::call::Reply;
-use crate::deed::{Deed, NoDeed, Replaced};
+use crate::operation::{Operation, DecideError, Replaced};
 use crate::errno::Errno;
 use crate::limits::MAX_NAMES;
 use crate::path::Path;
 use crate::tree_answers::{TreeAnswers, known};
-use crate::walk::{Landing, kind_at, prefix, read_path, refuse_if, refuse_root, spot, there, walk};
+use crate::walk::{Landing, kind_at, prefix, read_path, refuse_if, refuse_root, location, there, walk};
 use std::alloc::Global;
 
 pub(crate) fn link<T: TreeAnswers>(
@@ -18,7 +18,7 @@ pub(crate) fn link<T: TreeAnswers>(
     tree: &T,
     old: &[u8],
     new: &[u8],
-) -> Result<Deed, NoDeed>
+) -> Result<Operation, DecideError>
     ensures { Tells (T.part tree.now) (link old.now new.now) result }
 {
     let old_path = read_path(alloc, old)?;
@@ -32,7 +32,7 @@ fn link_at<T: TreeAnswers>(
     tree: &T,
     old_path: &Path,
     new_path: &Path,
-) -> Result<Deed, NoDeed>
+) -> Result<Operation, DecideError>
     ensures { Tells (T.part tree.now) (link_at old_path.now new_path.now) result }
 {
     let from = prefix(tree, old_path)?;
@@ -44,12 +44,12 @@ fn link_at<T: TreeAnswers>(
     let names = known(tree.file_names(inode), inode)?;
     refuse_if(names >= MAX_NAMES, Errno::TooManyLinks)?;
     refuse_if(to.is_full(), Errno::NoSpace)?;
-    let at = spot(alloc, to.parent, new_path)?;
-    Ok(Deed::AddName { at, inode })
+    let at = location(alloc, to.parent, new_path)?;
+    Ok(Operation::AddName { at, inode })
 }
 
 // Whether a name that moves needs a place in a directory that has none.
-fn lacks_room(from: Landing, to: Landing) -> bool
+fn missing_room(from: Landing, to: Landing) -> bool
     ensures { result ≡ (not (from.parent == to.parent) && is_full (place_at [] to [])) }
 {
     from.parent != to.parent && to.is_full()
@@ -61,11 +61,11 @@ fn replaced<T: TreeAnswers>(
     from: Landing,
     to: Landing,
     old_dir: bool,
-) -> Result<Replaced, NoDeed>
+) -> Result<Replaced, DecideError>
     ensures { (a b : List (List ℕ)) (v w : List ℕ) → Tells (T.part tree.now) (replacing (place_at a from v) (place_at b to w) old_dir to.inode) result }
 {
     let Some(inode) = to.inode else {
-        refuse_if(lacks_room(from, to), Errno::NoSpace)?;
+        refuse_if(missing_room(from, to), Errno::NoSpace)?;
         return Ok(Replaced::Nothing);
     };
     let new_dir = kind_at(tree, Some(inode))?;
@@ -94,7 +94,7 @@ pub(crate) fn rename<T: TreeAnswers>(
     tree: &T,
     old: &[u8],
     new: &[u8],
-) -> Result<Deed, NoDeed>
+) -> Result<Operation, DecideError>
     ensures { Tells (T.part tree.now) (rename old.now new.now) result }
 {
     let old_path = read_path(alloc, old)?;
@@ -108,7 +108,7 @@ fn rename_at<T: TreeAnswers>(
     tree: &T,
     old_path: &Path,
     new_path: &Path,
-) -> Result<Deed, NoDeed>
+) -> Result<Operation, DecideError>
     ensures { Tells (T.part tree.now) (rename_at old_path.now new_path.now) result }
 {
     refuse_root(old_path)?;
@@ -118,17 +118,17 @@ fn rename_at<T: TreeAnswers>(
     let to = walk(tree, new_path, inode)?;
     refuse_if(to.passed, Errno::Invalid)?;
     if is_inode(inode, to.inode) {
-        return Ok(Deed::Tell {
+        return Ok(Operation::Tell {
             answer: Reply::Done,
         });
     }
     let is_dir = kind_at(tree, from.inode)?;
     let replaced = replaced(tree, from, to, is_dir)?;
-    let old_spot = spot(alloc, from.parent, old_path)?;
-    let new_spot = spot(alloc, to.parent, new_path)?;
-    Ok(Deed::Move {
-        from: old_spot,
-        to: new_spot,
+    let old_location = location(alloc, from.parent, old_path)?;
+    let new_location = location(alloc, to.parent, new_path)?;
+    Ok(Operation::Move {
+        from: old_location,
+        to: new_location,
         inode,
         is_dir,
         replaced,

@@ -1,12 +1,12 @@
 // The walk along a path, and the tests that several calls have in common. Each function answers one question of a call.
 ghost use Rattle.std.specs.Prelude.{◌≡◌, Some, None, Ok, Err, true, false, IfOk, IfErr, nat_le};
 ghost use Rattle.posix_calls.specs.Path.{reading};
-ghost use Rattle.posix_calls.specs.Asks.{Part};
+ghost use Rattle.posix_calls.specs.Query.{Part};
 ghost use Rattle.posix_calls.specs.Walk.{said, kind_at, there, is_root, is_there};
 ghost use Rattle.posix_calls.specs.Answers.{Tells, last_name, landing, child_at};
-ghost use Rattle.posix_calls.specs.declared.deed.NoDeed.TheVariants.{Refused, Memory};
+ghost use Rattle.posix_calls.specs.declared.operation.DecideError.TheVariants.{Refused, Memory};
 
-use crate::deed::{NoDeed, Spot};
+use crate::operation::{DecideError, Location};
 use crate::errno::Errno;
 use crate::limits::{MAX_ENTRIES, ROOT};
 use crate::name::Name;
@@ -28,36 +28,36 @@ pub struct Landing {
 const NOTHING: u32 = 0;
 
 // This error, where the test holds.
-pub(crate) fn refuse_if(test: bool, errno: Errno) -> Result<(), NoDeed>
+pub(crate) fn refuse_if(test: bool, errno: Errno) -> Result<(), DecideError>
     ensures clear { IfOk result (λ _. test ≡ false) }
     ensures refused { IfErr result (λ why. (why ≡ Refused errno) × (test ≡ true)) }
 {
     if test {
-        return Err(NoDeed::Refused { errno });
+        return Err(DecideError::Refused { errno });
     }
     Ok(())
 }
 
 // The root's place is not to be had.
-pub(crate) fn refuse_root(path: &Path) -> Result<(), NoDeed>
+pub(crate) fn refuse_root(path: &Path) -> Result<(), DecideError>
     ensures clear { IfOk result (λ _. is_root path.now ≡ false) }
     ensures refused { IfErr result (λ why. (why ≡ Refused Errno.Busy) × (is_root path.now ≡ true)) }
 {
     if path.is_root() {
-        return Err(NoDeed::Refused { errno: Errno::Busy });
+        return Err(DecideError::Refused { errno: Errno::Busy });
     }
     Ok(())
 }
 
 // Reads a path.
-pub(crate) fn read_path(alloc: Global, bytes: &[u8]) -> Result<Path, NoDeed>
+pub(crate) fn read_path(alloc: Global, bytes: &[u8]) -> Result<Path, DecideError>
     ensures { (p : Part) → Tells p (said (reading bytes.now)) result }
 {
     Ok(Path::read(alloc, bytes)?)
 }
 
 // Whether there is a directory.
-pub(crate) fn kind_at<T: TreeAnswers>(tree: &T, inode: Option<u32>) -> Result<bool, NoDeed>
+pub(crate) fn kind_at<T: TreeAnswers>(tree: &T, inode: Option<u32>) -> Result<bool, DecideError>
     ensures { Tells (T.part tree.now) (kind_at inode) result }
 {
     let Some(inode) = inode else {
@@ -68,41 +68,41 @@ pub(crate) fn kind_at<T: TreeAnswers>(tree: &T, inode: Option<u32>) -> Result<bo
 }
 
 // The inode, where there is one.
-pub(crate) fn there(inode: Option<u32>) -> Result<u32, NoDeed>
+pub(crate) fn there(inode: Option<u32>) -> Result<u32, DecideError>
     ensures { (p : Part) → Tells p (there inode) result }
 {
     match inode {
         Some(inode) => Ok(inode),
-        None => Err(NoDeed::Refused {
+        None => Err(DecideError::Refused {
             errno: Errno::NoEntry,
         }),
     }
 }
 
 // The directory under a name of a directory.
-fn child_at<T: TreeAnswers>(tree: &T, dir: u32, name: &[u8]) -> Result<u32, NoDeed>
+fn child_at<T: TreeAnswers>(tree: &T, dir: u32, name: &[u8]) -> Result<u32, DecideError>
     ensures { Tells (T.part tree.now) (child_at dir name.now) result }
 {
     let entry = known(tree.entry(dir, name), dir)?;
     let Some(inode) = entry else {
-        return Err(NoDeed::Refused {
+        return Err(DecideError::Refused {
             errno: Errno::NoEntry,
         });
     };
     let answer = known(tree.is_dir(inode), inode)?;
     match answer {
         Some(true) => Ok(inode),
-        Some(false) => Err(NoDeed::Refused {
+        Some(false) => Err(DecideError::Refused {
             errno: Errno::NotDirectory,
         }),
-        None => Err(NoDeed::Refused {
+        None => Err(DecideError::Refused {
             errno: Errno::NoEntry,
         }),
     }
 }
 
 // Walks along a path to the parent of its last name, and watches for an inode.
-pub(crate) fn walk<T: TreeAnswers>(tree: &T, path: &Path, watched: u32) -> Result<Landing, NoDeed>
+pub(crate) fn walk<T: TreeAnswers>(tree: &T, path: &Path, watched: u32) -> Result<Landing, DecideError>
     ensures tells { Tells (T.part tree.now) (landing watched path.now) result }
     ensures root { IfOk result (λ to. is_root path.now ≡ true → to.inode ≡ Some ROOT) }
 {
@@ -132,7 +132,7 @@ pub(crate) fn walk<T: TreeAnswers>(tree: &T, path: &Path, watched: u32) -> Resul
 }
 
 // Walks along a path to the parent of its last name.
-pub(crate) fn prefix<T: TreeAnswers>(tree: &T, path: &Path) -> Result<Landing, NoDeed>
+pub(crate) fn prefix<T: TreeAnswers>(tree: &T, path: &Path) -> Result<Landing, DecideError>
     ensures tells { Tells (T.part tree.now) (landing 0 path.now) result }
     ensures root { IfOk result (λ to. is_root path.now ≡ true → to.inode ≡ Some ROOT) }
 {
@@ -140,15 +140,15 @@ pub(crate) fn prefix<T: TreeAnswers>(tree: &T, path: &Path) -> Result<Landing, N
 }
 
 // The last name of a path, in its directory.
-pub(crate) fn spot(alloc: Global, parent: u32, path: &Path) -> Result<Spot, NoDeed>
+pub(crate) fn location(alloc: Global, parent: u32, path: &Path) -> Result<Location, DecideError>
     requires { is_root path.now ≡ false }
-    ensures spot { IfOk result (λ at. at ≡ record { parent = parent; name = last_name path.now }) }
+    ensures location { IfOk result (λ at. at ≡ record { parent = parent; name = last_name path.now }) }
     ensures only { IfErr result (λ why. why ≡ Memory) }
 {
     let [.., last] = path.names() else {
         unreachable!();
     };
-    Ok(Spot {
+    Ok(Location {
         parent,
         name: last.copy(alloc)?,
     })

@@ -4,7 +4,7 @@ use Rattle.std.specs.Prelude.{nat_lt}
 use Rattle.std.proofs.lemmas.List.{take_all, length-take}
 use Rattle.std.proofs.lemmas.Bool.{cases_lt, lt-ltb}
 use Rattle.posix_calls.specs.Tree.{Own}
-use Rattle.posix_calls.specs.Asks.{◌>>=◌}
+use Rattle.posix_calls.specs.Query.{◌>>=◌}
 use Rattle.posix_calls.specs.Decide.{pwrite}
 use Rattle.posix_calls.specs.declared.limits.TheConstants.{MAX_TRANSFER}
 use Rattle.script_lines.specs.declared.runs.TheConstants.{MAX_DATA}

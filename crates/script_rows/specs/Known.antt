@@ -1,6 +1,6 @@
 -- What is known of a plain graph of which only some inodes are known.
 use Rattle.std.specs.Prelude.{ℕ, List, ◌||◌, ◌==◌, None, if◌then◌else◌}
-use Rattle.posix_calls.specs.Asks.{Part}
+use Rattle.posix_calls.specs.Query.{Part}
 use Rattle.posix_calls.specs.declared.limits.TheConstants.{ROOT}
 use Rattle.file_graph.specs.Graph.{Graph, is_among}
 use Rattle.graph_answers.specs.Whole.{whole_of}

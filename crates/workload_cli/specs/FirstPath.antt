@@ -9,11 +9,11 @@ use Rattle.posix_calls.specs.declared.limits.TheConstants.{ROOT}
 use Rattle.posix_calls.specs.declared.call.Call.{Call}
 use Rattle.posix_calls.specs.declared.call.Call.TheVariants as call
 use Rattle.posix_calls.specs.declared.call.Reply.{Reply}
-use Rattle.posix_calls.specs.declared.deed.Deed.{Deed}
+use Rattle.posix_calls.specs.declared.operation.Operation.{Operation}
 use Rattle.posix_calls.specs.Tree.{Own, set_own}
-use Rattle.posix_calls.specs.Asks.{run}
+use Rattle.posix_calls.specs.Query.{run}
 use Rattle.posix_calls.specs.Decide.{decide}
-use Rattle.posix_calls.specs.Deeds.{reply_of}
+use Rattle.posix_calls.specs.Operations.{reply_of}
 use Rattle.file_graph.specs.Graph.{Graph, fresh, after_effects}
 use Rattle.file_graph.specs.declared.effect.Kind.TheVariants as kind
 use Rattle.log_record.specs.declared.format.Record.{Record}
@@ -45,13 +45,13 @@ first_call = call.Pwrite 0 0 (codes "aaaa")
 abbrev pub second_call : Call
 second_call = call.Mkdir (codes "/a")
 
--- the record of a client's call over a graph, by its deed, and what the call is answered; a new node gets the number new
+-- the record of a client's call over a graph, by its operation, and what the call is answered; a new node gets the number new
 pub record IsLogged (g : Graph) (own : Own) (asked : Call) (new : ℕ) (entry : Record) (told : Reply) : Type 0 where
-  pub deed : Deed
-  pub comes : run (stored_view g) (decide own asked) ≡ Ok deed
-  pub changes : run (stored_view g) (effects_asked new deed) ≡ Ok entry.effects
-  pub grows : run (stored_view g) (growth_asked deed) ≡ Ok entry.units
-  pub answers : told ≡ reply_of deed
+  pub operation : Operation
+  pub comes : run (stored_view g) (decide own asked) ≡ Ok operation
+  pub changes : run (stored_view g) (effects_asked new operation) ≡ Ok entry.effects
+  pub grows : run (stored_view g) (growth_asked operation) ≡ Ok entry.units
+  pub answers : told ≡ reply_of operation
 
 -- ---- what is done and what is recovered
 

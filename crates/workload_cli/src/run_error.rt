@@ -1,4 +1,4 @@
-use posix_calls::NoDeed;
+use posix_calls::DecideError;
 use std::alloc::{AllocError, AllocFailed};
 use std::io::{self, ErrorKind};
 use thiserror::Error;
@@ -53,10 +53,10 @@ impl From<RegionError> for RunError {
     }
 }
 
-impl From<NoDeed> for RunError {
-    fn from(why: NoDeed) -> RunError {
+impl From<DecideError> for RunError {
+    fn from(why: DecideError) -> RunError {
         match why {
-            NoDeed::Memory => RunError::Memory,
+            DecideError::Memory => RunError::Memory,
             _ => RunError::Damaged,
         }
     }

@@ -1,8 +1,8 @@
 // Two clients that each ask a call over a graph, which stands for the shared media.
 ghost use Rattle.std.specs.Prelude.{◌≡◌, ℕ, IfOk, IfSome, Ok, codes};
-ghost use Rattle.posix_calls.specs.Asks.{run};
+ghost use Rattle.posix_calls.specs.Query.{run};
 ghost use Rattle.posix_calls.specs.Decide.{decide};
-ghost use Rattle.posix_calls.specs.Deeds.{reply_of};
+ghost use Rattle.posix_calls.specs.Operations.{reply_of};
 ghost use Rattle.posix_calls.specs.Own.{own_of};
 ghost use Rattle.file_graph.specs.Graph.{graph_of};
 ghost use Rattle.call_effects.specs.Known.{stored_view};
@@ -15,7 +15,7 @@ use file_graph::{Effect, Kind, PlainGraph};
 use graph_answers::GraphAnswers;
 use log_record::Record;
 use posix_calls::{
-    Bytes, Call, Deed, Descriptor, Name, NoDeed, OwnDescriptors, ROOT, Reply, decide,
+    Bytes, Call, Operation, Descriptor, Name, DecideError, OwnDescriptors, ROOT, Reply, decide,
 };
 use std::alloc::Global;
 
@@ -97,12 +97,12 @@ pub fn logged(
 ) -> Result<(Record, Reply), RunError>
     ensures { IfOk result (λ l. IsLogged (graph_of graph.now) (own_of own.now) call.now new l.0 l.1) }
 {
-    let deed = decided(alloc, graph, own, call)?;
-    let units = units_of(graph, &deed)?;
-    let Some(reply) = reply_to(&deed) else {
+    let operation = decided(alloc, graph, own, call)?;
+    let units = units_of(graph, &operation)?;
+    let Some(reply) = reply_to(&operation) else {
         return Err(RunError::Damaged);
     };
-    let entry = recorded(alloc, graph, deed, new, units)?;
+    let entry = recorded(alloc, graph, operation, new, units)?;
     Ok((entry, reply))
 }
 
@@ -111,19 +111,19 @@ fn decided(
     graph: &PlainGraph,
     own: &OwnDescriptors,
     call: &Call,
-) -> Result<Deed, RunError>
-    ensures { IfOk result (λ deed. run (stored_view (graph_of graph.now)) (decide (own_of own.now) call.now) ≡ Ok deed) }
+) -> Result<Operation, RunError>
+    ensures { IfOk result (λ operation. run (stored_view (graph_of graph.now)) (decide (own_of own.now) call.now) ≡ Ok operation) }
 {
     match decide(alloc, &GraphAnswers { graph }, own, call) {
-        Ok(deed) => Ok(deed),
+        Ok(operation) => Ok(operation),
         Err(why) => Err(RunError::from(why)),
     }
 }
 
-fn units_of(graph: &PlainGraph, deed: &Deed) -> Result<u32, RunError>
-    ensures { IfOk result (λ units. run (stored_view (graph_of graph.now)) (growth_asked deed.now) ≡ Ok units) }
+fn units_of(graph: &PlainGraph, operation: &Operation) -> Result<u32, RunError>
+    ensures { IfOk result (λ units. run (stored_view (graph_of graph.now)) (growth_asked operation.now) ≡ Ok units) }
 {
-    match growth_of(&GraphAnswers { graph }, deed) {
+    match growth_of(&GraphAnswers { graph }, operation) {
         Ok(units) => match u32::try_from(units) {
             Ok(units) => Ok(units),
             Err(_) => Err(RunError::Damaged),
@@ -135,32 +135,32 @@ fn units_of(graph: &PlainGraph, deed: &Deed) -> Result<u32, RunError>
 fn recorded(
     alloc: Global,
     graph: &PlainGraph,
-    deed: Deed,
+    operation: Operation,
     new: u32,
     units: u32,
 ) -> Result<Record, RunError>
-    ensures effects { IfOk result (λ entry. run (stored_view (graph_of graph.now)) (effects_asked new deed) ≡ Ok entry.effects) }
+    ensures effects { IfOk result (λ entry. run (stored_view (graph_of graph.now)) (effects_asked new operation) ≡ Ok entry.effects) }
     ensures units { IfOk result (λ entry. entry.units ≡ units) }
 {
-    match record_of(alloc, &GraphAnswers { graph }, deed, new, units) {
+    match record_of(alloc, &GraphAnswers { graph }, operation, new, units) {
         Ok(entry) => Ok(entry),
-        Err((why, _deed)) => Err(RunError::from(why)),
+        Err((why, _operation)) => Err(RunError::from(why)),
     }
 }
 
-// What a deed that changes something is answered.
-fn reply_to(deed: &Deed) -> Option<Reply>
-    ensures { IfSome result (λ reply. reply ≡ reply_of deed.now) }
+// What a operation that changes something is answered.
+fn reply_to(operation: &Operation) -> Option<Reply>
+    ensures { IfSome result (λ reply. reply ≡ reply_of operation.now) }
 {
-    match deed {
-        Deed::Tell { .. } => None,
-        Deed::NewFile { descriptor, .. } => Some(Reply::Opened {
+    match operation {
+        Operation::Tell { .. } => None,
+        Operation::NewFile { descriptor, .. } => Some(Reply::Opened {
             descriptor: *descriptor,
         }),
-        Deed::OpenFile { descriptor, .. } => Some(Reply::Opened {
+        Operation::OpenFile { descriptor, .. } => Some(Reply::Opened {
             descriptor: *descriptor,
         }),
-        Deed::Write { bytes, .. } => match u32::try_from(bytes.len()) {
+        Operation::Write { bytes, .. } => match u32::try_from(bytes.len()) {
             Ok(count) => Some(Reply::Wrote { count }),
             Err(_) => None,
         },

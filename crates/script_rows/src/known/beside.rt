@@ -4,7 +4,7 @@ use call_effects::{growth_of, has_effects, record_of};
 use file_graph::{Effect, Effects, PlainGraph};
 use plain_tree::PlainTree;
 use posix_calls::{
-    Call, Deed, Descriptor, Errno, MAX_CLIENTS, MAX_INODE, NoDeed, OwnDescriptors, ROOT, Reply,
+    Call, Operation, Descriptor, Errno, MAX_CLIENTS, MAX_INODE, DecideError, OwnDescriptors, ROOT, Reply,
     decide,
 };
 use std::alloc::Global;
@@ -54,10 +54,10 @@ impl Beside {
     /// What a client's call is answered by the graph, and also by the tree.
     pub fn ask(&mut self, client: u32, call: &Call) -> io::Result<Reply> {
         self.growth = 0;
-        let deed = self.deed_of(client, call)?;
+        let operation = self.operation_of(client, call)?;
         self.decided = self.part.known().len();
-        let reply = match deed {
-            Ok(deed) => self.carry_out(client, deed)?,
+        let reply = match operation {
+            Ok(operation) => self.carry_out(client, operation)?,
             Err(errno) => Reply::Failed { errno },
         };
         self.compare(client, call, &reply)?;
@@ -72,20 +72,20 @@ impl Beside {
         Err(differs())
     }
 
-    // The deed that a call comes to, or its error: nothing is known at first, and what is lacked becomes known.
-    fn deed_of(&mut self, client: u32, call: &Call) -> io::Result<Result<Deed, Errno>> {
+    // The operation that a call comes to, or its error: nothing is known at first, and what is lacked becomes known.
+    fn operation_of(&mut self, client: u32, call: &Call) -> io::Result<Result<Operation, Errno>> {
         self.part.forget();
         for _ in 0..MOST_LACKED {
             match self.decided_by_part(client, call)? {
-                Ok(deed) => return Ok(Ok(deed)),
-                Err(NoDeed::Refused { errno }) => return Ok(Err(errno)),
+                Ok(operation) => return Ok(Ok(operation)),
+                Err(DecideError::Refused { errno }) => return Ok(Err(errno)),
                 Err(why) => self.learn(why)?,
             }
         }
         Err(differs())
     }
 
-    fn decided_by_part(&self, client: u32, call: &Call) -> io::Result<Result<Deed, NoDeed>> {
+    fn decided_by_part(&self, client: u32, call: &Call) -> io::Result<Result<Operation, DecideError>> {
         let Some(own) = self.owns.get((client as usize).saturating_sub(1)) else {
             return Err(differs());
         };
@@ -93,26 +93,26 @@ impl Beside {
     }
 
     // What is lacked becomes known.
-    fn learn(&mut self, why: NoDeed) -> io::Result<()> {
-        let NoDeed::Lacks { inode } = why else {
+    fn learn(&mut self, why: DecideError) -> io::Result<()> {
+        let DecideError::Missing { inode } = why else {
             return Err(differs());
         };
         self.part.learn(inode)?;
         Ok(())
     }
 
-    // Carries a deed out by its record, and answers it.
-    fn carry_out(&mut self, client: u32, deed: Deed) -> io::Result<Reply> {
-        let deed = match deed {
-            Deed::Tell { answer } => return Ok(answer),
-            deed => deed,
+    // Carries a operation out by its record, and answers it.
+    fn carry_out(&mut self, client: u32, operation: Operation) -> io::Result<Reply> {
+        let operation = match operation {
+            Operation::Tell { answer } => return Ok(answer),
+            operation => operation,
         };
         let new = self.next_free()?;
-        let reply = reply_to(&deed);
-        let opens = opened_by(&deed, new);
-        self.growth = self.growth_of(&deed)?;
-        let changes = has_effects(&deed);
-        let effects = self.effects_of(deed, new)?;
+        let reply = reply_to(&operation);
+        let opens = opened_by(&operation, new);
+        self.growth = self.growth_of(&operation)?;
+        let changes = has_effects(&operation);
+        let effects = self.effects_of(operation, new)?;
         if effects.is_empty() == changes {
             return Err(differs());
         }
@@ -122,10 +122,10 @@ impl Beside {
         Ok(reply)
     }
 
-    // By how many units a deed raises the graph.
-    fn growth_of(&mut self, deed: &Deed) -> io::Result<u64> {
+    // By how many units a operation raises the graph.
+    fn growth_of(&mut self, operation: &Operation) -> io::Result<u64> {
         for _ in 0..MOST_LACKED {
-            match growth_of(&self.part, deed) {
+            match growth_of(&self.part, operation) {
                 Ok(growth) => return Ok(growth),
                 Err(why) => self.learn(why)?,
             }
@@ -133,11 +133,11 @@ impl Beside {
         Err(differs())
     }
 
-    // The effects of a deed.
-    fn effects_of(&mut self, deed: Deed, new: u32) -> io::Result<Effects> {
-        let mut deed = deed;
+    // The effects of a operation.
+    fn effects_of(&mut self, operation: Operation, new: u32) -> io::Result<Effects> {
+        let mut operation = operation;
         for _ in 0..MOST_LACKED {
-            deed = match record_of(self.alloc, &self.part, deed, new, UNITS) {
+            operation = match record_of(self.alloc, &self.part, operation, new, UNITS) {
                 Ok(record) => return effects_in(record.units, record.effects),
                 Err((why, back)) => {
                     self.learn(why)?;
@@ -225,38 +225,38 @@ fn effects_in(units: u32, effects: Effects) -> io::Result<Effects> {
     Ok(effects)
 }
 
-fn reply_to(deed: &Deed) -> Reply {
-    match deed {
-        Deed::NewFile { descriptor, .. } => Reply::Opened {
+fn reply_to(operation: &Operation) -> Reply {
+    match operation {
+        Operation::NewFile { descriptor, .. } => Reply::Opened {
             descriptor: *descriptor,
         },
-        Deed::OpenFile { descriptor, .. } => Reply::Opened {
+        Operation::OpenFile { descriptor, .. } => Reply::Opened {
             descriptor: *descriptor,
         },
-        Deed::Write { bytes, .. } => Reply::Wrote {
+        Operation::Write { bytes, .. } => Reply::Wrote {
             count: u32::try_from(bytes.len()).unwrap_or(0),
         },
         _ => Reply::Done,
     }
 }
 
-// The descriptor that a deed sets, and to what.
-fn opened_by(deed: &Deed, new: u32) -> Option<(u32, Option<Descriptor>)> {
-    let (number, inode, reads, writes) = match deed {
-        Deed::NewFile {
+// The descriptor that a operation sets, and to what.
+fn opened_by(operation: &Operation, new: u32) -> Option<(u32, Option<Descriptor>)> {
+    let (number, inode, reads, writes) = match operation {
+        Operation::NewFile {
             descriptor,
             reads,
             writes,
             ..
         } => (*descriptor, new, *reads, *writes),
-        Deed::OpenFile {
+        Operation::OpenFile {
             inode,
             descriptor,
             reads,
             writes,
             ..
         } => (*descriptor, *inode, *reads, *writes),
-        Deed::CloseFile { descriptor, .. } => return Some((*descriptor, None)),
+        Operation::CloseFile { descriptor, .. } => return Some((*descriptor, None)),
         _ => return None,
     };
     let what = Descriptor {

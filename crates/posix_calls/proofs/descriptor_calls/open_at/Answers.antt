@@ -28,7 +28,7 @@ pub returns-in_err-refuse_if-5 : goal.returns-in_err-refuse_if-5
 returns-in_err-refuse_if-5 g c = exits c.from_residual-in_err-refuse_if-5.ensures.1 (passes _ _ (sym c.is_senseless.ensures ∙ c.in_ok-refuse_if.ensures.clear) (bind_gives _ (c.in_ok-descriptor.ensures _) (bind_place 0 c.args.path.now _ c.in_ok-to.ensures.tells (λ to_walked to_seen. passes _ _ (sym c.is_taken.ensures ∙ c.in_ok-refuse_if-2.ensures.clear) (bind_gives _ c.in_ok-is_dir.ensures (passes _ _ (c.in_ok-refuse_if-3.ensures.clear) (rw c.in_default.is (passes _ _ (c.in_ok-refuse_if-4.ensures.clear) (fails _ _ c.in_err-refuse_if-5.ensures.refused.0 (sym c.is_full.ensures ∙ c.in_err-refuse_if-5.ensures.refused.1))))))))))
 
 pub returns-in_default : goal.returns-in_default
-returns-in_default g c = rw c.in_ok-at.ensures.spot (passes _ _ (sym c.is_senseless.ensures ∙ c.in_ok-refuse_if.ensures.clear) (bind_gives _ (c.in_ok-descriptor.ensures _) (bind_place 0 c.args.path.now _ c.in_ok-to.ensures.tells (λ to_walked to_seen. passes _ _ (sym c.is_taken.ensures ∙ c.in_ok-refuse_if-2.ensures.clear) (bind_gives _ c.in_ok-is_dir.ensures (passes _ _ (c.in_ok-refuse_if-3.ensures.clear) (rw c.in_default.is (passes _ _ (c.in_ok-refuse_if-4.ensures.clear) (passes _ _ (sym c.is_full.ensures ∙ c.in_ok-refuse_if-5.ensures.clear) (gives))))))))))
+returns-in_default g c = rw c.in_ok-at.ensures.location (passes _ _ (sym c.is_senseless.ensures ∙ c.in_ok-refuse_if.ensures.clear) (bind_gives _ (c.in_ok-descriptor.ensures _) (bind_place 0 c.args.path.now _ c.in_ok-to.ensures.tells (λ to_walked to_seen. passes _ _ (sym c.is_taken.ensures ∙ c.in_ok-refuse_if-2.ensures.clear) (bind_gives _ c.in_ok-is_dir.ensures (passes _ _ (c.in_ok-refuse_if-3.ensures.clear) (rw c.in_default.is (passes _ _ (c.in_ok-refuse_if-4.ensures.clear) (passes _ _ (sym c.is_full.ensures ∙ c.in_ok-refuse_if-5.ensures.clear) (gives))))))))))
 
 pub returns-in_err-empties : goal.returns-in_err-empties
 returns-in_err-empties g c = exits c.from_residual-in_err-empties.ensures.1 (passes _ _ (sym c.is_senseless.ensures ∙ c.in_ok-refuse_if.ensures.clear) (bind_gives _ (c.in_ok-descriptor.ensures _) (bind_place 0 c.args.path.now _ c.in_ok-to.ensures.tells (λ to_walked to_seen. passes _ _ (sym c.is_taken.ensures ∙ c.in_ok-refuse_if-2.ensures.clear) (bind_gives _ c.in_ok-is_dir.ensures (passes _ _ (c.in_ok-refuse_if-3.ensures.clear) (rw c.in-Some.is (bind_stops _ c.in_err-empties.ensures))))))))

@@ -22,4 +22,4 @@ returns-in_err-refuse_if-2 g c = exits c.from_residual-in_err-refuse_if-2.ensure
 
 pub returns : goal.returns
 unfolding mkdir
-returns g c = rw c.in_ok-at.ensures.spot (bind_gives _ (c.in_ok-path.ensures _) (bind_place 0 c.in_ok-path.path _ c.in_ok-to.ensures.tells (λ to_walked to_seen. passes _ _ (sym c.is_there.ensures ∙ c.in_ok-refuse_if.ensures.clear) (passes _ _ (sym c.is_full.ensures ∙ c.in_ok-refuse_if-2.ensures.clear) (gives)))))
+returns g c = rw c.in_ok-at.ensures.location (bind_gives _ (c.in_ok-path.ensures _) (bind_place 0 c.in_ok-path.path _ c.in_ok-to.ensures.tells (λ to_walked to_seen. passes _ _ (sym c.is_there.ensures ∙ c.in_ok-refuse_if.ensures.clear) (passes _ _ (sym c.is_full.ensures ∙ c.in_ok-refuse_if-2.ensures.clear) (gives)))))

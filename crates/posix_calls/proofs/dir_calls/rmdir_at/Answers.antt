@@ -1,7 +1,7 @@
 use Rattle.std.proofs.Common.{sym, ◌∙◌, ap, nat_lt}
 use Rattle.posix_calls.specs.Walk.{entries_seen}
 use Rattle.posix_calls.specs.Answers.{count_in}
-use Rattle.posix_calls.proofs.Chain.{exits, gives, bind_gives, bind_stops, passes, fails, bind_look, bind_look_lacks}
+use Rattle.posix_calls.proofs.Chain.{exits, gives, bind_gives, bind_stops, passes, fails, bind_look, bind_look_missing}
 use Rattle.posix_calls.proofs.Walks.{bind_place, bind_place_stops}
 use Rattle.posix_calls.proofs.dir_calls.rmdir_at.Goals as goal
 
@@ -21,10 +21,10 @@ pub returns-in_err-refuse_if : goal.returns-in_err-refuse_if
 returns-in_err-refuse_if g c = exits c.from_residual-in_err-refuse_if.ensures.1 (passes _ _ (c.in_ok-refuse_root.ensures.clear) (bind_place 0 c.args.path.now _ c.in_ok-to.ensures.tells (λ to_walked to_seen. bind_gives _ (c.in_ok-inode.ensures _) (bind_gives _ c.in_ok-is_dir.ensures (fails _ _ c.in_err-refuse_if.ensures.refused.0 (c.in_err-refuse_if.ensures.refused.1))))))
 
 pub returns-in_err-entries : goal.returns-in_err-entries
-returns-in_err-entries g c = exits c.from_residual-in_err-entries.ensures.1 (passes _ _ (c.in_ok-refuse_root.ensures.clear) (bind_place 0 c.args.path.now _ c.in_ok-to.ensures.tells (λ to_walked to_seen. bind_gives _ (c.in_ok-inode.ensures _) (bind_gives _ c.in_ok-is_dir.ensures (passes _ _ (c.in_ok-refuse_if.ensures.clear) (bind_look_lacks _ entries_seen count_in _ c.in_err-entries.ensures.lacks.0 (sym c.entry_count.ensures ∙ c.in_err-entries.ensures.lacks.1)))))))
+returns-in_err-entries g c = exits c.from_residual-in_err-entries.ensures.1 (passes _ _ (c.in_ok-refuse_root.ensures.clear) (bind_place 0 c.args.path.now _ c.in_ok-to.ensures.tells (λ to_walked to_seen. bind_gives _ (c.in_ok-inode.ensures _) (bind_gives _ c.in_ok-is_dir.ensures (passes _ _ (c.in_ok-refuse_if.ensures.clear) (bind_look_missing _ entries_seen count_in _ c.in_err-entries.ensures.missing.0 (sym c.entry_count.ensures ∙ c.in_err-entries.ensures.missing.1)))))))
 
 pub returns-in_err-refuse_if-2 : goal.returns-in_err-refuse_if-2
 returns-in_err-refuse_if-2 g c = exits c.from_residual-in_err-refuse_if-2.ensures.1 (passes _ _ (c.in_ok-refuse_root.ensures.clear) (bind_place 0 c.args.path.now _ c.in_ok-to.ensures.tells (λ to_walked to_seen. bind_gives _ (c.in_ok-inode.ensures _) (bind_gives _ c.in_ok-is_dir.ensures (passes _ _ (c.in_ok-refuse_if.ensures.clear) (bind_look _ entries_seen count_in _ (sym c.entry_count.ensures ∙ c.in_ok-entries.ensures.known) (λ s is. fails _ _ c.in_err-refuse_if-2.ensures.refused.0 (ap (nat_lt 0) is ∙ c.in_err-refuse_if-2.ensures.refused.1))))))))
 
 pub returns : goal.returns
-returns g c = rw c.in_ok-at.ensures.spot (passes _ _ (c.in_ok-refuse_root.ensures.clear) (bind_place 0 c.args.path.now _ c.in_ok-to.ensures.tells (λ to_walked to_seen. bind_gives _ (c.in_ok-inode.ensures _) (bind_gives _ c.in_ok-is_dir.ensures (passes _ _ (c.in_ok-refuse_if.ensures.clear) (bind_look _ entries_seen count_in _ (sym c.entry_count.ensures ∙ c.in_ok-entries.ensures.known) (λ s is. passes _ _ (ap (nat_lt 0) is ∙ c.in_ok-refuse_if-2.ensures.clear) (gives))))))))
+returns g c = rw c.in_ok-at.ensures.location (passes _ _ (c.in_ok-refuse_root.ensures.clear) (bind_place 0 c.args.path.now _ c.in_ok-to.ensures.tells (λ to_walked to_seen. bind_gives _ (c.in_ok-inode.ensures _) (bind_gives _ c.in_ok-is_dir.ensures (passes _ _ (c.in_ok-refuse_if.ensures.clear) (bind_look _ entries_seen count_in _ (sym c.entry_count.ensures ∙ c.in_ok-entries.ensures.known) (λ s is. passes _ _ (ap (nat_lt 0) is ∙ c.in_ok-refuse_if-2.ensures.clear) (gives))))))))

@@ -1,7 +1,7 @@
 use Rattle.std.proofs.Common.{sym, ◌∙◌}
 use Rattle.posix_calls.specs.Walk.{bytes_seen}
 use Rattle.posix_calls.specs.Answers.{size_in}
-use Rattle.posix_calls.proofs.Chain.{exits, gives_as, bind_gives, bind_stops, passes, fails, bind_look, bind_look_lacks, same_if, apart_if}
+use Rattle.posix_calls.proofs.Chain.{exits, gives_as, bind_gives, bind_stops, passes, fails, bind_look, bind_look_missing, same_if, apart_if}
 use Rattle.posix_calls.proofs.Walks.{bind_place, bind_place_stops}
 use Rattle.posix_calls.specs.Decide.{truncate}
 use Rattle.posix_calls.proofs.file_calls.truncate.Goals as goal
@@ -32,7 +32,7 @@ returns-in_err-refuse_if-2 g c = exits c.from_residual-in_err-refuse_if-2.ensure
 
 pub returns-in_err-size : goal.returns-in_err-size
 unfolding truncate
-returns-in_err-size g c = exits c.from_residual-in_err-size.ensures.1 (bind_gives _ (c.in_ok-path.ensures _) (bind_place 0 c.in_ok-path.path _ c.in_ok-to.ensures.tells (λ to_walked to_seen. bind_gives _ (c.in_ok-inode.ensures _) (bind_gives _ c.in_ok-is_dir.ensures (passes _ _ (c.in_ok-refuse_if.ensures.clear) (passes _ _ (c.in_ok-refuse_if-2.ensures.clear) (bind_look_lacks _ bytes_seen size_in _ c.in_err-size.ensures.lacks.0 (sym c.file_size.ensures ∙ c.in_err-size.ensures.lacks.1))))))))
+returns-in_err-size g c = exits c.from_residual-in_err-size.ensures.1 (bind_gives _ (c.in_ok-path.ensures _) (bind_place 0 c.in_ok-path.path _ c.in_ok-to.ensures.tells (λ to_walked to_seen. bind_gives _ (c.in_ok-inode.ensures _) (bind_gives _ c.in_ok-is_dir.ensures (passes _ _ (c.in_ok-refuse_if.ensures.clear) (passes _ _ (c.in_ok-refuse_if-2.ensures.clear) (bind_look_missing _ bytes_seen size_in _ c.in_err-size.ensures.missing.0 (sym c.file_size.ensures ∙ c.in_err-size.ensures.missing.1))))))))
 
 pub returns-then-size-len : goal.returns-then-size-len
 unfolding truncate

@@ -18,4 +18,4 @@ pub returns-in_err-refuse_if : goal.returns-in_err-refuse_if
 returns-in_err-refuse_if g c = exits c.from_residual-in_err-refuse_if.ensures.1 (passes _ _ (c.in_ok-refuse_root.ensures.clear) (bind_place 0 c.args.path.now _ c.in_ok-to.ensures.tells (λ to_walked to_seen. bind_gives _ (c.in_ok-inode.ensures _) (bind_gives _ c.in_ok-is_dir.ensures (fails _ _ c.in_err-refuse_if.ensures.refused.0 (c.in_err-refuse_if.ensures.refused.1))))))
 
 pub returns : goal.returns
-returns g c = rw c.in_ok-at.ensures.spot (passes _ _ (c.in_ok-refuse_root.ensures.clear) (bind_place 0 c.args.path.now _ c.in_ok-to.ensures.tells (λ to_walked to_seen. bind_gives _ (c.in_ok-inode.ensures _) (bind_gives _ c.in_ok-is_dir.ensures (passes _ _ (c.in_ok-refuse_if.ensures.clear) (gives))))))
+returns g c = rw c.in_ok-at.ensures.location (passes _ _ (c.in_ok-refuse_root.ensures.clear) (bind_place 0 c.args.path.now _ c.in_ok-to.ensures.tells (λ to_walked to_seen. bind_gives _ (c.in_ok-inode.ensures _) (bind_gives _ c.in_ok-is_dir.ensures (passes _ _ (c.in_ok-refuse_if.ensures.clear) (gives))))))

@@ -1,4 +1,4 @@
-use Rattle.posix_calls.specs.Deeds.{answer}
+use Rattle.posix_calls.specs.Operations.{answer}
 use Rattle.posix_calls.proofs.Steps.{reply_same, state_same, number_unused}
 use Rattle.posix_calls.proofs.laws.step_is_determined.Goals as goal
 

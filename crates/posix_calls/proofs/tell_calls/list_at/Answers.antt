@@ -1,9 +1,9 @@
 use Rattle.std.proofs.Common.{sym, ◌∙◌, ap}
 use Rattle.posix_calls.specs.Walk.{entries_seen}
 use Rattle.posix_calls.specs.Answers.{listed_in}
-use Rattle.posix_calls.proofs.Chain.{exits, gives_as, bind_gives, bind_stops, passes, fails, bind_look, bind_look_lacks}
+use Rattle.posix_calls.proofs.Chain.{exits, gives_as, bind_gives, bind_stops, passes, fails, bind_look, bind_look_missing}
 use Rattle.posix_calls.proofs.Walks.{bind_place, bind_place_stops}
-use Rattle.posix_calls.specs.declared.deed.Deed.TheVariants as deed
+use Rattle.posix_calls.specs.declared.operation.Operation.TheVariants as operation
 use Rattle.posix_calls.specs.declared.call.Reply.TheVariants as reply
 use Rattle.posix_calls.proofs.tell_calls.list_at.Goals as goal
 
@@ -20,7 +20,7 @@ pub returns-in_err-refuse_if : goal.returns-in_err-refuse_if
 returns-in_err-refuse_if g c = exits c.from_residual-in_err-refuse_if.ensures.1 (bind_place 0 c.args.path.now _ c.in_ok-to.ensures.tells (λ to_walked to_seen. bind_gives _ (c.in_ok-inode.ensures _) (bind_gives _ c.in_ok-is_dir.ensures (fails _ _ c.in_err-refuse_if.ensures.refused.0 (c.in_err-refuse_if.ensures.refused.1)))))
 
 pub returns-in_err-names : goal.returns-in_err-names
-returns-in_err-names g c = exits c.from_residual-in_err-names.ensures.1 (bind_place 0 c.args.path.now _ c.in_ok-to.ensures.tells (λ to_walked to_seen. bind_gives _ (c.in_ok-inode.ensures _) (bind_gives _ c.in_ok-is_dir.ensures (passes _ _ (c.in_ok-refuse_if.ensures.clear) (bind_look_lacks _ entries_seen listed_in _ c.in_err-names.ensures.lacks.0 (sym c.in_ok-answer.ensures ∙ c.in_err-names.ensures.lacks.1))))))
+returns-in_err-names g c = exits c.from_residual-in_err-names.ensures.1 (bind_place 0 c.args.path.now _ c.in_ok-to.ensures.tells (λ to_walked to_seen. bind_gives _ (c.in_ok-inode.ensures _) (bind_gives _ c.in_ok-is_dir.ensures (passes _ _ (c.in_ok-refuse_if.ensures.clear) (bind_look_missing _ entries_seen listed_in _ c.in_err-names.ensures.missing.0 (sym c.in_ok-answer.ensures ∙ c.in_err-names.ensures.missing.1))))))
 
 pub returns : goal.returns
-returns g c = (bind_place 0 c.args.path.now _ c.in_ok-to.ensures.tells (λ to_walked to_seen. bind_gives _ (c.in_ok-inode.ensures _) (bind_gives _ c.in_ok-is_dir.ensures (passes _ _ (c.in_ok-refuse_if.ensures.clear) (bind_look _ entries_seen listed_in _ (sym c.in_ok-answer.ensures ∙ c.in_ok-names.ensures.known) (λ s is. gives_as (ap (λ z. deed.Tell (reply.Listed z)) is)))))))
+returns g c = (bind_place 0 c.args.path.now _ c.in_ok-to.ensures.tells (λ to_walked to_seen. bind_gives _ (c.in_ok-inode.ensures _) (bind_gives _ c.in_ok-is_dir.ensures (passes _ _ (c.in_ok-refuse_if.ensures.clear) (bind_look _ entries_seen listed_in _ (sym c.in_ok-answer.ensures ∙ c.in_ok-names.ensures.known) (λ s is. gives_as (ap (λ z. operation.Tell (reply.Listed z)) is)))))))

@@ -1,6 +1,6 @@
 use Rattle.std.proofs.Common.{sym, ◌∙◌, ap, Some}
 use Rattle.posix_calls.specs.Answers.{description_of}
-use Rattle.posix_calls.proofs.Chain.{exits, bind_gives, bind_stops, look_seen, look_lacks, file_told, dir_told, nothing_told}
+use Rattle.posix_calls.proofs.Chain.{exits, bind_gives, bind_stops, look_seen, look_missing, file_told, dir_told, nothing_told}
 use Rattle.posix_calls.proofs.Walks.{bind_place, bind_place_stops}
 use Rattle.posix_calls.specs.Decide.{stat}
 use Rattle.posix_calls.proofs.tell_calls.stat.Goals as goal
@@ -19,7 +19,7 @@ returns-in_err-inode g c = exits c.from_residual-in_err-inode.ensures.1 (bind_gi
 
 pub returns-in_err-answer : goal.returns-in_err-answer
 unfolding stat
-returns-in_err-answer g c = exits c.from_residual-in_err-answer.ensures.1 (bind_gives _ (c.in_ok-path.ensures _) (bind_place 0 c.in_ok-path.path _ c.in_ok-to.ensures.tells (λ to_walked to_seen. bind_gives _ (c.in_ok-inode.ensures _) (look_lacks description_of _ c.in_err-answer.ensures.lacks.0 (sym c.describe.ensures ∙ c.in_err-answer.ensures.lacks.1)))))
+returns-in_err-answer g c = exits c.from_residual-in_err-answer.ensures.1 (bind_gives _ (c.in_ok-path.ensures _) (bind_place 0 c.in_ok-path.path _ c.in_ok-to.ensures.tells (λ to_walked to_seen. bind_gives _ (c.in_ok-inode.ensures _) (look_missing description_of _ c.in_err-answer.ensures.missing.0 (sym c.describe.ensures ∙ c.in_err-answer.ensures.missing.1)))))
 
 pub returns-in_default : goal.returns-in_default
 unfolding stat

@@ -31,4 +31,4 @@ pub returns-then-is_inode : goal.returns-then-is_inode
 returns-then-is_inode g c = (passes _ _ (or_clear c.in_ok-refuse_root.ensures.clear c.in_ok-refuse_root-2.ensures.clear) (bind_place 0 c.args.old_path.now _ c.in_ok-from.ensures.tells (λ from_walked from_seen. bind_gives _ (c.in_ok-inode.ensures _) (bind_place c.in_ok-inode.inode c.args.new_path.now _ c.in_ok-to.ensures.tells (λ to_walked to_seen. passes _ _ (to_seen ∙ c.in_ok-refuse_if.ensures.clear) (if_holds _ (sym c.is_inode.ensures ∙ c.if-is_inode.true) (gives)))))))
 
 pub returns : goal.returns
-returns g c = rw (c.in_ok-old_spot.ensures.spot, c.in_ok-new_spot.ensures.spot) (passes _ _ (or_clear c.in_ok-refuse_root.ensures.clear c.in_ok-refuse_root-2.ensures.clear) (bind_place 0 c.args.old_path.now _ c.in_ok-from.ensures.tells (λ from_walked from_seen. bind_gives _ (c.in_ok-inode.ensures _) (bind_place c.in_ok-inode.inode c.args.new_path.now _ c.in_ok-to.ensures.tells (λ to_walked to_seen. passes _ _ (to_seen ∙ c.in_ok-refuse_if.ensures.clear) (if_fails _ (sym c.is_inode.ensures ∙ c.if-is_inode.false) (bind_gives _ c.in_ok-is_dir.ensures (bind_gives _ (c.in_ok-replaced.ensures c.args.old_path.now c.args.new_path.now from_walked to_walked) (gives)))))))))
+returns g c = rw (c.in_ok-old_location.ensures.location, c.in_ok-new_location.ensures.location) (passes _ _ (or_clear c.in_ok-refuse_root.ensures.clear c.in_ok-refuse_root-2.ensures.clear) (bind_place 0 c.args.old_path.now _ c.in_ok-from.ensures.tells (λ from_walked from_seen. bind_gives _ (c.in_ok-inode.ensures _) (bind_place c.in_ok-inode.inode c.args.new_path.now _ c.in_ok-to.ensures.tells (λ to_walked to_seen. passes _ _ (to_seen ∙ c.in_ok-refuse_if.ensures.clear) (if_fails _ (sym c.is_inode.ensures ∙ c.if-is_inode.false) (bind_gives _ c.in_ok-is_dir.ensures (bind_gives _ (c.in_ok-replaced.ensures c.args.old_path.now c.args.new_path.now from_walked to_walked) (gives)))))))))

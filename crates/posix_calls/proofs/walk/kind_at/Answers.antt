@@ -1,14 +1,14 @@
 use Rattle.std.proofs.Common.{◌≡◌, Option, Some, None, Bool, false, refl, sym, ◌∙◌}
 use Rattle.std.specs.Option.{unwrap_or}
 use Rattle.posix_calls.specs.Walk.{is_true}
-use Rattle.posix_calls.proofs.Chain.{exits, gives, is_dir_known, is_dir_lacks}
+use Rattle.posix_calls.proofs.Chain.{exits, gives, is_dir_known, is_dir_missing}
 use Rattle.posix_calls.proofs.walk.kind_at.Goals as goal
 
 pub returns-in_default : goal.returns-in_default
 returns-in_default g c = rw c.in_default.is gives
 
 pub returns-in_err-answer : goal.returns-in_err-answer
-returns-in_err-answer g c = rw c.in-Some.is (exits c.from_residual.ensures.1 (is_dir_lacks c.in_err-answer.ensures.lacks.0 (sym c.is_dir.ensures ∙ c.in_err-answer.ensures.lacks.1)))
+returns-in_err-answer g c = rw c.in-Some.is (exits c.from_residual.ensures.1 (is_dir_missing c.in_err-answer.ensures.missing.0 (sym c.is_dir.ensures ∙ c.in_err-answer.ensures.missing.1)))
 
 true_or : (o : Option Bool) → unwrap_or o false ≡ is_true o
 true_or None = refl

@@ -1,7 +1,7 @@
 use Rattle.std.proofs.Common.{◌+◌, ◌-◌, length, take, drop, sym, ◌∙◌}
 use Rattle.posix_calls.specs.Answers.{entry_in, count_in}
 use Rattle.posix_calls.proofs.Chain.{exits}
-use Rattle.posix_calls.proofs.Walks.{walked_first, walked_stops, walked_on, walked_lacks, walked_lands, walked_next, walked_last, lands_at_root, split_last}
+use Rattle.posix_calls.proofs.Walks.{walked_first, walked_stops, walked_on, walked_missing, walked_lands, walked_next, walked_last, lands_at_root, split_last}
 use Rattle.posix_calls.proofs.walk.walk.Goals as goal
 
 pub returns-in_default-clause-tells : goal.returns-in_default-clause-tells
@@ -17,10 +17,10 @@ pub loop-name-preserved : goal.loop-name-preserved
 loop-name-preserved g c = walked_on (drop (c.loop-name.name-index + 1) (take (length c.names.result.now - 1) c.names.result.now)) c.last-item.result (walked_next (take (length c.names.result.now - 1) c.names.result.now) c.loop-name.name-index c.name-item.result c.last-item.result c.loop-name-test.true c.name-item.is c.loop-name.invariant) (rw (← c.as_slice.ensures.bytes) c.in_ok-dir.ensures)
 
 pub returns-in_err-inode-clause-tells : goal.returns-in_err-inode-clause-tells
-returns-in_err-inode-clause-tells g c = exits c.from_residual-in_err-inode.ensures.1 (walked_lacks (entry_in c.as_slice-2.result.now) (walked_last (take (length c.names.result.now - 1) c.names.result.now) c.loop-name.name-index c.last-item.result c.loop-name-test.false c.loop-name.invariant) c.in_err-inode.ensures.lacks.0 (sym c.entry.ensures ∙ c.in_err-inode.ensures.lacks.1))
+returns-in_err-inode-clause-tells g c = exits c.from_residual-in_err-inode.ensures.1 (walked_missing (entry_in c.as_slice-2.result.now) (walked_last (take (length c.names.result.now - 1) c.names.result.now) c.loop-name.name-index c.last-item.result c.loop-name-test.false c.loop-name.invariant) c.in_err-inode.ensures.missing.0 (sym c.entry.ensures ∙ c.in_err-inode.ensures.missing.1))
 
 pub returns-in_err-entries-clause-tells : goal.returns-in_err-entries-clause-tells
-returns-in_err-entries-clause-tells g c = exits c.from_residual-in_err-entries.ensures.1 (walked_lacks count_in (walked_last (take (length c.names.result.now - 1) c.names.result.now) c.loop-name.name-index c.last-item.result c.loop-name-test.false c.loop-name.invariant) c.in_err-entries.ensures.lacks.0 (sym c.entry_count.ensures ∙ c.in_err-entries.ensures.lacks.1))
+returns-in_err-entries-clause-tells g c = exits c.from_residual-in_err-entries.ensures.1 (walked_missing count_in (walked_last (take (length c.names.result.now - 1) c.names.result.now) c.loop-name.name-index c.last-item.result c.loop-name-test.false c.loop-name.invariant) c.in_err-entries.ensures.missing.0 (sym c.entry_count.ensures ∙ c.in_err-entries.ensures.missing.1))
 
 pub returns-clause-tells : goal.returns-clause-tells
 returns-clause-tells g c = walked_lands (walked_last (take (length c.names.result.now - 1) c.names.result.now) c.loop-name.name-index c.last-item.result c.loop-name-test.false c.loop-name.invariant) (rw (← c.as_slice-2.ensures.bytes) (sym c.entry.ensures ∙ c.in_ok-inode.ensures.known)) (sym c.entry_count.ensures ∙ c.in_ok-entries.ensures.known)

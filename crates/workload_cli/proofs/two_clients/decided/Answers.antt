@@ -6,4 +6,4 @@ use Rattle.workload_cli.proofs.two_clients.decided.Goals as goal
 
 pub returns-in-Ok : goal.returns-in-Ok
 returns-in-Ok c =
-    told_is_run (graph_of c.args.graph.now) (decide (own_of c.args.own.now) c.args.call.now) c.in-Ok.deed (c.decide.ensures.gives c.in-Ok.deed c.in-Ok.is)
+    told_is_run (graph_of c.args.graph.now) (decide (own_of c.args.own.now) c.args.call.now) c.in-Ok.operation (c.decide.ensures.gives c.in-Ok.operation c.in-Ok.is)

@@ -7,4 +7,4 @@ use Rattle.workload_cli.proofs.two_clients.recorded.Goals as goal
 pub returns-in-Ok-clause-effects : goal.returns-in-Ok-clause-effects
 returns-in-Ok-clause-effects c =
     let effects = c.in-Ok.entry.effects in
-    told_is_run (graph_of c.args.graph.now) (effects_asked c.args.new c.args.deed) effects (c.in-Ok.ensures.tells.gives effects refl)
+    told_is_run (graph_of c.args.graph.now) (effects_asked c.args.new c.args.operation) effects (c.in-Ok.ensures.tells.gives effects refl)

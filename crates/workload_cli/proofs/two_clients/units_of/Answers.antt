@@ -10,5 +10,5 @@ pub returns-in-Ok-try_from : goal.returns-in-Ok-try_from
 returns-in-Ok-try_from c =
     let grown = c.in-Ok.units in
     let same : grown ≡ c.in-Ok-try_from.units = search rules in
-    told_is_run (graph_of c.args.graph.now) (growth_asked c.args.deed.now) grown (c.in-Ok.ensures.gives grown refl)
+    told_is_run (graph_of c.args.graph.now) (growth_asked c.args.operation.now) grown (c.in-Ok.ensures.gives grown refl)
     ∙ ap (λ n. let ok : Result ℕ Errno = Ok n in ok) same

@@ -1,10 +1,10 @@
 use Rattle.std.proofs.Common.{◌≡◌, Ok, Err, inl, ap, sym, subst, ◌∙◌, arith}
-use Rattle.posix_calls.specs.Asks.{run, view_of}
+use Rattle.posix_calls.specs.Query.{run, view_of}
 use Rattle.posix_calls.specs.Decide.{decide}
 use Rattle.posix_calls.specs.Tree.{Own}
 use Rattle.posix_calls.specs.Own.{own_of}
-use Rattle.posix_calls.specs.Deeds.{Step}
-use Rattle.posix_calls.specs.declared.deed.NoDeed.TheVariants.{Refused}
+use Rattle.posix_calls.specs.Operations.{Step}
+use Rattle.posix_calls.specs.declared.operation.DecideError.TheVariants.{Refused}
 use Rattle.plain_tree.specs.Plain.{Stored, tree_of, held_of, state_of, state_in, IsSound}
 use Rattle.posix_calls.proofs.Steps.{failed_step}
 use Rattle.plain_tree.proofs.Answering.{known_lacks_nothing, known_of}
@@ -17,20 +17,20 @@ carry_out-requires-clause-doable c =
     let s = state_in c.self.inside.nodes c.self.inside.rows.items in
     let row = row_of c.self.inside.rows.items c.args.client c.index.result.now (omega arith) (omega (arith, c.self.invariant.0, c.if-client-gt-MAX_CLIENTS.false)) c.index.ensures in
     let v = view_of (tree_of c.args.self.now.nodes) in
-    let comes : run v (decide (own_of c.index.result.now) c.args.call.now) ≡ Ok c.in-Ok.deed = known_of v (decide (own_of c.index.result.now) c.args.call.now) (Ok c.in-Ok.deed) (c.decide.ensures.gives c.in-Ok.deed c.in-Ok.is) in
-    doable s c.self.invariant.1 c.args.client c.args.call.now c.in-Ok.deed
-    (subst (λ (own : Own). run (view_of s.tree) (decide own c.args.call.now) ≡ Ok c.in-Ok.deed) (sym row)
-    (subst (λ (x : Stored). run (view_of (tree_of x.nodes)) (decide (own_of c.index.result.now) c.args.call.now) ≡ Ok c.in-Ok.deed) (sym c.self.view_is) comes))
+    let comes : run v (decide (own_of c.index.result.now) c.args.call.now) ≡ Ok c.in-Ok.operation = known_of v (decide (own_of c.index.result.now) c.args.call.now) (Ok c.in-Ok.operation) (c.decide.ensures.gives c.in-Ok.operation c.in-Ok.is) in
+    doable s c.self.invariant.1 c.args.client c.args.call.now c.in-Ok.operation
+    (subst (λ (own : Own). run (view_of s.tree) (decide own c.args.call.now) ≡ Ok c.in-Ok.operation) (sym row)
+    (subst (λ (x : Stored). run (view_of (tree_of x.nodes)) (decide (own_of c.index.result.now) c.args.call.now) ≡ Ok c.in-Ok.operation) (sym c.self.view_is) comes))
 
 pub unreachable-requires : goal.unreachable-requires
 unreachable-requires c =
-    known_lacks_nothing (view_of (tree_of c.args.self.now.nodes)) (decide (own_of c.index.result.now) c.args.call.now) c.in-Err-Lacks.field-0-0
-    (c.decide.ensures.lacks c.in-Err-Lacks.field-0-0 (c.in-Err-Lacks.is ∙ ap Err c.in-Err-Lacks.field-0-is))
+    known_lacks_nothing (view_of (tree_of c.args.self.now.nodes)) (decide (own_of c.index.result.now) c.args.call.now) c.in-Err-Missing.field-0-0
+    (c.decide.ensures.missing c.in-Err-Missing.field-0-0 (c.in-Err-Missing.is ∙ ap Err c.in-Err-Missing.field-0-is))
 
 pub returns-in-Ok-clause-exact : goal.returns-in-Ok-clause-exact
 returns-in-Ok-clause-exact c =
-    came_of (record { nodes = c.self.inside.nodes; rows = c.self.inside.rows.items }) c.args.self.now c.args.client c.args.call.now c.in-Ok.deed c.carry_out.result (state_in c.carry_out.new.nodes c.carry_out.new.rows.items) c.index.result.now
-    c.self.view_is (omega arith) (omega arith) c.self.invariant.0 c.index.ensures (c.decide.ensures.gives c.in-Ok.deed c.in-Ok.is) c.carry_out.ensures.done
+    came_of (record { nodes = c.self.inside.nodes; rows = c.self.inside.rows.items }) c.args.self.now c.args.client c.args.call.now c.in-Ok.operation c.carry_out.result (state_in c.carry_out.new.nodes c.carry_out.new.rows.items) c.index.result.now
+    c.self.view_is (omega arith) (omega arith) c.self.invariant.0 c.index.ensures (c.decide.ensures.gives c.in-Ok.operation c.in-Ok.is) c.carry_out.ensures.done
 
 pub invariant_of-self : goal.invariant_of-self
 invariant_of-self c =
@@ -39,7 +39,7 @@ invariant_of-self c =
       c.carry_out.ensures.kept ∙ c.self.invariant.0,
       sound_after old after c.args.client c.args.call.now c.carry_out.result (subst (λ (s : Stored). IsSound (state_of s)) c.self.view_is c.self.invariant.1)
           (step_of old after c.args.client c.args.call.now c.carry_out.result
-          (came_of (record { nodes = c.self.inside.nodes; rows = c.self.inside.rows.items }) c.args.self.now c.args.client c.args.call.now c.in-Ok.deed c.carry_out.result after c.index.result.now c.self.view_is (omega arith) (omega arith) c.self.invariant.0 c.index.ensures (c.decide.ensures.gives c.in-Ok.deed c.in-Ok.is) c.carry_out.ensures.done)),
+          (came_of (record { nodes = c.self.inside.nodes; rows = c.self.inside.rows.items }) c.args.self.now c.args.client c.args.call.now c.in-Ok.operation c.carry_out.result after c.index.result.now c.self.view_is (omega arith) (omega arith) c.self.invariant.0 c.index.ensures (c.decide.ensures.gives c.in-Ok.operation c.in-Ok.is) c.carry_out.ensures.done)),
     )
 
 pub returns-in-Ok-clause-step : goal.returns-in-Ok-clause-step

@@ -1,7 +1,7 @@
 use Rattle.std.proofs.Common.{◌≡◌, Option, Some, None, ap, sym, ◌∙◌}
 use Rattle.std.specs.Prelude.{option_map}
 use Rattle.posix_calls.specs.Tree.{Node, names_of}
-use Rattle.posix_calls.specs.Asks.{seen}
+use Rattle.posix_calls.specs.Query.{seen}
 use Rattle.posix_calls.specs.Answers.{entry_in}
 use Rattle.plain_tree.specs.Plain.{Stored, tree_of}
 use Rattle.plain_tree.proofs.Answering.{nothing_past, get_nothing}

@@ -1,7 +1,7 @@
 use Rattle.std.proofs.Common.{◌≡◌, ℕ, Option, Some, None, ap, sym, ◌∙◌, map}
 use Rattle.std.specs.Prelude.{option_map, List}
 use Rattle.posix_calls.specs.Tree.{Node, names_of}
-use Rattle.posix_calls.specs.Asks.{seen}
+use Rattle.posix_calls.specs.Query.{seen}
 use Rattle.posix_calls.specs.Answers.{listed_in}
 use Rattle.plain_tree.specs.Plain.{Stored, tree_of}
 use Rattle.plain_tree.proofs.Answering.{nothing_past, list_nothing}

@@ -1,0 +1,227 @@
+-- What holds of every result that questions may come to, whoever answers them.
+use Rattle.std.proofs.Common.{◌≡◌, ℕ, ◌+◌, ◌-◌, ◌≤◌, List, [], ◌∷◌, length, Bool, true, false, Option, Some, None, Ok, refl, subst, arith, ◌==◌, cond}
+use Rattle.std.specs.Prelude.{max, nat_lt}
+use Rattle.std.proofs.lemmas.Bool.Decides.{nat_tests}
+use Rattle.std.specs.FinMap as fin
+use Rattle.posix_calls.specs.Content.{file_units, directory_units}
+use Rattle.posix_calls.specs.Path.{reading}
+use Rattle.posix_calls.specs.Tree.{Own}
+use Rattle.posix_calls.specs.Query.{Seen, File, Dir, Query, Gives, Refuses, IsDir, Look, ◌>>=◌, View, run}
+use Rattle.posix_calls.specs.Walk.{Place, refuse, said, entries_at, bytes_at, names_at, kind_at, prefix, there, entries_seen, bytes_seen}
+use Rattle.posix_calls.specs.Decide.{opened, lowest_free, number_or, empties, open_there, open_path, close, pread, write_at, pwrite, truncate, mkdir, rmdir, link, unlink, is_inode, replacing, renamed, rename, list_path, described, stat, decide}
+use Rattle.posix_calls.specs.declared.errno.Errno.TheVariants as errno
+use Rattle.posix_calls.specs.declared.limits.TheConstants.{MAX_TRANSFER}
+use Rattle.posix_calls.specs.declared.call.Flags.{Flags}
+use Rattle.posix_calls.specs.declared.call.Call.{Call}
+use Rattle.posix_calls.specs.declared.call.Call.TheVariants as call
+use Rattle.posix_calls.specs.declared.call.Reply.{Reply}
+use Rattle.posix_calls.specs.declared.operation.Operation.{Operation}
+use Rattle.posix_calls.specs.declared.operation.Operation.TheVariants.{Tell, NewDir, NewFile, OpenFile, CloseFile, Write, Resize, RemoveDir, AddName, DropName, Move}
+use Rattle.posix_calls.specs.declared.operation.Replaced.TheVariants.{Nothing, OldFile, OldDir}
+use Rattle.call_effects.specs.Records.{entry_rise, file_rise, growth_asked}
+
+-- this holds of each result
+abbrev pub Always : {A : Type 0} → (A → Type 0) → Query A → Type 0
+Always P (Gives x) = P x
+Always P (Refuses e) = Unit {0}
+Always P (IsDir i next) = (o : Option Bool) → Always P (next o)
+Always P (Look i next) = (o : Option Seen) → Always P (next o)
+
+pub of_run : {A : Type 0} (P : A → Type 0) (v : View) (q : Query A) (x : A) → Always P q → run v q ≡ Ok x → P x
+unfolding run
+of_run P v (Gives y) x all e = let same : y ≡ x = cc in subst P same all
+of_run P v (Refuses n) x all e = absurd cc
+of_run P v (IsDir i next) x all e = of_run P v (next (v.is_dir i)) x (all (v.is_dir i)) e
+of_run P v (Look i next) x all e = of_run P v (next (v.node i)) x (all (v.node i)) e
+
+-- where the first results are such, what they lead to
+pub then_always : {A B : Type 0} (P : A → Type 0) (Q : B → Type 0) (q : Query A) (f : A → Query B) → Always P q → ((x : A) → P x → Always Q (f x)) → Always Q (q >>= f)
+unfolding ◌>>=◌
+then_always P Q (Gives x) f all rest = rest x all
+then_always P Q (Refuses e) f all rest = tt
+then_always P Q (IsDir i next) f all rest = λ o. then_always P Q (next o) f (all o) rest
+then_always P Q (Look i next) f all rest = λ o. then_always P Q (next o) f (all o) rest
+
+-- whatever the first results are
+pub after_any : {A B : Type 0} (Q : B → Type 0) (q : Query A) (f : A → Query B) → ((x : A) → Always Q (f x)) → Always Q (q >>= f)
+unfolding ◌>>=◌
+after_any Q (Gives x) f rest = rest x
+after_any Q (Refuses e) f rest = tt
+after_any Q (IsDir i next) f rest = λ o. after_any Q (next o) f rest
+after_any Q (Look i next) f rest = λ o. after_any Q (next o) f rest
+
+-- ---- a write that a call comes to has bytes, and no more than one call may write
+
+abbrev pub HasBytes : Operation → Type 0
+HasBytes (Write i at bytes) = (1 ≤ length bytes) × (length bytes ≤ MAX_TRANSFER)
+HasBytes _ = Unit {0}
+
+abbrev Fine : Query Operation → Type 0
+Fine q = Always HasBytes q
+
+open_there_fine : (place : Place) (number : ℕ) (f : Flags) (o : Option ℕ) → Fine (open_there place number f o)
+open_there_fine place number f (Some i) = after_any HasBytes (empties f.truncate i) _ (λ empty. tt)
+open_there_fine place number f None = after_any HasBytes _ _ (λ a. after_any HasBytes _ _ (λ b. tt))
+
+open_fine : (own : Own) (path : List ℕ) (f : Flags) → Fine (open_path own path f)
+unfolding open_path
+open_fine own path f =
+    after_any HasBytes (said (reading path)) _ (λ names. after_any HasBytes _ _ (λ a. after_any HasBytes (number_or (lowest_free own 0 32)) _ (λ number. after_any HasBytes (prefix names) _ (λ place.
+    after_any HasBytes _ _ (λ b. after_any HasBytes (kind_at place.inode) _ (λ is_dir. after_any HasBytes _ _ (λ c. open_there_fine place number f place.inode)))))))
+
+close_fine : (own : Own) (number : ℕ) → Fine (close own number)
+unfolding close
+close_fine own number = after_any HasBytes (opened (λ d. true) (own number)) _ (λ i. tt)
+
+pread_fine : (own : Own) (number at count : ℕ) → Fine (pread own number at count)
+unfolding pread
+pread_fine own number at count = after_any HasBytes (opened (λ d. d.reads) (own number)) _ (λ i. after_any HasBytes _ _ (λ a. after_any HasBytes (bytes_at i) _ (λ bytes. tt)))
+
+write_fine : (i at : ℕ) (bytes : List ℕ) → length bytes ≤ MAX_TRANSFER → Fine (write_at i at bytes)
+write_fine i at [] few = tt
+write_fine i at (b ∷ bytes) few = after_any HasBytes _ _ (λ a. (omega arith, few))
+
+-- what follows where the test does not hold
+where_not : (test : Bool) (q : Query Operation) → (test ≡ false → Fine q) → Fine (refuse errno.Invalid test >>= (λ _. q))
+unfolding ◌>>=◌
+where_not true q fine = tt
+where_not false q fine = fine refl
+
+not_below : (n m : ℕ) → nat_lt n m ≡ false → m ≤ n
+not_below n m e = grind (arith, nat_tests)
+
+pwrite_fine : (own : Own) (number at : ℕ) (bytes : List ℕ) → Fine (pwrite own number at bytes)
+unfolding pwrite
+pwrite_fine own number at bytes =
+    after_any HasBytes (opened (λ d. d.writes) (own number)) _ (λ i. where_not (nat_lt MAX_TRANSFER (length bytes)) (write_at i at bytes) (λ few. write_fine i at bytes (not_below MAX_TRANSFER (length bytes) few)))
+
+told_or_resized : (test : Bool) (r : Reply) (i len : ℕ) → HasBytes (cond test (Tell r) (Resize i len))
+told_or_resized true r i len = tt
+told_or_resized false r i len = tt
+
+truncate_fine : (path : List ℕ) (len : ℕ) → Fine (truncate path len)
+unfolding truncate
+truncate_fine path len =
+    after_any HasBytes (said (reading path)) _ (λ names. after_any HasBytes (prefix names) _ (λ place. after_any HasBytes (there place.inode) _ (λ i. after_any HasBytes (kind_at place.inode) _ (λ is_dir.
+    after_any HasBytes _ _ (λ a. after_any HasBytes _ _ (λ b. after_any HasBytes (bytes_at i) _ (λ bytes. told_or_resized (length bytes == len) _ i len)))))))
+
+mkdir_fine : (path : List ℕ) → Fine (mkdir path)
+unfolding mkdir
+mkdir_fine path = after_any HasBytes (said (reading path)) _ (λ names. after_any HasBytes (prefix names) _ (λ place. after_any HasBytes _ _ (λ a. after_any HasBytes _ _ (λ b. tt))))
+
+rmdir_fine : (path : List ℕ) → Fine (rmdir path)
+unfolding rmdir
+rmdir_fine path =
+    after_any HasBytes (said (reading path)) _ (λ names. after_any HasBytes _ _ (λ a. after_any HasBytes (prefix names) _ (λ place. after_any HasBytes (there place.inode) _ (λ i. after_any HasBytes (kind_at place.inode) _ (λ is_dir.
+    after_any HasBytes _ _ (λ b. after_any HasBytes (entries_at i) _ (λ entries. after_any HasBytes _ _ (λ c. tt))))))))
+
+link_fine : (old new : List ℕ) → Fine (link old new)
+unfolding link
+link_fine old new =
+    after_any HasBytes (said (reading old)) _ (λ old_names. after_any HasBytes (said (reading new)) _ (λ new_names. after_any HasBytes (prefix old_names) _ (λ from. after_any HasBytes (there from.inode) _ (λ i.
+    after_any HasBytes (kind_at from.inode) _ (λ is_dir. after_any HasBytes _ _ (λ a. after_any HasBytes (prefix new_names) _ (λ to. after_any HasBytes _ _ (λ b. after_any HasBytes (names_at i) _ (λ names.
+    after_any HasBytes _ _ (λ c. after_any HasBytes _ _ (λ d. tt)))))))))))
+
+unlink_fine : (path : List ℕ) → Fine (unlink path)
+unfolding unlink
+unlink_fine path =
+    after_any HasBytes (said (reading path)) _ (λ names. after_any HasBytes _ _ (λ a. after_any HasBytes (prefix names) _ (λ place. after_any HasBytes (there place.inode) _ (λ i. after_any HasBytes (kind_at place.inode) _ (λ is_dir.
+    after_any HasBytes _ _ (λ b. tt))))))
+
+renamed_fine : (test : Bool) (r : Reply) (from to : Place) (i : ℕ) → Fine (cond test (Gives (Tell r)) (renamed from to i))
+renamed_fine true r from to i = tt
+renamed_fine false r from to i = after_any HasBytes (kind_at from.inode) _ (λ old_dir. after_any HasBytes (replacing from to old_dir to.inode) _ (λ replaced. tt))
+
+rename_fine : (old new : List ℕ) → Fine (rename old new)
+unfolding rename
+rename_fine old new =
+    after_any HasBytes (said (reading old)) _ (λ old_names. after_any HasBytes (said (reading new)) _ (λ new_names. after_any HasBytes _ _ (λ a. after_any HasBytes (prefix old_names) _ (λ from. after_any HasBytes (there from.inode) _ (λ i.
+    after_any HasBytes (prefix new_names) _ (λ to. after_any HasBytes _ _ (λ b. renamed_fine (is_inode i to.inode) _ from to i)))))))
+
+list_fine : (path : List ℕ) → Fine (list_path path)
+unfolding list_path
+list_fine path =
+    after_any HasBytes (said (reading path)) _ (λ names. after_any HasBytes (prefix names) _ (λ place. after_any HasBytes (there place.inode) _ (λ i. after_any HasBytes (kind_at place.inode) _ (λ is_dir.
+    after_any HasBytes _ _ (λ a. after_any HasBytes (entries_at i) _ (λ entries. tt))))))
+
+described_fine : (o : Option Seen) → Fine (described o)
+described_fine None = tt
+described_fine (Some (File names bytes)) = tt
+described_fine (Some (Dir entries)) = tt
+
+stat_fine : (path : List ℕ) → Fine (stat path)
+unfolding stat
+stat_fine path = after_any HasBytes (said (reading path)) _ (λ names. after_any HasBytes (prefix names) _ (λ place. after_any HasBytes (there place.inode) _ (λ i. described_fine)))
+
+pub decide_fine : (own : Own) (c : Call) → Fine (decide own c)
+decide_fine own (call.Open path flags) = open_fine own path flags
+decide_fine own (call.Close number) = close_fine own number
+decide_fine own (call.Pread number at count) = pread_fine own number at count
+decide_fine own (call.Pwrite number at bytes) = pwrite_fine own number at bytes
+decide_fine own (call.Truncate path len) = truncate_fine path len
+decide_fine own (call.Mkdir path) = mkdir_fine path
+decide_fine own (call.Rmdir path) = rmdir_fine path
+decide_fine own (call.Link old new) = link_fine old new
+decide_fine own (call.Unlink path) = unlink_fine path
+decide_fine own (call.Rename old new) = rename_fine old new
+decide_fine own (call.List path) = list_fine path
+decide_fine own (call.Stat path) = stat_fine path
+
+-- ---- a growth that is asked is small
+
+-- a operation writes and resizes within the greatest file
+abbrev pub IsInFile : Operation → Type 0
+IsInFile (Write i at bytes) = at + length bytes ≤ 1048576
+IsInFile (Resize i len) = len ≤ 1048576
+IsInFile _ = Unit {0}
+
+-- as many units as the greatest file has blocks
+abbrev IsFew : ℕ → Type 0
+IsFew n = n ≤ 256
+
+abbrev IsOne : ℕ → Type 0
+IsOne n = n ≤ 1
+
+entry_few : (dir : ℕ) → Always IsOne (entry_rise dir)
+unfolding ◌>>=◌
+entry_few dir = λ o. one_more (fin.len (entries_seen o)) where
+  one_more : (n : ℕ) → directory_units (n + 1) - directory_units n ≤ 1
+  one_more n = omega arith
+
+file_few : (old new : ℕ) → new ≤ 1048576 → file_rise old new ≤ 256
+file_few old new small = omega (arith, small)
+
+greater_few : (old new : ℕ) → new ≤ 1048576 → file_rise old (max old new) ≤ 256
+greater_few old new small = omega (arith, small)
+
+one_few : (n : ℕ) → IsOne n → IsFew n
+one_few n one = omega (arith, one)
+
+weaker : {A : Type 0} (P Q : A → Type 0) → ((x : A) → P x → Q x) → (q : Query A) → Always P q → Always Q q
+weaker P Q so (Gives x) all = so x all
+weaker P Q so (Refuses e) all = tt
+weaker P Q so (IsDir i next) all = λ o. weaker P Q so (next o) (all o)
+weaker P Q so (Look i next) all = λ o. weaker P Q so (next o) (all o)
+
+with_one : (n : ℕ) (dir : ℕ) → n ≤ 1 → Always IsFew (entry_rise dir >>= (λ rise. Gives (n + rise)))
+with_one n dir small = then_always IsOne IsFew (entry_rise dir) (λ rise. Gives (n + rise)) (entry_few dir) (λ rise one. omega (arith, one, small))
+
+move_few : (b : Bool) (dir : ℕ) → Always IsFew (cond b (Gives 0) (entry_rise dir))
+move_few true dir = omega arith
+move_few false dir = weaker IsOne IsFew one_few (entry_rise dir) (entry_few dir)
+
+pub growth_few : (operation : Operation) → IsInFile operation → Always (λ n. n ≤ 256) (growth_asked operation)
+unfolding ◌>>=◌
+growth_few (Tell answer) small = omega arith
+growth_few (NewDir at) small = with_one (directory_units 0) at.parent (omega arith)
+growth_few (NewFile at number reads writes) small = with_one (file_units 0) at.parent (omega arith)
+growth_few (OpenFile i empties number reads writes) small = omega arith
+growth_few (CloseFile i number) small = omega arith
+growth_few (Write i at bytes) small = λ o. greater_few (length (bytes_seen o)) (at + length bytes) small
+growth_few (Resize i len) small = λ o. file_few (length (bytes_seen o)) len small
+growth_few (RemoveDir at i) small = omega arith
+growth_few (AddName at i) small = weaker IsOne IsFew one_few (entry_rise at.parent) (entry_few at.parent)
+growth_few (DropName at i) small = omega arith
+growth_few (Move from to i b Nothing) small = move_few (from.parent == to.parent) to.parent
+growth_few (Move from to i b (OldFile j)) small = omega arith
+growth_few (Move from to i b (OldDir j)) small = omega arith

@@ -1,5 +1,0 @@
-use Rattle.call_effects.proofs.Steps.{answer_fits}
-use Rattle.call_effects.proofs.laws.answered_deed_fits.Goals as goal
-
-pub returns : goal.returns
-returns c = answer_fits

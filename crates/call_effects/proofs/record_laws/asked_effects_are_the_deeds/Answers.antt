@@ -1,5 +1,0 @@
-use Rattle.call_effects.proofs.KnownEffects.{effects_are}
-use Rattle.call_effects.proofs.record_laws.asked_effects_are_the_deeds.Goals as goal
-
-pub returns : goal.returns
-returns c = effects_are

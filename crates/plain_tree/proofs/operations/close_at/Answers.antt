@@ -1,0 +1,6 @@
+use Rattle.std.proofs.Common.{None}
+use Rattle.plain_tree.proofs.Tables.{row_set}
+use Rattle.plain_tree.proofs.operations.close_at.Goals as goal
+
+pub returns-clause-held : goal.returns-clause-held
+returns-clause-held c = row_set c.args.rows.now.items c.args.client c.args.number None c.index_mut.result.now c.clear.new.self c.requires.low c.requires.high c.index_mut.ensures.value c.clear.ensures

@@ -1,0 +1,110 @@
+use crate::bytes::Bytes;
+use crate::call::Reply;
+use crate::errno::Errno;
+use crate::name::Name;
+
+/// A name in a directory.
+#[derive(Debug, Drop)]
+pub struct Location {
+    /// The inode of the directory.
+    pub parent: u32,
+    pub name: Name,
+}
+
+/// What a rename puts out of its place.
+#[derive(Clone, Copy, Debug, PartialEq, Eq)]
+pub enum Replaced {
+    /// There was nothing at the new name.
+    Nothing,
+    /// A file, which stays where it has another name or is open.
+    OldFile { inode: u32 },
+    /// An empty directory.
+    OldDir { inode: u32 },
+}
+
+/// What a call does where no error holds. What is opened may be read from, written to or both.
+#[derive(Debug, Drop)]
+pub enum Operation {
+    /// Nothing changes, and the call is answered.
+    Tell {
+        answer: Reply,
+    },
+    /// An empty directory is made at a name.
+    NewDir {
+        at: Location,
+    },
+    /// An empty file is made at a name, and opened under a descriptor.
+    NewFile {
+        at: Location,
+        descriptor: u32,
+        reads: bool,
+        writes: bool,
+    },
+    /// The file at an inode is opened under a descriptor, and cut to no bytes where it is to be.
+    OpenFile {
+        inode: u32,
+        empties: bool,
+        descriptor: u32,
+        reads: bool,
+        writes: bool,
+    },
+    /// A descriptor, which is of this inode, is given back.
+    CloseFile {
+        inode: u32,
+        descriptor: u32,
+    },
+    /// Bytes, at least one, are put into a file at an offset.
+    Write {
+        inode: u32,
+        at: u64,
+        bytes: Bytes,
+    },
+    /// A file of another length is cut or grown to this one.
+    Resize {
+        inode: u32,
+        len: u64,
+    },
+    /// The empty directory at a name goes.
+    RemoveDir {
+        at: Location,
+        inode: u32,
+    },
+    /// A file has one more name.
+    AddName {
+        at: Location,
+        inode: u32,
+    },
+    /// A file has one name fewer.
+    DropName {
+        at: Location,
+        inode: u32,
+    },
+    /// What has the name `from` has the name `to` in its place, and what stood there is put out.
+    Move {
+        from: Location,
+        to: Location,
+        inode: u32,
+        is_dir: bool,
+        replaced: Replaced,
+    },
+}
+
+/// Why a call comes to no operation.
+#[derive(Clone, Copy, Debug, PartialEq, Eq)]
+pub enum DecideError {
+    /// The call is answered by this error.
+    Refused { errno: Errno },
+    /// More has to be known of this inode, which is the first that is asked for.
+    Missing { inode: u32 },
+    /// Memory ran out.
+    Memory,
+}
+
+/// What there is to say of what stands at an inode.
+#[derive(Clone, Copy, Debug, PartialEq, Eq)]
+pub enum Description {
+    /// A file of so many bytes, which has so many names.
+    File { size: u64, names: u32 },
+    /// A directory with so many entries.
+    Dir { entries: u32 },
+}
