@@ -1,4 +1,4 @@
--- Each call that is not refused comes to a operation that fits the graph.
+-- Each call that is not refused comes to an operation that fits the graph.
 use Rattle.std.proofs.Common.{◌≡◌, ◌≢◌, inl, inr, ℕ, zero, suc, ◌+◌, ◌<◌, ◌≤◌, List, [], ◌∷◌, refl, Some, None, Option, Ok, cond, ap, sym, ◌∙◌, subst, true, false, Bool, arith, ◌==◌}
 use Rattle.std.specs.Prelude.{◌&&◌, not, length, nat_lt}
 use Rattle.std.specs.List.{list_any}

@@ -1,4 +1,4 @@
--- What a operation's questions come to over a graph are its effects and their growth.
+-- What an operation's questions come to over a graph are its effects and their growth.
 use Rattle.std.proofs.Common.{◌≡◌, ◌≢◌, inl, inr, ℕ, ◌+◌, ◌-◌, ◌≤◌, true, false, cond, T, List, [], ◌∷◌, length, refl, Option, None, Ok, ap, sym, subst, ◌∙◌, arith, ◌&&◌}
 use Rattle.std.specs.Prelude.{map, max}
 use Rattle.std.proofs.lemmas.Grind.{common_steps}

@@ -1,4 +1,4 @@
--- What one descriptor that is taken or given back makes of the tree, and a operation with the descriptors after it.
+-- What one descriptor that is taken or given back makes of the tree, and an operation with the descriptors after it.
 use Rattle.std.proofs.Common.{◌≡◌, ◌≢◌, inl, inr, ℕ, ◌-◌, ◌<◌, ◌≤◌, [], refl, Some, None, Option, cond, ap, sym, ◌∙◌, subst, true, false, Bool, arith, ◌==◌}
 use Rattle.std.specs.Prelude.{option_map, ◌&&◌, not}
 use Rattle.std.proofs.lemmas.Bool.Decides.{eqb_tells}
@@ -134,7 +134,7 @@ tree_closed g d client number i fair h f =
 abbrev pub graph_after : Graph → ℕ → Operation → Graph
 graph_after g new operation = after_effects g (effects_of g new operation)
 
--- a operation that leads to these descriptors
+-- an operation that leads to these descriptors
 pub record IsDone (g : Graph) (d e : Descriptors) (new : ℕ) (operation : Operation) : Type 0 where
   pub tree : tree_of (kept (graph_after g new operation) e) ≡ tree_after e new (tree_of (kept g d)) operation
   pub fair : IsFair (graph_after g new operation) e

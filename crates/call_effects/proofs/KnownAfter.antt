@@ -60,7 +60,7 @@ stays_none : (es : List Effect) (i : ℕ) → NoneMakes i es → after_effects (
 stays_none [] i apart = refl
 stays_none (e ∷ es) i apart = effects_at (after_effect (λ j. None) e) es i None (none_after e i apart.0) ∙ stays_none es i apart.1
 
--- a operation makes a node of its new number alone
+-- an operation makes a node of its new number alone
 operation_makes : (names new i : ℕ) (operation : Operation) → (makes operation ≡ true → (new == i) ≡ false) → NoneMakes i (effects_by names new operation)
 operation_makes names new i (Tell answer) apart = tt
 operation_makes names new i (NewDir at) apart = (apart refl, (tt, (tt, tt)))

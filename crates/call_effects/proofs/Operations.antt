@@ -1,4 +1,4 @@
--- What the effects of a operation make of a graph, whose descriptors stay: the tree after the operation, and counts that are right.
+-- What the effects of an operation make of a graph, whose descriptors stay: the tree after the operation, and counts that are right.
 use Rattle.std.proofs.Common.{◌≡◌, ◌≢◌, inl, inr, ℕ, ◌+◌, ◌-◌, List, [], ◌∷◌, ◌++◌, refl, Some, None, Option, ap, sym, ◌∙◌, subst, true, false, Bool, arith, length}
 use Rattle.std.specs.Prelude.{option_map, replicate}
 use Rattle.std.proofs.lemmas.Bool.Decides.{eqb_tells}
@@ -26,7 +26,7 @@ use Rattle.call_effects.proofs.Changes.{IsFair, file, dir, same_dir}
 use Rattle.call_effects.proofs.NewNodes.{sound_made, tree_made}
 use Rattle.call_effects.proofs.Edges.{file_no_dir, sound_written, tree_written, sound_resized, tree_resized, drop_2, dropped, sound_dropped, tree_dropped, shifted, sound_shifted, tree_shifted, go_2, gone_is, sound_gone, tree_gone, added, sound_added, tree_added}
 
--- a operation other than one that closes a file, over descriptors that stay
+-- an operation other than one that closes a file, over descriptors that stay
 pub record IsAfterOperation (g : Graph) (d : Descriptors) (new : ℕ) (operation : Operation) : Type 0 where
   pub tree : tree_of (kept (after_effects g (effects_of g new operation)) d) ≡ tree_after d new (tree_of (kept g d)) operation
   pub fair : IsFair (after_effects g (effects_of g new operation)) d

@@ -1,4 +1,4 @@
--- A operation over a sound graph leaves each directory reached, so the graph that its effects make is sound.
+-- An operation over a sound graph leaves each directory reached, so the graph that its effects make is sound.
 use Rattle.std.proofs.Common.{◌≡◌, ◌≢◌, ℕ, ◌≤◌, List, [], refl, Some, None, Option, cond, ap, sym, ◌∙◌, subst, true, false, Bool, ◌==◌, if◌then◌else◌}
 use Rattle.std.specs.Prelude.{option_map, ◌&&◌, not}
 use Rattle.std.specs.FinMap as fin

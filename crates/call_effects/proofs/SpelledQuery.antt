@@ -169,7 +169,7 @@ decide_fine own (call.Stat path) = stat_fine path
 
 -- ---- a growth that is asked is small
 
--- a operation writes and resizes within the greatest file
+-- an operation writes and resizes within the greatest file
 abbrev pub IsInFile : Operation → Type 0
 IsInFile (Write i at bytes) = at + length bytes ≤ 1048576
 IsInFile (Resize i len) = len ≤ 1048576

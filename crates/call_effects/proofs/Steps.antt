@@ -29,7 +29,7 @@ both : (a b : Bool) → (a && b) ≡ true → (a ≡ true) × (b ≡ true)
 both true b e = (refl, e)
 both false b e = absurd (cc)
 
--- only a client's call comes to a operation
+-- only a client's call comes to an operation
 record IsClients (g : Graph) (d : Descriptors) (client : ℕ) (c : Call) (operation : Operation) : Type 0 where
   low : 1 ≤ client
   high : client ≤ 8

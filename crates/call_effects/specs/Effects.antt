@@ -52,7 +52,7 @@ recounted (DropName at i) = Some i
 recounted (Move from to i is_dir replaced) = replaced_file replaced
 recounted _ = None
 
--- the effects of a operation, where a new node has the number new, and the file that gets another number of names has so many
+-- the effects of an operation, where a new node has the number new, and the file that gets another number of names has so many
 abbrev pub effects_by : ℕ → ℕ → Operation → List Effect
 effects_by names new (Tell answer) = []
 effects_by names new (NewDir at) = making new kind.Directory at
@@ -71,6 +71,6 @@ abbrev pub stored_at : Graph → Option ℕ → ℕ
 stored_at g None = 0
 stored_at g (Some i) = stored (g i)
 
--- the effects of a operation over a graph, where a new node has the number new
+-- the effects of an operation over a graph, where a new node has the number new
 abbrev pub effects_of : Graph → ℕ → Operation → List Effect
 effects_of g new operation = effects_by (stored_at g (recounted operation)) new operation

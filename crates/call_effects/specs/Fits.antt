@@ -1,4 +1,4 @@
--- When a operation is one that a call may come to over a graph and descriptors.
+-- When an operation is one that a call may come to over a graph and descriptors.
 use Rattle.std.specs.Prelude.{◌≡◌, ◌≢◌, ℕ, ◌<◌, ◌≤◌, List, false, ◌&&◌, not, ◌==◌, Some, None, Ok}
 use Rattle.std.specs.FinMap as fin
 use Rattle.posix_calls.specs.Content.{Entries}
@@ -74,7 +74,7 @@ pub record IsHeld (own : Own) (number i : ℕ) : Type 0 where
   pub is : own number ≡ Some what
   pub inode : what.inode ≡ i
 
--- a operation of a client with these descriptors is possible as it stands
+-- an operation of a client with these descriptors is possible as it stands
 abbrev pub Fits : Graph → Descriptors → Own → Operation → Type 0
 Fits g held own (Tell answer) = Unit {0}
 Fits g held own (NewDir at) = IsRoom g at

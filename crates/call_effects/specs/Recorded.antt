@@ -1,4 +1,4 @@
--- What is told by a record that was made, or by a operation that was handed back.
+-- What is told by a record that was made, or by an operation that was handed back.
 use Rattle.std.specs.Prelude.{ℕ, List, [], ◌∷◌, Result, Ok, Err}
 use Rattle.posix_calls.specs.declared.operation.Location.{Location}
 use Rattle.posix_calls.specs.declared.operation.Operation.{Operation}

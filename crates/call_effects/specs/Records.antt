@@ -1,4 +1,4 @@
--- The record of a operation, as questions: the effects that it has, and by how many units they may raise the graph.
+-- The record of an operation, as questions: the effects that it has, and by how many units they may raise the graph.
 use Rattle.std.specs.Prelude.{ℕ, ◌+◌, ◌-◌, ◌==◌, max, List, length, Option, Some, None, if◌then◌else◌}
 use Rattle.std.specs.FinMap as fin
 use Rattle.posix_calls.specs.Content.{file_units, directory_units}
@@ -17,7 +17,7 @@ abbrev pub names_if : Option ℕ → Query ℕ
 names_if None = Gives 0
 names_if (Some i) = names_at i
 
--- the effects of a operation, where a new node has the number new; of the tree they depend on a file's number of names alone
+-- the effects of an operation, where a new node has the number new; of the tree they depend on a file's number of names alone
 abbrev pub effects_asked : ℕ → Operation → Query (List Effect)
 effects_asked new operation = names_if (recounted operation) >>= (λ names. Gives (effects_by names new operation))
 
@@ -35,7 +35,7 @@ move_rise from to Nothing = if from.parent == to.parent then Gives 0 else entry_
 move_rise from to (OldFile j) = Gives 0
 move_rise from to (OldDir j) = Gives 0
 
--- by how many units a operation raises the inodes that its effects touch, each by itself
+-- by how many units an operation raises the inodes that its effects touch, each by itself
 abbrev pub growth_asked : Operation → Query ℕ
 growth_asked (NewDir at) = entry_rise at.parent >>= (λ rise. Gives (directory_units 0 + rise))
 growth_asked (NewFile at number reads writes) = entry_rise at.parent >>= (λ rise. Gives (file_units 0 + rise))

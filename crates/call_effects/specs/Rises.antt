@@ -1,4 +1,4 @@
--- The rises of which a operation's growth is made, as questions.
+-- The rises of which an operation's growth is made, as questions.
 use Rattle.std.specs.Prelude.{ℕ, ◌+◌, length}
 use Rattle.posix_calls.specs.Query.{Query, Gives, ◌>>=◌}
 use Rattle.posix_calls.specs.Walk.{bytes_at}

@@ -4,7 +4,7 @@ ghost use Rattle.call_effects.specs.Effects.{effects_by};
 
 use posix_calls::Operation;
 
-/// Whether a operation changes the graph, so that it has a record: an answer alone, a file that is opened as it is, and one that is
+/// Whether an operation changes the graph, so that it has a record: an answer alone, a file that is opened as it is, and one that is
 /// closed have none.
 pub fn has_effects(operation: &Operation) -> bool
     ensures exact { result ≡ changes operation.now }

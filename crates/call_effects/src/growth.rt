@@ -6,11 +6,11 @@ ghost use Rattle.call_effects.specs.Rises.{new_rise, size_rise};
 
 use posix_calls::{Operation, DecideError, Replaced, Location, TreeAnswers, UNIT_BYTES, UNIT_ENTRIES, known};
 
-/// By how many units a operation raises the graph at most: the rises of the inodes that its effects touch, each by itself. No fall
+/// By how many units an operation raises the graph at most: the rises of the inodes that its effects touch, each by itself. No fall
 /// is set against a rise.
 ///
 /// Of the tree, the directory that gets an entry or the file that gets another length has to be known; `Missing` names it. No
-/// other error comes. A operation that a call came to grows by a few hundred units at most.
+/// other error comes. An operation that a call came to grows by a few hundred units at most.
 pub fn growth_of<T: TreeAnswers>(tree: &T, operation: &Operation) -> Result<u64, DecideError>
     ensures { Tells (T.part tree.now) (growth_asked operation.now) result }
 {

@@ -37,7 +37,7 @@ pub fn part_is_of_the_whole()
     ensures { (k : Knowledge) (g : Graph) (held : Descriptors) → IsSound g held → Agrees k g held → IsPart (part_of k) (stored_view g) }
 {}
 
-/// What a call comes to by what a client knows, a operation or an error, it comes to over the whole; so do the effects of a operation
+/// What a call comes to by what a client knows, an operation or an error, it comes to over the whole; so do the effects of an operation
 /// that fits, and its growth.
 pub fn known_answer_is_of_the_whole()
     ensures call { (k : Knowledge) (g : Graph) (held : Descriptors) (call : Call) (result : Result Operation Errno) → IsSound g held → Agrees k g held → run_part (part_of k) (decide k.own call) ≡ Known result → answer_over g held k.client call ≡ result }
@@ -46,7 +46,7 @@ pub fn known_answer_is_of_the_whole()
 {}
 
 /// A call that a client decides by what it knows is one step of the file tree, in every sound whole that agrees: where it
-/// comes to a operation, with the operation's effects and the client's descriptors after it, and the whole is sound again, and has grown
+/// comes to an operation, with the operation's effects and the client's descriptors after it, and the whole is sound again, and has grown
 /// by the units that the client counts; where it comes to an error, the whole stays.
 pub fn known_call_is_a_step()
     ensures done { (k : Knowledge) (g : Graph) (held : Descriptors) (call : Call) (new : ℕ) (operation : Operation) (es : List Effect) → IsSound g held → Agrees k g held → IsPlanned k call new operation es → Step (state_of g held) k.client call (reply_of operation) (state_of (after_effects g es) (with_own held k.client (own_after new k.own operation))) }
@@ -71,7 +71,7 @@ pub fn copied_entries_tell_kinds()
 
 /// An inode that is lacking is the first that a call asks of and that the client has no answer to, in the order of the call's
 /// errors. What is lacking is the node there, and never its kind alone; the client has no copy of it, and in every sound whole
-/// that agrees there is a node. For a operation's effects and growth too there is a node where one is lacking, and no copy.
+/// that agrees there is a node. For an operation's effects and growth too there is a node where one is lacking, and no copy.
 pub fn missing_is_asked_next()
     ensures first { (k : Knowledge) (call : Call) (i : ℕ) → run_part (part_of k) (decide k.own call) ≡ Missing i → IsLeft (part_of k) i (decide k.own call) }
     ensures looked { (k : Knowledge) (g : Graph) (held : Descriptors) (call : Call) (i : ℕ) → IsSound g held → Agrees k g held → run_part (part_of k) (decide k.own call) ≡ Missing i → IsLookedAtNext (part_of k) i (decide k.own call) }

@@ -27,7 +27,7 @@ pub fn stored_counts_are_the_counted_names()
     ensures { (g : Graph) (held : Descriptors) → IsSound g held → view_of ((state_of g held).tree) ≡ graph_view g held }
 {}
 
-/// A operation that fits a sound graph is its effects: the graph after them is sound, and stands, with the descriptors after the
+/// An operation that fits a sound graph is its effects: the graph after them is sound, and stands, with the descriptors after the
 /// operation, for the state after it.
 pub fn operation_is_its_effects()
     ensures state { (g : Graph) (held : Descriptors) (client new : ℕ) (operation : Operation) → 1 ≤ client → client ≤ MAX_CLIENTS → IsSound g held → (makes operation ≡ true → IsNew g new) → Fits g held (held client) operation → state_of (after_effects g (effects_of g new operation)) (held_after client new held operation) ≡ state_after client new (state_of g held) operation }
@@ -41,7 +41,7 @@ pub fn answered_operation_fits()
 {}
 
 /// Every call over a sound graph is one step of the file tree that the graph and the descriptors stand for. Where it comes to
-/// a operation, the graph after the operation's effects stands for the state after the step, and is sound again; where it comes to an
+/// an operation, the graph after the operation's effects stands for the state after the step, and is sound again; where it comes to an
 /// error, the state stays.
 pub fn call_is_a_step()
     ensures done { (g : Graph) (held : Descriptors) (client new : ℕ) (call : Call) (operation : Operation) → IsSound g held → answer_over g held client call ≡ Ok operation → (makes operation ≡ true → IsNew g new) → Step (state_of g held) client call (reply_of operation) (state_of (after_effects g (effects_of g new operation)) (held_after client new held operation)) }

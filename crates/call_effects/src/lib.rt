@@ -1,7 +1,7 @@
 //! What a call of a client changes, as a record for its log, and that this is one step of the file tree.
 //!
 //! `specs/Wholes.antt` says which state of the file tree a graph of inodes and descriptors stand for, and when the two are sound;
-//! `specs/Effects.antt` which effects a operation has, and `specs/Known.antt` what a client knows of the whole. `decide` of
+//! `specs/Effects.antt` which effects an operation has, and `specs/Known.antt` what a client knows of the whole. `decide` of
 //! `posix_calls` gives a call's operation, `growth_of` the units that it may need, and `record_of` makes its record: all three ask
 //! whoever knows the tree or a part of it. That this is right is told by the laws: over a whole (`laws`), of effects and
 //! units (`record_laws`), and for a client that knows a part (`known_laws`).

@@ -15,7 +15,7 @@ use std::alloc::{AllocError, Global};
 // No operation has more effects.
 const MOST_EFFECTS: usize = 4;
 
-/// The record of a operation, with its effects and these units; a node that the operation makes gets the number `new`. A operation that
+/// The record of an operation, with its effects and these units; a node that the operation makes gets the number `new`. An operation that
 /// changes nothing (`has_effects`) has a record without effects, which has no spelling and is not to be logged.
 ///
 /// The names and bytes of the operation go into the record, but for one name that two effects of a rename need. Of the tree, the
@@ -75,7 +75,7 @@ fn names_if<T: TreeAnswers>(tree: &T, inode: Option<u32>) -> Result<u32, DecideE
     Ok(names)
 }
 
-// Room for the effects of a operation, with the first of them in it where its name is copied.
+// Room for the effects of an operation, with the first of them in it where its name is copied.
 fn room_for(alloc: Global, operation: &Operation) -> Result<Vec<Effect>, AllocError>
     ensures copied { IfOk result (λ effects. effects.items ≡ copied operation.now) }
     ensures room { IfOk result (λ effects. MOST_EFFECTS ≤ vec_capacity effects) }
@@ -119,7 +119,7 @@ fn put(effects: &mut Vec<Effect>, effect: Effect)
     effects.push(effect).unwrap();
 }
 
-// The effects of a operation, into which its names and bytes go.
+// The effects of an operation, into which its names and bytes go.
 fn effects_by(effects: Vec<Effect>, names: u32, new: u32, operation: Operation) -> Effects
     requires copied { effects.items ≡ copied operation }
     requires room { MOST_EFFECTS ≤ vec_capacity effects }

@@ -18,12 +18,12 @@ ghost use Rattle.call_effects.specs.Records.{effects_asked, growth_asked};
 ghost use Rattle.call_effects.specs.Wholes.{IsSound, state_of, graph_view};
 ghost use Rattle.call_effects.specs.Fits.{IsNew, Fits};
 
-/// The effects that a operation's questions come to over a whole graph are those of the operation.
+/// The effects that an operation's questions come to over a whole graph are those of the operation.
 pub fn asked_effects_are_the_operations()
     ensures { (g : Graph) (held : Descriptors) (own : Own) (new : ℕ) (operation : Operation) → Fits g held own operation → run (graph_view g held) (effects_asked new operation) ≡ Ok (effects_of g new operation) }
 {}
 
-/// The units that a operation's questions come to over a sound graph are the growth of its effects: the rise of each inode that they
+/// The units that an operation's questions come to over a sound graph are the growth of its effects: the rise of each inode that they
 /// touch, against which no other one's fall is set.
 pub fn asked_growth_is_the_effects_growth()
     ensures { (g : Graph) (held : Descriptors) (own : Own) (new : ℕ) (operation : Operation) → IsSound g held → (makes operation ≡ true → IsNew g new) → Fits g held own operation → run (graph_view g held) (growth_asked operation) ≡ Ok (growth g (effects_of g new operation)) }
@@ -35,7 +35,7 @@ pub fn growth_is_local()
     ensures { (g h : Graph) (es : List Effect) → ((i : ℕ) → is_among i (touches es) ≡ true → g i ≡ h i) → growth g es ≡ growth h es }
 {}
 
-/// What an answered call changes is a record that can be written. Over a sound graph whose tree is within the limits, a operation
+/// What an answered call changes is a record that can be written. Over a sound graph whose tree is within the limits, an operation
 /// that changes something has 1 to 8 effects that keep the limits, so that with any units below 2^32 they have a spelling; and
 /// their growth is at most the 256 blocks of the greatest file, so it is such units. Every other operation has no effect at all.
 pub fn answered_operations_have_spellings()

@@ -11,13 +11,13 @@ use Rattle.posix_calls.specs.declared.descriptor.Descriptor.{Descriptor}
 pub same_state : (t u : Tree) (h k : Descriptors) → t ≡ u → h ≡ k → ◌≡◌ {A = State} (record { tree = t; descriptors = h }) (record { tree = u; descriptors = k })
 same_state t u h k p q = λ i. record { tree = p i; descriptors = q i }
 
--- a operation by what it makes of the tree and the descriptors
+-- an operation by what it makes of the tree and the descriptors
 pub carried : (nodes nodes' : List (Option Node)) (rows rows' : List (List (Option Descriptor))) (client new : ℕ) (operation : Operation) → held_of rows' ≡ held_after client new (held_of rows) operation
     → tree_of nodes' ≡ tree_after (held_of rows') new (tree_of nodes) operation → state_in nodes' rows' ≡ state_after client new (state_in nodes rows) operation
 carried nodes nodes' rows rows' client new operation held tree =
     same_state _ _ _ _ (tree ∙ ap (λ (h : Descriptors). tree_after h new (tree_of nodes) operation) held) held
 
--- a operation that leaves the descriptors
+-- an operation that leaves the descriptors
 pub quiet : (nodes nodes' : List (Option Node)) (rows : List (List (Option Descriptor))) (client new : ℕ) (operation : Operation) → own_after new (held_of rows client) operation ≡ held_of rows client
     → tree_of nodes' ≡ tree_after (held_of rows) new (tree_of nodes) operation → state_in nodes' rows ≡ state_after client new (state_in nodes rows) operation
 quiet nodes nodes' rows client new operation own tree =
@@ -26,7 +26,7 @@ quiet nodes nodes' rows client new operation own tree =
 pub unchanged : (nodes nodes' : List (Option Node)) (rows : List (List (Option Descriptor))) → tree_of nodes' ≡ tree_of nodes → state_in nodes' rows ≡ state_in nodes rows
 unchanged nodes nodes' rows tree = same_state _ _ _ _ tree refl
 
--- the same, of what a operation is known to be
+-- the same, of what an operation is known to be
 pub quiet_as : (nodes nodes' : List (Option Node)) (rows : List (List (Option Descriptor))) (client new : ℕ) (operation known : Operation) → operation ≡ known → own_after new (held_of rows client) known ≡ held_of rows client
     → tree_of nodes' ≡ tree_after (held_of rows) new (tree_of nodes) known → state_in nodes' rows ≡ state_after client new (state_in nodes rows) operation
 quiet_as nodes nodes' rows client new operation known is own tree = quiet nodes nodes' rows client new known own tree ∙ ap (state_after client new (state_in nodes rows)) (sym is)
@@ -35,7 +35,7 @@ pub carried_as : (nodes nodes' : List (Option Node)) (rows rows' : List (List (O
     → tree_of nodes' ≡ tree_after (held_of rows') new (tree_of nodes) known → state_in nodes' rows' ≡ state_after client new (state_in nodes rows) operation
 carried_as nodes nodes' rows rows' client new operation known is held tree = carried nodes nodes' rows rows' client new known held tree ∙ ap (state_after client new (state_in nodes rows)) (sym is)
 
--- what a operation that closes nothing makes of the descriptors
+-- what an operation that closes nothing makes of the descriptors
 pub opened_held : (held : Descriptors) (client new : ℕ) (operation : Operation) → ((i number : ℕ) → operation ≡ CloseFile i number → ⊥) → with_opened held client (opened_by new operation) ≡ held_after client new held operation
 opened_held held client new (Tell answer) closes = sym (with_same held client)
 opened_held held client new (NewDir at) closes = sym (with_same held client)
@@ -63,7 +63,7 @@ opened_tree held client new t (AddName at i) = refl
 opened_tree held client new t (DropName at i) = refl
 opened_tree held client new t (Move from to i is_dir replaced) = refl
 
--- what a operation opens has a number
+-- what an operation opens has a number
 pub opened_low : (t : Tree) (new : ℕ) (operation : Operation) → IsPlaced t operation → HasNumber (opened_by new operation)
 opened_low t new (Tell answer) placed = tt
 opened_low t new (NewDir at) placed = tt
@@ -77,7 +77,7 @@ opened_low t new (AddName at i) placed = tt
 opened_low t new (DropName at i) placed = tt
 opened_low t new (Move from to i is_dir replaced) placed = tt
 
--- a operation that closes nothing, by what it makes of the tree, and what it opens
+-- an operation that closes nothing, by what it makes of the tree, and what it opens
 pub carried_open : (nodes nodes' : List (Option Node)) (rows rows' : List (List (Option Descriptor))) (client new : ℕ) (operation : Operation) (opened : Option (ℕ × Descriptor)) → ((i number : ℕ) → operation ≡ CloseFile i number → ⊥) → opened ≡ opened_by new operation
     → tree_of nodes' ≡ tree_after (held_of rows) new (tree_of nodes) operation → held_of rows' ≡ with_opened (held_of rows) client opened → state_in nodes' rows' ≡ state_after client new (state_in nodes rows) operation
 carried_open nodes nodes' rows rows' client new operation opened closes is tree held =

@@ -92,7 +92,7 @@ state_in nodes rows = state_of (record { nodes = nodes; rows = rows })
 
 -- ---- operations
 
--- a operation that does more than tell
+-- an operation that does more than tell
 abbrev pub IsChange : Operation → Type 0
 IsChange (Tell answer) = ⊥
 IsChange _ = Unit {0}
@@ -102,12 +102,12 @@ abbrev pub IsSmall : Operation → Type 0
 IsSmall (Write i at bytes) = length bytes ≤ MAX_FILE
 IsSmall _ = Unit {0}
 
--- a operation that closes nothing
+-- an operation that closes nothing
 abbrev pub IsNoClose : Operation → Type 0
 IsNoClose (CloseFile i number) = ⊥
 IsNoClose _ = Unit {0}
 
--- what a operation opens, and its number
+-- what an operation opens, and its number
 abbrev pub opened_by : ℕ → Operation → Option (ℕ × Descriptor)
 opened_by new (NewFile at number reads writes) = Some (number, record { inode = new; reads = reads; writes = writes })
 opened_by new (OpenFile i empties number reads writes) = Some (number, record { inode = i; reads = reads; writes = writes })
@@ -145,7 +145,7 @@ IsPlaced t (Move from to i is_dir replaced) = IsHeld t from × IsHeld t to × Is
 abbrev pub HasFewNames : Tree → Type 0
 HasFewNames t = (i : ℕ) → names_of t i ≤ MAX_NAMES
 
--- a operation that a call can come to
+-- an operation that a call can come to
 abbrev pub IsDoable : Tree → Operation → Type 0
 IsDoable t operation = IsSmall operation × HasFewNames t × IsPlaced t operation
 

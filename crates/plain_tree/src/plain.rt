@@ -173,7 +173,7 @@ fn no_descriptors(alloc: Global, clients: u32) -> Result<Vec<OwnDescriptors>, Al
     Ok(rows)
 }
 
-// Carries a operation out, and answers the call.
+// Carries an operation out, and answers the call.
 fn carry_out(
     alloc: Global,
     nodes: &mut PlainNodes,
@@ -193,7 +193,7 @@ fn carry_out(
     }
 }
 
-// Carries out a operation that changes something.
+// Carries out an operation that changes something.
 fn change(
     alloc: Global,
     nodes: &mut PlainNodes,
@@ -242,7 +242,7 @@ fn reply_to(operation: &Operation) -> Reply
     }
 }
 
-// The number of the node that a operation makes; what makes none needs none.
+// The number of the node that an operation makes; what makes none needs none.
 fn new_inode(nodes: &[PlainNode], operation: &Operation) -> Option<u32>
     ensures { MatchOption result ((makes operation.now ≡ true) × IsTaken (tree_of nodes.now)) (λ i. makes operation.now ≡ true → IsLowest (tree_of nodes.now) i) }
 {
@@ -262,7 +262,7 @@ fn makes_node(operation: &Operation) -> bool
     }
 }
 
-// Carries a operation out, where a new node gets this number. Where there is no memory for it, all stays as it was.
+// Carries an operation out, where a new node gets this number. Where there is no memory for it, all stays as it was.
 fn apply(
     alloc: Global,
     nodes: &mut PlainNodes,
@@ -294,7 +294,7 @@ fn apply(
     }
 }
 
-// What a operation opens, and its number.
+// What an operation opens, and its number.
 fn opened_by(operation: &Operation, new: u32) -> Option<(u32, Descriptor)>
     ensures { result ≡ opened_by new operation.now }
 {
@@ -330,7 +330,7 @@ fn opened_by(operation: &Operation, new: u32) -> Option<(u32, Descriptor)>
     }
 }
 
-// Carries out what a operation that closes nothing does to the tree.
+// Carries out what an operation that closes nothing does to the tree.
 fn apply_to_tree(
     alloc: Global,
     nodes: &mut PlainNodes,

@@ -1,4 +1,4 @@
--- When a operation keeps the limits, and that the tree after it then does.
+-- When an operation keeps the limits, and that the tree after it then does.
 use Rattle.std.proofs.Common.{◌≡◌, ◌≢◌, ◌⊎◌, inl, inr, ℕ, ◌+◌, ◌<◌, ◌≤◌, length, refl, Some, None, Option, cond, ap, sym, ◌∙◌, subst, Bool, true, false, arith, ◌==◌, if◌then◌else◌}
 use Rattle.std.specs.Prelude.{◌&&◌, not, option_map}
 use Rattle.std.proofs.lemmas.Bool.Decides.{eqb_tells}
@@ -30,7 +30,7 @@ HasRoom t from to Nothing = (from.parent ≡ to.parent) ⊎ (fin.len (entries_of
 HasRoom t from to (OldFile j) = Unit {0}
 HasRoom t from to (OldDir j) = Unit {0}
 
--- a operation passes no limit
+-- an operation passes no limit
 abbrev pub Able : Tree → Operation → Type 0
 Able t (NewDir at) = IsFew t at
 Able t (NewFile at number reads writes) = IsFew t at

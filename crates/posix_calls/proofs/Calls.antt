@@ -1,4 +1,4 @@
--- Each call that is not refused comes to a operation that fits the state.
+-- Each call that is not refused comes to an operation that fits the state.
 use Rattle.std.proofs.Common.{◌≡◌, ◌≢◌, ℕ, List, [], ◌∷◌, refl, Some, None, Option, Ok, cond, ap, sym, ◌∙◌, subst, true, false, Bool, ◌==◌}
 use Rattle.std.specs.Prelude.{not, option_map, length}
 use Rattle.std.proofs.lemmas.Bool.{eq-eqb}

@@ -1,4 +1,4 @@
--- When a operation fits a state, and that the state after it is then well-formed.
+-- When an operation fits a state, and that the state after it is then well-formed.
 use Rattle.std.proofs.Common.{◌≡◌, ◌≢◌, ℕ, ◌<◌, ◌≤◌, List, [], ◌∷◌, refl, Some, None, cond, ap, sym, ◌∙◌, subst, Bool, true, false, ◌==◌, if◌then◌else◌}
 use Rattle.std.specs.Prelude.{option_map, ◌&&◌, not}
 use Rattle.std.specs.FinMap as fin
@@ -30,7 +30,7 @@ FitsReplaced t to i Nothing = IsRoom t to
 FitsReplaced t to i (OldFile j) = (i ≢ j) × (entry t to ≡ Some j) × IsFile (t j)
 FitsReplaced t to i (OldDir j) = (i ≢ j) × (entry t to ≡ Some j) × IsDirectory (t j) × IsBare (t j)
 
--- a operation finds what it needs
+-- an operation finds what it needs
 abbrev pub Fits : Tree → Own → Operation → Type 0
 Fits t own (Tell answer) = Unit {0}
 Fits t own (NewDir at) = IsRoom t at
@@ -101,7 +101,7 @@ replaced_fine s from to i (OldDir j) fine is fits way =
 
 -- ---- every operation
 
--- where a operation leaves the descriptors, they are those that there were
+-- where an operation leaves the descriptors, they are those that there were
 kept_held : (s : State) (client new : ℕ) (operation : Operation) → IsWellFormed (record { tree = tree_after s.descriptors new s.tree operation; descriptors = s.descriptors })
     → IsWellFormed (record { tree = tree_after (with_own s.descriptors client (s.descriptors client)) new s.tree operation; descriptors = with_own s.descriptors client (s.descriptors client) })
 kept_held s client new operation fine = subst (λ held. IsWellFormed (record { tree = tree_after held new s.tree operation; descriptors = held })) (sym (with_same s.descriptors client)) fine
@@ -112,7 +112,7 @@ opened_if s client number i true r w fine file low high num =
     opened_fine (record { tree = set_node s.tree i (Some (File [])); descriptors = s.descriptors }) client number i r w (written_fine s i [] fine file) (ap (option_map dir_test) (set_there s.tree i (Some (File [])))) low high num.few num.free
 opened_if s client number i false r w fine file low high num = opened_fine s client number i r w fine file low high num.few num.free
 
--- the state after a operation that fits is well-formed
+-- the state after an operation that fits is well-formed
 pub operation_fine : (s : State) (client new : ℕ) (operation : Operation) → IsWellFormed s → 1 ≤ client → client ≤ 8 → Fits s.tree (s.descriptors client) operation → (makes operation ≡ true → IsFree s.tree new) → IsWellFormed (state_after client new s operation)
 operation_fine s client new (Tell answer) fine low high fits free = kept_held s client new (Tell answer) fine
 operation_fine s client new (NewDir at) fine low high fits free =

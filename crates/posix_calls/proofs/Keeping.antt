@@ -1,4 +1,4 @@
--- Each call that is not refused comes to a operation that keeps the limits, and so does a step.
+-- Each call that is not refused comes to an operation that keeps the limits, and so does a step.
 use Rattle.std.proofs.Common.{◌≡◌, ℕ, ◌≤◌, List, [], length, refl, Some, None, sym, subst, Bool, true, false, arith, if◌then◌else◌}
 use Rattle.std.specs.FinMap as fin
 use Rattle.posix_calls.specs.Content.{written, resized}
@@ -24,7 +24,7 @@ within_emptied : (s : State) (i : ℕ) (b : Bool) → IsWellFormed s → IsWithi
 within_emptied s i true fine within file = within_written s i [] fine within file (omega arith)
 within_emptied s i false fine within file = within
 
--- the tree after a operation that passes no limit keeps them
+-- the tree after an operation that passes no limit keeps them
 pub operation_within : (s : State) (client new : ℕ) (operation : Operation) → IsWellFormed s → IsWithinLimits s.tree → Fits s.tree (s.descriptors client) operation → Able s.tree operation → (makes operation ≡ true → IsFree s.tree new) → IsWithinLimits (state_after client new s operation).tree
 operation_within s client new (Tell answer) fine within fits able free = within
 operation_within s client new (NewDir at) fine within fits able free = let f = free refl in within_made s at new (Dir fin.empty) fine within fits able f.none f.low f.high refl empty_within

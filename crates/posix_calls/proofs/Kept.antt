@@ -1,4 +1,4 @@
--- What each change by a operation leaves of a well-formed state: files that are written, opened and closed.
+-- What each change by an operation leaves of a well-formed state: files that are written, opened and closed.
 use Rattle.std.proofs.Common.{◌≡◌, ◌≢◌, ◌⊎◌, inl, inr, ℕ, ◌<◌, ◌≤◌, List, refl, Some, None, Option, ap, sym, ◌∙◌, subst, Bool, true, false, arith, ◌==◌, if◌then◌else◌}
 use Rattle.std.specs.Prelude.{option_map, is_some, ◌&&◌, not}
 use Rattle.std.proofs.lemmas.Bool.Decides.{eqb_tells}

@@ -1,4 +1,4 @@
--- What each change by a operation leaves of a well-formed state: names that come, go and move.
+-- What each change by an operation leaves of a well-formed state: names that come, go and move.
 use Rattle.std.proofs.Common.{◌≡◌, ◌≢◌, inl, inr, ℕ, ◌+◌, ◌<◌, ◌≤◌, List, refl, Some, None, cond, ap, sym, ◌∙◌, subst, Bool, true, false, arith, ◌==◌}
 use Rattle.std.specs.Prelude.{option_map, is_some}
 use Rattle.posix_calls.specs.Tree.{Tree, Node, State, set_node, entries_of, names_of}

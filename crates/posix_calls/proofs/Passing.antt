@@ -1,4 +1,4 @@
--- Each call that is not refused comes to a operation that passes no limit, and so a step keeps the limits.
+-- Each call that is not refused comes to an operation that passes no limit, and so a step keeps the limits.
 use Rattle.std.proofs.Common.{◌≡◌, inl, inr, ℕ, ◌+◌, ◌<◌, List, [], ◌∷◌, length, refl, Some, None, Option, Ok, Err, Result, cond, ap, sym, ◌∙◌, subst, Bool, true, false, ◌==◌}
 use Rattle.std.specs.Prelude.{◌&&◌, not, nat_le, option_map}
 use Rattle.std.proofs.lemmas.Bool.{ltb-false}

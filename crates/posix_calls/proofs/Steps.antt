@@ -50,7 +50,7 @@ with_same held client = λ t c n. own_kept (c == client) held client c n (is_sam
 pub told_changes_nothing : (old : State) (client i : ℕ) (r : Reply) → state_after client i old (Tell r) ≡ old
 told_changes_nothing old client i r = ap (λ (held : Descriptors). record { tree = old.tree; descriptors = held }) (with_same old.descriptors client)
 
--- only a operation that tells can be answered by an error
+-- only an operation that tells can be answered by an error
 pub failed_tells : (old : State) (client i : ℕ) (operation : Operation) (e : Errno) → reply.Failed e ≡ reply_of operation → state_after client i old operation ≡ old
 failed_tells old client i (Tell r) e is = told_changes_nothing old client i r
 failed_tells old client i (NewDir at) e is = absurd (cc)

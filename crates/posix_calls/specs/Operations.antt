@@ -1,4 +1,4 @@
--- What a operation makes of a tree and its descriptors, and one step of the file tree.
+-- What an operation makes of a tree and its descriptors, and one step of the file tree.
 use Rattle.std.specs.Prelude.{◌≡◌, ◌⊎◌, ℕ, ◌<◌, ◌≤◌, [], length, Bool, true, false, ◌&&◌, not, ◌==◌, nat_le, Some, None, Result, Ok, Err, if◌then◌else◌}
 use Rattle.std.specs.FinMap as fin
 use Rattle.posix_calls.specs.Content.{resized, written}
@@ -35,7 +35,7 @@ less_replaced held t at Nothing = t
 less_replaced held t at (OldFile j) = less_unused held (left t at) j
 less_replaced held t at (OldDir j) = set_node (left t at) j None
 
--- the tree after a operation, where `held` is open after it, and a new node has the number new
+-- the tree after an operation, where `held` is open after it, and a new node has the number new
 abbrev pub tree_after : Descriptors → ℕ → Tree → Operation → Tree
 tree_after held new t (Tell answer) = t
 tree_after held new t (NewDir at) = entered (set_node t new (Some (Dir fin.empty))) at new
@@ -56,7 +56,7 @@ own_after new own (OpenFile i empties number reads writes) = set_own own number 
 own_after new own (CloseFile i number) = set_own own number None
 own_after new own _ = own
 
--- what a operation is answered
+-- what an operation is answered
 abbrev pub reply_of : Operation → Reply
 reply_of (Tell answer) = answer
 reply_of (NewFile at number reads writes) = reply.Opened number
@@ -64,17 +64,17 @@ reply_of (OpenFile i empties number reads writes) = reply.Opened number
 reply_of (Write i at bytes) = reply.Wrote (length bytes)
 reply_of _ = reply.Done
 
--- whether a operation makes a node
+-- whether an operation makes a node
 abbrev pub makes : Operation → Bool
 makes (NewDir at) = true
 makes (NewFile at number reads writes) = true
 makes _ = false
 
--- all descriptors after a operation of a client
+-- all descriptors after an operation of a client
 abbrev pub held_after : ℕ → ℕ → Descriptors → Operation → Descriptors
 held_after client new held operation = with_own held client (own_after new (held client) operation)
 
--- the state after a operation of a client, where a new node has the number new
+-- the state after an operation of a client, where a new node has the number new
 abbrev pub state_after : ℕ → ℕ → State → Operation → State
 state_after client new old operation = record { tree = tree_after (held_after client new old.descriptors operation) new old.tree operation; descriptors = held_after client new old.descriptors operation }
 

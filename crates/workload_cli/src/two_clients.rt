@@ -148,7 +148,7 @@ fn recorded(
     }
 }
 
-// What a operation that changes something is answered.
+// What an operation that changes something is answered.
 fn reply_to(operation: &Operation) -> Option<Reply>
     ensures { IfSome result (λ reply. reply ≡ reply_of operation.now) }
 {

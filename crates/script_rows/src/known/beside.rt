@@ -101,7 +101,7 @@ impl Beside {
         Ok(())
     }
 
-    // Carries a operation out by its record, and answers it.
+    // Carries an operation out by its record, and answers it.
     fn carry_out(&mut self, client: u32, operation: Operation) -> io::Result<Reply> {
         let operation = match operation {
             Operation::Tell { answer } => return Ok(answer),
@@ -122,7 +122,7 @@ impl Beside {
         Ok(reply)
     }
 
-    // By how many units a operation raises the graph.
+    // By how many units an operation raises the graph.
     fn growth_of(&mut self, operation: &Operation) -> io::Result<u64> {
         for _ in 0..MOST_LACKED {
             match growth_of(&self.part, operation) {
@@ -133,7 +133,7 @@ impl Beside {
         Err(differs())
     }
 
-    // The effects of a operation.
+    // The effects of an operation.
     fn effects_of(&mut self, operation: Operation, new: u32) -> io::Result<Effects> {
         let mut operation = operation;
         for _ in 0..MOST_LACKED {
@@ -240,7 +240,7 @@ fn reply_to(operation: &Operation) -> Reply {
     }
 }
 
-// The descriptor that a operation sets, and to what.
+// The descriptor that an operation sets, and to what.
 fn opened_by(operation: &Operation, new: u32) -> Option<(u32, Option<Descriptor>)> {
     let (number, inode, reads, writes) = match operation {
         Operation::NewFile {
