@@ -13,7 +13,7 @@ file_seen m = row m.inner.tiers
 
 -- how many writes and fences it has had
 abbrev pub file_moment : FileMedia → ℕ
-file_moment m = length m.inner.past.history.events
+file_moment m = length m.inner.past.history.calls
 
 -- what a stop may leave of a tier after the first calls
 abbrev pub file_left : FileMedia → ℕ → Tier → List ℕ → Type 0

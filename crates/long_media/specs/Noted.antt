@@ -1,11 +1,12 @@
--- The event that a note tells of.
-use Rattle.long_media.specs.History.{History, Event, Wrote, Fenced, and_then}
+-- The call that a note tells of.
+use Rattle.tier_device.specs.DeviceCall.{DeviceCall, Write, Fence}
+use Rattle.long_media.specs.History.{History, and_then}
 use Rattle.long_media.specs.declared.past.Note.{Note}
-use Rattle.long_media.specs.declared.past.Note.TheVariants.{Write, Fence}
+use Rattle.long_media.specs.declared.past.Note.TheVariants as note
 
-abbrev pub event_of : Note → Event
-event_of (Write tier at bytes) = Wrote tier at bytes.now
-event_of (Fence tier) = Fenced tier
+abbrev pub call_of : Note → DeviceCall
+call_of (note.Write tier at bytes) = Write tier at bytes.now
+call_of (note.Fence tier) = Fence tier
 
 abbrev pub noted : History → Note → History
-noted h note = and_then h (event_of note)
+noted h told = and_then h (call_of told)

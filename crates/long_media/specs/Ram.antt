@@ -19,7 +19,7 @@ ram_seen m = row m.tiers
 
 -- how many calls it has had
 abbrev pub ram_moment : RamMedia → ℕ
-ram_moment m = length (ram_history m).events
+ram_moment m = length (ram_history m).calls
 
 -- what a stop may leave of a tier after the first calls
 abbrev pub ram_left : RamMedia → ℕ → Tier → List ℕ → Type 0

@@ -1,6 +1,7 @@
 // The calls that the system gets of an open file. Each is noted with its answer.
 ghost use Rattle.std.specs.Prelude.{◌≡◌, ◌+◌, ◌<◌, ◌^◌, length, OnOk, OnErr, is_ok, not, true, false};
-ghost use Rattle.long_media.specs.History.{Wrote, and_then, synced, begun};
+ghost use Rattle.tier_device.specs.DeviceCall.{Write};
+ghost use Rattle.long_media.specs.History.{and_then, synced, begun};
 ghost use Rattle.long_media.specs.Place.{begin_of};
 
 use crate::past::{Note, Past};
@@ -41,7 +42,7 @@ impl Host {
     ) -> io::Result<()>
         requires works { self.old.failed ≡ false }
         requires place { offset ≡ begin_of self.old.past.history.first tier + at }
-        ensures past { self.new.past.history ≡ and_then self.old.past.history (Wrote tier at bytes.now) }
+        ensures past { self.new.past.history ≡ and_then self.old.past.history (Write tier at bytes.now) }
         ensures failed { self.new.failed ≡ not (is_ok result) }
     {
         self.past = self.past.then(&Note::Write { tier, at, bytes });

@@ -3,7 +3,8 @@ ghost use Rattle.std.specs.Prelude.{◌≡◌, ◌≤◌, ◌<◌, ◌+◌, ◌^
 ghost use Rattle.tier_device.specs.declared.media.Tier.{Tier};
 ghost use Rattle.tier_device.specs.Rows.{row};
 ghost use Rattle.tier_device.specs.Media.{overwritten, Puts};
-ghost use Rattle.long_media.specs.History.{Wrote, Fenced, and_then, begun};
+ghost use Rattle.tier_device.specs.DeviceCall.{Write, Fence};
+ghost use Rattle.long_media.specs.History.{and_then, begun};
 ghost use Rattle.long_media.specs.Left.{shown_now, LeftNow};
 ghost use Rattle.long_media.specs.Cover.{Covers};
 ghost use Rattle.long_media.specs.Pending.{pending_in};
@@ -61,7 +62,7 @@ impl Mirrored {
         requires fits { at + length bytes.now ≤ length (row self.old.tiers tier) }
         requires works { self.old.host.failed ≡ false }
         ensures written { Puts tier (overwritten (row self.old.tiers tier) at bytes.now) (row self.old.tiers) (row self.new.tiers) }
-        ensures past { self.new.past.history ≡ and_then self.old.past.history (Wrote tier at bytes.now) }
+        ensures past { self.new.past.history ≡ and_then self.old.past.history (Write tier at bytes.now) }
         ensures failed { self.new.host.failed ≡ not (is_ok result) }
     {
         let offset = offset(&self.tiers, tier, at);
@@ -76,7 +77,7 @@ impl Mirrored {
     pub(crate) fn fence(&mut self, tier: Tier) -> io::Result<()>
         requires works { self.old.host.failed ≡ false }
         ensures seen { self.new.tiers ≡ self.old.tiers }
-        ensures fenced { OnOk result (self.new.past.history ≡ and_then self.old.past.history (Fenced tier)) }
+        ensures fenced { OnOk result (self.new.past.history ≡ and_then self.old.past.history (Fence tier)) }
         ensures lost { OnErr result (self.new.past.history ≡ self.old.past.history) }
         ensures failed { self.new.host.failed ≡ not (is_ok result) }
     {

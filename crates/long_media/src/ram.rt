@@ -2,7 +2,8 @@
 ghost use Rattle.std.specs.Prelude.{◌≡◌, ◌≤◌, ◌+◌, List, ℕ, length, take, drop, IsOk, IsErrOf, OnOk, OnErr};
 ghost use Rattle.tier_device.specs.declared.media.MediaError.TheVariants.{OutOfRange, DeviceFault};
 ghost use Rattle.tier_device.specs.Media.{overwritten, Puts, Keeps, Tears, TearsAll, Settles, HasCause, InRange};
-ghost use Rattle.long_media.specs.History.{Wrote, Fenced, and_then};
+ghost use Rattle.tier_device.specs.DeviceCall.{Write, Fence};
+ghost use Rattle.long_media.specs.History.{and_then};
 ghost use Rattle.tier_device.specs.declared.media.Tier.{Tier};
 ghost use Rattle.tier_device.specs.declared.media.Tier.TheVariants.{Fast, Block, Slow};
 ghost use Rattle.tier_device.specs.Rows.{row};
@@ -74,7 +75,7 @@ impl Media for RamMedia {
         ensures past { Keeps (ram_moment self.old) (ram_moment self.new) (ram_left self.old) (ram_left self.new) }
         ensures cause { HasCause 0 0 result }
         ensures never { IsErrOf result DeviceFault → ⊥ }
-        ensures history { ram_history self.new ≡ ram_history self.old }
+        ensures same { self.new ≡ self.old }
     {
         let bytes = self.bytes(tier);
         if bytes.len() < at || bytes.len() - at < out.len() {
@@ -94,7 +95,7 @@ impl Media for RamMedia {
         ensures all_left { OnOk result (TearsAll tier at (length bytes.now) (ram_left self.old (ram_moment self.old)) (ram_left self.new (ram_moment self.new))) }
         ensures cause { HasCause 0 0 result }
         ensures never { IsErrOf result DeviceFault → ⊥ }
-        ensures history { OnOk result (ram_history self.new ≡ and_then (ram_history self.old) (Wrote tier at bytes.now)) }
+        ensures history { OnOk result (ram_history self.new ≡ and_then (ram_history self.old) (Write tier at bytes.now)) }
     {
         let size = self.bytes(tier).len();
         if size < at || size - at < bytes.len() {
@@ -115,7 +116,7 @@ impl Media for RamMedia {
         ensures settled { OnOk result (Settles tier (ram_seen self.old) (ram_left self.old (ram_moment self.old)) (ram_left self.new (ram_moment self.new))) }
         ensures cause { HasCause 0 0 result }
         ensures never { IsOk result }
-        ensures history { ram_history self.new ≡ and_then (ram_history self.old) (Fenced tier) }
+        ensures history { ram_history self.new ≡ and_then (ram_history self.old) (Fence tier) }
     {
         self.past = self.past.then(&Note::Fence { tier });
         Ok(())

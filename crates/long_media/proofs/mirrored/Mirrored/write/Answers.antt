@@ -1,7 +1,7 @@
 use Rattle.std.proofs.Common.{◌≡◌, ◌≤◌, ◌+◌, length, ap, sym, ◌∙◌, arith}
 use Rattle.std.proofs.Math.Logic.{∥∥₁_map}
 use Rattle.tier_device.specs.Rows.{row}
-use Rattle.long_media.specs.LeftLaws.{length-shown}
+use Rattle.long_media.specs.Left.{shown_now}
 use Rattle.long_media.proofs.Grow.{write_kept}
 use Rattle.long_media.proofs.Covering.{same_place, cover_write, settled_write, same_total}
 use Rattle.long_media.proofs.mirrored.Mirrored.write.Goals as goal
@@ -24,8 +24,8 @@ invariant_of-self c =
     let new = row c.overwrite.new.self in
     let file = c.write-answer.ensures.past in
     let media = c.then-self.ensures in
-    let file_fits : c.args.at + length v ≤ length (row f.first t) = omega (arith, ap length (m.mirrors t), length-shown t (row f.first t) f.events, c.requires.fits) in
-    let media_fits : c.args.at + length v ≤ length (row h.first t) = omega (arith, ap length (m.shows t), length-shown t (row h.first t) h.events, c.requires.fits) in
+    let file_fits : c.args.at + length v ≤ length (shown_now f t) = omega (arith, ap length (m.mirrors t), c.requires.fits) in
+    let media_fits : c.args.at + length v ≤ length (shown_now h t) = omega (arith, ap length (m.shows t), c.requires.fits) in
     record {
       shows = write_kept h k t c.args.at v media media_fits old new m.shows c.overwrite.ensures;
       mirrors = write_kept f g t c.args.at v file file_fits old new m.mirrors c.overwrite.ensures;

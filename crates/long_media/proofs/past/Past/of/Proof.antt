@@ -1,4 +1,4 @@
--- The body makes a value of no bytes, which the walk gives the events that the clauses name.
+-- The body makes a value of no bytes, which the walk gives the calls that the clauses name.
 use Rattle.std.proofs.Common.{[], ◌∷◌, refl}
 use Rattle.long_media.specs.History.{begun}
 use mir.Val.{Val, vstruct, vnil, vptr}
