@@ -4,8 +4,8 @@ use Rattle.std.specs.List.{flat_map, list_all, position, position_or_len}
 use Rattle.std.proofs.lemmas.List.Sums.{position_or_len_is}
 use Rattle.std.specs.Prelude.{unwrap_or, slice_get, slice_set, option_map, not}
 use Rattle.std.specs.Str.{bytes_eq}
-use Rattle.std.proofs.lemmas.Bool.{and_from, leb-true, le-leb, eq-eqb, lt-ltb, le-ltb}
-use Rattle.std.proofs.lemmas.List.{length-append, length-take, take_at, drop_at, take-append-drop, take_more, drop_more, take_all, length-drop, length-set, take-set, drop-set-lt, get_or-set_same}
+use Rattle.std.proofs.lemmas.Bool.{leb-true, eq-eqb, lt-ltb, le-ltb}
+use Rattle.std.proofs.lemmas.List.{length-append, length-take, take_at, drop_at, take-append-drop, drop_more, take_all, length-drop, length-set, take-set, drop-set-lt, get_or-set_same}
 use Rattle.std.proofs.lemmas.List.Folds.{list_all-append}
 use Rattle.std.proofs.lemmas.Option.{slice_get-get_or}
 use Rattle.std.proofs.lemmas.List.{get_or-drop}
@@ -18,7 +18,6 @@ use Rattle.layout.specs.Bytes.{◌>>=◌, AreBytes, Field, u32, zeros, filled, o
 use Rattle.layout.specs.Directory.{EntryList, kind_byte, entry_text, entries_text, entries_spelling, fits_entry, fits_entries, head_at, entry_at, fields_at, entries_at, entries_of, listed, IsListed, are_distinct, with_entry}
 use Rattle.layout.proofs.Limits.{and_parts}
 use Rattle.layout.proofs.Fields.{bind_some, test_some, some_is, u32_long}
-use Rattle.layout.proofs.Blocks.{filled_long, within_parts}
 use Rattle.layout.proofs.Pairs.{all_at}
 use Rattle.layout.proofs.DirectoryLaws.{head_text, head_text_long, entry_fits, fits_list, list_fits, list_takes, entry_again, entry_text_long, entry_texts_long, short_name}
 

@@ -2,7 +2,8 @@
 //!
 //! `Geometry` says where everything stands. `Super`, `Slot`, `Marks`, `ExtentBlock` and `DirBlock` are what stands there. What
 //! each is spelled as, and what bytes are read as, are functions of `specs/`; `encode` and `decode` meet them exactly. Numbers
-//! are little-endian, and bytes that no field names are zero.
+//! are little-endian, and bytes that no field names are zero. What fills a whole block is an `Image`, which is written where the
+//! block is to stand.
 #![tactic(auto)]
 
 mod dir_entries;
@@ -11,6 +12,7 @@ mod entry;
 mod error;
 mod extents;
 mod geometry;
+mod image;
 mod kinds;
 mod laws;
 mod marks;
@@ -28,6 +30,7 @@ pub use entry::EntryRef;
 pub use error::{LayoutError, What};
 pub use extents::{Extent, ExtentBlock, MAX_EXTENTS};
 pub use geometry::{Geometry, Space};
+pub use image::Image;
 pub use laws::{
     entries_are_read, entries_are_spelled, extents_are_read, extents_are_spelled, marks_are_read,
     marks_are_spelled, slot_is_read, slot_is_spelled, super_is_read, super_is_spelled,
