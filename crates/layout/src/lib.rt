@@ -6,6 +6,7 @@
 //! block is to stand.
 #![tactic(auto)]
 
+mod dir_changes;
 mod dir_entries;
 mod directory;
 mod entry;
@@ -24,7 +25,8 @@ mod slot_fields;
 mod superblock;
 mod writing;
 
-pub use dir_entries::{DirEntries, set_entry};
+pub use dir_changes::{add_entry, remove_entry, remove_last, set_entry, set_target, take_entry};
+pub use dir_entries::DirEntries;
 pub use directory::{DirBlock, DirEntry, MAX_IN_BLOCK};
 pub use entry::EntryRef;
 pub use error::{LayoutError, What};
