@@ -1,13 +1,13 @@
 -- What each write of a commit leaves of the home blocks.
 use Rattle.std.proofs.Common.{◌≡◌, ◌⊎◌, inl, inr, ℕ, zero, suc, ◌+◌, ◌-◌, ◌*◌, ◌≤◌, ◌<◌, List, [], ◌∷◌, ◌++◌, length, take, drop, get_or, refl, sym, ◌∙◌, ap, subst, arith, true, false, Bool, Option, Some, None, cond, ◌==◌, IfSome}
-use Rattle.std.proofs.lemmas.List.{take-append-drop, drop-append-le, take-append-le, length-drop}
+use Rattle.std.proofs.lemmas.List.{take-append-drop, drop-append-le, take-append-le, length-drop, drop-drop, drop-take}
 use Rattle.std.proofs.lemmas.Bool.{cases_Bool, false≢true}
 use Rattle.byteorder.specs.Endian.{little_number}
 use Rattle.byteorder.specs.Numbers.{little_from-append}
 use Rattle.tier_device.specs.Media.{overwritten, Torn}
 use Rattle.batch_journal.specs.Images.{slice, count_of, number_at, image_at, images_from, images_of, rest_of_head, image_for, or_else, with_images}
 use Rattle.layout.specs.Bytes.{are_zero}
-use Rattle.batch_journal.specs.Blocks.{Blocks, block_of, gate_of, rest_of_gate, is_open, area_of, is_home, home, Rising, after_batch}
+use Rattle.batch_journal.specs.Blocks.{Blocks, block_of, gate_of, rest_of_gate, is_open, area_of, is_home, home, Rising, after_batch, ShowsHome}
 use Rattle.batch_journal.specs.Volume.{Spells, IsHead, IsJournal, SameJournal, IsAfter}
 use Rattle.layout.specs.Places.{Sizes}
 use Rattle.batch_journal.specs.Course.{IsPut, Beside, OutsideRun}
@@ -279,3 +279,21 @@ home_shut c k at_home closed = at_home_closed c k at_home closed
 
 pub home_over : (images : List (ℕ × List ℕ)) (c : List ℕ) (k : ℕ) → is_home k ≡ true → is_open c ≡ true → images_of (area_of c) ≡ images → home c k ≡ with_images images (block_of c) k
 home_over images c k at_home opened staged = at_home_open images c k at_home opened staged
+
+-- a slice of a slice
+slice_slice : (i n at l : ℕ) (c : List ℕ) → i + n ≤ l → slice i n (slice at l c) ≡ slice (at + i) n c
+slice_slice i n at l c le =
+    let moved : drop i (drop at c) ≡ drop (at + i) c = drop-drop i at c in
+    let rest : l ≡ i + (l - i) = omega (arith, le) in
+    ap (take n) (ap (λ k. drop i (take k (drop at c))) rest ∙ drop-take i (l - i) (drop at c))
+    ∙ take_shorter n (l - i) (drop i (drop at c)) (omega (arith, le))
+    ∙ ap (take n) moved
+
+pub shows_home : (c bytes : List ℕ) (at n : ℕ) → is_open c ≡ false → bytes ≡ slice at n c → length bytes ≡ n → ShowsHome at bytes c
+shows_home c bytes at l closed is long k o n at_home inside low high =
+    let p : ℕ = 4096 * k + o in
+    let back : at + (p - at) ≡ p = omega (arith, low) in
+    ap (slice (p - at) n) is
+    ∙ slice_slice (p - at) n at l c (omega (arith, low, high, long))
+    ∙ ap (λ j. slice j n c) back
+    ∙ sym (ap (slice o n) (home_shut c k at_home closed) ∙ slice_slice o n (4096 * k) 4096 c inside)

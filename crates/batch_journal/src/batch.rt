@@ -1,4 +1,5 @@
-ghost use Rattle.std.specs.Prelude.{◌≡◌, ◌<◌, ◌≤◌, ◌+◌, ◌*◌, ℕ, List, [], ◌∷◌, ◌++◌, length, OnOk, OnErr, IfOk, IsTrue, ◌↔◌, replicate};
+ghost use Rattle.std.specs.Prelude.{◌≡◌, ◌<◌, ◌≤◌, ◌+◌, ◌*◌, ◌^◌, ℕ, List, [], ◌∷◌, ◌++◌, length, take, drop, true, OnOk, OnErr, IfOk, IsTrue, ◌↔◌, replicate};
+ghost use Rattle.layout.specs.Bytes.{are_zero};
 ghost use Rattle.batch_journal.specs.Images.{next_of, images_of};
 ghost use Rattle.batch_journal.specs.Blocks.{AreJournaled};
 ghost use Rattle.batch_journal.specs.Volume.{KeepsGeometry};
@@ -8,7 +9,7 @@ ghost use Rattle.tier_device.specs.Media.{overwritten};
 
 use crate::head::{is_rising, keeps_geometry};
 use byteorder::{ByteOrder, LittleEndian};
-use layout::Geometry;
+use layout::{BLOCK, Geometry, Image};
 use std::alloc::{AllocError, Global};
 use std::marker::Model;
 
@@ -61,10 +62,26 @@ impl Batch {
         ensures refused { OnErr result (self.new ≡ self.old) }
     {
         self.bytes.extend_from_slice(image)?;
-        put_number(&mut self.bytes, 4 + 4 * self.count, number);
+        note_image(&mut self.bytes, self.count, number);
         self.count += 1;
         self.next = number as u64 + 1;
-        put_number(&mut self.bytes, 0, self.count as u32);
+        Ok(())
+    }
+
+    /// Adds the image of a block, which is encoded where the batch keeps it: no other buffer is filled or copied. All else is
+    /// as `push` has it of the image's bytes.
+    pub fn push_image<I: Image>(&mut self, number: u32, image: &I) -> Result<(), AllocError>
+        requires fits { I.fits image.now }
+        requires room { length self.old < 1023 }
+        requires rises { next_of self.old ≤ number }
+        ensures pushed { OnOk result (self.new ≡ self.old ++ (number, I.bytes image.now) ∷ []) }
+        ensures next { OnOk result (next_of self.new ≡ number + 1) }
+        ensures refused { OnErr result (self.new ≡ self.old) }
+    {
+        add_image(&mut self.bytes, image)?;
+        note_image(&mut self.bytes, self.count, number);
+        self.count += 1;
+        self.next = number as u64 + 1;
         Ok(())
     }
 
@@ -98,6 +115,51 @@ impl Batch {
     {
         &self.bytes
     }
+}
+
+// The image behind the others.
+fn add_image<I: Image>(bytes: &mut Vec<u8>, image: &I) -> Result<(), AllocError>
+    requires fits { I.fits image.now }
+    requires few { length bytes.old.items < 2 ^ 32 }
+    ensures added { OnOk result (bytes.new.items ≡ bytes.old.items ++ I.bytes image.now) }
+    ensures long { OnOk result (length (I.bytes image.now) ≡ BLOCK) }
+    ensures refused { OnErr result (bytes.new.items ≡ bytes.old.items) }
+{
+    let at = bytes.len();
+    let size = BLOCK;
+    lengthen(bytes, size)?;
+    fill_from(bytes, at, image);
+    Ok(())
+}
+
+// So many zero bytes more.
+fn lengthen(bytes: &mut Vec<u8>, size: usize) -> Result<(), AllocError>
+    requires { length bytes.old.items + size < 2 ^ 60 }
+    ensures longer { OnOk result (bytes.new.items ≡ bytes.old.items ++ replicate size 0) }
+    ensures refused { OnErr result (bytes.new.items ≡ bytes.old.items) }
+{
+    bytes.resize(bytes.len() + size, 0)
+}
+
+// The image in place of the zero bytes from a place on.
+fn fill_from<I: Image>(bytes: &mut Vec<u8>, at: usize, image: &I)
+    requires fits { I.fits image.now }
+    requires long { length bytes.old.items ≡ at + BLOCK }
+    requires blank { are_zero (drop at bytes.old.items) ≡ true }
+    ensures filled { bytes.new.items ≡ take at bytes.old.items ++ I.bytes image.now }
+    ensures long { length (I.bytes image.now) ≡ BLOCK }
+{
+    image.encode_into(&mut bytes[at..]);
+}
+
+// Counts one image more, and notes the block that it is for.
+fn note_image(bytes: &mut Vec<u8>, count: usize, number: u32)
+    requires few { count < 1023 }
+    requires long { 4096 ≤ length bytes.old.items }
+    ensures { bytes.new.items ≡ overwritten (overwritten bytes.old.items (4 + 4 * count) (little_bytes 4 number)) 0 (little_bytes 4 (count + 1)) }
+{
+    put_number(bytes, 4 + 4 * count, number);
+    put_number(bytes, 0, count as u32 + 1);
 }
 
 fn put_number(bytes: &mut Vec<u8>, at: usize, value: u32)

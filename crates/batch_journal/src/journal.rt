@@ -4,7 +4,7 @@ ghost use Rattle.tier_device.specs.declared.media.Tier.{Tier};
 ghost use Rattle.tier_device.specs.declared.media.Tier.TheVariants.{Fast};
 ghost use Rattle.tier_device.specs.Media.{AtRest, LeftSince, Puts, Rose, overwritten};
 ghost use Rattle.batch_journal.specs.Images.{slice};
-ghost use Rattle.batch_journal.specs.Blocks.{home, after_batch, block_of, is_home, is_open, IsShutGate, AreJournaled, calls_of};
+ghost use Rattle.batch_journal.specs.Blocks.{home, after_batch, block_of, is_home, is_open, IsShutGate, AreJournaled, calls_of, ShowsHome};
 ghost use Rattle.batch_journal.specs.Volume.{IsJournal, IsVolume, KeepsGeometry, SameJournal};
 ghost use Rattle.batch_journal.specs.Course.{Since, Unmoved, SameLengths, TornFrom, BeforeOrAfter, OutsideRun, OutsideRunFrom};
 ghost use Rattle.batch_journal.specs.declared.error.JournalError.TheVariants.{DeviceFault, BatchTooLarge};
@@ -15,7 +15,7 @@ use crate::calls::{fetch, put, settle};
 use crate::error::JournalError;
 use crate::opening::open_medium;
 use crate::replay::write_batch;
-use layout::Geometry;
+use layout::{BLOCK, Geometry};
 use std::alloc::Global;
 use std::marker::Model;
 use tier_device::{Media, Tier};
@@ -164,37 +164,15 @@ impl<M: Media> Journal<M> {
         ensures faults { M.faults self.old.media ≤ M.faults self.new.media }
     {
         let _ = &self.failed;
-        self.read(Tier::Fast, block, out)
+        self.read(Tier::Fast, BLOCK * block as usize, out)
     }
 
-    /// Reads bytes of a tier from the start of a block on. After a refusal the buffer is as it was.
-    pub fn read(&mut self, tier: Tier, first: u32, out: &mut [u8]) -> Result<(), JournalError>
-        requires { 4096 * first + length out.old ≤ 4096 * tier_blocks self.old.geometry tier }
-        ensures bytes { OnOk result (out.new ≡ slice (4096 * first) (length out.old) (M.seen self.old.media tier)) }
-        ensures refused { OnErr result (out.new ≡ out.old) }
-        ensures unmoved { Unmoved (M.moment self.old.media) (M.moment self.new.media) (M.seen self.old.media) (M.seen self.new.media) (M.left self.old.media) (M.left self.new.media) }
-        ensures only { IfErr result (λ e. e ≡ DeviceFault) }
-        ensures fault { OnErr result ((self.new.failed ≡ true) × ((self.old.failed ≡ true) ⊎ Rose (M.faults self.old.media) (M.faults self.new.media))) }
-        ensures quiet { OnOk result (M.faults self.new.media ≡ M.faults self.old.media) }
-        ensures going { OnOk result ((self.old.failed ≡ false) × (self.new.failed ≡ false)) }
-        ensures stays_failed { self.old.failed ≡ true → (result ≡ Err DeviceFault) × (self.new ≡ self.old) }
-        ensures geometry { self.new.geometry ≡ self.old.geometry }
-        ensures faults { M.faults self.old.media ≤ M.faults self.new.media }
-    {
-        let _ = &self.failed;
-        self.read_part(tier, first, 0, out)
-    }
-
-    /// Reads bytes of a tier from a byte of a block on. After a refusal the buffer is as it was.
-    pub fn read_part(
-        &mut self,
-        tier: Tier,
-        block: u32,
-        offset: usize,
-        out: &mut [u8],
-    ) -> Result<(), JournalError>
-        requires { 4096 * block + offset + length out.old ≤ 4096 * tier_blocks self.old.geometry tier }
-        ensures bytes { OnOk result (out.new ≡ slice (4096 * block + offset) (length out.old) (M.seen self.old.media tier)) }
+    /// Reads bytes of a tier from a byte of it on, as many as the buffer has; it takes no memory. After a refusal the buffer is
+    /// as it was. Of the fast tier's home blocks the bytes are those that `image` gives.
+    pub fn read(&mut self, tier: Tier, at: usize, out: &mut [u8]) -> Result<(), JournalError>
+        requires { at + length out.old ≤ 4096 * tier_blocks self.old.geometry tier }
+        ensures bytes { OnOk result (out.new ≡ slice at (length out.old) (M.seen self.old.media tier)) }
+        ensures home { OnOk result (tier ≡ Fast → ShowsHome at out.new (M.seen self.old.media Fast)) }
         ensures refused { OnErr result (out.new ≡ out.old) }
         ensures unmoved { Unmoved (M.moment self.old.media) (M.moment self.new.media) (M.seen self.old.media) (M.seen self.new.media) (M.left self.old.media) (M.left self.new.media) }
         ensures only { IfErr result (λ e. e ≡ DeviceFault) }
@@ -208,7 +186,7 @@ impl<M: Media> Journal<M> {
         if self.failed {
             return Err(JournalError::DeviceFault);
         }
-        match fetch(&mut self.media, tier, 4096 * block as usize + offset, out) {
+        match fetch(&mut self.media, tier, at, out) {
             Ok(()) => Ok(()),
             Err(_) => {
                 self.failed = true;

@@ -1,9 +1,9 @@
 -- Runs of places that have none in common: a test over a sorted list is the test of all pairs.
-use Rattle.std.proofs.Common.{◌≡◌, ℕ, suc, ◌+◌, ◌<◌, ◌≤◌, Bool, true, false, leb, ◌&&◌, ◌||◌, List, [], ◌∷◌, length, get_or, refl, sym, ap, subst, ◌∙◌, arith, ◌⊎◌, inl, inr}
+use Rattle.std.proofs.Common.{◌≡◌, ℕ, suc, ◌+◌, ◌<◌, ◌≤◌, Bool, true, false, leb, ◌||◌, List, [], ◌∷◌, length, get_or, refl, sym, arith, inl, inr}
 use Rattle.std.specs.List.{list_all}
 use Rattle.std.specs.List.Sorted.{IsPermutation, IsNonDecreasingBy}
 use Rattle.std.proofs.lemmas.List.Sorted.{IsPermutation-sym}
-use Rattle.std.proofs.lemmas.Bool.{and_from, leb-true, le-leb, or_cases, cases_Bool}
+use Rattle.std.proofs.lemmas.Bool.{and_from, leb-true, le-leb, or_cases}
 use Rattle.layout.specs.declared.extents.Extent.{Extent}
 use Rattle.layout.specs.Bytes.{all_pairs}
 use Rattle.layout.specs.Extents.{are_stepping, is_apart, are_apart}

@@ -39,6 +39,10 @@ pub filled_nothing : (n : ℕ) → zeros n ≡ filled n []
 unfolding filled
 filled_nothing n = ap zeros (omega arith)
 
+-- zero bytes are nothing, filled up
+pub blank_filled : (n : ℕ) (bytes : List ℕ) → length bytes ≡ n → are_zero bytes ≡ true → bytes ≡ filled n []
+blank_filled n bytes long blank = are_zero_zeros bytes blank ∙ ap zeros long ∙ filled_nothing n
+
 pub written_on : (n at : ℕ) (text w old : List ℕ) → old ≡ filled n text → at ≡ length text → length text + length w ≤ n → overwritten at w old ≡ filled n (text ++ w)
 unfolding filled
 written_on n at text w old is there fits =

@@ -4,8 +4,8 @@ use Rattle.std.specs.List.{flat_map, list_all, position, position_or_len}
 use Rattle.std.proofs.lemmas.List.Sums.{position_or_len_is}
 use Rattle.std.specs.Prelude.{unwrap_or, slice_get, slice_set, option_map, not}
 use Rattle.std.specs.Str.{bytes_eq}
-use Rattle.std.proofs.lemmas.Bool.{and_from, leb-true, le-leb, eq-eqb, lt-ltb, le-ltb}
-use Rattle.std.proofs.lemmas.List.{length-append, length-take, take_at, drop_at, take-append-drop, take_more, drop_more, take_all, length-drop, length-set, take-set, drop-set-lt, get_or-set_same}
+use Rattle.std.proofs.lemmas.Bool.{leb-true, eq-eqb, lt-ltb, le-ltb}
+use Rattle.std.proofs.lemmas.List.{length-append, length-take, take_at, drop_at, take-append-drop, drop_more, take_all, length-drop, length-set, take-set, drop-set-lt, get_or-set_same}
 use Rattle.std.proofs.lemmas.List.Folds.{list_all-append}
 use Rattle.std.proofs.lemmas.Option.{slice_get-get_or}
 use Rattle.std.proofs.lemmas.List.{get_or-drop}
@@ -18,7 +18,6 @@ use Rattle.layout.specs.Bytes.{◌>>=◌, AreBytes, Field, u32, zeros, filled, o
 use Rattle.layout.specs.Directory.{EntryList, kind_byte, entry_text, entries_text, entries_spelling, fits_entry, fits_entries, head_at, entry_at, fields_at, entries_at, entries_of, listed, IsListed, are_distinct, with_entry}
 use Rattle.layout.proofs.Limits.{and_parts}
 use Rattle.layout.proofs.Fields.{bind_some, test_some, some_is, u32_long}
-use Rattle.layout.proofs.Blocks.{filled_long, within_parts}
 use Rattle.layout.proofs.Pairs.{all_at}
 use Rattle.layout.proofs.DirectoryLaws.{head_text, head_text_long, entry_fits, fits_list, list_fits, list_takes, entry_again, entry_text_long, entry_texts_long, short_name}
 
@@ -57,11 +56,10 @@ text_around v i d lt =
     ap (λ (t : List ℕ). head_text v.owner (length v.entries) ++ t) (texts_around v.entries i d lt)
     ∙ sym (append_assoc (head_text v.owner (length v.entries)) (flat_map entry_text (take i v.entries)) (entry_text (get_or v.entries i d) ++ flat_map entry_text (drop (i + 1) v.entries)))
 
-pub stands : (block : List ℕ) (v : EntryList) (i : ℕ) (d : DirEntry) → AreBytes block → within 4096 entries_at block ≡ Some v → i < length v.entries → Stands block (64 + 72 * i) (get_or v.entries i d)
+pub stands_spelled : (block : List ℕ) (v : EntryList) (i : ℕ) (d : DirEntry) → fits_list v ≡ true → block ≡ entries_spelling v → i < length v.entries → Stands block (64 + 72 * i) (get_or v.entries i d)
 unfolding filled
-stands block v i d are e lt =
-    let t = list_takes block v are e in
-    let f = list_fits v t.0 in
+stands_spelled block v i d fit is lt =
+    let f = list_fits v fit in
     let x : DirEntry = get_or v.entries i d in
     let behind : List ℕ = flat_map entry_text (drop (i + 1) v.entries) in
     let gap : List ℕ = zeros (4096 - length (entries_text v)) in
@@ -70,17 +68,22 @@ stands block v i d are e lt =
     record {
       front = front_text v i;
       rest = behind ++ gap;
-      parts = t.1 ∙ ap (λ (w : List ℕ). w ++ gap) (text_around v i d lt) ∙ whole;
+      parts = is ∙ ap (λ (w : List ℕ). w ++ gap) (text_around v i d lt) ∙ whole;
       long = front_long v i f.each (omega arith);
       fit = all_at fits_entry v.entries i d f.each lt;
     }
+
+pub stands : (block : List ℕ) (v : EntryList) (i : ℕ) (d : DirEntry) → AreBytes block → within 4096 entries_at block ≡ Some v → i < length v.entries → Stands block (64 + 72 * i) (get_or v.entries i d)
+stands block v i d are e lt =
+    let t = list_takes block v are e in
+    stands_spelled block v i d t.0 t.1 lt
 
 -- ---- the fields of an entry at its place
 
 abbrev tags : DirEntry → List ℕ → List ℕ
 tags e rest = kind_byte e.kind ∷ length e.name ∷ 0 ∷ 0 ∷ (filled 64 e.name ++ rest)
 
-whole_at : (block : List ℕ) (at : ℕ) (e : DirEntry) (s : Stands block at e) → drop at block ≡ entry_text e ++ s.rest
+pub whole_at : (block : List ℕ) (at : ℕ) (e : DirEntry) (s : Stands block at e) → drop at block ≡ entry_text e ++ s.rest
 whole_at block at e s = ap (drop at) s.parts ∙ drop_at s.front (entry_text e ++ s.rest) at s.long
 
 flat_text : (e : DirEntry) (rest : List ℕ) → entry_text e ++ rest ≡ u32 e.inode ++ tags e rest
@@ -154,7 +157,7 @@ replaced a x w c long =
     rw (front, far) (append_assoc a w c)
 
 -- bytes around a place, filled up
-around_place : (n : ℕ) (a x w c : List ℕ) → length w ≡ length x → overwritten (length a) w (filled n (a ++ (x ++ c))) ≡ filled n (a ++ (w ++ c))
+pub around_place : (n : ℕ) (a x w c : List ℕ) → length w ≡ length x → overwritten (length a) w (filled n (a ++ (x ++ c))) ≡ filled n (a ++ (w ++ c))
 unfolding filled
 around_place n a x w c long =
     let gap : List ℕ = zeros (n - length (a ++ (x ++ c))) in
@@ -171,6 +174,18 @@ set_parts es i e lt =
     ∙ ap (λ (t : List DirEntry). t ++ drop i new) (take-set es i e)
     ∙ ap (λ (t : List DirEntry). take i es ++ t) (drop_more new i e room ∙ ap (λ (x : DirEntry). x ∷ drop (i + 1) new) (get_or-set_same es i e e lt) ∙ ap (λ (t : List DirEntry). e ∷ t) (drop-set-lt (i + 1) es i e (omega arith)))
 
+-- the text of entries with another one at a place
+pub text_set : (v : EntryList) (i : ℕ) (e : DirEntry) → i < length v.entries → front_text v i ++ (entry_text e ++ flat_map entry_text (drop (i + 1) v.entries)) ≡ entries_text (with_entry v i e)
+text_set v i e lt =
+    let behind : List ℕ = flat_map entry_text (drop (i + 1) v.entries) in
+    let n : ℕ = length v.entries in
+    let count : length (slice_set v.entries i e) ≡ n = length-set v.entries i e in
+    let texts : flat_map entry_text (slice_set v.entries i e) ≡ flat_map entry_text (take i v.entries) ++ (entry_text e ++ behind) =
+    ap (flat_map entry_text) (set_parts v.entries i e lt) ∙ flat_map-append entry_text (take i v.entries) (e ∷ drop (i + 1) v.entries) in
+    append_assoc (head_text v.owner n) (flat_map entry_text (take i v.entries)) (entry_text e ++ behind)
+    ∙ ap (λ (t : List ℕ). head_text v.owner n ++ t) (sym texts)
+    ∙ ap (λ (k : ℕ). head_text v.owner k ++ flat_map entry_text (slice_set v.entries i e)) (sym count)
+
 pub entry_set : (v : EntryList) (i : ℕ) (e : DirEntry) → fits_entries v ≡ true → i < length v.entries → length e.name ≤ 64 → overwritten (64 + 72 * i) (entry_text e) (entries_spelling v) ≡ entries_spelling (with_entry v i e)
 entry_set v i e fit lt short =
     let p = and_parts (fits_list v) (are_distinct v.entries) fit in
@@ -179,18 +194,10 @@ entry_set v i e fit lt short =
     let fx = entry_fits x (all_at fits_entry v.entries i e f.each lt) in
     let same : length (entry_text e) ≡ length (entry_text x) = entry_text_long e short ∙ sym (entry_text_long x (short_name x.name fx.name)) in
     let behind : List ℕ = flat_map entry_text (drop (i + 1) v.entries) in
-    let n : ℕ = length v.entries in
-    let count : length (slice_set v.entries i e) ≡ n = length-set v.entries i e in
-    let texts : flat_map entry_text (slice_set v.entries i e) ≡ flat_map entry_text (take i v.entries) ++ (entry_text e ++ behind) =
-    ap (flat_map entry_text) (set_parts v.entries i e lt) ∙ flat_map-append entry_text (take i v.entries) (e ∷ drop (i + 1) v.entries) in
-    let whole : front_text v i ++ (entry_text e ++ behind) ≡ entries_text (with_entry v i e) =
-    append_assoc (head_text v.owner n) (flat_map entry_text (take i v.entries)) (entry_text e ++ behind)
-    ∙ ap (λ (t : List ℕ). head_text v.owner n ++ t) (sym texts)
-    ∙ ap (λ (k : ℕ). head_text v.owner k ++ flat_map entry_text (slice_set v.entries i e)) (sym count) in
     ap (λ (t : List ℕ). overwritten (64 + 72 * i) (entry_text e) (filled 4096 t)) (text_around v i e lt)
     ∙ ap (λ (k : ℕ). overwritten k (entry_text e) (filled 4096 (front_text v i ++ (entry_text x ++ behind)))) (sym (front_long v i f.each (omega arith)))
     ∙ around_place 4096 (front_text v i) (entry_text x) (entry_text e) behind same
-    ∙ ap (filled 4096) whole
+    ∙ ap (filled 4096) (text_set v i e lt)
 
 -- ---- the list of a block, as it is read
 

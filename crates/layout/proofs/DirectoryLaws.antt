@@ -129,7 +129,7 @@ head_start_long owner count = simp (length-append, u32_long) refl
 pub head_text_long : (owner count : ℕ) → length (head_text owner count) ≡ 64
 head_text_long owner count = filled_long 64 (u32 owner ++ u32 count) (omega (arith, head_start_long owner count))
 
-head_parts : (owner count : ℕ) → (u32 owner ++ u32 count) ++ zeros 56 ≡ head_text owner count
+pub head_parts : (owner count : ℕ) → (u32 owner ++ u32 count) ++ zeros 56 ≡ head_text owner count
 unfolding filled
 head_parts owner count = ap (λ (k : ℕ). (u32 owner ++ u32 count) ++ zeros k) (omega (arith, head_start_long owner count))
 
@@ -149,7 +149,7 @@ head_takes bytes x are e =
     let head : Takes bytes (head_text o.0.0 n.0.0) z.0 = subst (λ (w : List ℕ). Takes bytes w z.0) (head_parts o.0.0 n.0.0) s2 in
     subst (λ (y : (ℕ × ℕ) × List ℕ). Takes bytes (head_text y.0.0 y.0.1) y.1 × (is_inode y.0.0 && leb y.0.1 56 ≡ true)) t.1 (head, t.0)
 
-head_again : (owner count : ℕ) (rest : List ℕ) → is_inode owner ≡ true → leb count 56 ≡ true → head_at (head_text owner count ++ rest) ≡ Some ((owner, count), rest)
+pub head_again : (owner count : ℕ) (rest : List ℕ) → is_inode owner ≡ true → leb count 56 ≡ true → head_at (head_text owner count ++ rest) ≡ Some ((owner, count), rest)
 unfolding head_at
 head_again owner count rest is few =
     let tail1 : List ℕ = zeros 56 ++ rest in

@@ -1,16 +1,16 @@
 -- Extent blocks, both ways.
-use Rattle.std.proofs.Common.{◌≡◌, ℕ, ◌+◌, ◌*◌, ◌^◌, ◌<◌, ◌≤◌, true, eqb, leb, ltb, ◌&&◌, List, [], ◌∷◌, ◌++◌, length, drop, get_or, Some, refl, sym, ap, subst, ◌∙◌, append_assoc, arith}
+use Rattle.std.proofs.Common.{◌≡◌, ℕ, ◌+◌, ◌*◌, ◌^◌, ◌<◌, ◌≤◌, true, eqb, leb, ◌&&◌, List, [], ◌∷◌, ◌++◌, length, drop, get_or, Some, refl, sym, ap, subst, ◌∙◌, append_assoc, arith}
 use Rattle.std.specs.List.{flat_map, list_all}
-use Rattle.std.proofs.lemmas.Bool.{and_from, eqb-true, ltb-true, leb-true}
+use Rattle.std.proofs.lemmas.Bool.{and_from, eqb-true, leb-true}
 use Rattle.std.proofs.lemmas.List.{length-append, drop_more}
 use Rattle.tier_device.specs.declared.media.Tier.{Tier}
 use Rattle.tier_device.specs.declared.media.Tier.TheVariants as tiers
 use Rattle.layout.specs.declared.extents.Extent.{Extent}
 use Rattle.layout.specs.declared.geometry.Space.{Space}
 use Rattle.layout.specs.declared.geometry.Space.TheVariants as space
-use Rattle.layout.specs.Places.{Sizes, IsAllowed, is_inode, is_data, is_run, are_nodes, blocks_in, node_end, data_first, tier_blocks}
+use Rattle.layout.specs.Places.{Sizes, IsAllowed, is_inode, is_run, blocks_in, node_end, data_first, tier_blocks}
 use Rattle.layout.specs.Bytes.{AreBytes, u32, number_at, items_at, within}
-use Rattle.layout.specs.Extents.{ExtentList, ExtentHead, extent_text, extents_text, extents_spelling, is_extent, are_sorted, are_stepping, is_apart, are_apart, is_sound, fits_extents, header_at, extent_at, extents_at, extents_of}
+use Rattle.layout.specs.Extents.{ExtentList, ExtentHead, extent_text, extents_text, extents_spelling, is_extent, are_sorted, are_stepping, are_apart, is_sound, fits_extents, header_at, extent_at, extents_at, extents_of}
 use Rattle.layout.proofs.Limits.{and_parts}
 use Rattle.layout.proofs.Fields.{Takes, Takes-then, bind_some, test_some, some_is, u32_takes, u32_again, u32_long}
 use Rattle.layout.proofs.Blocks.{within_parts, within_again, filled_from}

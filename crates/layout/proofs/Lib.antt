@@ -1,5 +1,6 @@
 mod Apart
 mod Blocks
+mod DirChanges
 mod DirPlaces
 mod DirectoryLaws
 mod ExtentLaws

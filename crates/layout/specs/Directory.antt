@@ -1,6 +1,6 @@
 -- Directory blocks: entries of a directory.
-use Rattle.std.specs.Prelude.{◌≡◌, ◌≤◌, ◌==◌, ◌&&◌, true, not, nat_le, unwrap_or, slice_set, Bool, List, [], ◌∷◌, ◌++◌, length, take, drop, ℕ, Option, Some, None, if◌then◌else◌}
-use Rattle.std.specs.List.{flat_map, list_all}
+use Rattle.std.specs.Prelude.{◌≡◌, ◌≤◌, ◌==◌, ◌&&◌, true, not, nat_le, unwrap_or, slice_set, slice_index_or, ◌-◌, Bool, List, [], ◌∷◌, ◌++◌, length, take, drop, ℕ, Option, Some, None, if◌then◌else◌}
+use Rattle.std.specs.List.{flat_map, list_all, swap_remove}
 use Rattle.std.specs.Str.{bytes_eq}
 use Rattle.posix_calls.specs.declared.limits.TheConstants.{MAX_NAME, ROOT}
 use Rattle.posix_calls.specs.Name.{is_name}
@@ -115,6 +115,35 @@ pub record IsRead (owner count : ℕ) (bytes : List ℕ) : Type 0 where
   pub owner_is : owner ≡ (listed bytes).owner
   pub count_is : count ≡ length (listed bytes).entries
 
+-- The block spells entries of a directory: those that are listed.
+pub record AreEntries (bytes : List ℕ) : Type 0 where
+  pub fit : fits_entries (listed bytes) ≡ true
+  pub spelled : bytes ≡ entries_spelling (listed bytes)
+
+-- no entry at all, which stands where a list has none
+abbrev pub no_entry : DirEntry
+no_entry = record { inode = 0; kind = kind.File; name = [] }
+
+-- the entry at a place
+abbrev pub entry_of : EntryList → ℕ → DirEntry
+entry_of v index = slice_index_or v.entries index no_entry
+
+-- the entries with one more behind them
+abbrev pub with_last : EntryList → DirEntry → EntryList
+with_last v e = record { owner = v.owner; entries = v.entries ++ e ∷ [] }
+
+-- the entries but the last
+abbrev pub without_last : EntryList → EntryList
+without_last v = record { owner = v.owner; entries = take (length v.entries - 1) v.entries }
+
+-- the entries but the one at a place, which the last one takes
+abbrev pub without_entry : EntryList → ℕ → EntryList
+without_entry v index = record { owner = v.owner; entries = swap_remove v.entries index no_entry }
+
 -- the entries with another one at a place
 abbrev pub with_entry : EntryList → ℕ → DirEntry → EntryList
 with_entry v index e = record { owner = v.owner; entries = slice_set v.entries index e }
+
+-- the entries, of which the one at a place leads to another node
+abbrev pub with_target : EntryList → ℕ → ℕ → Kind → EntryList
+with_target v index inode kind = with_entry v index (record { inode = inode; kind = kind; name = (entry_of v index).name })

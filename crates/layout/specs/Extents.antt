@@ -1,5 +1,5 @@
 -- Extent blocks: which blocks hold which logical blocks of a node.
-use Rattle.std.specs.Prelude.{◌==◌, ◌+◌, ◌&&◌, ◌||◌, nat_lt, nat_le, Bool, true, List, [], ◌∷◌, ◌++◌, length, ℕ, Option, Some, None, if◌then◌else◌}
+use Rattle.std.specs.Prelude.{◌==◌, ◌+◌, ◌&&◌, ◌||◌, nat_le, Bool, true, List, [], ◌∷◌, ◌++◌, length, ℕ, Option, Some, None, if◌then◌else◌}
 use Rattle.std.specs.List.{flat_map, list_all}
 use Rattle.layout.specs.declared.places.TheConstants.{BLOCK}
 use Rattle.layout.specs.declared.extents.TheConstants.{MAX_EXTENTS}

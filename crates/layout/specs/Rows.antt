@@ -1,12 +1,11 @@
 -- Values whose bytes a law tells.
-use Rattle.std.specs.Prelude.{ℕ, List, [], ◌∷◌}
+use Rattle.std.specs.Prelude.{ℕ, [], ◌∷◌}
 use Rattle.file_graph.specs.declared.effect.Kind.TheVariants as kind
 use Rattle.layout.specs.declared.superblock.Super.{Super}
 use Rattle.layout.specs.declared.slot.Slot.{Slot}
 use Rattle.layout.specs.declared.slot.Slot.TheVariants as slot
 use Rattle.layout.specs.declared.marks.Mark.{Mark}
 use Rattle.layout.specs.declared.marks.Marks.{Marks}
-use Rattle.layout.specs.declared.directory.DirEntry.{DirEntry}
 use Rattle.layout.specs.declared.extents.Extent.{Extent}
 use Rattle.layout.specs.Places.{Sizes, sizes}
 use Rattle.layout.specs.Extents.{ExtentList}

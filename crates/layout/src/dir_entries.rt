@@ -1,17 +1,16 @@
 // Entries of a directory, in place.
-ghost use Rattle.std.specs.Prelude.{◌≡◌, ◌<◌, ◌≤◌, ◌+◌, ◌*◌, length, option_map, slice_index_or, slice_get, Some, drop, not, true, IfSome, OnSome};
+ghost use Rattle.std.specs.Prelude.{◌≡◌, ◌<◌, ◌≤◌, ◌+◌, ◌*◌, length, option_map, slice_index_or, slice_get, Some, drop, not, true, IfSome, OnSome, IfOk, OnOk};
 ghost use Rattle.std.specs.List.{list_all, position};
-ghost use Rattle.posix_calls.specs.declared.limits.TheConstants.{MAX_NAME};
 ghost use Rattle.std.specs.Str.{bytes_eq};
 ghost use Rattle.layout.specs.Answers.{answer};
-ghost use Rattle.layout.specs.Bytes.{items_at, text_at, zeros, within, overwritten};
-ghost use Rattle.layout.specs.Directory.{EntryList, head_at, entry_at, entries_at, entries_of, listed, IsListed, IsRead, are_distinct, entry_text, entries_spelling, fits_entry, fits_entries, with_entry};
+ghost use Rattle.layout.specs.Bytes.{items_at, text_at, zeros, within};
+ghost use Rattle.layout.specs.Directory.{head_at, entry_at, entries_at, entries_of, listed, AreEntries, IsListed, IsRead, are_distinct, fits_entry};
 ghost use Rattle.layout.specs.Lent.{owned};
 ghost use Rattle.layout.specs.declared.directory.DirEntry.{DirEntry};
 ghost use Rattle.layout.specs.declared.error.What.TheVariants as what;
 
 use crate::directory::{ENTRY_SIZE, FIRST_ENTRY_AT, HEAD_GAP, MAX_IN_BLOCK};
-use crate::entry::{EntryRef, behind_entry, fields_of, put_entry};
+use crate::entry::{EntryRef, behind_entry, fields_of};
 use crate::error::{LayoutError, What};
 use crate::places::{BLOCK, is_inode};
 use crate::reading::{are_zero, text_of, u32_of};
@@ -38,7 +37,9 @@ impl<'a> Model for DirEntries<'a> {
 impl<'a> DirEntries<'a> {
     /// The entries that a block spells. `Damaged`, with the number of the block, where it spells none.
     pub fn read(number: u32, block: &'a [u8]) -> Result<Self, LayoutError>
-        ensures { result ≡ answer what.DirBlock number (entries_of block.now) }
+        ensures read { result ≡ answer what.DirBlock number (entries_of block.now) }
+        ensures listed { IfOk result (λ b. b ≡ listed block.now) }
+        ensures entries { OnOk result (AreEntries block.now) }
     {
         match head_of_entries(block) {
             Some((owner, count)) => Ok(DirEntries {
@@ -114,7 +115,7 @@ fn head_of_list(block: &[u8]) -> Option<(u32, usize)>
 }
 
 #[tactic(auto, unfolding(crate::specs::Directory::head_at))]
-fn head_of(bytes: &[u8]) -> Option<((u32, u32), &[u8])>
+pub fn head_of(bytes: &[u8]) -> Option<((u32, u32), &[u8])>
     ensures { option_map (λ x. (x.0, x.1.now)) result ≡ head_at bytes.now }
 {
     let (owner, rest) = u32_of(bytes)?;
@@ -176,7 +177,7 @@ fn differs_from(block: &[u8], first: usize, count: usize, name: &[u8]) -> bool
     true
 }
 
-fn place_of(block: &[u8], count: usize, name: &[u8]) -> Option<usize>
+pub fn place_of(block: &[u8], count: usize, name: &[u8]) -> Option<usize>
     requires listed { IsListed block.now }
     requires count { count ≡ length (listed block.now).entries }
     ensures { result ≡ position (λ e. bytes_eq e.name name.now) (listed block.now).entries }
@@ -212,15 +213,4 @@ fn entry_in(block: &[u8], index: usize) -> EntryRef<'_>
         Some((entry, _)) => entry,
         None => unreachable!(),
     }
-}
-
-/// Writes an entry over the one at a place of a block that spells entries; all others stay.
-pub fn set_entry(block: &mut [u8], index: usize, entry: EntryRef<'_>)
-    requires long { length block.old ≡ BLOCK }
-    requires inside { index < MAX_IN_BLOCK }
-    requires short { length entry.name.now ≤ MAX_NAME }
-    ensures text { block.new ≡ overwritten (64 + 72 * index) (entry_text (owned entry.entry)) block.old }
-    ensures spelling { (v : EntryList) → fits_entries v ≡ true → block.old ≡ entries_spelling v → index < length v.entries → block.new ≡ entries_spelling (with_entry v index (owned entry.entry)) }
-{
-    put_entry(block, FIRST_ENTRY_AT + ENTRY_SIZE * index, entry);
 }

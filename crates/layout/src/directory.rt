@@ -1,11 +1,13 @@
-ghost use Rattle.std.specs.Prelude.{◌≡◌, ◌≤◌, length, IfOk};
+ghost use Rattle.std.specs.Prelude.{◌≡◌, ◌≤◌, length, IfOk, true};
 ghost use Rattle.layout.specs.Answers.{Reads};
+ghost use Rattle.layout.specs.Bytes.{are_zero};
 ghost use Rattle.layout.specs.Directory.{entries_spelling, entries_of};
 ghost use Rattle.layout.specs.declared.error.What.TheVariants as what;
 
 use crate::dir_entries::DirEntries;
 use crate::entry::{EntryRef, put_entry};
 use crate::error::{LayoutError, What};
+use crate::image::Image;
 use crate::places::BLOCK;
 use crate::writing::{clear, put_u32};
 use file_graph::Kind;
@@ -77,8 +79,8 @@ impl DirBlock {
         requires few { length self.now.entries ≤ MAX_IN_BLOCK }
         ensures { block.new ≡ entries_spelling self.now }
     {
-        let entries = self.entries.as_slice();
-        write_block(block, self.owner, entries);
+        clear(block);
+        self.encode_into(block);
     }
 
     /// The entries that a block spells, each with a name of its own. `Damaged`, with the number of the block, where it spells
@@ -92,6 +94,21 @@ impl DirBlock {
             owner: found.owner(),
             entries,
         })
+    }
+}
+
+impl Image for DirBlock {
+    ghost use Rattle.std.specs.Prelude.{◌≤◌, length};
+    ghost use Rattle.layout.specs.Directory.{entries_spelling};
+    ghost use Rattle.layout.specs.declared.directory.TheConstants.{MAX_IN_BLOCK};
+
+    ghost bytes = { entries_spelling };
+
+    ghost fits = { λ b. length b.entries ≤ MAX_IN_BLOCK };
+
+    fn encode_into(&self, slot: &mut [u8]) {
+        let entries = self.entries.as_slice();
+        write_block(slot, self.owner, entries);
     }
 }
 
@@ -124,10 +141,10 @@ fn copy_of(alloc: Global, found: &DirEntries<'_>) -> Result<Vec<DirEntry>, Alloc
 
 fn write_block(block: &mut [u8], owner: u32, entries: &[DirEntry])
     requires long { length block.old ≡ BLOCK }
+    requires blank { are_zero block.old ≡ true }
     requires few { length entries.now ≤ MAX_IN_BLOCK }
     ensures { block.new ≡ entries_spelling (record { owner = owner; entries = entries.now }) }
 {
-    clear(block);
     put_u32(block, 0, owner);
     put_u32(block, 4, entries.len() as u32);
     for index in 0..entries.len() {

@@ -79,7 +79,7 @@ fn put_zeros(block: &mut [u8], at: usize)
     put(block, at, &text);
 }
 
-fn kind_byte(kind: Kind) -> u8
+pub fn kind_byte(kind: Kind) -> u8
     ensures { result ≡ kind_byte kind }
 {
     match kind {

@@ -1,12 +1,13 @@
 ghost use Rattle.std.specs.Prelude.{◌≡◌, ◌≤◌, ◌+◌, length, take, option_map, nat_le, true, IfSome};
 ghost use Rattle.std.specs.List.{list_all};
 ghost use Rattle.layout.specs.Answers.{Reads};
-ghost use Rattle.layout.specs.Bytes.{items_at, overwritten, within};
+ghost use Rattle.layout.specs.Bytes.{items_at, overwritten, within, are_zero};
 ghost use Rattle.layout.specs.Extents.{extent_text, extents_spelling, is_extent, are_sorted, are_stepping, are_apart, header_at, extent_at, extents_at, extents_of};
 ghost use Rattle.layout.specs.declared.error.What.TheVariants as what;
 
 use crate::error::{LayoutError, What};
 use crate::geometry::{Geometry, Space};
+use crate::image::Image;
 use crate::places::{BLOCK, is_inode};
 use crate::reading::{are_zero, u32_of};
 use crate::writing::{clear, put_u32};
@@ -88,8 +89,8 @@ impl ExtentBlock {
         requires few { length self.now.extents ≤ MAX_EXTENTS }
         ensures { block.new ≡ extents_spelling self.now }
     {
-        let extents = self.extents.as_slice();
-        write_block(block, self.owner, self.level, extents);
+        clear(block);
+        self.encode_into(block);
     }
 
     /// The extents that a block spells for a node whose content lies in that space. `Damaged`, with the number of the block,
@@ -119,6 +120,21 @@ impl ExtentBlock {
     }
 }
 
+impl Image for ExtentBlock {
+    ghost use Rattle.std.specs.Prelude.{◌≤◌, length};
+    ghost use Rattle.layout.specs.Extents.{extents_spelling};
+    ghost use Rattle.layout.specs.declared.extents.TheConstants.{MAX_EXTENTS};
+
+    ghost bytes = { extents_spelling };
+
+    ghost fits = { λ b. length b.extents ≤ MAX_EXTENTS };
+
+    fn encode_into(&self, slot: &mut [u8]) {
+        let extents = self.extents.as_slice();
+        write_block(slot, self.owner, self.level, extents);
+    }
+}
+
 // Places for all extents that a block may have.
 fn blank() -> [Extent; MAX_EXTENTS] {
     let none = Extent {
@@ -131,10 +147,10 @@ fn blank() -> [Extent; MAX_EXTENTS] {
 
 fn write_block(block: &mut [u8], owner: u32, level: u32, extents: &[Extent])
     requires long { length block.old ≡ BLOCK }
+    requires blank { are_zero block.old ≡ true }
     requires few { length extents.now ≤ MAX_EXTENTS }
     ensures { block.new ≡ extents_spelling (record { owner = owner; level = level; extents = extents.now }) }
 {
-    clear(block);
     put_u32(block, 0, owner);
     put_u32(block, 4, extents.len() as u32);
     put_u32(block, 8, level);

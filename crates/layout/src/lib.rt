@@ -2,15 +2,18 @@
 //!
 //! `Geometry` says where everything stands. `Super`, `Slot`, `Marks`, `ExtentBlock` and `DirBlock` are what stands there. What
 //! each is spelled as, and what bytes are read as, are functions of `specs/`; `encode` and `decode` meet them exactly. Numbers
-//! are little-endian, and bytes that no field names are zero.
+//! are little-endian, and bytes that no field names are zero. What fills a whole block is an `Image`, which is written where the
+//! block is to stand.
 #![tactic(auto)]
 
+mod dir_changes;
 mod dir_entries;
 mod directory;
 mod entry;
 mod error;
 mod extents;
 mod geometry;
+mod image;
 mod kinds;
 mod laws;
 mod marks;
@@ -22,12 +25,14 @@ mod slot_fields;
 mod superblock;
 mod writing;
 
-pub use dir_entries::{DirEntries, set_entry};
+pub use dir_changes::{add_entry, remove_entry, remove_last, set_entry, set_target, take_entry};
+pub use dir_entries::DirEntries;
 pub use directory::{DirBlock, DirEntry, MAX_IN_BLOCK};
 pub use entry::EntryRef;
 pub use error::{LayoutError, What};
 pub use extents::{Extent, ExtentBlock, MAX_EXTENTS};
 pub use geometry::{Geometry, Space};
+pub use image::Image;
 pub use laws::{
     entries_are_read, entries_are_spelled, extents_are_read, extents_are_spelled, marks_are_read,
     marks_are_spelled, slot_is_read, slot_is_spelled, super_is_read, super_is_spelled,

@@ -5,6 +5,7 @@ ghost use Rattle.layout.specs.Marks.{mark_text, marks_spelling, mark_at, marks_a
 ghost use Rattle.layout.specs.declared.error.What.TheVariants as what;
 
 use crate::error::{LayoutError, What};
+use crate::image::Image;
 use crate::places::{BLOCK, MARKS_BLOCK};
 use crate::reading::{are_zero, u32_of, u64_of};
 use crate::writing::{clear, put_u32, put_u64};
@@ -38,12 +39,8 @@ impl Marks {
         requires { length block.old ≡ BLOCK }
         ensures { block.new ≡ marks_spelling self.now }
     {
-        let marks = *self;
         clear(block);
-        for client in 0..CLIENTS {
-            put_mark(block, MARK_SIZE * client, marks.clients[client]);
-        }
-        put_u64(block, DIGESTS_AT, marks.digests);
+        self.encode_into(block);
     }
 
     /// The marks that a block spells; `Damaged` where it spells none.
@@ -57,6 +54,22 @@ impl Marks {
                 block: MARKS_BLOCK,
             }),
         }
+    }
+}
+
+impl Image for Marks {
+    ghost use Rattle.layout.specs.Marks.{marks_spelling};
+
+    ghost bytes = { marks_spelling };
+
+    ghost fits = { λ _. Unit {0} };
+
+    fn encode_into(&self, slot: &mut [u8]) {
+        let marks = *self;
+        for client in 0..CLIENTS {
+            put_mark(slot, MARK_SIZE * client, marks.clients[client]);
+        }
+        put_u64(slot, DIGESTS_AT, marks.digests);
     }
 }
 

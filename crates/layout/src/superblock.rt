@@ -5,6 +5,7 @@ ghost use Rattle.layout.specs.declared.error.What.TheVariants as what;
 
 use crate::error::{LayoutError, What};
 use crate::geometry::Geometry;
+use crate::image::Image;
 use crate::places::{BLOCK, SUPER_BLOCK};
 use crate::reading::{are_zero, text_of, u32_of};
 use crate::writing::{clear, put, put_u32};
@@ -28,14 +29,8 @@ impl Super {
         requires { length block.old ≡ BLOCK }
         ensures { block.new ≡ super_spelling self.now }
     {
-        let geometry = self.geometry;
         clear(block);
-        put(block, 0, MAGIC);
-        put_u32(block, 8, VERSION);
-        put_u32(block, 12, geometry.units());
-        put_u32(block, 16, geometry.data_blocks(Tier::Fast));
-        put_u32(block, 20, geometry.data_blocks(Tier::Block));
-        put_u32(block, 24, geometry.data_blocks(Tier::Slow));
+        self.encode_into(block);
     }
 
     /// The superblock that a block spells; `Damaged` where it spells none.
@@ -49,6 +44,24 @@ impl Super {
                 block: SUPER_BLOCK,
             }),
         }
+    }
+}
+
+impl Image for Super {
+    ghost use Rattle.layout.specs.Super.{super_spelling};
+
+    ghost bytes = { super_spelling };
+
+    ghost fits = { λ _. Unit {0} };
+
+    fn encode_into(&self, slot: &mut [u8]) {
+        let geometry = self.geometry;
+        put(slot, 0, MAGIC);
+        put_u32(slot, 8, VERSION);
+        put_u32(slot, 12, geometry.units());
+        put_u32(slot, 16, geometry.data_blocks(Tier::Fast));
+        put_u32(slot, 20, geometry.data_blocks(Tier::Block));
+        put_u32(slot, 24, geometry.data_blocks(Tier::Slow));
     }
 }
 

@@ -1,12 +1,13 @@
 // Fields written over bytes, from a place on.
-ghost use Rattle.std.specs.Prelude.{◌≡◌, ◌≤◌, ◌+◌, length};
-ghost use Rattle.layout.specs.Bytes.{u32 as bytes_4, u64 as bytes_8, zeros, overwritten};
+ghost use Rattle.std.specs.Prelude.{◌≡◌, ◌≤◌, ◌+◌, length, true};
+ghost use Rattle.layout.specs.Bytes.{u32 as bytes_4, u64 as bytes_8, zeros, are_zero, overwritten};
 
 use byteorder::{ByteOrder, LittleEndian};
 
 #[tactic(auto, unfolding(crate::specs::Bytes::zeros))]
 pub fn clear(bytes: &mut [u8])
-    ensures { bytes.new ≡ zeros (length bytes.old) }
+    ensures zeros { bytes.new ≡ zeros (length bytes.old) }
+    ensures blank { are_zero bytes.new ≡ true }
 {
     bytes.fill(0);
 }

@@ -1,4 +1,4 @@
-use Rattle.std.proofs.Common.{◌≡◌, ◌∙◌, ap, sym, arith}
+use Rattle.std.proofs.Common.{◌∙◌, ap, sym}
 use Rattle.std.specs.Prelude.{option_map}
 use Rattle.layout.specs.Bytes.{items_at}
 use Rattle.layout.specs.Directory.{entry_at}

@@ -1,6 +1,4 @@
-use Rattle.std.proofs.Common.{◌≡◌, ◌∙◌, ap, sym, Some, None}
-use Rattle.std.specs.Prelude.{option_map}
-use Rattle.layout.specs.declared.directory.DirEntry.{DirEntry}
+use Rattle.std.proofs.Common.{◌∙◌, ap, sym, Some}
 use Rattle.layout.specs.Directory.{fits_entry}
 use Rattle.layout.specs.Lent.{owned}
 use Rattle.layout.proofs.DirPlaces.{fields_there, same_entry}

@@ -1,6 +1,5 @@
-use Rattle.std.proofs.Common.{◌≡◌, ◌∙◌, ap, sym}
-use Rattle.std.specs.Prelude.{option_map}
-use Rattle.layout.proofs.DirPlaces.{names_meet, names_differ, no_counts, list_counted, counts, counts_none, counts_more}
+use Rattle.std.proofs.Common.{◌∙◌, sym}
+use Rattle.layout.proofs.DirPlaces.{names_meet, names_differ, no_counts, list_counted, counts_none, counts_more}
 use Rattle.layout.proofs.dir_entries.head_of_entries.Goals as goal
 
 pub returns-in_err-owner-clause-head : goal.returns-in_err-owner-clause-head

@@ -1,5 +1,4 @@
-use Rattle.std.proofs.Common.{◌≡◌, ◌∙◌, ap, sym, Some}
-use Rattle.std.specs.Prelude.{option_map}
+use Rattle.std.proofs.Common.{◌∙◌, sym}
 use Rattle.layout.proofs.DirPlaces.{no_head, no_items, no_end, list_there, counts_none, counts_some}
 use Rattle.layout.proofs.dir_entries.head_of_list.Goals as goal
 

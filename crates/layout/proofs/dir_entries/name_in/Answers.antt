@@ -1,8 +1,6 @@
-use Rattle.std.proofs.Common.{◌≡◌, ◌+◌, ◌*◌, ◌-◌, ◌≤◌, ℕ, List, [], length, sym, ap, ◌∙◌, arith}
-use Rattle.std.proofs.lemmas.List.{length-take}
+use Rattle.std.proofs.Common.{◌+◌, ◌*◌, [], length, sym, ap, ◌∙◌, arith}
 use Rattle.file_graph.specs.declared.effect.Kind.TheVariants as kind
 use Rattle.layout.specs.declared.directory.DirEntry.{DirEntry}
-use Rattle.layout.specs.Directory.{listed}
 use Rattle.layout.proofs.DirPlaces.{listed_name, cut_name}
 use Rattle.layout.proofs.dir_entries.name_in.Goals as goal
 

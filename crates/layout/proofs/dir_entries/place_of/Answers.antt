@@ -1,4 +1,4 @@
-use Rattle.std.proofs.Common.{◌≡◌, ◌∙◌, ◌<◌, ap, sym, subst, arith, true}
+use Rattle.std.proofs.Common.{◌∙◌, ap, sym, arith}
 use Rattle.std.specs.Str.{bytes_eq}
 use Rattle.layout.specs.Directory.{listed}
 use Rattle.layout.proofs.DirPlaces.{found_at, found_nowhere}

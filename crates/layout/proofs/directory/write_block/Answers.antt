@@ -3,9 +3,9 @@ use Rattle.std.specs.List.{flat_map}
 use Rattle.std.proofs.lemmas.List.{length-append, append-nil, take_all, take_more}
 use Rattle.std.proofs.lemmas.Grind.{flat_map-append}
 use Rattle.layout.specs.declared.directory.DirEntry.{DirEntry}
-use Rattle.layout.specs.Bytes.{u32, zeros, filled, overwritten}
+use Rattle.layout.specs.Bytes.{u32, filled, overwritten}
 use Rattle.layout.specs.Directory.{entry_text}
-use Rattle.layout.proofs.Blocks.{filled_nothing, filled_twice, written_u32}
+use Rattle.layout.proofs.Blocks.{blank_filled, filled_twice, written_u32}
 use Rattle.layout.proofs.Items.{item_on}
 use Rattle.layout.proofs.DirectoryLaws.{head_text, head_text_long, head_start_long, entry_text_long}
 use Rattle.layout.proofs.directory.write_block.Goals as goal
@@ -17,8 +17,8 @@ pub loop-index-init : goal.loop-index-init
 loop-index-init c =
     let owner = c.args.owner in
     let count = length c.args.entries.now in
-    let b0 : c.clear.new.bytes ≡ filled 4096 [] = c.clear.ensures ∙ ap zeros c.requires.long ∙ filled_nothing 4096 in
-    let w1 = written_u32 4096 0 owner [] c.clear.new.bytes b0 refl (omega arith) in
+    let b0 : c.args.block.now ≡ filled 4096 [] = blank_filled 4096 c.args.block.now c.requires.long c.requires.blank in
+    let w1 = written_u32 4096 0 owner [] c.args.block.now b0 refl (omega arith) in
     let w2 = written_u32 4096 4 count (u32 owner) c.put_u32.new.bytes (c.put_u32.ensures ∙ w1.0) w1.1 (omega arith) in
     let start : List ℕ = u32 owner ++ u32 count in
     let head = filled_twice 64 4096 start (omega (arith, head_start_long owner count)) (omega arith) in

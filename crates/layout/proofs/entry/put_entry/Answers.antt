@@ -1,4 +1,4 @@
-use Rattle.std.proofs.Common.{◌+◌, ◌≤◌, ℕ, List, [], ◌∷◌, ◌++◌, length, ap, ◌∙◌, arith}
+use Rattle.std.proofs.Common.{◌+◌, ℕ, List, [], ◌∷◌, length, ap, ◌∙◌, arith}
 use Rattle.layout.specs.Bytes.{u32, filled, overwritten}
 use Rattle.layout.specs.Directory.{kind_byte}
 use Rattle.layout.proofs.Fields.{u32_long}

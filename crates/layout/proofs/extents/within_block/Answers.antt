@@ -1,10 +1,5 @@
-use Rattle.std.proofs.Common.{◌≡◌, ◌≤◌, List, take, length, ap, sym, ◌∙◌, arith}
-use Rattle.std.specs.Prelude.{option_map}
+use Rattle.std.proofs.Common.{◌≡◌, ◌≤◌, take, length, sym, arith}
 use Rattle.std.proofs.lemmas.List.{take_at, length-take}
-use Rattle.layout.specs.Bytes.{items_at}
-use Rattle.layout.specs.Extents.{extent_at}
-use Rattle.layout.specs.declared.extents.Extent.{Extent}
-use Rattle.layout.proofs.Apart.{has_blocks}
 use Rattle.layout.proofs.ExtentLaws.{extents_have_blocks}
 use Rattle.layout.proofs.extents.within_block.Goals as goal
 

@@ -2,9 +2,9 @@ use Rattle.std.proofs.Common.{◌≡◌, ◌+◌, ◌*◌, ◌<◌, ℕ, List, [
 use Rattle.std.specs.List.{flat_map}
 use Rattle.std.proofs.lemmas.List.{length-append, length-take, append-nil, take_all}
 use Rattle.layout.specs.declared.extents.Extent.{Extent}
-use Rattle.layout.specs.Bytes.{u32, zeros, filled}
+use Rattle.layout.specs.Bytes.{u32, filled}
 use Rattle.layout.specs.Extents.{extent_text}
-use Rattle.layout.proofs.Blocks.{filled_nothing, written_u32}
+use Rattle.layout.proofs.Blocks.{blank_filled, written_u32}
 use Rattle.layout.proofs.Items.{item_on}
 use Rattle.layout.proofs.ExtentLaws.{head_text, head_text_long, extent_text_long, extent_texts_long, head_and_extents}
 use Rattle.layout.proofs.extents.write_block.Goals as goal
@@ -14,8 +14,8 @@ loop-index-init c =
     let owner = c.args.owner in
     let level = c.args.level in
     let count = length c.args.extents.now in
-    let b0 : c.clear.new.bytes ≡ filled 4096 [] = c.clear.ensures ∙ ap zeros c.requires.long ∙ filled_nothing 4096 in
-    let w1 = written_u32 4096 0 owner [] c.clear.new.bytes b0 refl (omega arith) in
+    let b0 : c.args.block.now ≡ filled 4096 [] = blank_filled 4096 c.args.block.now c.requires.long c.requires.blank in
+    let w1 = written_u32 4096 0 owner [] c.args.block.now b0 refl (omega arith) in
     let w2 = written_u32 4096 4 count (u32 owner) c.put_u32.new.bytes (c.put_u32.ensures ∙ w1.0) w1.1 (omega arith) in
     let t2 : List ℕ = u32 owner ++ u32 count in
     let w3 = written_u32 4096 8 level t2 c.put_u32-2.new.bytes (c.put_u32-2.ensures ∙ w2.0) w2.1 (omega arith) in

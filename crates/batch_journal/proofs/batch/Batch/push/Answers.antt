@@ -7,6 +7,9 @@ use Rattle.batch_journal.proofs.Images.{length-images_of}
 use Rattle.batch_journal.proofs.Pushing.{b3, pushed_images, pushed_next, pushed_is}
 use Rattle.batch_journal.proofs.batch.Batch.push.Goals as goal
 
+pub note_image-requires-clause-few : goal.note_image-requires-clause-few
+note_image-requires-clause-few c = omega (arith, c.requires.room, c.self.invariant.counts, length-images_of c.self.inside.bytes.items, ap length c.self.view_is)
+
 pub returns-clause-pushed : goal.returns-clause-pushed
 returns-clause-pushed c =
     let bytes = c.self.inside.bytes.items in
@@ -14,8 +17,8 @@ returns-clause-pushed c =
     let n = c.self.inside.count in
     let number = c.args.number in
     let few : n < 1023 = omega (arith, c.requires.room, c.self.invariant.counts, length-images_of bytes, ap length c.self.view_is) in
-    let is : c.put_number-2.new.bytes.items ≡ b3 bytes image n c.self.inside.next number c.self.invariant few c.ranges.number.fits c.requires.size =
-    c.put_number-2.ensures ∙ ap (λ (l : List ℕ). overwritten l 0 (little_bytes 4 (n + 1))) (c.put_number.ensures ∙ ap (λ (l : List ℕ). overwritten l (4 + 4 * n) (little_bytes 4 number)) c.in_ok-extend_from_slice.ensures.items) in
+    let is : c.note_image.new.bytes.items ≡ b3 bytes image n c.self.inside.next number c.self.invariant few c.ranges.number.fits c.requires.size =
+    c.note_image.ensures ∙ ap (λ (l : List ℕ). overwritten (overwritten l (4 + 4 * n) (little_bytes 4 number)) 0 (little_bytes 4 (n + 1))) c.in_ok-extend_from_slice.ensures.items in
     ap images_of is ∙ pushed_images bytes image n c.self.inside.next number c.self.invariant few c.ranges.number.fits c.requires.size ∙ ap (λ (l : List (ℕ × List ℕ)). l ++ (number, image) ∷ []) c.self.view_is
 
 pub returns-clause-next : goal.returns-clause-next
@@ -25,8 +28,8 @@ returns-clause-next c =
     let n = c.self.inside.count in
     let number = c.args.number in
     let few : n < 1023 = omega (arith, c.requires.room, c.self.invariant.counts, length-images_of bytes, ap length c.self.view_is) in
-    let is : c.put_number-2.new.bytes.items ≡ b3 bytes image n c.self.inside.next number c.self.invariant few c.ranges.number.fits c.requires.size =
-    c.put_number-2.ensures ∙ ap (λ (l : List ℕ). overwritten l 0 (little_bytes 4 (n + 1))) (c.put_number.ensures ∙ ap (λ (l : List ℕ). overwritten l (4 + 4 * n) (little_bytes 4 number)) c.in_ok-extend_from_slice.ensures.items) in
+    let is : c.note_image.new.bytes.items ≡ b3 bytes image n c.self.inside.next number c.self.invariant few c.ranges.number.fits c.requires.size =
+    c.note_image.ensures ∙ ap (λ (l : List ℕ). overwritten (overwritten l (4 + 4 * n) (little_bytes 4 number)) 0 (little_bytes 4 (n + 1))) c.in_ok-extend_from_slice.ensures.items in
     ap (λ (l : List ℕ). next_of (images_of l)) is ∙ pushed_next bytes image n c.self.inside.next number c.self.invariant few c.ranges.number.fits c.requires.size
 
 pub invariant_of-self-2 : goal.invariant_of-self-2
@@ -37,6 +40,6 @@ invariant_of-self-2 c =
     let number = c.args.number in
     let few : n < 1023 = omega (arith, c.requires.room, c.self.invariant.counts, length-images_of bytes, ap length c.self.view_is) in
     let low : c.self.inside.next ≤ number = omega (arith, c.requires.rises, c.self.invariant.next_is, ap next_of c.self.view_is) in
-    let is : c.put_number-2.new.bytes.items ≡ b3 bytes image n c.self.inside.next number c.self.invariant few c.ranges.number.fits c.requires.size =
-    c.put_number-2.ensures ∙ ap (λ (l : List ℕ). overwritten l 0 (little_bytes 4 (n + 1))) (c.put_number.ensures ∙ ap (λ (l : List ℕ). overwritten l (4 + 4 * n) (little_bytes 4 number)) c.in_ok-extend_from_slice.ensures.items) in
+    let is : c.note_image.new.bytes.items ≡ b3 bytes image n c.self.inside.next number c.self.invariant few c.ranges.number.fits c.requires.size =
+    c.note_image.ensures ∙ ap (λ (l : List ℕ). overwritten (overwritten l (4 + 4 * n) (little_bytes 4 number)) 0 (little_bytes 4 (n + 1))) c.in_ok-extend_from_slice.ensures.items in
     subst (λ (l : List ℕ). IsBatch (n + 1) (number + 1) l) (sym is) (pushed_is bytes image n c.self.inside.next number c.self.invariant few c.ranges.number.fits c.requires.size low)

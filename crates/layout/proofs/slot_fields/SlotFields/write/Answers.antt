@@ -6,7 +6,7 @@ use Rattle.layout.proofs.slot_fields.SlotFields.write.Goals as goal
 pub returns : goal.returns
 returns c =
     let f = c.args.self.now in
-    let b0 : c.clear.new.bytes ≡ filled 128 [] = c.clear.ensures ∙ ap zeros c.requires ∙ filled_nothing 128 in
+    let b0 : c.clear.new.bytes ≡ filled 128 [] = c.clear.ensures.zeros ∙ ap zeros c.requires ∙ filled_nothing 128 in
     let w1 = written_u32 128 0 f.kind [] c.clear.new.bytes b0 refl (omega arith) in
     let w2 = written_u32 128 4 f.names (u32 f.kind) c.put_u32.new.bytes (c.put_u32.ensures ∙ w1.0) w1.1 (omega arith) in
     let t2 : List ℕ = u32 f.kind ++ u32 f.names in

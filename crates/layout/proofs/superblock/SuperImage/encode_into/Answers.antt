@@ -1,13 +1,13 @@
 use Rattle.std.proofs.Common.{◌≡◌, ℕ, List, [], ◌++◌, refl, ap, ◌∙◌, append_assoc, arith}
-use Rattle.layout.specs.Bytes.{u32, zeros, filled}
+use Rattle.layout.specs.Bytes.{u32, filled}
 use Rattle.layout.specs.Super.{magic}
-use Rattle.layout.proofs.Blocks.{filled_nothing, written_on, written_u32}
-use Rattle.layout.proofs.superblock.Super.encode.Goals as goal
+use Rattle.layout.proofs.Blocks.{blank_filled, written_on, written_u32}
+use Rattle.layout.proofs.superblock.SuperImage.encode_into.Goals as goal
 
 pub returns : goal.returns
 returns c =
-    let b0 : c.clear.new.bytes ≡ filled 4096 [] = c.clear.ensures ∙ ap zeros c.requires ∙ filled_nothing 4096 in
-    let b1 : c.put.new.bytes ≡ filled 4096 magic = c.put.ensures ∙ written_on 4096 0 [] magic c.clear.new.bytes b0 refl (omega arith) in
+    let b0 : c.args.slot.now ≡ filled 4096 [] = blank_filled 4096 c.args.slot.now c.requires.long c.requires.blank in
+    let b1 : c.put.new.bytes ≡ filled 4096 magic = c.put.ensures ∙ written_on 4096 0 [] magic c.args.slot.now b0 refl (omega arith) in
     let w2 = written_u32 4096 8 1 magic c.put.new.bytes b1 refl (omega arith) in
     let w3 = written_u32 4096 12 c.units.result (magic ++ u32 1) c.put_u32.new.bytes (c.put_u32.ensures ∙ w2.0) w2.1 (omega arith) in
     let t3 : List ℕ = (magic ++ u32 1) ++ u32 c.units.result in
