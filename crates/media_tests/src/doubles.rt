@@ -6,7 +6,7 @@ ghost use Rattle.tier_device.specs.Fault.{sound_of};
 
 use std::alloc::AllocError;
 use std::test::Fail;
-use tier_device::{FaultMedia, Fill, MemMedia, StopMedia};
+use tier_device::{FaultMedia, Fill, MemMedia, StopMedia, Trip};
 
 /// A medium that stops within its call of this number.
 pub fn stopping(media: MemMedia, call: u64, fill: Fill) -> StopMedia
@@ -46,5 +46,25 @@ pub fn failing(media: MemMedia, call: u64) -> FaultMedia<MemMedia>
 {
     let mut media = FaultMedia::new(media);
     media.fail_at(call);
+    media
+}
+
+/// A medium that stops where the trip runs out.
+pub fn stopping_with(media: MemMedia, trip: Trip, fill: Fill) -> StopMedia
+    requires { IsAtRest media }
+    ensures { IsAtRest (medium_of result) }
+{
+    let mut media = StopMedia::new(media);
+    media.stop_with(trip, fill);
+    media
+}
+
+/// A medium whose call at which the trip runs out fails.
+pub fn failing_with(media: MemMedia, trip: Trip) -> FaultMedia<MemMedia>
+    requires { IsAtRest media }
+    ensures { IsAtRest (sound_of result) }
+{
+    let mut media = FaultMedia::new(media);
+    media.fail_with(trip);
     media
 }

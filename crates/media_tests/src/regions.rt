@@ -4,13 +4,13 @@ ghost use Rattle.tier_device.specs.declared.media.Tier.TheVariants.{Fast};
 ghost use Rattle.tier_device.specs.Media.{AtRest};
 ghost use Rattle.tier_device.specs.Memory.{IsAtRest};
 
-use crate::doubles::{failing, rest_of, stopping};
+use crate::doubles::{failing_with, rest_of, stopping_with};
 use file_graph::{Effect, Effects};
 use log_record::Record;
 use posix_calls::Bytes;
 use std::alloc::{AllocError, Global};
 use std::test::Fail;
-use tier_device::{Fill, Media, MemMedia};
+use tier_device::{Fill, Media, MemMedia, Trip};
 use update_log::{REGION_SIZE, Region, RegionError, Stage};
 
 // A medium of a region's size, all zero.
@@ -60,57 +60,104 @@ fn append<M: Media>(
     region.append(&entry)
 }
 
-// Whether an append succeeds just where no call of it is stopped in, and how many records there are after the stop.
-fn records_left(alloc: Global, call: u64, fill: Fill) -> Result<Option<usize>, Fail>
-    requires { 1 ≤ call }
-{
-    let mut region = reopened(alloc, stopping(medium(alloc)?, call, fill))?;
-    let done = append(alloc, &mut region, 3).is_ok();
-    let mut region = reopened(alloc, rest_of(region.into_media(), fill)?)?;
-    if done != (call == 5) || region.stage() != Stage::Resting {
-        return Ok(None);
-    }
-    Ok(Some(region.records()?.len()))
+// Appends a record to each of two regions, and tells which of the two was answered.
+fn append_to_both<M: Media>(
+    alloc: Global,
+    first: &mut Region<M>,
+    second: &mut Region<M>,
+) -> [bool; 2] {
+    let answered = append(alloc, first, 3).is_ok();
+    [answered, append(alloc, second, 5).is_ok()]
 }
 
+// How many records stand in a medium.
+fn count_in(alloc: Global, media: MemMedia) -> Result<usize, RegionError>
+    requires { IsAtRest media }
+{
+    let mut region = reopened(alloc, media)?;
+    Ok(region.records()?.len())
+}
+
+// Of two regions whose media stop together, within this call of both: whether each append is answered, and how many records
+// there are after the stop.
+fn after_stop_of_both(alloc: Global, call: u64, fill: Fill) -> Result<([bool; 2], [usize; 2]), Fail>
+    requires { 1 ≤ call }
+{
+    let trip = Trip::new(alloc)?;
+    let mut first = reopened(alloc, stopping_with(medium(alloc)?, trip.share()?, fill))?;
+    let mut second = reopened(alloc, stopping_with(medium(alloc)?, trip.share()?, fill))?;
+    trip.arm(call);
+    let answered = append_to_both(alloc, &mut first, &mut second);
+    let first = rest_of(first.into_media(), fill)?;
+    let second = rest_of(second.into_media(), fill)?;
+    Ok((
+        answered,
+        [count_in(alloc, first)?, count_in(alloc, second)?],
+    ))
+}
+
+// The same where that call fails, and nothing else does until both stop between two calls.
+fn after_failure_of_one(
+    alloc: Global,
+    call: u64,
+    fill: Fill,
+) -> Result<([bool; 2], [usize; 2]), Fail>
+    requires { 1 ≤ call }
+{
+    let trip = Trip::new(alloc)?;
+    let mut first = reopened(alloc, failing_with(medium(alloc)?, trip.share()?))?;
+    let mut second = reopened(alloc, failing_with(medium(alloc)?, trip.share()?))?;
+    trip.arm(call);
+    let answered = append_to_both(alloc, &mut first, &mut second);
+    let first = first.into_media().into_inner().after_stop(fill)?;
+    let second = second.into_media().into_inner().after_stop(fill)?;
+    Ok((
+        answered,
+        [count_in(alloc, first)?, count_in(alloc, second)?],
+    ))
+}
+
+const OLD: Fill = Fill::Old;
+
+const NEW: Fill = Fill::New;
+
+// A byte of an open gate, and one of a closed gate.
+const OPENED: Fill = Fill::Byte(0xa5);
+
+const SHUT: Fill = Fill::Byte(0x17);
+
+// Calls 1 to 4 are the first append's, 5 to 8 the second's; the third of each opens the gate. After the numbers of records
+// where both stop come those where one call fails, after which the other region goes on.
 #[test]
-fn a_stop_leaves_the_record_or_not(rt: HostRuntime) -> Result<(), Fail> {
+fn an_append_leaves_its_record_or_not(rt: HostRuntime) -> Result<(), Fail> {
     let table = [
-        (1, Fill::Old, 0),
-        (1, Fill::New, 0),
-        (1, Fill::Byte(0xa5), 0),
-        (2, Fill::Byte(0xa5), 0),
-        (3, Fill::Old, 0),
-        (3, Fill::Byte(0x17), 0),
-        (3, Fill::Byte(0xa5), 1),
-        (4, Fill::Old, 0),
-        (4, Fill::New, 1),
-        (5, Fill::Old, 1),
+        (1, OPENED, [0, 0], [0, 1]),
+        (2, OPENED, [0, 0], [0, 1]),
+        (3, OLD, [0, 0], [0, 1]),
+        (3, SHUT, [0, 0], [0, 1]),
+        (3, NEW, [1, 0], [1, 1]),
+        (4, OLD, [0, 0], [0, 1]),
+        (4, OPENED, [1, 0], [1, 1]),
+        (5, OPENED, [1, 0], [1, 0]),
+        (6, NEW, [1, 0], [1, 0]),
+        (7, SHUT, [1, 0], [1, 0]),
+        (7, OPENED, [1, 1], [1, 1]),
+        (8, OLD, [1, 0], [1, 0]),
+        (8, NEW, [1, 1], [1, 1]),
+        (9, OLD, [1, 1], [1, 1]),
     ];
-    for (call, fill, count) in table {
+    for (call, fill, stopped, failed) in table {
         let row = call;
+        let answered = [4 < row, 8 < row];
+        let answered_beside = [4 < row, row <= 4 || 8 < row];
         assert!(rt;
-            1 <= row && records_left(rt.alloc(), row, fill)? == Some(count),
-            "call {row}"
+            1 <= row && after_stop_of_both(rt.alloc(), row, fill)? == (answered, stopped),
+            "a stop in call {row}"
         );
-    }
-    Ok(())
-}
-
-// Whether an append whose call of this number fails leaves the region failed, with no record.
-fn fails(alloc: Global, call: u64) -> Result<bool, Fail>
-    requires { 1 ≤ call }
-{
-    let mut region = reopened(alloc, failing(medium(alloc)?, call))?;
-    let answered = append(alloc, &mut region, 3);
-    let failed = answered == Err(RegionError::DeviceFault) && region.stage() == Stage::Failed;
-    Ok(failed && region.records()?.is_empty())
-}
-
-#[test]
-fn a_failed_call_fails_the_region_until_it_is_reopened(rt: HostRuntime) -> Result<(), Fail> {
-    for call in 1..5 {
-        assert!(rt; fails(rt.alloc(), call)?, "call {call}");
+        assert!(rt;
+            1 <= row && after_failure_of_one(rt.alloc(), row, fill)? == (answered_beside, failed),
+            "a failure of call {row}"
+        );
     }
     Ok(())
 }

@@ -4,3 +4,4 @@ pub mod Moves
 pub mod DeviceCalls
 pub mod Options
 pub mod Views
+pub mod Ends

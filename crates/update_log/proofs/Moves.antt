@@ -191,6 +191,6 @@ module _ (end : ℕ) (body seen : List ℕ) (left : List ℕ → Type 0) where
               });
               record_begun = tt;
             };
-            same_header = ap header taken ∙ take-append-le 16 front (165 ∷ more) was.stands.long;
+            same_header = ap header taken ∙ take-append-le 16 front (165 ∷ more) (omega (arith, was.stands.long));
             payloads_are = ap before_gate taken ∙ grown.more;
           }

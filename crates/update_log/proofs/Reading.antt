@@ -5,7 +5,7 @@ use Rattle.std.proofs.lemmas.List.{append-nil, take_at, drop_at, drop_more, drop
 use Rattle.std.proofs.lemmas.Bool.{cases_eq, eq-eqb, lt-ltb, ltb-true, and_parts, and_from, ne_eqb, and_left, cond-true, cond-false}
 use Rattle.byteorder.specs.Endian.{little_number, little_bytes}
 use Rattle.byteorder.specs.Numbers.{little_number-reads_back, length-bytes_low_first, little_from-append}
-use Rattle.update_log.specs.Frames.{payload_length, payload_of, is_payload, is_whole, payloads_from, payloads, before_gate, behind_gate}
+use Rattle.update_log.specs.Frames.{payload_length, payload_of, is_payload, is_whole, payloads_from, payloads, before_gate, framed, behind_gate}
 use Rattle.update_log.specs.Scan.{IsPayloadBehind, IsRecordAt}
 use Rattle.update_log.specs.Stage.{IsFront, IsShut, BeforeOrAfter}
 
@@ -87,6 +87,10 @@ is_either front payload rest gate content stands small is_spelled is = record {
   ];
 }
 
+framed_more : (ps : List (List ℕ)) (payload : List ℕ) → framed (ps ++ payload ∷ []) ≡ framed ps + 5 + length payload
+framed_more [] payload = omega arith
+framed_more (p ∷ ps) payload = omega (arith, framed_more ps payload)
+
 -- the front with one record more; again `size` stands for its four bytes
 pub record Grown (front payload front' : List ℕ) : Type 0 where
   pub stands : IsFront front'
@@ -103,7 +107,7 @@ front_grows front size payload stands four tells is_spelled =
     each 0 [] ∙ ap (λ l. (before_gate front ++ payload ∷ []) ++ l) (payloads_shut 0 [] (omega arith)) ∙ append-nil (before_gate front ++ payload ∷ []) in
     record {
       stands = record {
-        long = omega (arith, stands.long, length-append front (165 ∷ more));
+        long = omega (arith, stands.long, length-append front (165 ∷ more), length-append size payload, four, ap framed alone, framed_more (before_gate front) payload);
         ends = λ gate rest. each gate rest ∙ ap (λ l. l ++ payloads_from 0 (gate ∷ rest)) (sym alone);
       };
       more = alone;
@@ -120,7 +124,7 @@ front_none content le =
     let each : (gate : ℕ) (rest : List ℕ) → payloads (take 16 content ++ gate ∷ rest) ≡ payloads_from 0 (gate ∷ rest) = λ gate rest.
     subst (λ n. payloads_from n (take 16 content ++ gate ∷ rest) ≡ payloads_from 0 (gate ∷ rest)) long (payloads_past (take 16 content) (gate ∷ rest)) in
     let alone : before_gate (take 16 content) ≡ [] = each 0 [] ∙ payloads_shut 0 [] (omega arith) in
-    record { long = omega (arith, long); ends = λ gate rest. each gate rest ∙ ap (λ l. l ++ payloads_from 0 (gate ∷ rest)) (sym alone) }
+    record { long = omega (arith, long, ap framed alone); ends = λ gate rest. each gate rest ∙ ap (λ l. l ++ payloads_from 0 (gate ∷ rest)) (sym alone) }
 
 -- a front of a content, and the whole record that stands behind it
 pub front_more : (content : List ℕ) (end : ℕ) → end < length content → get_or content end 0 ≡ 165 → IsFront (take end content) → is_whole (drop (end + 1) content) ≡ true → Grown (take end content) (payload_of (drop (end + 1) content)) (take (end + 5 + payload_length (drop (end + 1) content)) content)

@@ -4,7 +4,7 @@ use Rattle.std.specs.Prelude.{Option}
 use Rattle.std.specs.List.{cons_option}
 use Rattle.std.proofs.lemmas.List.Elements.{filter_map-append}
 use Rattle.std.proofs.lemmas.List.{append-nil, take_at, drop_at, drop_more, length-take, take-take}
-use Rattle.std.proofs.lemmas.Bool.{cases_eq}
+use Rattle.std.proofs.lemmas.Bool.{cases_eq, cases_lt}
 use Rattle.byteorder.specs.Endian.{little_bytes}
 use Rattle.byteorder.specs.Numbers.{length-bytes_low_first}
 use Rattle.log_record.specs.declared.format.Record.{Record}
@@ -15,7 +15,7 @@ use Rattle.tier_device.specs.Media.{Keeps, LeftSince}
 use Rattle.update_log.specs.declared.stage.Stage.{Stage}
 use Rattle.update_log.specs.declared.stage.Stage.TheVariants as stages
 use Rattle.update_log.specs.Frames.{payloads, records, header, before_gate, spelled, joined, behind_gate, is_payload}
-use Rattle.update_log.specs.Stage.{IsFront, IsShut, BeforeOrAfter, IsResting, IsSound, AtStage, IsAppending, payload_in, next}
+use Rattle.update_log.specs.Stage.{IsFront, IsShut, BeforeOrAfter, IsResting, IsSound, AtStage, IsAppending, IsIdle, payload_in, next}
 use Rattle.update_log.specs.View.{begun_in, WithOrWithout}
 use Rattle.update_log.proofs.Reading.{payloads_closed}
 use Rattle.update_log.specs.Calls.{payloads_after}
@@ -29,6 +29,20 @@ since_one before now old new P keeps first last c since = elim (cases_eq since.0
   | inr apart ↦
       let is : since.0 ≡ now = omega (arith, apart, since.1, since.2, keeps.at_most_one) in last c (subst (λ m. new m Fast c) is since.3)
 ]
+
+-- and since an earlier moment, over one call more
+pub since_more : (first before now : ℕ) (old new : ℕ → Tier → List ℕ → Type 0) (P : List ℕ → Type 0) → Keeps before now old new → ((c : List ℕ) → LeftSince old before first Fast c → P c) → ((c : List ℕ) → LeftSince new now before Fast c → P c)
+    → (c : List ℕ) → LeftSince new now first Fast c → P c
+since_more first before now old new P keeps earlier last c since = elim (cases_lt before since.0) [
+  | inl later ↦ last c (since.0, omega (arith, later), since.2, since.3)
+  | inr le ↦ earlier c (since.0, since.1, le, keeps.nothing_else since.0 Fast c le since.3)
+]
+
+pub same_either : (h h' : List ℕ) (rs rs' : List Record) (o o' : Option Record) (c : List ℕ) → h ≡ h' → rs ≡ rs' → o ≡ o' → WithOrWithout h rs o c → WithOrWithout h' rs' o' c
+same_either h h' rs rs' o o' c hs rss os was = record {
+  header_is = was.header_is ∙ hs;
+  records_are = elim (was.records_are) [ inl same ↦ inl (same ∙ rss) | inr more ↦ inr (more ∙ (λ i. joined (rss i) (os i))) ];
+}
 
 pub begun_appending : (stage : Stage) (payload : List ℕ) → IsAppending stage → begun_in stage payload ≡ record_of payload
 begun_appending stages.Resting payload h = absurd h
@@ -48,7 +62,7 @@ spelled_more ps payload = filter_map-append record_of ps (payload ∷ []) ∙ jo
 
 pub with_or_without : (front payload c : List ℕ) → IsFront front → BeforeOrAfter front payload c → WithOrWithout (header front) (spelled (before_gate front)) (record_of payload) c
 with_or_without front payload c stands either = record {
-  header_is = sym (ap header (sym (either.front_stands)) ∙ take-take 16 (length front) c stands.long);
+  header_is = sym (ap header (sym (either.front_stands)) ∙ take-take 16 (length front) c (omega (arith, stands.long)));
   records_are = elim (either.payloads_are) [
     | inl same ↦ inl (ap spelled same)
     | inr more ↦ inr (ap spelled more ∙ spelled_more (before_gate front) payload)
@@ -138,15 +152,38 @@ module _ (end : ℕ) (stage : Stage) (body seen : List ℕ) (left : List ℕ →
       subst (λ (o : Option Record). WithOrWithout (header (take end seen)) (spelled (before_gate (take end seen))) o c) (sym begun)
       (with_or_without (take end seen) (payload_in body) c (stands_of end stage body seen left sound) either)
 
-  -- what a stop may leave of a region where nothing is begun
-  pub resting_now : stage ≡ stages.Resting → (c : List ℕ) → left c → (c ≡ seen) × (records c ≡ spelled (before_gate (take end seen)))
-  resting_now is c l = rest_shown (take end seen) seen c left (subst (λ (st : Stage). IsSound end st body seen left) is sound).at_stage l
-
-  -- and of one where a record is begun
+  -- what a stop may leave of a region where a record is begun
   pub begun_now : IsAppending stage ⊎ (stage ≡ stages.Failed) → (c : List ℕ) → left c → Either c
   begun_now (inl appending) c l = shows_either (begun_appending stage (payload_in body) appending) c (either end body seen left stage appending sound c l)
   begun_now (inr is) c l =
       shows_either (ap (λ (st : Stage). begun_in st (payload_in body)) is ∙ ap (λ (st : Stage). record_of (payload_in body)) is) c ((subst (λ (st : Stage). IsSound end st body seen left) is sound).at_stage.either c l)
+
+-- the header stands in the front
+pub header_front : (end : ℕ) (seen : List ℕ) → IsFront (take end seen) → header (take end seen) ≡ header seen
+header_front end seen stands = take-take 16 end seen (omega (arith, stands.long, length-take end seen))
+
+-- what a stop may leave of a region where nothing is begun
+pub idle_now : (end : ℕ) (stage : Stage) (body seen : List ℕ) (left : List ℕ → Type 0) → IsSound end stage body seen left → IsIdle stage → (c : List ℕ) → left c → (c ≡ seen) × (records c ≡ spelled (before_gate (take end seen)))
+idle_now end stage body seen left sound (inl is) c l = rest_shown (take end seen) seen c left (subst (λ (st : Stage). IsSound end st body seen left) is sound).at_stage l
+idle_now end stage body seen left sound (inr is) c l =
+    let foreign = (subst (λ (st : Stage). IsSound end st body seen left) is sound).at_stage in
+    let same = foreign.rest c l in
+    (same, ap records same ∙ ap spelled foreign.ends)
+
+idle_either : (end : ℕ) (stage : Stage) (body seen : List ℕ) (left : List ℕ → Type 0) → IsSound end stage body seen left → IsIdle stage → (o : Option Record) (c : List ℕ) → left c → WithOrWithout (header (take end seen)) (spelled (before_gate (take end seen))) o c
+idle_either end stage body seen left sound idle o c l =
+    let shown = idle_now end stage body seen left sound idle c l in
+    record { header_is = ap header shown.0 ∙ sym (header_front end seen (stands_of end stage body seen left sound)); records_are = inl shown.1 }
+
+-- and of any region
+pub either_now : (end : ℕ) (stage : Stage) (body seen : List ℕ) (left : List ℕ → Type 0) → IsSound end stage body seen left → (c : List ℕ) → left c → WithOrWithout (header (take end seen)) (spelled (before_gate (take end seen))) (begun_in stage (payload_in body)) c
+either_now end stages.Resting body seen left sound c l = idle_either end stages.Resting body seen left sound (inl refl) None c l
+either_now end stages.Foreign body seen left sound c l = idle_either end stages.Foreign body seen left sound (inr refl) None c l
+either_now end stages.Begun body seen left sound c l = begun_now end stages.Begun body seen left sound (inl tt) c l
+either_now end stages.Written body seen left sound c l = begun_now end stages.Written body seen left sound (inl tt) c l
+either_now end stages.Kept body seen left sound c l = begun_now end stages.Kept body seen left sound (inl tt) c l
+either_now end stages.Opened body seen left sound c l = begun_now end stages.Opened body seen left sound (inl tt) c l
+either_now end stages.Failed body seen left sound c l = begun_now end stages.Failed body seen left sound (inr refl) c l
 
 -- the stages that an append passes through, and its end
 pub next_resting : (stage : Stage) → IsAppending stage → next stage ≡ stages.Resting → stage ≡ stages.Opened
@@ -166,7 +203,3 @@ next_going stages.Written h apart ps payload = (refl, refl)
 next_going stages.Kept h apart ps payload = (refl, refl)
 next_going stages.Opened h apart ps payload = absurd (apart refl)
 next_going stages.Failed h apart ps payload = absurd h
-
--- the header stands in the front
-pub header_front : (end : ℕ) (seen : List ℕ) → IsFront (take end seen) → header (take end seen) ≡ header seen
-header_front end seen stands = take-take 16 end seen (omega (arith, stands.long, length-take end seen))

@@ -3,7 +3,7 @@ use Rattle.std.specs.Prelude.{ℕ, zero, suc, ◌+◌, List, [], ◌∷◌, ◌+
 use Rattle.std.specs.List.{filter_map}
 use Rattle.byteorder.specs.Endian.{little_number, little_bytes}
 use Rattle.log_record.specs.declared.format.Record.{Record}
-use Rattle.log_record.specs.Grammar.{record_of}
+use Rattle.log_record.specs.Grammar.{record_of, spelling}
 use Rattle.update_log.specs.declared.format.TheConstants.{HEADER, OPEN, CLOSED}
 
 -- the length that the four bytes behind a gate tell
@@ -52,6 +52,20 @@ behind_gate payload = little_bytes 4 (length payload) ++ payload ++ CLOSED ∷ [
 -- the payloads before a closed gate
 abbrev pub before_gate : List ℕ → List (List ℕ)
 before_gate front = payloads (front ++ CLOSED ∷ [])
+
+-- how many bytes payloads take, each behind its gate and its length
+abbrev pub framed : List (List ℕ) → ℕ
+framed [] = 0
+framed (payload ∷ ps) = 5 + length payload + framed ps
+
+-- how many bytes records take, each behind its gate and its length
+abbrev pub taken : List Record → ℕ
+taken [] = 0
+taken (r ∷ rs) = 5 + length (spelling r) + taken rs
+
+-- where the gate behind these records stands
+abbrev pub end_behind : List Record → ℕ
+end_behind rs = HEADER + taken rs
 
 -- records, and one more where there is one
 abbrev pub joined : List Record → Option Record → List Record

@@ -5,11 +5,11 @@ use Rattle.update_log.specs.declared.stage.Stage.{Stage}
 use Rattle.update_log.specs.declared.stage.Stage.TheVariants as stages
 use Rattle.update_log.specs.declared.stage.Progress.{Progress}
 use Rattle.update_log.specs.declared.stage.Progress.TheVariants.{Going, Appended}
-use Rattle.update_log.specs.Frames.{payloads, payloads_from, before_gate, is_payload, behind_gate}
+use Rattle.update_log.specs.Frames.{payloads, payloads_from, before_gate, framed, is_payload, behind_gate}
 
--- Records stand in the front of a content, whatever gate and bytes follow.
+-- A header and the bytes of whole records, whatever gate and bytes follow.
 pub record IsFront (front : List ℕ) : Type 0 where
-  pub long : HEADER ≤ length front
+  pub long : length front ≡ HEADER + framed (before_gate front)
   pub ends : (gate : ℕ) (rest : List ℕ) → payloads (front ++ gate ∷ rest) ≡ before_gate front ++ payloads_from 0 (gate ∷ rest)
 
 -- this front, and a gate behind it that is not open
@@ -133,3 +133,17 @@ IsAppending stages.Written = Unit {0}
 IsAppending stages.Kept = Unit {0}
 IsAppending stages.Opened = Unit {0}
 IsAppending stages.Failed = ⊥
+
+-- how many device calls of the append are still to be made
+abbrev pub calls_left : Stage → ℕ
+calls_left stages.Resting = 0
+calls_left stages.Foreign = 0
+calls_left stages.Begun = 4
+calls_left stages.Written = 3
+calls_left stages.Kept = 2
+calls_left stages.Opened = 1
+calls_left stages.Failed = 0
+
+-- nothing is begun, and no device call of an append is pending
+abbrev pub IsIdle : Stage → Type 0
+IsIdle stage = (stage ≡ stages.Resting) ⊎ (stage ≡ stages.Foreign)

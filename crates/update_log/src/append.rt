@@ -1,5 +1,5 @@
 // The device calls of an append.
-ghost use Rattle.std.specs.Prelude.{◌≡◌, ◌+◌, ◌<◌, ◌^◌, List, ℕ, length, take, OnOk, OnErr};
+ghost use Rattle.std.specs.Prelude.{◌≡◌, ◌+◌, ◌≤◌, ◌<◌, ◌^◌, List, ℕ, length, take, OnOk, OnErr};
 ghost use Rattle.tier_device.specs.declared.media.Tier.TheVariants.{Fast};
 ghost use Rattle.tier_device.specs.Media.{Keeps, Rose};
 ghost use Rattle.update_log.specs.Stage.{BeforeOrAfter, IsAppending, IsSound, payload_in};
@@ -27,6 +27,7 @@ pub fn device_call<M: Media>(
     ensures past { Keeps (M.moment media.old) (M.moment media.new) (M.left media.old) (M.left media.new) }
     ensures fault { OnErr result (Rose (M.faults media.old) (M.faults media.new)) }
     ensures sound { OnOk result (M.faults media.new ≡ M.faults media.old) }
+    ensures faults { (M.faults media.old ≤ M.faults media.new) × (M.faults media.new ≤ M.faults media.old + 1) }
 {
     match stage {
         Stage::Begun => media.write(Tier::Fast, end + 1, body),

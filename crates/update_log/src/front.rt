@@ -24,6 +24,8 @@ pub fn read_front<M: Media>(
     ensures past { Keeps (M.moment media.old) (M.moment media.new) (M.left media.old) (M.left media.new) }
     ensures only { IfErr result (λ e. (e ≡ DeviceFault) ⊎ (e ≡ Memory)) }
     ensures fault { IsErrOf result DeviceFault → Rose (M.faults media.old) (M.faults media.new) }
+    ensures quiet { IsErrOf result DeviceFault ⊎ (M.faults media.new ≡ M.faults media.old) }
+    ensures faults { M.faults media.old ≤ M.faults media.new }
 {
     match vec![in alloc; 0u8; len] {
         Ok(mut front) => match media.read(Tier::Fast, 0, &mut front) {
@@ -47,6 +49,8 @@ pub fn read_before_gate<M: Media>(
     ensures past { Keeps (M.moment media.old) (M.moment media.new) (M.left media.old) (M.left media.new) }
     ensures only { IfErr result (λ e. (e ≡ DeviceFault) ⊎ (e ≡ Memory)) }
     ensures fault { IsErrOf result DeviceFault → Rose (M.faults media.old) (M.faults media.new) }
+    ensures quiet { IsErrOf result DeviceFault ⊎ (M.faults media.new ≡ M.faults media.old) }
+    ensures faults { M.faults media.old ≤ M.faults media.new }
 {
     let mut front = read_front(alloc, media, end)?;
     match front.push(CLOSED) {

@@ -5,9 +5,11 @@
 #![tactic(auto)]
 
 mod append;
+mod buffer;
 mod error;
 mod format;
 mod front;
+mod laws;
 mod region;
 mod scan;
 mod stage;

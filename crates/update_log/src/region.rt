@@ -1,24 +1,25 @@
-ghost use Rattle.std.specs.Prelude.{◌≡◌, ◌≢◌, ◌≤◌, ◌<◌, ◌+◌, ◌⊎◌, ℕ, List, length, IfOk, IfErr, IfSome, IfNone, IsErrOf, IsTrue, ◌↔◌, OnOk, OnErr, Some, get_or};
-ghost use Rattle.log_record.specs.Grammar.{IsRecord, spelling, record_of};
+ghost use Rattle.std.specs.Prelude.{◌≡◌, ◌≢◌, ◌≤◌, ◌<◌, ◌+◌, ◌⊎◌, ℕ, List, length, IfOk, IfErr, IfSome, IfNone, IsErrOf, IsTrue, ◌↔◌, OnOk, OnErr, Some, None, get_or};
+ghost use Rattle.log_record.specs.Grammar.{IsRecord, spelling};
 ghost use Rattle.tier_device.specs.declared.media.Tier.{Tier};
 ghost use Rattle.tier_device.specs.declared.media.Tier.TheVariants.{Fast};
 ghost use Rattle.tier_device.specs.Media.{AtRest, LeftSince, Keeps, Rose};
 ghost use Rattle.update_log.specs.declared.error.RegionError.TheVariants.{DeviceFault, RegionFull, Damaged, Memory};
 ghost use Rattle.update_log.specs.declared.format.TheConstants.{REGION_SIZE, OPEN};
 ghost use Rattle.update_log.specs.declared.stage.Stage.TheVariants as stages;
-ghost use Rattle.update_log.specs.declared.stage.Progress.TheVariants.{Appended};
-ghost use Rattle.update_log.specs.Frames.{records, header, joined, behind_gate};
-ghost use Rattle.update_log.specs.Stage.{IsAppending, next, progress};
+ghost use Rattle.update_log.specs.Frames.{records, header, joined, end_behind};
+ghost use Rattle.update_log.specs.Stage.{IsAppending, IsIdle, calls_left, next, progress};
+ghost use Rattle.update_log.specs.View.{HasSize};
 
 use crate::append::{device_call, end_after};
+use crate::buffer::Buffer;
 use crate::error::RegionError;
-use crate::format::{CLOSED, REGION_SIZE};
-use crate::front::{read_before_gate, read_front};
+use crate::format::REGION_SIZE;
+use crate::front::read_before_gate;
+use crate::laws::records_are_as_long;
 use crate::scan::{end_of, records_in, stage_at};
 use crate::stage::{Progress, Stage};
-use byteorder::{ByteOrder, LittleEndian};
-use log_record::{Record, write_behind, written_is_read};
-use std::alloc::{AllocError, Global};
+use log_record::{Record, written_is_read};
+use std::alloc::Global;
 use std::marker::Model;
 use tier_device::{Media, Tier};
 
@@ -33,7 +34,7 @@ pub struct Region<M: Media> {
     alloc: Global,
     end: usize,
     stage: Stage,
-    body: Vec<u8>,
+    body: Buffer,
 }
 
 impl<M: Media> Model for Region<M> {
@@ -44,89 +45,125 @@ impl<M: Media> Model for Region<M> {
 
     ghost use Rattle.update_log.specs.Stage.{IsSound, payload_in};
 
-    ghost view = { λ r. record { media = r.media; end = r.end; stage = r.stage; begun = begun_in r.stage (payload_in r.body.items) } };
+    ghost view = { λ r. record { media = r.media; end = r.end; stage = r.stage; begun = begun_in r.stage (payload_in r.body) } };
 
-    ghost invariant = { λ r. IsSound r.end r.stage r.body.items (M.seen r.media Fast) (M.left r.media (M.moment r.media) Fast) };
+    ghost invariant = { λ r. IsSound r.end r.stage r.body (M.seen r.media Fast) (M.left r.media (M.moment r.media) Fast) };
 }
 
 impl<M: Media> Region<M> {
     ghost use Rattle.update_log.specs.View.{HasSize, WithOrWithout, header_of, records_of, begun_of};
+    ghost use Rattle.update_log.specs.Moments.{PastStays};
 
-    /// The region that a medium holds, with the records that stand in it. Nothing may be pending on the medium.
+    /// The region that a medium holds, with the records that stand in it. Nothing may be pending on the medium. It makes no
+    /// device call but a read, and takes the memory in which later records are spelled.
     ///
-    /// Refused are a medium of another size (`Damaged`), one that fails, and a want of memory; the medium is then handed back.
+    /// Refused are a medium of another size (`Damaged`), then a want of memory, then a medium that fails; the medium is handed
+    /// back as it was.
     pub fn reopen(alloc: Global, media: M) -> Result<Self, (RegionError, M)>
         requires { AtRest (M.seen media) (M.left media (M.moment media)) Fast }
         ensures size { IfOk result (λ r. HasSize (M.seen media)) }
         ensures header { IfOk result (λ r. header_of M.seen r ≡ header (M.seen media Fast)) }
         ensures records { IfOk result (λ r. records_of M.seen r ≡ records (M.seen media Fast)) }
-        ensures stage { IfOk result (λ r. (r.stage ≡ stages.Resting) ⊎ (r.stage ≡ stages.Foreign)) }
-        ensures foreign { IfOk result (λ r. r.stage ≡ stages.Foreign → get_or (M.seen media Fast) r.end 0 ≡ OPEN) }
+        ensures end { IfOk result (λ r. r.end ≡ end_behind (records (M.seen media Fast))) }
+
+        // Nothing is begun, and a record may be unless an open gate stands behind the records.
+        ensures none { IfOk result (λ r. begun_of r ≡ None) }
+        ensures idle { IfOk result (λ r. IsIdle r.stage) }
+        ensures resting { IfOk result (λ r. r.stage ≡ stages.Resting → get_or (M.seen media Fast) (end_behind (records (M.seen media Fast))) 0 ≢ OPEN) }
+        ensures foreign { IfOk result (λ r. r.stage ≡ stages.Foreign → get_or (M.seen media Fast) (end_behind (records (M.seen media Fast))) 0 ≡ OPEN) }
+
         ensures seen { IfOk result (λ r. (t : Tier) → M.seen r.media t ≡ M.seen media t) }
+        ensures rests { IfOk result (λ r. AtRest (M.seen r.media) (M.left r.media (M.moment r.media)) Fast) }
         ensures clock { IfOk result (λ r. M.moment r.media ≡ M.moment media) }
         ensures past { IfOk result (λ r. Keeps (M.moment media) (M.moment r.media) (M.left media) (M.left r.media)) }
+        ensures quiet { IfOk result (λ r. M.faults r.media ≡ M.faults media) }
 
-        ensures damaged { IfErr result (λ e. e.0 ≡ Damaged → HasSize (M.seen media) → ⊥) }
+        ensures damaged { IfErr result (λ e. (e.0 ≡ Damaged → HasSize (M.seen media) → ⊥) × (e.0 ≢ Damaged → HasSize (M.seen media))) }
         ensures fault { IfErr result (λ e. e.0 ≡ DeviceFault → Rose (M.faults media) (M.faults e.1)) }
+        ensures quiet_refused { IfErr result (λ e. e.0 ≢ DeviceFault → M.faults e.1 ≡ M.faults media) }
+        ensures faults { IfErr result (λ e. M.faults media ≤ M.faults e.1) }
         ensures only { IfErr result (λ e. e.0 ≢ RegionFull) }
         ensures back { IfErr result (λ e. (t : Tier) → M.seen e.1 t ≡ M.seen media t) }
+        ensures back_rests { IfErr result (λ e. AtRest (M.seen e.1) (M.left e.1 (M.moment e.1)) Fast) }
+        ensures back_clock { IfErr result (λ e. M.moment e.1 ≡ M.moment media) }
         ensures back_past { IfErr result (λ e. Keeps (M.moment media) (M.moment e.1) (M.left media) (M.left e.1)) }
     {
-        if media.size(Tier::Fast) != REGION_SIZE
-            || media.size(Tier::Block) != 0
-            || media.size(Tier::Slow) != 0
-        {
+        if !has_size(&media) {
             return Err((RegionError::Damaged, media));
         }
+        match Buffer::new(alloc) {
+            Ok(buffer) => Region::read(alloc, media, buffer),
+            Err(_) => Err((RegionError::Memory, media)),
+        }
+    }
+
+    // The same over a medium of the right size.
+    fn read(alloc: Global, media: M, buffer: Buffer) -> Result<Self, (RegionError, M)>
+        requires rests { AtRest (M.seen media) (M.left media (M.moment media)) Fast }
+        requires size { length (M.seen media Fast) ≡ REGION_SIZE }
+        ensures header { IfOk result (λ r. header_of M.seen r ≡ header (M.seen media Fast)) }
+        ensures records { IfOk result (λ r. records_of M.seen r ≡ records (M.seen media Fast)) }
+        ensures end { IfOk result (λ r. r.end ≡ end_behind (records (M.seen media Fast))) }
+        ensures none { IfOk result (λ r. begun_of r ≡ None) }
+        ensures idle { IfOk result (λ r. IsIdle r.stage) }
+        ensures resting { IfOk result (λ r. r.stage ≡ stages.Resting → get_or (M.seen media Fast) (end_behind (records (M.seen media Fast))) 0 ≢ OPEN) }
+        ensures foreign { IfOk result (λ r. r.stage ≡ stages.Foreign → get_or (M.seen media Fast) (end_behind (records (M.seen media Fast))) 0 ≡ OPEN) }
+        ensures seen { IfOk result (λ r. (t : Tier) → M.seen r.media t ≡ M.seen media t) }
+        ensures rests { IfOk result (λ r. AtRest (M.seen r.media) (M.left r.media (M.moment r.media)) Fast) }
+        ensures clock { IfOk result (λ r. M.moment r.media ≡ M.moment media) }
+        ensures past { IfOk result (λ r. Keeps (M.moment media) (M.moment r.media) (M.left media) (M.left r.media)) }
+        ensures quiet { IfOk result (λ r. M.faults r.media ≡ M.faults media) }
+
+        ensures only { IfErr result (λ e. e.0 ≡ DeviceFault) }
+        ensures fault { IfErr result (λ e. Rose (M.faults media) (M.faults e.1)) }
+        ensures faults { IfErr result (λ e. M.faults media ≤ M.faults e.1) }
+        ensures back { IfErr result (λ e. (t : Tier) → M.seen e.1 t ≡ M.seen media t) }
+        ensures back_rests { IfErr result (λ e. AtRest (M.seen e.1) (M.left e.1 (M.moment e.1)) Fast) }
+        ensures back_clock { IfErr result (λ e. M.moment e.1 ≡ M.moment media) }
+        ensures back_past { IfErr result (λ e. Keeps (M.moment media) (M.moment e.1) (M.left media) (M.left e.1)) }
+    {
         let mut media = media;
-        let size = media.size(Tier::Fast);
-        match read_front(alloc, &mut media, size) {
-            Ok(content) => {
-                let end = end_of(&content);
-                let stage = stage_at(&content, end);
+        let mut body = buffer;
+        match body.read(&mut media) {
+            Ok(()) => {
+                let end = end_of(body.as_slice());
+                let stage = stage_at(body.as_slice(), end);
                 Ok(Region {
                     media,
                     alloc,
                     end,
                     stage,
-                    body: Vec::new(alloc),
+                    body,
                 })
             }
-            Err(error) => Err((error, media)),
+            Err(_) => Err((RegionError::DeviceFault, media)),
         }
     }
 
-    /// Begins to append a record. It makes no device call.
+    /// Begins to append a record. It makes no device call and takes no memory.
     ///
-    /// Refused, with nothing changed, are a record that leaves no place for the gate behind it (`RegionFull`), and then a want
-    /// of memory.
+    /// Refused, with nothing changed, is a record that leaves no place for the gate behind it (`RegionFull`).
     pub fn begin(&mut self, entry: &Record) -> Result<(), RegionError>
         requires ready { self.old.stage ≡ stages.Resting }
         requires fits { IsRecord entry.now }
         ensures begun { OnOk result (begun_of self.new ≡ Some entry.now) }
         ensures stage { OnOk result (self.new.stage ≡ stages.Begun) }
-        ensures media { OnOk result (self.new.media ≡ self.old.media) }
-        ensures end { OnOk result (self.new.end ≡ self.old.end) }
+        ensures media { self.new.media ≡ self.old.media }
+        ensures end { self.new.end ≡ self.old.end }
 
-        ensures room { OnOk result (self.old.end + 5 + length (spelling entry.now) + 1 ≤ REGION_SIZE) }
-        ensures full { IsErrOf result RegionFull → REGION_SIZE < self.old.end + 5 + length (spelling entry.now) + 1 }
-        ensures memory { IsErrOf result Memory → self.old.end + 5 + length (spelling entry.now) + 1 ≤ REGION_SIZE }
-        ensures only { IfErr result (λ e. (e ≡ RegionFull) ⊎ (e ≡ Memory)) }
+        ensures full { IsErrOf result RegionFull ↔ (REGION_SIZE < end_behind (records_of M.seen self.old) + 5 + length (spelling entry.now) + 1) }
+        ensures only { IfErr result (λ e. e ≡ RegionFull) }
         ensures refused { OnErr result (self.new ≡ self.old) }
     {
         written_is_read();
         let len = entry.spelled_len();
-        let left = REGION_SIZE - self.end;
+        let left = REGION_SIZE - self.end();
         if left < 6 || left - 6 < len {
             return Err(RegionError::RegionFull);
         }
-        match write_body(&mut self.body, entry) {
-            Ok(()) => {
-                self.stage = Stage::Begun;
-                Ok(())
-            }
-            Err(_) => Err(RegionError::Memory),
-        }
+        self.body.put(entry);
+        self.stage = Stage::Begun;
+        Ok(())
     }
 
     /// Makes one device call of the append that was begun: the body, a fence, the gate, a fence. It takes no memory. The
@@ -150,6 +187,7 @@ impl<M: Media> Region<M> {
         ensures kept { self.new.stage ≡ stages.Resting → (c : List ℕ) → M.left self.new.media (M.moment self.new.media) Fast c → records c ≡ records_of M.seen self.new }
 
         ensures one_call { OnOk result (M.moment self.new.media ≡ M.moment self.old.media + 1) }
+        ensures at_most { M.moment self.new.media ≤ M.moment self.old.media + 1 }
         ensures past { Keeps (M.moment self.old.media) (M.moment self.new.media) (M.left self.old.media) (M.left self.new.media) }
 
         // It fails only where the device does.
@@ -157,11 +195,12 @@ impl<M: Media> Region<M> {
         ensures failed { OnErr result (self.new.stage ≡ stages.Failed) }
         ensures fault { OnErr result (Rose (M.faults self.old.media) (M.faults self.new.media)) }
         ensures sound { OnOk result (M.faults self.new.media ≡ M.faults self.old.media) }
+        ensures faults { (M.faults self.old.media ≤ M.faults self.new.media) × (M.faults self.new.media ≤ M.faults self.old.media + 1) }
     {
         let stage = self.stage;
-        match device_call(&mut self.media, stage, self.end, &self.body) {
+        match device_call(&mut self.media, stage, self.end, self.body.as_slice()) {
             Ok(()) => {
-                self.end = end_after(stage, self.end, &self.body);
+                self.end = end_after(stage, self.end, self.body.as_slice());
                 self.stage = stage.next();
                 Ok(stage.progress())
             }
@@ -172,26 +211,62 @@ impl<M: Media> Region<M> {
         }
     }
 
-    /// Appends a record by its four device calls, one after the other.
+    /// Appends a record by its four device calls, one after the other. It takes no memory.
     ///
-    /// Refused as `begin` is, with nothing changed; where the device fails, as `step` is.
+    /// Refused as `begin` is, with nothing changed; where the device fails, as `step` is, and no further call is made.
     pub fn append(&mut self, entry: &Record) -> Result<(), RegionError>
         requires ready { self.old.stage ≡ stages.Resting }
         requires fits { IsRecord entry.now }
+
+        // At each moment of the call a stop leaves the records from before it, with this one or without.
+        ensures any_moment { (c : List ℕ) → LeftSince (M.left self.new.media) (M.moment self.new.media) (M.moment self.old.media) Fast c
+            → WithOrWithout (header_of M.seen self.old) (records_of M.seen self.old) (Some entry.now) c }
+        ensures past { PastStays (M.moment self.old.media) (M.moment self.new.media) (M.left self.old.media) (M.left self.new.media) }
+
         ensures appended { OnOk result (records_of M.seen self.new ≡ joined (records_of M.seen self.old) (Some entry.now)) }
+        ensures kept { OnOk result ((c : List ℕ) → M.left self.new.media (M.moment self.new.media) Fast c → records c ≡ records_of M.seen self.new) }
         ensures stage { OnOk result (self.new.stage ≡ stages.Resting) }
         ensures same_header { header_of M.seen self.new ≡ header_of M.seen self.old }
-        ensures full { IsErrOf result RegionFull → REGION_SIZE < self.old.end + 5 + length (spelling entry.now) + 1 }
-        ensures refused { IfErr result (λ e. e ≢ DeviceFault → self.new ≡ self.old) }
+        ensures four_calls { OnOk result (M.moment self.new.media ≡ M.moment self.old.media + 4) }
+        ensures at_most { M.moment self.new.media ≤ M.moment self.old.media + 4 }
+
+        ensures full { IsErrOf result RegionFull ↔ (REGION_SIZE < end_behind (records_of M.seen self.old) + 5 + length (spelling entry.now) + 1) }
+        ensures refused { IsErrOf result RegionFull → self.new ≡ self.old }
+        ensures only { IfErr result (λ e. (e ≡ RegionFull) ⊎ (e ≡ DeviceFault)) }
+
+        // A device fault ends it: the record is begun, and nothing more is done to it.
         ensures failed { IsErrOf result DeviceFault → self.new.stage ≡ stages.Failed }
+        ensures unanswered { IsErrOf result DeviceFault → (records_of M.seen self.new ≡ records_of M.seen self.old) × (begun_of self.new ≡ Some entry.now) }
         ensures fault { IsErrOf result DeviceFault → Rose (M.faults self.old.media) (M.faults self.new.media) }
-        ensures only { IfErr result (λ e. e ≢ Damaged) }
+        ensures sound { OnOk result (M.faults self.new.media ≡ M.faults self.old.media) }
+        ensures faults { (M.faults self.old.media ≤ M.faults self.new.media) × (M.faults self.new.media ≤ M.faults self.old.media + 1) }
     {
+        self.left_now();
         self.begin(entry)?;
-        self.step()?;
-        self.step()?;
-        self.step()?;
-        self.step()?;
+        self.finish()
+    }
+
+    // Makes the device calls that are left of an append.
+    fn finish(&mut self) -> Result<(), RegionError>
+        requires { IsAppending self.old.stage }
+        ensures any_moment { (c : List ℕ) → LeftSince (M.left self.new.media) (M.moment self.new.media) (M.moment self.old.media) Fast c
+            → WithOrWithout (header_of M.seen self.old) (records_of M.seen self.old) (begun_of self.old) c }
+        ensures past { PastStays (M.moment self.old.media) (M.moment self.new.media) (M.left self.old.media) (M.left self.new.media) }
+        ensures appended { OnOk result (records_of M.seen self.new ≡ joined (records_of M.seen self.old) (begun_of self.old)) }
+        ensures kept { OnOk result ((c : List ℕ) → M.left self.new.media (M.moment self.new.media) Fast c → records c ≡ records_of M.seen self.new) }
+        ensures stage { OnOk result (self.new.stage ≡ stages.Resting) }
+        ensures same_header { header_of M.seen self.new ≡ header_of M.seen self.old }
+        ensures calls { OnOk result (M.moment self.new.media ≡ M.moment self.old.media + calls_left self.old.stage) }
+        ensures at_most { M.moment self.new.media ≤ M.moment self.old.media + calls_left self.old.stage }
+        ensures only { IfErr result (λ e. e ≡ DeviceFault) }
+        ensures failed { OnErr result (self.new.stage ≡ stages.Failed) }
+        ensures unanswered { OnErr result ((records_of M.seen self.new ≡ records_of M.seen self.old) × (begun_of self.new ≡ begun_of self.old)) }
+        ensures fault { OnErr result (Rose (M.faults self.old.media) (M.faults self.new.media)) }
+        ensures sound { OnOk result (M.faults self.new.media ≡ M.faults self.old.media) }
+        ensures faults { (M.faults self.old.media ≤ M.faults self.new.media) × (M.faults self.new.media ≤ M.faults self.old.media + 1) }
+    {
+        self.left_now();
+        'calls: while self.step()? == Progress::Going {}
         Ok(())
     }
 
@@ -204,6 +279,8 @@ impl<M: Media> Region<M> {
         ensures past { Keeps (M.moment self.old.media) (M.moment self.new.media) (M.left self.old.media) (M.left self.new.media) }
         ensures only { IfErr result (λ e. (e ≡ DeviceFault) ⊎ (e ≡ Memory)) }
         ensures fault { IsErrOf result DeviceFault → Rose (M.faults self.old.media) (M.faults self.new.media) }
+        ensures quiet { IsErrOf result DeviceFault ⊎ (M.faults self.new.media ≡ M.faults self.old.media) }
+        ensures faults { M.faults self.old.media ≤ M.faults self.new.media }
     {
         match read_before_gate(self.alloc, &mut self.media, self.end) {
             Ok(front) => match records_in(self.alloc, &front) {
@@ -216,12 +293,29 @@ impl<M: Media> Region<M> {
 
     /// What a stop may leave now, between two calls.
     pub fn left_now(&self)
-        ensures resting { self.now.stage ≡ stages.Resting → (c : List ℕ) → M.left self.now.media (M.moment self.now.media) Fast c
-            → (c ≡ M.seen self.now.media Fast) × (records c ≡ records_of M.seen self.now) }
-        ensures begun { IsAppending self.now.stage ⊎ (self.now.stage ≡ stages.Failed) → (c : List ℕ) → M.left self.now.media (M.moment self.now.media) Fast c
+        ensures either { (c : List ℕ) → M.left self.now.media (M.moment self.now.media) Fast c
             → WithOrWithout (header_of M.seen self.now) (records_of M.seen self.now) (begun_of self.now) c }
+
+        // Where nothing is begun, also behind a foreign gate, it leaves what a read gives.
+        ensures idle { IsIdle self.now.stage → (c : List ℕ) → M.left self.now.media (M.moment self.now.media) Fast c
+            → (c ≡ M.seen self.now.media Fast) × (records c ≡ records_of M.seen self.now) }
+        ensures none { IsIdle self.now.stage → begun_of self.now ≡ None }
+
+        // The next gate stands behind the records.
+        ensures end { self.now.end ≡ end_behind (records_of M.seen self.now) }
     {
+        records_are_as_long();
         let _ = &self.end;
+    }
+
+    // Where the next gate stands.
+    fn end(&self) -> usize
+        ensures is { result ≡ self.now.end }
+        ensures behind { result ≡ end_behind (records_of M.seen self.now) }
+        ensures within { result < REGION_SIZE }
+    {
+        self.left_now();
+        self.end
     }
 
     /// How far it is.
@@ -233,10 +327,10 @@ impl<M: Media> Region<M> {
 
     /// The length of the longest payload that the next record may have, in bytes; none fits where it is `None`.
     pub fn room(&self) -> Option<usize>
-        ensures some { IfSome result (λ most. self.now.end + 5 + most + 1 ≡ REGION_SIZE) }
-        ensures none { IfNone result (REGION_SIZE < self.now.end + 5 + 0 + 1) }
+        ensures some { IfSome result (λ most. end_behind (records_of M.seen self.now) + 5 + most + 1 ≡ REGION_SIZE) }
+        ensures none { IfNone result (REGION_SIZE < end_behind (records_of M.seen self.now) + 5 + 0 + 1) }
     {
-        (REGION_SIZE - self.end).checked_sub(6)
+        (REGION_SIZE - self.end()).checked_sub(6)
     }
 
     /// The medium beneath.
@@ -247,19 +341,11 @@ impl<M: Media> Region<M> {
     }
 }
 
-// The length of a record's payload, the payload, and a closed gate, in place of what stood in the buffer.
-fn write_body(body: &mut Vec<u8>, entry: &Record) -> Result<(), AllocError>
-    requires fits { IsRecord entry.now }
-    requires short { length (spelling entry.now) < 262144 }
-    ensures { OnOk result (body.new.items ≡ behind_gate (spelling entry.now)) }
+// Whether a medium has the size of a region: all of it on the fast tier.
+fn has_size<M: Media>(media: &M) -> bool
+    ensures { IsTrue result ↔ HasSize (M.seen media.now) }
 {
-    let len = entry.spelled_len();
-    let mut size = [0; 4];
-    LittleEndian::write_u32(&mut size, len as u32);
-    body.clear();
-    body.reserve(len + 5)?;
-    body.extend_from_slice(&size)?;
-    write_behind(body, entry)?;
-    body.push(CLOSED)?;
-    Ok(())
+    media.size(Tier::Fast) == REGION_SIZE
+        && media.size(Tier::Block) == 0
+        && media.size(Tier::Slow) == 0
 }

@@ -1,12 +1,14 @@
 // Where the records of a region end.
 ghost use Rattle.std.specs.Prelude.{◌≡◌, ◌≢◌, ◌⊎◌, ◌≤◌, ◌<◌, ◌+◌, [], length, take, drop, get_or, false, true, IfOk, IfSome, IfNone};
 ghost use Rattle.log_record.specs.Grammar.{record_of};
-ghost use Rattle.update_log.specs.Frames.{payloads, payloads_from, is_whole, before_gate, records, is_payload as is_payload_of};
+ghost use Rattle.update_log.specs.Frames.{payloads, payloads_from, is_whole, before_gate, records, end_behind, is_payload as is_payload_of};
 ghost use Rattle.update_log.specs.Scan.{IsRecordAt, IsPayloadBehind};
 ghost use Rattle.update_log.specs.declared.stage.Stage.TheVariants.{Resting, Foreign};
-ghost use Rattle.update_log.specs.Stage.{IsFront};
+ghost use Rattle.update_log.specs.declared.format.TheConstants.{OPEN};
+ghost use Rattle.update_log.specs.Stage.{IsFront, IsIdle};
 
 use crate::format::{HEADER, OPEN};
+use crate::laws::records_are_as_long;
 use crate::stage::Stage;
 use byteorder::{ByteOrder, LittleEndian};
 use log_record::{Record, RecordError, is_payload, read_payload};
@@ -18,7 +20,9 @@ pub fn end_of(content: &[u8]) -> usize
     ensures within { result < length content.now }
     ensures front { IsFront (take result content.now) }
     ensures records { payloads content.now ≡ before_gate (take result content.now) }
+    ensures behind { result ≡ end_behind (records content.now) }
 {
+    records_are_as_long();
     let mut end = HEADER;
     'records: while let Some(payload) = payload_at(content, end) {
         end += 5 + payload.len();
@@ -83,9 +87,9 @@ fn whole_payload(behind: &[u8]) -> Option<&[u8]>
 /// bytes are written behind it.
 pub fn stage_at(content: &[u8], end: usize) -> Stage
     requires { end < length content.now }
-    ensures shut { result ≡ Resting → get_or content.now end 0 ≢ 165 }
-    ensures either { (result ≡ Resting) ⊎ (result ≡ Foreign) }
-    ensures open { result ≡ Foreign → get_or content.now end 0 ≡ 165 }
+    ensures shut { result ≡ Resting → get_or content.now end 0 ≢ OPEN }
+    ensures idle { IsIdle result }
+    ensures open { result ≡ Foreign → get_or content.now end 0 ≡ OPEN }
 {
     if content[end] == OPEN {
         Stage::Foreign

@@ -17,8 +17,8 @@ returns-in-Ok-clause-any_moment g c =
     let seen = m.seen s.media Fast in
     let left : List ℕ → Type 0 = λ e. m.left s.media (m.moment s.media) Fast e in
     let appending = subst (λ (v : RegionView _). IsAppending v.stage) (sym c.self.view_is) c.requires in
-    let shows = λ (e : List ℕ) (b : BeforeOrAfter (take s.end seen) (payload_in c.deref.result.now) e).
-    shows_either s.end s.stage s.body.items seen left c.self.invariant (begun_appending s.stage (payload_in s.body.items) appending) e (subst (λ (bs : List ℕ). BeforeOrAfter (take s.end seen) (payload_in bs) e) c.deref.ensures.value b) in
+    let shows = λ (e : List ℕ) (b : BeforeOrAfter (take s.end seen) (payload_in c.as_slice.result.now) e).
+    shows_either s.end s.stage s.body seen left c.self.invariant (begun_appending s.stage (payload_in s.body) appending) e (subst (λ (bs : List ℕ). BeforeOrAfter (take s.end seen) (payload_in bs) e) c.as_slice.ensures b) in
     subst (λ (v : RegionView _). (e : List ℕ) → LeftSince (m.left c.device_call.new.media) (m.moment c.device_call.new.media) (m.moment v.media) Fast e → WithOrWithout (header_of m.seen v) (records_of m.seen v) (begun_of v) e)
     c.self.view_is (since_one _ _ _ _ _ d.past (λ e l. shows e (d.before e l)) (λ e l. shows e (d.after e l)))
 
@@ -30,8 +30,8 @@ returns-in-Err-clause-any_moment g c =
     let seen = m.seen s.media Fast in
     let left : List ℕ → Type 0 = λ e. m.left s.media (m.moment s.media) Fast e in
     let appending = subst (λ (v : RegionView _). IsAppending v.stage) (sym c.self.view_is) c.requires in
-    let shows = λ (e : List ℕ) (b : BeforeOrAfter (take s.end seen) (payload_in c.deref.result.now) e).
-    shows_either s.end s.stage s.body.items seen left c.self.invariant (begun_appending s.stage (payload_in s.body.items) appending) e (subst (λ (bs : List ℕ). BeforeOrAfter (take s.end seen) (payload_in bs) e) c.deref.ensures.value b) in
+    let shows = λ (e : List ℕ) (b : BeforeOrAfter (take s.end seen) (payload_in c.as_slice.result.now) e).
+    shows_either s.end s.stage s.body seen left c.self.invariant (begun_appending s.stage (payload_in s.body) appending) e (subst (λ (bs : List ℕ). BeforeOrAfter (take s.end seen) (payload_in bs) e) c.as_slice.ensures b) in
     subst (λ (v : RegionView _). (e : List ℕ) → LeftSince (m.left c.device_call.new.media) (m.moment c.device_call.new.media) (m.moment v.media) Fast e → WithOrWithout (header_of m.seen v) (records_of m.seen v) (begun_of v) e)
     c.self.view_is (since_one _ _ _ _ _ d.past (λ e l. shows e (d.before e l)) (λ e l. shows e (d.after e l)))
 
@@ -41,16 +41,16 @@ returns-in-Ok-clause-appended g c done =
     let s = c.self.inside in
     let seen = m.seen s.media Fast in
     let seen' = m.seen c.device_call.new.media Fast in
-    let payload = payload_in s.body.items in
+    let payload = payload_in s.body in
     let ps = before_gate (take s.end seen) in
     let appending = subst (λ (v : RegionView _). IsAppending v.stage) (sym c.self.view_is) c.requires in
     let last : s.stage ≡ stages.Opened = next_resting s.stage appending (sym c.next-self-inside.ensures ∙ done) in
     let moved = c.in-Ok.ensures.done in
-    let same = c.deref.ensures.value in
-    let again = c.deref-in-Ok.ensures.value in
-    let at_end : c.end_after-self-inside.result ≡ end_after s.stage s.end c.deref.result.now =
+    let same = c.as_slice.ensures in
+    let again = c.as_slice-in-Ok.ensures in
+    let at_end : c.end_after-self-inside.result ≡ end_after s.stage s.end c.as_slice.result.now =
     c.end_after-self-inside.ensures ∙ ap (λ (b : List ℕ). end_after s.stage s.end b) (again ∙ sym same) in
-    let more : payloads_after s.stage ps (payload_in c.deref.result.now) ≡ ps ++ payload ∷ [] =
+    let more : payloads_after s.stage ps (payload_in c.as_slice.result.now) ≡ ps ++ payload ∷ [] =
     (λ k. payloads_after (last k) ps (payload_in (same k))) in
     let all : spelled (before_gate (take c.end_after-self-inside.result seen')) ≡ joined (spelled ps) (begun_of (record { media = s.media; end = s.end; stage = s.stage; begun = begun_in s.stage payload })) =
     ap (λ n. spelled (before_gate (take n seen'))) at_end ∙ ap spelled (moved.payloads_are ∙ more) ∙ spelled_more ps payload ∙ ap (joined (spelled ps)) (sym (begun_appending s.stage payload appending)) in
