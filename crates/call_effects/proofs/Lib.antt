@@ -25,6 +25,7 @@ pub mod NewNodes
 pub mod Puts
 pub mod Reached
 pub mod Rises
+pub mod Settled
 pub mod Spelled
 pub mod SpelledQuery
 pub mod Steps

@@ -6,4 +6,5 @@ pub mod Known
 pub mod Recorded
 pub mod Records
 pub mod Rises
+pub mod Settled
 pub mod Wholes

@@ -9,7 +9,7 @@ ghost use Rattle.call_effects.specs.Recorded.{effects_told, leaving_first, putti
 
 use file_graph::{Effect, Effects, Kind};
 use log_record::Record;
-use posix_calls::{Operation, DecideError, Replaced, Location, TreeAnswers, known};
+use posix_calls::{DecideError, Location, Operation, Replaced, TreeAnswers, known};
 use std::alloc::{AllocError, Global};
 
 // No operation has more effects.
