@@ -29,6 +29,7 @@ pub mod Settled
 pub mod Spelled
 pub mod SpelledQuery
 pub mod Steps
+pub mod SubjectLists
 pub mod Views
 pub mod Ways
 pub mod WellFormed

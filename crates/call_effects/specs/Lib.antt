@@ -7,4 +7,5 @@ pub mod Recorded
 pub mod Records
 pub mod Rises
 pub mod Settled
+pub mod Subjects
 pub mod Wholes

@@ -14,6 +14,7 @@ mod laws;
 mod record;
 mod record_laws;
 mod settling;
+mod touched;
 
 pub use changed::has_effects;
 pub use growth::growth_of;
@@ -32,3 +33,4 @@ pub use record_laws::{
     asked_growth_is_the_effects_growth, growth_is_local,
 };
 pub use settling::settled_graph_is_sound;
+pub use touched::{MAX_SUBJECTS, subjects, subjects_are_what_the_effects_touch};
