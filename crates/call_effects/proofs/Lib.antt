@@ -30,6 +30,7 @@ pub mod Spelled
 pub mod SpelledQuery
 pub mod Steps
 pub mod SubjectLists
+pub mod Unchanged
 pub mod Views
 pub mod Ways
 pub mod WellFormed

@@ -16,7 +16,6 @@ mod record_laws;
 mod settling;
 mod touched;
 
-pub use changed::has_effects;
 pub use growth::growth_of;
 pub use known_laws::{
     copied_entries_tell_kinds, known_answer_is_of_the_whole, known_call_is_a_step,
