@@ -25,9 +25,12 @@ pub mod NewNodes
 pub mod Puts
 pub mod Reached
 pub mod Rises
+pub mod Settled
 pub mod Spelled
 pub mod SpelledQuery
 pub mod Steps
+pub mod SubjectLists
+pub mod Unchanged
 pub mod Views
 pub mod Ways
 pub mod WellFormed

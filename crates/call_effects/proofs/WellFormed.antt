@@ -30,7 +30,7 @@ test_true : (c : Bool) (n : Node) → option_map tree_node (cond c None (Some n)
 test_true true n e = refl
 test_true false n e = absurd (cc)
 
-zero_if : (m : ℕ) (b : Bool) → (m == 0 && b) ≡ true → m ≡ 0
+pub zero_if : (m : ℕ) (b : Bool) → (m == 0 && b) ≡ true → m ≡ 0
 zero_if m b e = elim (eqb_tells m 0) [ inl same ↦ same.1 | inr off ↦ absurd (let clash : false ≡ true = sym (ap (λ c. c && b) off.0) ∙ e in cc) ]
 
 -- what is not kept has no name

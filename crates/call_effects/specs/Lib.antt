@@ -6,4 +6,6 @@ pub mod Known
 pub mod Recorded
 pub mod Records
 pub mod Rises
+pub mod Settled
+pub mod Subjects
 pub mod Wholes

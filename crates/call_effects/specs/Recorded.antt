@@ -1,5 +1,5 @@
 -- What is told by a record that was made, or by an operation that was handed back.
-use Rattle.std.specs.Prelude.{ℕ, List, [], ◌∷◌, Result, Ok, Err}
+use Rattle.std.specs.Prelude.{ℕ, List, [], ◌∷◌, Option, Some, None, Result, Ok, Err}
 use Rattle.posix_calls.specs.declared.operation.Location.{Location}
 use Rattle.posix_calls.specs.declared.operation.Operation.{Operation}
 use Rattle.posix_calls.specs.declared.operation.Operation.TheVariants.{Move}
@@ -10,9 +10,10 @@ use Rattle.file_graph.specs.declared.effect.Effect.{Effect}
 use Rattle.file_graph.specs.declared.effect.Effect.TheVariants as effect
 use Rattle.log_record.specs.declared.format.Record.{Record}
 
--- the effects of a record, or why there is none
-abbrev pub effects_told : Result Record (DecideError × Operation) → Result (List Effect) DecideError
-effects_told (Ok made) = Ok made.effects
+-- the effects of a record, which are none where there is no record, or why none was made
+abbrev pub effects_told : Result (Option Record) (DecideError × Operation) → Result (List Effect) DecideError
+effects_told (Ok None) = Ok []
+effects_told (Ok (Some made)) = Ok made.effects
 effects_told (Err back) = Err back.0
 
 -- the name of what a rename puts out of its place leaves its directory

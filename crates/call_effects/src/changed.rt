@@ -4,8 +4,7 @@ ghost use Rattle.call_effects.specs.Effects.{effects_by};
 
 use posix_calls::Operation;
 
-/// Whether an operation changes the graph, so that it has a record: an answer alone, a file that is opened as it is, and one that is
-/// closed have none.
+/// Whether an operation changes the graph: an answer alone, a file that is opened as it is, and one that is closed change nothing.
 pub fn has_effects(operation: &Operation) -> bool
     ensures exact { result ≡ changes operation.now }
     ensures effects { (names new : ℕ) → result ≡ nat_lt 0 (length (effects_by names new operation.now)) }

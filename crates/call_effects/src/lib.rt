@@ -13,8 +13,9 @@ mod known_laws;
 mod laws;
 mod record;
 mod record_laws;
+mod settling;
+mod touched;
 
-pub use changed::has_effects;
 pub use growth::growth_of;
 pub use known_laws::{
     copied_entries_tell_kinds, known_answer_is_of_the_whole, known_call_is_a_step,
@@ -22,11 +23,13 @@ pub use known_laws::{
     part_is_of_the_whole, root_is_refused_without_a_copy, served_copy_is_missing_no_longer,
 };
 pub use laws::{
-    answered_operation_fits, call_is_a_step, operation_is_its_effects, fresh_graph_stands_for_the_opening,
-    sound_graph_is_well_formed, stored_counts_are_the_counted_names,
+    answered_operation_fits, call_is_a_step, fresh_graph_stands_for_the_opening,
+    operation_is_its_effects, sound_graph_is_well_formed, stored_counts_are_the_counted_names,
 };
 pub use record::record_of;
 pub use record_laws::{
-    answered_operations_have_spellings, asked_effects_are_the_operations, asked_growth_is_the_effects_growth,
-    growth_is_local,
+    answered_operations_have_spellings, asked_effects_are_the_operations,
+    asked_growth_is_the_effects_growth, growth_is_local,
 };
+pub use settling::settled_graph_is_sound;
+pub use touched::{MAX_SUBJECTS, subjects, subjects_are_what_the_effects_touch};

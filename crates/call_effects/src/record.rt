@@ -1,38 +1,45 @@
-ghost use Rattle.std.specs.Prelude.{◌≡◌, ◌+◌, ◌-◌, ◌^◌, ◌<◌, ◌≤◌, [], ◌∷◌, ◌++◌, length, IfOk, IfErr, OnOk, vec_len, if◌then◌else◌};
+ghost use Rattle.std.specs.Prelude.{◌≡◌, ◌+◌, ◌-◌, ◌^◌, ◌<◌, ◌≤◌, [], ◌∷◌, ◌++◌, length, false, None, Ok, IfOk, IfErr, IfSome, OnOk, is_some, vec_len, if◌then◌else◌};
 ghost use Rattle.std.specs.Vec.{vec_capacity};
 ghost use Rattle.posix_calls.specs.Answers.{Tells};
 ghost use Rattle.posix_calls.specs.declared.operation.Operation.TheVariants.{AddName};
 ghost use Rattle.file_graph.specs.declared.effect.Effect.TheVariants.{Size, Leave, Enter};
+ghost use Rattle.call_effects.specs.Changed.{changes};
 ghost use Rattle.call_effects.specs.Effects.{recounted, kind_if, making, dropping, removing, replacing, effects_by};
 ghost use Rattle.call_effects.specs.Records.{names_if, effects_asked};
 ghost use Rattle.call_effects.specs.Recorded.{effects_told, leaving_first, putting_out, copied};
 
+use crate::changed::has_effects;
 use file_graph::{Effect, Effects, Kind};
 use log_record::Record;
-use posix_calls::{Operation, DecideError, Replaced, Location, TreeAnswers, known};
+use posix_calls::{DecideError, Location, Operation, Replaced, TreeAnswers, known};
 use std::alloc::{AllocError, Global};
 
 // No operation has more effects.
 const MOST_EFFECTS: usize = 4;
 
 /// The record of an operation, with its effects and these units; a node that the operation makes gets the number `new`. An operation that
-/// changes nothing (`has_effects`) has a record without effects, which has no spelling and is not to be logged.
+/// changes nothing has none; every other one has 1 to 4 effects.
 ///
 /// The names and bytes of the operation go into the record, but for one name that two effects of a rename need. Of the tree, the
 /// file that gets another number of names has to be known; `Missing` names it. Memory is taken before anything is moved, so the
 /// operation is handed back with each error; `Memory` may stand in place of any answer, and does where a file's names would pass
-/// 32 bits.
+/// 32 bits. An operation that changes nothing meets no error.
 pub fn record_of<T: TreeAnswers>(
     alloc: Global,
     tree: &T,
     operation: Operation,
     new: u32,
     units: u32,
-) -> Result<Record, (DecideError, Operation)>
+) -> Result<Option<Record>, (DecideError, Operation)>
     ensures tells { Tells (T.part tree.now) (effects_asked new operation) (effects_told result) }
-    ensures units { IfOk result (λ made. made.units ≡ units) }
+    ensures units { IfOk result (λ made. IfSome made (λ made. made.units ≡ units)) }
+    ensures some { IfOk result (λ made. is_some made ≡ changes operation) }
+    ensures none { changes operation ≡ false → result ≡ Ok None }
     ensures back { IfErr result (λ back. back.1 ≡ operation) }
 {
+    if !has_effects(&operation) {
+        return Ok(None);
+    }
     let names = match names_if(tree, recounted(&operation)) {
         Ok(names) => names,
         Err(why) => return Err((why, operation)),
@@ -42,7 +49,7 @@ pub fn record_of<T: TreeAnswers>(
         Err(_) => return Err((DecideError::Memory, operation)),
     };
     let effects = effects_by(room, names, new, operation);
-    Ok(Record { units, effects })
+    Ok(Some(Record { units, effects }))
 }
 
 // The file that gets another number of names.

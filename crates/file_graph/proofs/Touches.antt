@@ -35,6 +35,30 @@ untouched g (f ∷ es) i e =
     let p = among_append i (subjects f) (touches es) (ap (is_among i) (sym (flat_map-cons subjects f es)) ∙ e) in
     untouched (after_effect g f) es i p.1 ∙ ap (λ (b : Bool). cond b (acted f (g i)) (g i)) p.0
 
+-- what effects make of an inode depends on what stands there
+pub alone : (g h : Graph) (es : List Effect) (i : ℕ) → g i ≡ h i → after_effects g es i ≡ after_effects h es i
+alone g h [] i e = e
+alone g h (f ∷ es) i e = alone (after_effect g f) (after_effect h f) es i (ap (λ o. cond (is_among i (subjects f)) (acted f o) o) e)
+
+-- ---- rows of effects that touch no common inode
+
+untouched_by : (is js : List ℕ) (i : ℕ) → AreApart is js → is_among i is ≡ true → is_among i js ≡ false
+untouched_by is js i apart there = elim (is_among i js) as (λ b. is_among i js ≡ b → b ≡ false) [
+  | true ↦ λ e. absurd (apart i there e)
+  | false ↦ λ e. refl
+] refl
+
+exchanged : (g : Graph) (es fs : List Effect) (i : ℕ) → is_among i (touches es) ≡ false → after_effects (after_effects g es) fs i ≡ after_effects (after_effects g fs) es i
+exchanged g es fs i e = alone (after_effects g es) g fs i (untouched g es i e) ∙ sym (untouched (after_effects g fs) es i e)
+
+pub rows_commute : (g : Graph) (es fs : List Effect) → AreApart (touches es) (touches fs) → after_effects (after_effects g es) fs ≡ after_effects (after_effects g fs) es
+rows_commute g es fs apart = λ t i. at i t where
+  at : (i : ℕ) → after_effects (after_effects g es) fs i ≡ after_effects (after_effects g fs) es i
+  at i = elim (is_among i (touches es)) as (λ b. is_among i (touches es) ≡ b → after_effects (after_effects g es) fs i ≡ after_effects (after_effects g fs) es i) [
+    | true ↦ λ there. sym (exchanged g fs es i (untouched_by (touches es) (touches fs) i apart there))
+    | false ↦ λ e. exchanged g es fs i e
+  ] refl
+
 -- ---- units
 
 risen : (b : Bool) (old new : ℕ) → (b ≡ false → new ≡ old) → new ≤ old + cond b (new - old) 0

@@ -75,6 +75,13 @@ impl Effects {
         Effects { effects }
     }
 
+    /// The vector of the effects, without a copy.
+    pub fn into_vec(self) -> Vec<Effect>
+        ensures { result.items ≡ self }
+    {
+        self.effects
+    }
+
     /// The effects as a slice.
     pub fn as_slice(&self) -> &[Effect]
         ensures { result.now ≡ self.now }

@@ -2,17 +2,21 @@
 
 ghost use Rattle.std.specs.Prelude.{◌≡◌, ◌≤◌, ◌+◌, ℕ, List, false};
 ghost use Rattle.file_graph.specs.declared.effect.Effect.{Effect};
-ghost use Rattle.file_graph.specs.Graph.{Graph, subjects, is_among, after_effect, after_effects, AreApart};
+ghost use Rattle.file_graph.specs.Graph.{Graph, subjects, touches, is_among, after_effect, after_effects, AreApart};
 ghost use Rattle.file_graph.specs.Units.{charge, growth};
 
-/// An effect leaves every inode but its subjects as it was.
-pub fn effect_changes_its_subjects()
-    ensures { (g : Graph) (e : Effect) (i : ℕ) → is_among i (subjects e) ≡ false → after_effect g e i ≡ g i }
+/// An effect leaves every inode but its subjects as it was, and a row of effects every inode that they don't touch. What they make
+/// of an inode depends on what stands there alone.
+pub fn effects_change_what_they_touch()
+    ensures single { (g : Graph) (e : Effect) (i : ℕ) → is_among i (subjects e) ≡ false → after_effect g e i ≡ g i }
+    ensures stays { (g : Graph) (es : List Effect) (i : ℕ) → is_among i (touches es) ≡ false → after_effects g es i ≡ g i }
+    ensures alone { (g h : Graph) (es : List Effect) (i : ℕ) → g i ≡ h i → after_effects g es i ≡ after_effects h es i }
 {}
 
-/// Two effects with no common subject may change places.
+/// Two effects with no common subject may change places, and so may two rows of effects that touch no common inode.
 pub fn apart_effects_commute()
-    ensures { (g : Graph) (e f : Effect) → AreApart (subjects e) (subjects f) → after_effect (after_effect g e) f ≡ after_effect (after_effect g f) e }
+    ensures single { (g : Graph) (e f : Effect) → AreApart (subjects e) (subjects f) → after_effect (after_effect g e) f ≡ after_effect (after_effect g f) e }
+    ensures rows { (g : Graph) (es fs : List Effect) → AreApart (touches es) (touches fs) → after_effects (after_effects g es) fs ≡ after_effects (after_effects g fs) es }
 {}
 
 /// The units of a graph after effects are at most its units before and the growth of the effects together.

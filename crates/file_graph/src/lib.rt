@@ -12,7 +12,7 @@ mod plain;
 
 pub use effect::{Effect, Effects, Kind};
 pub use laws::{
-    apart_effects_commute, charge_rises_by_growth_at_most, effect_changes_its_subjects,
+    apart_effects_commute, charge_rises_by_growth_at_most, effects_change_what_they_touch,
 };
 pub use node::PlainEntry;
 pub use plain::PlainGraph;

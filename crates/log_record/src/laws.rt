@@ -1,6 +1,7 @@
 //! What holds of all records and bytes.
 
 ghost use Rattle.std.specs.Prelude.{◌≡◌, List, ℕ, length, Some, ◌++◌};
+ghost use Rattle.file_graph.specs.Graph.{Graph, touches, after_effects, AreApart};
 ghost use Rattle.log_record.specs.declared.format.Record.{Record};
 ghost use Rattle.log_record.specs.Grammar.{AreBytes, IsRecord, spelling, record_at, record_of};
 
@@ -24,4 +25,9 @@ pub fn no_spelling_begins_another()
 /// What is read as a record has the length of its spelling, also where it is no row of bytes.
 pub fn read_is_as_long()
     ensures { (bytes : List ℕ) (r : Record) → record_of bytes ≡ Some r → length bytes ≡ length (spelling r) }
+{}
+
+/// Two records whose effects touch no common inode may change places, over every graph.
+pub fn apart_records_commute()
+    ensures { (g : Graph) (r s : Record) → AreApart (touches r.effects) (touches s.effects) → after_effects (after_effects g r.effects) s.effects ≡ after_effects (after_effects g s.effects) r.effects }
 {}

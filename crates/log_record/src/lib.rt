@@ -12,6 +12,9 @@ mod reading;
 mod writing;
 
 pub use format::{MAX_EFFECTS, Record, RecordError};
-pub use laws::{no_spelling_begins_another, read_is_as_long, read_is_spelled, written_is_read};
+pub use laws::{
+    apart_records_commute, no_spelling_begins_another, read_is_as_long, read_is_spelled,
+    written_is_read,
+};
 pub use reading::{is_payload, read_payload, read_record};
 pub use writing::{write_behind, write_record};

@@ -50,6 +50,13 @@ impl FileBytes {
         &self.bytes
     }
 
+    /// The vector of the bytes, without a copy.
+    pub fn into_vec(self) -> Vec<u8>
+        ensures { result.items ≡ self }
+    {
+        self.bytes
+    }
+
     /// Up to `count` bytes from an offset on; none at or past the end.
     pub fn range(&self, at: u64, count: u64) -> &[u8]
         ensures { result.now ≡ take count (drop at self.now) }

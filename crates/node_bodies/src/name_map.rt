@@ -82,6 +82,13 @@ impl<V: Drop> NameMap<V> {
         &self.entries
     }
 
+    /// The vector of the entries, in the order of their names' bytes, without a copy.
+    pub fn into_vec(self) -> Vec<NamedEntry<V>>
+        ensures { pairs result.items ≡ fin.entries self }
+    {
+        self.entries
+    }
+
     /// Copies of the names, in the order of their bytes.
     pub fn names(&self, alloc: Global) -> Result<Names, AllocError>
         ensures { IfOk result (λ names. names ≡ map (λ e. e.0) (fin.entries self.now)) }

@@ -143,7 +143,8 @@ fn recorded(
     ensures units { IfOk result (λ entry. entry.units ≡ units) }
 {
     match record_of(alloc, &GraphAnswers { graph }, operation, new, units) {
-        Ok(entry) => Ok(entry),
+        Ok(Some(entry)) => Ok(entry),
+        Ok(None) => Err(RunError::Damaged),
         Err((why, _operation)) => Err(RunError::from(why)),
     }
 }

@@ -1,7 +1,8 @@
 // A client's call by its record, beside the same call on a whole tree.
 use crate::known::part::KnownPart;
-use call_effects::{growth_of, has_effects, record_of};
-use file_graph::{Effect, Effects, PlainGraph};
+use call_effects::{growth_of, record_of};
+use file_graph::{Effect, PlainGraph};
+use log_record::Record;
 use plain_tree::PlainTree;
 use posix_calls::{
     Call, Operation, Descriptor, Errno, MAX_CLIENTS, MAX_INODE, DecideError, OwnDescriptors, ROOT, Reply,
@@ -111,12 +112,9 @@ impl Beside {
         let reply = reply_to(&operation);
         let opens = opened_by(&operation, new);
         self.growth = self.growth_of(&operation)?;
-        let changes = has_effects(&operation);
-        let effects = self.effects_of(operation, new)?;
-        if effects.is_empty() == changes {
-            return Err(differs());
+        if let Some(record) = self.record_of(operation, new)? {
+            self.apply(record)?;
         }
-        self.apply(effects.as_slice())?;
         self.set_descriptor(client, opens);
         self.drop_unused()?;
         Ok(reply)
@@ -133,12 +131,12 @@ impl Beside {
         Err(differs())
     }
 
-    // The effects of an operation.
-    fn effects_of(&mut self, operation: Operation, new: u32) -> io::Result<Effects> {
+    // The record of an operation, if it changes anything.
+    fn record_of(&mut self, operation: Operation, new: u32) -> io::Result<Option<Record>> {
         let mut operation = operation;
         for _ in 0..MOST_LACKED {
             operation = match record_of(self.alloc, &self.part, operation, new, UNITS) {
-                Ok(record) => return effects_in(record.units, record.effects),
+                Ok(record) => return Ok(record),
                 Err((why, back)) => {
                     self.learn(why)?;
                     back
@@ -158,10 +156,14 @@ impl Beside {
         Err(differs())
     }
 
-    // Applies effects, which raise the graph by no more than they were to.
-    fn apply(&mut self, effects: &[Effect]) -> io::Result<()> {
+    // Applies the effects of a record, which has some and the units that it was given; they raise the graph by no more than they
+    // were to.
+    fn apply(&mut self, record: Record) -> io::Result<()> {
+        if record.units != UNITS || record.effects.is_empty() {
+            return Err(differs());
+        }
         let most = self.part.graph.charge().saturating_add(self.growth);
-        for effect in effects {
+        for effect in record.effects.as_slice() {
             self.part.graph.apply(effect)?;
         }
         if most < self.part.graph.charge() {
@@ -215,14 +217,6 @@ fn has_open(own: &OwnDescriptors, inode: u32) -> bool {
         }
     }
     false
-}
-
-// The effects of a record, which has the units that were given.
-fn effects_in(units: u32, effects: Effects) -> io::Result<Effects> {
-    if units != UNITS {
-        return Err(differs());
-    }
-    Ok(effects)
 }
 
 fn reply_to(operation: &Operation) -> Reply {

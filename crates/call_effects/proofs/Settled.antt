@@ -1,0 +1,209 @@
+-- A sound graph of which nobody has a file open: with its files that have no name, and without them.
+use Rattle.std.proofs.Common.{◌≡◌, inl, inr, ℕ, List, zero, suc, ◌+◌, ◌≤◌, refl, Some, None, Option, cond, ap, sym, ◌∙◌, subst, true, false, Bool, arith, ◌==◌, if◌then◌else◌}
+use Rattle.std.specs.Prelude.{option_map, ◌&&◌, ◌||◌, not, nat_lt}
+use Rattle.std.proofs.lemmas.Bool.{lt-ltb}
+use Rattle.std.proofs.lemmas.Bool.Decides.{eqb_tells}
+use Rattle.std.specs.FinMap as fin
+use Rattle.posix_calls.specs.Content.{Entries}
+use Rattle.posix_calls.specs.Tree.{Descriptors, State, is_open, any_up_to, names_of}
+use Rattle.posix_calls.specs.Run.{settled, settled_tree}
+use Rattle.posix_calls.specs.WellFormed.{IsWellFormed, IsWithinLimits}
+use Rattle.posix_calls.proofs.Bounds as bounds
+use Rattle.file_graph.specs.Graph.{Graph, Node, FileBody, DirBody}
+use Rattle.file_graph.specs.declared.effect.Kind.{Kind}
+use Rattle.file_graph.specs.declared.effect.Kind.TheVariants as kind
+use Rattle.call_effects.specs.Effects.{stored}
+use Rattle.call_effects.specs.Settled.{nobody, settled_graph}
+use Rattle.call_effects.specs.Wholes.{IsSound, state_of, tree_of, tree_node, keep, kept, kind_of, body_kind, one_if}
+use Rattle.call_effects.proofs.Changes.{fair_of, file, dir, named, has_name}
+use Rattle.call_effects.proofs.Facts.{dir_of_kind, file_of_kind}
+use Rattle.call_effects.proofs.Reached.{reached_kept}
+use Rattle.call_effects.proofs.Views.{kept_named, file_count}
+use Rattle.call_effects.proofs.Ways.{chains, paths}
+use Rattle.call_effects.proofs.WellFormed.{well_formed, zero_if}
+
+-- ---- nothing is open
+
+none_up_to : (n : ℕ) → any_up_to n (λ k. false) ≡ false
+unfolding any_up_to
+none_up_to zero = refl
+none_up_to (suc n) = none_up_to n
+
+not_open : (i : ℕ) → is_open nobody i ≡ false
+unfolding is_open
+not_open i = ap (any_up_to 8) (λ t c. none_up_to 32 t) ∙ none_up_to 8
+
+-- ---- what is kept of a node
+
+-- a file that goes has no name
+stored_if : (c : Bool) (n : Node) → (c ≡ true → n.names ≡ 0) → stored (cond c None (Some n)) ≡ n.names
+stored_if true n none = sym (none refl)
+stored_if false n none = refl
+
+stored_kept : (b : Bool) (o : Option Node) → stored (keep b o) ≡ stored o
+stored_kept b None = refl
+stored_kept b (Some n) = elim (n.body) as (λ y. stored (elim y [ FileBody bytes ↦ if n.names == 0 && not b then None else Some n | DirBody es ↦ Some n ]) ≡ n.names) [
+  | FileBody bytes ↦ stored_if (n.names == 0 && not b) n (zero_if n.names (not b))
+  | DirBody es ↦ refl
+]
+
+some_if : (c : Bool) (n x : Node) → cond c None (Some n) ≡ Some x → Some n ≡ Some x
+some_if true n x e = absurd (cc)
+some_if false n x e = e
+
+-- what is kept was there
+kept_was : (b : Bool) (o : Option Node) (x : Node) → keep b o ≡ Some x → o ≡ Some x
+kept_was b None x e = absurd (cc)
+kept_was b (Some n) x e = elim (n.body) as (λ y. (elim y [ FileBody bytes ↦ if n.names == 0 && not b then None else Some n | DirBody es ↦ Some n ]) ≡ Some x → Some n ≡ Some x) [
+  | FileBody bytes ↦ λ is. some_if (n.names == 0 && not b) n x is
+  | DirBody es ↦ λ is. is
+] e
+
+some_kind : (o : Option Node) (k : Kind) → kind_of o ≡ Some k → (x : Node) × (o ≡ Some x)
+some_kind None k e = absurd (cc)
+some_kind (Some x) k e = (x, refl)
+
+kind_was : (b : Bool) (o : Option Node) (k : Kind) → kind_of (keep b o) ≡ Some k → kind_of o ≡ Some k
+kind_was b o k e =
+    let x = some_kind (keep b o) k e in
+    ap kind_of (kept_was b o x.0 x.1) ∙ sym (ap kind_of x.1) ∙ e
+
+-- a directory is kept
+dir_stays : (b : Bool) (o : Option Node) → kind_of o ≡ Some kind.Directory → keep b o ≡ o
+dir_stays b o e = let d = dir_of_kind o e in ap (keep b) d.2 ∙ sym d.2
+
+-- so is a file that has a name
+has_none : (m : ℕ) → 1 ≤ m → (m == 0) ≡ false
+has_none m some = elim (eqb_tells m 0) [ inl same ↦ absurd (let none = same.1 in omega (arith, some, none)) | inr off ↦ off.0 ]
+
+file_stays : (b : Bool) (o : Option Node) → kind_of o ≡ Some kind.File → 1 ≤ stored o → keep b o ≡ o
+file_stays b o e some =
+    let f = file_of_kind o e in
+    let named_file : 1 ≤ f.0 = subst (λ n. 1 ≤ stored n) f.2 some in
+    ap (keep b) f.2 ∙ ap (λ c. cond (c && not b) None (file f.0 f.1)) (has_none f.0 named_file) ∙ sym f.2
+
+-- and what is kept is kept again
+again_if : (b c : Bool) (n : Node) → (c ≡ false → keep b (Some n) ≡ Some n) → keep b (cond c None (Some n)) ≡ cond c None (Some n)
+again_if b true n stays = refl
+again_if b false n stays = stays refl
+
+keep_twice : (b : Bool) (o : Option Node) → keep b (keep b o) ≡ keep b o
+keep_twice b None = refl
+keep_twice b (Some n) = elim (n.body) as (λ y. n.body ≡ y → keep b (elim y [ FileBody bytes ↦ if n.names == 0 && not b then None else Some n | DirBody es ↦ Some n ]) ≡ (elim y [ FileBody bytes ↦ if n.names == 0 && not b then None else Some n | DirBody es ↦ Some n ])) [
+  | FileBody bytes ↦ λ is. again_if b (n.names == 0 && not b) n (λ stays. ap (λ y. keep b (Some (record { names = n.names; body = y }))) is ∙ ap (λ c. cond c None (file n.names bytes)) stays ∙ sym (ap (λ y. Some (record { names = n.names; body = y })) is))
+  | DirBody es ↦ λ is. ap (λ y. keep b (Some (record { names = n.names; body = y }))) is ∙ sym (ap (λ y. Some (record { names = n.names; body = y })) is)
+] refl
+
+-- ---- the tree of what is kept
+
+-- a file with a name is kept by any test of that
+named_node : (m : ℕ) (b test : Bool) (n : Node) → test ≡ nat_lt 0 m → option_map tree_node (cond (m == 0 && true) None (Some n)) ≡ cond test (option_map tree_node (cond (m == 0 && not b) None (Some n))) None
+named_node m b test n e =
+    elim (eqb_tells m 0) [
+      | inl same ↦
+          ap (λ c. option_map tree_node (cond (c && true) None (Some n))) same.0
+          ∙ sym (ap (λ c. cond c (option_map tree_node (cond (m == 0 && not b) None (Some n))) None) (e ∙ ap (nat_lt 0) same.1))
+      | inr off ↦
+          ap (λ c. option_map tree_node (cond (c && true) None (Some n))) off.0
+          ∙ sym (ap (λ c. cond c (option_map tree_node (cond (m == 0 && not b) None (Some n))) None) (e ∙ lt-ltb 0 m (let some = off.1 in omega (arith, some))) ∙ ap (λ c. option_map tree_node (cond (c && not b) None (Some n))) off.0)
+    ]
+
+none_either : {A : Type 0} (c : Bool) → ◌≡◌ {A = Option A} None (cond c None None)
+none_either true = refl
+none_either false = refl
+
+-- what is kept without descriptors is what passes a test for having a name, kept with any
+settled_node : (b test : Bool) (o : Option Node) → (kind_of o ≡ Some kind.File → test ≡ nat_lt 0 (stored o)) → (kind_of o ≡ Some kind.Directory → test ≡ true) → option_map tree_node (keep false o) ≡ cond test (option_map tree_node (keep b o)) None
+settled_node b test None as_file as_dir = none_either test
+settled_node b test (Some n) as_file as_dir = elim (n.body) as (λ y. (Some (body_kind y) ≡ Some kind.File → test ≡ nat_lt 0 n.names) → (Some (body_kind y) ≡ Some kind.Directory → test ≡ true) → option_map tree_node (elim y [ FileBody bytes ↦ if n.names == 0 && not false then None else Some n | DirBody es ↦ Some n ]) ≡ cond test (option_map tree_node (elim y [ FileBody bytes ↦ if n.names == 0 && not b then None else Some n | DirBody es ↦ Some n ])) None) [
+  | FileBody bytes ↦ λ f d. named_node n.names b test n (f refl)
+  | DirBody es ↦ λ f d. sym (ap (λ c. cond c (Some (tree_node n)) None) (d refl))
+] as_file as_dir
+
+pub settled_state_of : (g : Graph) → state_of (settled_graph g) nobody ≡ state_of g nobody
+settled_state_of g = λ t. record { tree = λ i. option_map tree_node (keep_twice (is_open nobody i) (g i) t); descriptors = nobody }
+
+module _ (g : Graph) (d : Descriptors) (sound : IsSound g d) where
+  abbrev has : ℕ → Bool
+  has i = i == 1 || nat_lt 0 (names_of (tree_of (kept g d)) i)
+
+  has_file : (i : ℕ) → kind_of (g i) ≡ Some kind.File → has i ≡ nat_lt 0 (stored (g i))
+  has_file i is =
+      elim (eqb_tells i 1) [
+        | inl same ↦ absurd (let clash : Some kind.File ≡ Some kind.Directory = sym is ∙ ap (λ j. kind_of (g j)) same.1 ∙ sound.typed.root in cc)
+        | inr off ↦ ap (λ b. b || nat_lt 0 (names_of (tree_of (kept g d)) i)) off.0
+      ]
+      ∙ ap (nat_lt 0) (sym (file_count g d i (fair_of g d sound) is))
+
+  has_dir : (i : ℕ) → kind_of (g i) ≡ Some kind.Directory → has i ≡ true
+  has_dir i is =
+      elim (eqb_tells i 1) [
+        | inl same ↦ ap (λ b. b || nat_lt 0 (names_of (tree_of (kept g d)) i)) same.0
+        | inr off ↦
+            let one = sound.counts.one_name i is in
+            let count = sound.counts.counted i in
+            let other : one_if (i == 1) ≡ 0 = ap one_if off.0 in
+            let same = kept_named g d i in
+            let is_one : names_of (tree_of (kept g d)) i ≡ 1 = omega (arith, one, count, other, same) in
+            ap (λ b. b || nat_lt 0 (names_of (tree_of (kept g d)) i)) off.0 ∙ ap (nat_lt 0) is_one
+      ]
+
+  tree_at : (i : ℕ) → tree_of (kept g nobody) i ≡ settled_tree (tree_of (kept g d)) i
+  tree_at i = ap (λ b. option_map tree_node (keep b (g i))) (not_open i) ∙ settled_node (is_open d i) (has i) (g i) (has_file i) (has_dir i)
+
+  pub closed_state : state_of g nobody ≡ settled (state_of g d)
+  closed_state = λ t. record { tree = λ i. tree_at i t; descriptors = nobody }
+
+  pub settled_state : state_of (settled_graph g) nobody ≡ settled (state_of g d)
+  settled_state = settled_state_of g ∙ closed_state
+
+  pub closed_sound : IsSound g nobody
+  closed_sound = record {
+    typed = record {
+      kinds = sound.typed.kinds;
+      numbers = sound.typed.numbers;
+      root = sound.typed.root;
+      opened = λ c n o is. absurd (cc);
+      in_range = λ c n o is. absurd (cc);
+    };
+    counts = sound.counts;
+    reached = sound.reached;
+  }
+
+  -- what an entry names has a name, so it is kept
+  named_kept : (i : ℕ) (k : Kind) → kind_of (g i) ≡ Some k → 1 ≤ named g i → kind_of (kept g nobody i) ≡ Some k
+  named_kept i kind.Directory is some = ap kind_of (dir_stays (is_open nobody i) (g i) is) ∙ is
+  named_kept i kind.File is some =
+      let count = sound.counts.counted i in
+      ap kind_of (file_stays (is_open nobody i) (g i) is (omega (arith, some, count))) ∙ is
+
+  settled_kinds : (p n : ℕ) (es : Entries (ℕ × Kind)) (name : List ℕ) (e : ℕ × Kind) → kept g nobody p ≡ dir n es → fin.get es name ≡ Some e → kind_of (kept g nobody e.0) ≡ Some e.1
+  settled_kinds p n es name e is there =
+      let was = kept_was (is_open nobody p) (g p) (record { names = n; body = DirBody es }) is in
+      let range = sound.typed.numbers p kind.Directory (ap kind_of was) in
+      named_kept e.0 e.1 (sound.typed.kinds p n es name e was there) (has_name g p n name es e was range.0 range.1 there)
+
+  settled_stored : (i : ℕ) → stored (kept g nobody i) ≡ stored (g i)
+  settled_stored i = stored_kept (is_open nobody i) (g i)
+
+  pub settled_sound : IsSound (settled_graph g) nobody
+  settled_sound = record {
+    typed = record {
+      kinds = settled_kinds;
+      numbers = λ i k is. sound.typed.numbers i k (kind_was (is_open nobody i) (g i) k is);
+      root = ap kind_of (dir_stays (is_open nobody 1) (g 1) sound.typed.root) ∙ sound.typed.root;
+      opened = λ c n o is. absurd (cc);
+      in_range = λ c n o is. absurd (cc);
+    };
+    counts = record {
+      counted = λ i. settled_stored i ∙ sound.counts.counted i ∙ ap (λ n. n + one_if (i == 1)) (sym (kept_named g nobody i));
+      one_name = λ i is. settled_stored i ∙ sound.counts.one_name i (kind_was (is_open nobody i) (g i) kind.Directory is);
+    };
+    reached = paths (tree_of (kept g nobody)) (reached_kept g nobody (chains (tree_of g) sound.reached));
+  }
+
+  pub settled_well_formed : IsWellFormed (state_of (settled_graph g) nobody)
+  settled_well_formed = well_formed (settled_graph g) nobody settled_sound
+
+  pub settled_within : IsWithinLimits (state_of g d).tree → IsWithinLimits (state_of (settled_graph g) nobody).tree
+  settled_within within = subst (λ (s : State). IsWithinLimits s.tree) (sym settled_state) (bounds.settled_within (state_of g d) (well_formed g d sound) within)
