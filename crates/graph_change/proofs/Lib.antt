@@ -1,0 +1,6 @@
+pub mod Blocks
+pub mod Bytes
+pub mod Entries
+pub mod Law
+pub mod Nodes
+pub mod Touched
