@@ -30,6 +30,12 @@ or_else false a none o = refl
 pub value_put : {A : Type 0} (none : A) (i : ℕ) (a : A) (m : fin.FinMap nat_cmp A) (j : ℕ) → unwrap_or (fin.get (fin.insert m i a) j) none ≡ (if j == i then a else unwrap_or (fin.get m j) none)
 value_put none i a m j = ap (λ o. unwrap_or o none) (get_put m i a j) ∙ or_else (j == i) a none (fin.get m j)
 
+less : {m n : ℕ} → m < n → nat_lt m n ≡ true
+less {m} {n} h = grind (arith, nat_tests)
+
+not_less : {m n : ℕ} → n ≤ m → nat_lt m n ≡ false
+not_less {m} {n} h = grind (arith, nat_tests)
+
 whole : (i : ℕ) → UNIT_BYTES * (i / UNIT_BYTES) + i % UNIT_BYTES ≡ i
 whole i = omega arith
 
@@ -46,6 +52,7 @@ one_there at bytes b ps i here same =
     let new = over_patch at bytes b (patch_at ps b) in
     at_block b new ps i ∙ ap (λ t. cond t new (patch_at ps (i / UNIT_BYTES)) (i % UNIT_BYTES)) here
     ∙ ap (λ k. over_patch at bytes k (patch_at ps k) (i % UNIT_BYTES)) (sym same)
+    ∙ ap (λ t. if t && is_within at (length bytes) (UNIT_BYTES * (i / UNIT_BYTES) + i % UNIT_BYTES) then Some (get_or bytes (UNIT_BYTES * (i / UNIT_BYTES) + i % UNIT_BYTES - at) 0) else new_in ps i) (less {m = i % UNIT_BYTES} {n = UNIT_BYTES} (omega arith))
     ∙ ap (λ k. if is_within at (length bytes) k then Some (get_or bytes (k - at) 0) else new_in ps i) (whole i)
 
 one_out : (at : ℕ) (bytes : List ℕ) (b : ℕ) (ps : Patches) (i : ℕ) → is_within at (length bytes) i ≡ false → new_in (put_block at bytes b ps) i ≡ new_in ps i
@@ -105,12 +112,6 @@ write_written at bytes ps i =
     ]
 
 -- ---- a new length
-
-less : {m n : ℕ} → m < n → nat_lt m n ≡ true
-less {m} {n} h = grind (arith, nat_tests)
-
-not_less : {m n : ℕ} → n ≤ m → nat_lt m n ≡ false
-not_less {m} {n} h = grind (arith, nat_tests)
 
 -- the blocks that begin before a size
 abbrev pub begun : ℕ → Patches → Patches

@@ -3,4 +3,5 @@ pub mod Bytes
 pub mod Entries
 pub mod Law
 pub mod Nodes
+pub mod Patches
 pub mod Touched

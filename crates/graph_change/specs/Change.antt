@@ -36,9 +36,13 @@ new_in ps i = patch_at ps (i / UNIT_BYTES) (i % UNIT_BYTES)
 abbrev pub span : ℕ → ℕ → List ℕ
 span at count = if count == 0 then [] else range_with_len (at / UNIT_BYTES) ((at + count - 1) / UNIT_BYTES + 1 - at / UNIT_BYTES)
 
+-- a block with bytes put at a place of it
+abbrev pub put_patch : ℕ → List ℕ → Patch → Patch
+put_patch place bytes old p = if is_within place (length bytes) p then Some (get_or bytes (p - place) 0) else old p
+
 -- a block with its part of bytes that are put at an offset of the file
 abbrev pub over_patch : ℕ → List ℕ → ℕ → Patch → Patch
-over_patch at bytes b old p = if is_within at (length bytes) (UNIT_BYTES * b + p) then Some (get_or bytes (UNIT_BYTES * b + p - at) 0) else old p
+over_patch at bytes b old p = if nat_lt p UNIT_BYTES && is_within at (length bytes) (UNIT_BYTES * b + p) then Some (get_or bytes (UNIT_BYTES * b + p - at) 0) else old p
 
 -- with one block's part
 abbrev pub put_block : ℕ → List ℕ → ℕ → Patches → Patches

@@ -1,0 +1,48 @@
+-- What the kept changes say.
+use Rattle.std.specs.Prelude.{◌≡◌, ℕ, List, [], ◌∷◌, get_or, Bool, false, Some, None, if◌then◌else◌}
+use Rattle.std.specs.FinMap as fin
+use Rattle.std.specs.BTreeMap.{BTreeMap}
+use Rattle.graph_change.specs.Bytes.{Length}
+use Rattle.graph_change.specs.Bytes as bytes
+use Rattle.graph_change.specs.Net.{Base}
+use Rattle.graph_change.specs.Net as net
+use Rattle.graph_change.specs.Change.{Patch, Patches, Change, Changes}
+use Rattle.graph_change.specs.declared.parts.NodeBase.{NodeBase}
+use Rattle.graph_change.specs.declared.parts.NodeBase.TheVariants as node_base
+use Rattle.graph_change.specs.declared.parts.NodeLength.{NodeLength}
+use Rattle.graph_change.specs.declared.parts.NodeLength.TheVariants as node_length
+use Rattle.graph_change.specs.declared.node_change.NodeChange.{NodeChange}
+use Rattle.graph_change.specs.declared.graph_change.GraphChange.{GraphChange}
+
+-- the byte at a place of a block, if it is marked as put
+abbrev pub patch_of : List ℕ × List Bool → Patch
+patch_of b p = if get_or b.1 p false then Some (get_or b.0 p 0) else None
+
+-- what the rest starts from
+abbrev pub base_of : NodeBase → Base
+base_of node_base.Kept = net.Kept
+base_of (node_base.Made kind) = net.Made kind
+base_of node_base.Gone = net.Gone
+
+-- the length that a file gets
+abbrev pub length_of : NodeLength → Length
+length_of (node_length.Grown to) = bytes.Grown to
+length_of (node_length.Cut least to) = bytes.Cut least to
+
+-- what is put into each of some blocks
+abbrev pub patches_of : List (ℕ × (List ℕ × List Bool)) → Patches
+patches_of [] = fin.empty
+patches_of (b ∷ bs) = fin.insert (patches_of bs) b.0 (patch_of b.1)
+
+-- the change of one inode
+abbrev pub change_of : NodeChange → Change
+change_of c = record { base = base_of c.base; names = c.names; length = length_of c.length; patches = patches_of c.blocks.entries; entries = c.entries }
+
+-- the changes of inodes
+abbrev pub nodes_of : List (ℕ × NodeChange) → Changes
+nodes_of [] = fin.empty
+nodes_of (n ∷ ns) = fin.insert (nodes_of ns) n.0 (change_of n.1)
+
+-- the change of many inodes
+abbrev pub changes_of : GraphChange → Changes
+changes_of c = nodes_of c.nodes.entries
