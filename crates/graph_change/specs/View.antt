@@ -1,6 +1,7 @@
 -- What the kept changes say.
 use Rattle.std.specs.Prelude.{◌≡◌, ℕ, List, [], ◌∷◌, get_or, Bool, false, Some, None, if◌then◌else◌}
 use Rattle.std.specs.FinMap as fin
+use Rattle.std.specs.Ordering.{nat_cmp}
 use Rattle.std.specs.BTreeMap.{BTreeMap}
 use Rattle.graph_change.specs.Bytes.{Length}
 use Rattle.graph_change.specs.Bytes as bytes
@@ -29,20 +30,23 @@ abbrev pub length_of : NodeLength → Length
 length_of (node_length.Grown to) = bytes.Grown to
 length_of (node_length.Cut least to) = bytes.Cut least to
 
+-- a map by numbers, of what some entries say
+abbrev pub map_of : {X Y : Type 0} → (X → Y) → List (ℕ × X) → fin.FinMap nat_cmp Y
+map_of f [] = fin.empty
+map_of f (e ∷ es) = fin.insert (map_of f es) e.0 (f e.1)
+
 -- what is put into each of some blocks
-abbrev pub patches_of : List (ℕ × (List ℕ × List Bool)) → Patches
-patches_of [] = fin.empty
-patches_of (b ∷ bs) = fin.insert (patches_of bs) b.0 (patch_of b.1)
+abbrev pub patches_of : BTreeMap ℕ (List ℕ × List Bool) → Patches
+patches_of blocks = map_of patch_of blocks.entries
 
 -- the change of one inode
 abbrev pub change_of : NodeChange → Change
-change_of c = record { base = base_of c.base; names = c.names; length = length_of c.length; patches = patches_of c.blocks.entries; entries = c.entries }
+change_of c = record { base = base_of c.base; names = c.names; length = length_of c.length; patches = patches_of c.blocks; entries = c.entries }
 
--- the changes of inodes
-abbrev pub nodes_of : List (ℕ × NodeChange) → Changes
-nodes_of [] = fin.empty
-nodes_of (n ∷ ns) = fin.insert (nodes_of ns) n.0 (change_of n.1)
+-- the change of each of some inodes
+abbrev pub nodes_of : BTreeMap ℕ NodeChange → Changes
+nodes_of nodes = map_of change_of nodes.entries
 
 -- the change of many inodes
 abbrev pub changes_of : GraphChange → Changes
-changes_of c = nodes_of c.nodes.entries
+changes_of c = nodes_of c.nodes

@@ -41,7 +41,7 @@ fn add(
     effect: &Effect,
 ) -> Result<(), AllocError>
     requires { inode ≡ subject effect.now }
-    ensures { OnOk result (nodes_of nodes.new.entries ≡ with_effect effect.now (nodes_of nodes.old.entries)) }
+    ensures { OnOk result (nodes_of nodes.new ≡ with_effect effect.now (nodes_of nodes.old)) }
 {
     if let Some(node) = nodes.get_mut(&inode) {
         return node.add(alloc, effect);

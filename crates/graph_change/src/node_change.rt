@@ -1,8 +1,8 @@
-ghost use Rattle.std.specs.Prelude.{◌≡◌, ◌+◌, ◌<◌, ◌≤◌, ◌^◌, length, OnOk};
+ghost use Rattle.std.specs.Prelude.{◌≡◌, ℕ, nat_lt, ◌+◌, ◌*◌, ◌<◌, ◌≤◌, ◌^◌, length, OnOk};
 ghost use Rattle.std.specs.FinMap as fin;
 ghost use Rattle.graph_change.specs.Bytes.{grown_to};
 ghost use Rattle.posix_calls.specs.declared.limits.TheConstants.{UNIT_BYTES};
-ghost use Rattle.graph_change.specs.Change.{new_change, change_after, patch_at, put_patch, put_blocks, span, cut_patches};
+ghost use Rattle.graph_change.specs.Change.{new_change, change_after, patch_at, put_patch, put_blocks, span, cut_last, cut_patches};
 ghost use Rattle.graph_change.specs.View.{base_of, length_of, patches_of, change_of};
 
 use crate::block_change::BlockChange;
@@ -88,19 +88,19 @@ impl NodeChange {
 // Puts bytes at an offset of the file. A write that would end past all numbers finds no memory.
 fn write(
     alloc: Global,
-    length: &mut NodeLength,
+    len: &mut NodeLength,
     blocks: &mut BTreeMap<u64, BlockChange>,
     at: u64,
     bytes: &[u8],
 ) -> Result<(), AllocError>
-    ensures length { OnOk result (length_of length.new ≡ grown_to (at + length bytes.now) (length_of length.old)) }
-    ensures blocks { OnOk result (patches_of blocks.new.entries ≡ put_blocks at bytes.now (span at (length bytes.now)) (patches_of blocks.old.entries)) }
+    ensures length { OnOk result (length_of len.new ≡ grown_to (at + length bytes.now) (length_of len.old)) }
+    ensures blocks { OnOk result (patches_of blocks.new ≡ put_blocks at bytes.now (span at (length bytes.now)) (patches_of blocks.old)) }
 {
     let Some(end) = at.checked_add(bytes.len() as u64) else {
         return Err(AllocError);
     };
     put_bytes(alloc, blocks, at, bytes)?;
-    *length = length.grown(end);
+    *len = len.grown(end);
     Ok(())
 }
 
@@ -112,7 +112,7 @@ fn put_bytes(
     bytes: &[u8],
 ) -> Result<(), AllocError>
     requires { at + length bytes.now < 2 ^ 64 }
-    ensures { OnOk result (patches_of blocks.new.entries ≡ put_blocks at bytes.now (span at (length bytes.now)) (patches_of blocks.old.entries)) }
+    ensures { OnOk result (patches_of blocks.new ≡ put_blocks at bytes.now (span at (length bytes.now)) (patches_of blocks.old)) }
 {
     let mut done = 0;
     while done < bytes.len() {
@@ -134,7 +134,7 @@ fn put_part(
     part: &[u8],
 ) -> Result<(), AllocError>
     requires { place + length part.now ≤ UNIT_BYTES }
-    ensures { OnOk result (patches_of blocks.new.entries ≡ fin.insert (patches_of blocks.old.entries) block (put_patch place part.now (patch_at (patches_of blocks.old.entries) block))) }
+    ensures { OnOk result (patches_of blocks.new ≡ fin.insert (patches_of blocks.old) block (put_patch place part.now (patch_at (patches_of blocks.old) block))) }
 {
     if let Some(there) = blocks.get_mut(&block) {
         there.put(place, part);
@@ -148,9 +148,35 @@ fn put_part(
 
 // Drops what is put behind a size.
 fn cut_blocks(blocks: &mut BTreeMap<u64, BlockChange>, size: u64)
-    ensures { patches_of blocks.new.entries ≡ cut_patches size (patches_of blocks.old.entries) }
+    ensures { patches_of blocks.new ≡ cut_patches size (patches_of blocks.old) }
 {
-    blocks.retain(|block, _| *block < size.div_ceil(UNIT_BYTES as u64));
+    drop_from(blocks, blocks_begun(size));
+    cut_last(blocks, size);
+}
+
+// How many blocks of a file of this size are begun.
+fn blocks_begun(size: u64) -> u64
+    ensures { (b : ℕ) → nat_lt b result ≡ nat_lt (UNIT_BYTES * b) size }
+{
+    let whole = size / UNIT_BYTES as u64;
+    if size % UNIT_BYTES as u64 == 0 {
+        whole
+    } else {
+        whole + 1
+    }
+}
+
+// Drops the blocks from a number on.
+fn drop_from(blocks: &mut BTreeMap<u64, BlockChange>, end: u64)
+    ensures { patches_of blocks.new ≡ fin.retain_keys (patches_of blocks.old) (λ b. nat_lt b end) }
+{
+    blocks.retain(|block, _| *block < end);
+}
+
+// Cuts the block within which a size ends.
+fn cut_last(blocks: &mut BTreeMap<u64, BlockChange>, size: u64)
+    ensures { patches_of blocks.new ≡ cut_last size (patches_of blocks.old) }
+{
     if let Some(last) = blocks.get_mut(&(size / UNIT_BYTES as u64)) {
         last.cut((size % UNIT_BYTES as u64) as usize);
     }
