@@ -1,16 +1,16 @@
 -- What is put into the blocks of a file is what is put at its places.
-use Rattle.std.proofs.Common.{◌≡◌, ◌≢◌, ◌⊎◌, inl, inr, ℕ, zero, suc, ◌+◌, ◌-◌, ◌*◌, ◌/◌, ◌%◌, ◌<◌, ◌≤◌, ◌==◌, if◌then◌else◌, cond, Bool, true, false, List, [], ◌∷◌, ◌++◌, length, get_or, refl, Some, None, Option, ap, sym, ◌∙◌, subst, arith}
-use Rattle.std.specs.Prelude.{nat_lt, nat_le, nat_eq, ◌&&◌, ◌||◌, unwrap_or}
+use Rattle.std.proofs.Common.{◌≡◌, ◌≢◌, ◌⊎◌, inl, inr, ℕ, zero, suc, ◌+◌, ◌-◌, ◌*◌, ◌/◌, ◌%◌, ◌<◌, ◌≤◌, ◌==◌, if◌then◌else◌, cond, Bool, true, false, List, [], ◌∷◌, length, get_or, refl, Some, None, Option, ap, sym, ◌∙◌, arith}
+use Rattle.std.specs.Prelude.{nat_lt, nat_eq, ◌&&◌, ◌||◌, unwrap_or}
 use Rattle.std.specs.List.{range_with_len, list_any}
 use Rattle.std.specs.Ordering.{nat_cmp, eq_by_cmp}
 use Rattle.std.specs.Cmp.{nat_cmp_total, unsigned_tied}
 use Rattle.std.specs.FinMap as fin
 use Rattle.std.specs.declared.cmp.Ordering.TheVariants.{Equal}
-use Rattle.std.proofs.lemmas.Bool.{cases_lt, eq-eqb, false≢true}
+use Rattle.std.proofs.lemmas.Bool.{cases_lt, false≢true}
 use Rattle.std.proofs.lemmas.Bool.Decides.{eqb_tells, nat_tests}
 use Rattle.posix_calls.specs.declared.limits.TheConstants.{UNIT_BYTES}
 use Rattle.graph_change.specs.Bytes.{is_within}
-use Rattle.graph_change.specs.Change.{Patch, Patches, blank, patch_at, new_in, span, over_patch, put_block, put_blocks, cut_patch, cut_last, cut_patches}
+use Rattle.graph_change.specs.Change.{Patch, Patches, blank, patch_at, new_in, span, over_patch, put_block, put_blocks, cut_patch, cut_patches}
 
 pub either : (b : Bool) → (b ≡ true) ⊎ (b ≡ false)
 either true = inl refl
@@ -69,9 +69,9 @@ all_out at bytes (b ∷ bs) ps i out = all_out at bytes bs (put_block at bytes b
 all_stays : (at : ℕ) (bytes : List ℕ) (bs : List ℕ) (ps : Patches) (i : ℕ) → is_within at (length bytes) i ≡ true → new_in ps i ≡ Some (get_or bytes (i - at) 0) → new_in (put_blocks at bytes bs ps) i ≡ Some (get_or bytes (i - at) 0)
 all_stays at bytes [] ps i inside done = done
 all_stays at bytes (b ∷ bs) ps i inside done = all_stays at bytes bs (put_block at bytes b ps) i inside (elim (eqb_tells (i / UNIT_BYTES) b) [
-      | inl here ↦ one_there at bytes b ps i here.0 here.1 ∙ ap (λ t. cond t (Some (get_or bytes (i - at) 0)) (new_in ps i)) inside
-      | inr off ↦ one_other at bytes b ps i off.0 ∙ done
-    ])
+  | inl here ↦ one_there at bytes b ps i here.0 here.1 ∙ ap (λ t. cond t (Some (get_or bytes (i - at) 0)) (new_in ps i)) inside
+  | inr off ↦ one_other at bytes b ps i off.0 ∙ done
+])
 
 all_in : (at : ℕ) (bytes : List ℕ) (bs : List ℕ) (ps : Patches) (i : ℕ) → is_within at (length bytes) i ≡ true → list_any (nat_eq (i / UNIT_BYTES)) bs ≡ true → new_in (put_blocks at bytes bs ps) i ≡ Some (get_or bytes (i - at) 0)
 all_in at bytes [] ps i inside has = absurd (false≢true has)
@@ -81,7 +81,7 @@ all_in at bytes (b ∷ bs) ps i inside has =
       | inr off ↦ all_in at bytes bs (put_block at bytes b ps) i inside (sym (ap (λ t. t || list_any (nat_eq (i / UNIT_BYTES)) bs) off.0) ∙ has)
     ]
 
-any_range : (k a j : ℕ) → a ≤ j → j < a + k → list_any (nat_eq j) (range_with_len a k) ≡ true
+pub any_range : (k a j : ℕ) → a ≤ j → j < a + k → list_any (nat_eq j) (range_with_len a k) ≡ true
 any_range zero a j low high = absurd (omega arith)
 any_range (suc k) a j low high =
     elim (eqb_tells j a) [

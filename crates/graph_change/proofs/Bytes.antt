@@ -1,9 +1,9 @@
 -- A change of the bytes, and then a write or a new length.
-use Rattle.std.proofs.Common.{◌≡◌, ◌≢◌, ◌⊎◌, inl, inr, ℕ, ◌+◌, ◌-◌, ◌<◌, ◌≤◌, ◌==◌, if◌then◌else◌, cond, Bool, true, false, List, [], ◌∷◌, ◌++◌, length, get_or, take, drop, refl, Some, None, Option, ap, sym, ◌∙◌, arith, max, min}
-use Rattle.std.specs.Prelude.{nat_lt, nat_le, ◌&&◌, replicate}
+use Rattle.std.proofs.Common.{◌≡◌, inl, inr, ℕ, ◌+◌, ◌-◌, ◌<◌, ◌≤◌, if◌then◌else◌, List, ◌++◌, length, get_or, drop, refl, Some, None, Option, ap, sym, ◌∙◌, arith, max}
+use Rattle.std.specs.Prelude.{nat_lt}
 use Rattle.std.proofs.lemmas.Bool.{cases_lt}
 use Rattle.std.proofs.lemmas.Bool.Decides.{nat_tests}
-use Rattle.std.proofs.lemmas.List.{get_or-take, get_or-drop, get_or-replicate, get_or_append_left, get_or-append_right, get_or_past, ext_get_or}
+use Rattle.std.proofs.lemmas.List.{get_or-drop, get_or_append_left, get_or-append_right, get_or_past, ext_get_or}
 use Rattle.std.proofs.lemmas.List.FromFn.{length-map-range_with_len, get_or-map-range_with_len}
 use Rattle.std.proofs.lemmas.Grind.{common_steps}
 use Rattle.posix_calls.specs.Content.{resized, written}
@@ -117,10 +117,10 @@ pub size_law : (n : ℕ) (c : BytesChange) (old : List ℕ) → IsTidy c → byt
 size_law n c old tidy =
     let one = length_bytes (with_size n c) old ∙ size_length n c.length (length old) in
     ext_get_or 0 _ _ (one ∙ sym (length_resized n (bytes_after c old))) (λ i h.
-      let low : i < n = omega (arith, one, h) in
-      after_at (with_size n c) old i (tidy_size n c tidy)
-      ∙ size_byte n c old i low
-      ∙ sym (resized_in n (bytes_after c old) i low ∙ after_at c old i tidy))
+    let low : i < n = omega (arith, one, h) in
+    after_at (with_size n c) old i (tidy_size n c tidy)
+    ∙ size_byte n c old i low
+    ∙ sym (resized_in n (bytes_after c old) i low ∙ after_at c old i tidy))
 
 -- ---- a write
 
@@ -175,9 +175,9 @@ write_over at bytes c old i tidy =
 pub write_law : (at : ℕ) (bytes : List ℕ) (c : BytesChange) (old : List ℕ) → IsTidy c → bytes_after (with_write at bytes c) old ≡ written at bytes (bytes_after c old)
 write_law at bytes c old tidy =
     ext_get_or 0 _ _
-      (length_bytes (with_write at bytes c) old ∙ write_length (at + length bytes) c.length (length old)
-        ∙ ap (λ n. max n (at + length bytes)) (sym (length_bytes c old)) ∙ sym (length_written (bytes_after c old) at bytes))
-      (λ i h. after_at (with_write at bytes c) old i (tidy_write at bytes c tidy) ∙ write_over at bytes c old i tidy)
+    (length_bytes (with_write at bytes c) old ∙ write_length (at + length bytes) c.length (length old)
+    ∙ ap (λ n. max n (at + length bytes)) (sym (length_bytes c old)) ∙ sym (length_written (bytes_after c old) at bytes))
+    (λ i h. after_at (with_write at bytes c) old i (tidy_write at bytes c tidy) ∙ write_over at bytes c old i tidy)
 
 -- ---- no change
 

@@ -1,5 +1,5 @@
 -- The change that a list of effects comes to makes of every graph what the effects make of it.
-use Rattle.std.proofs.Common.{◌≡◌, ◌≢◌, ◌⊎◌, inl, inr, ℕ, ◌+◌, ◌==◌, ◌/◌, ◌%◌, if◌then◌else◌, cond, Bool, true, false, List, [], ◌∷◌, length, refl, Some, None, Option, ap, sym, ◌∙◌, subst}
+use Rattle.std.proofs.Common.{◌≡◌, inl, inr, ℕ, ◌+◌, ◌==◌, ◌/◌, ◌%◌, if◌then◌else◌, cond, false, List, [], ◌∷◌, length, refl, None, Option, ap, sym, ◌∙◌, subst}
 use Rattle.std.specs.Prelude.{◌||◌, unwrap_or}
 use Rattle.std.specs.Ordering.{nat_cmp}
 use Rattle.std.specs.FinMap as fin
@@ -46,12 +46,12 @@ subject_alone (effect.Drop i) = refl
 
 among_one : (j s : ℕ) → is_among j (s ∷ []) ≡ (j == s)
 among_one j s = elim (eqb_tells j s) [
-      | inl here ↦ ap (λ b. b || false) (eq-eqb s j (sym here.1)) ∙ sym here.0
-      | inr off ↦ elim (eqb_tells s j) [
-        | inl there ↦ absurd (off.1 (sym there.1))
-        | inr apart ↦ ap (λ b. b || false) apart.0 ∙ sym off.0
-      ]
-    ]
+  | inl here ↦ ap (λ b. b || false) (eq-eqb s j (sym here.1)) ∙ sym here.0
+  | inr off ↦ elim (eqb_tells s j) [
+    | inl there ↦ absurd (off.1 (sym there.1))
+    | inr apart ↦ ap (λ b. b || false) apart.0 ∙ sym off.0
+  ]
+]
 
 acts_there : (g : Graph) (e : Effect) (j : ℕ) → after_effect g e j ≡ (if j == subject e then acted e (g j) else g j)
 acts_there g e j = ap (λ is. cond (is_among j is) (acted e (g j)) (g j)) (subject_alone e) ∙ ap (λ b. cond b (acted e (g j)) (g j)) (among_one j (subject e))

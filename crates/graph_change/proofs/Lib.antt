@@ -5,4 +5,5 @@ pub mod Law
 pub mod Maps
 pub mod Nodes
 pub mod Patches
+pub mod Pieces
 pub mod Touched

@@ -1,5 +1,5 @@
 -- A map in memory as the finite map of what its values say.
-use Rattle.std.proofs.Common.{◌≡◌, inl, inr, ℕ, ◌==◌, List, [], ◌∷◌, Bool, true, false, Option, Some, None, refl, sym, ap, ◌∙◌, cond, subst}
+use Rattle.std.proofs.Common.{◌≡◌, inl, inr, ℕ, List, [], ◌∷◌, Bool, true, false, Option, Some, None, refl, sym, ap, ◌∙◌, cond, subst}
 use Rattle.std.specs.Prelude.{option_map, unwrap_or, IsSome}
 use Rattle.std.specs.Ordering.{nat_cmp, is_eq, eq_by_cmp}
 use Rattle.std.specs.Cmp.{nat_cmp_total, eq_by_cmp_equiv, unsigned_tied}
@@ -8,7 +8,7 @@ use Rattle.graph_change.proofs.Blocks.{either}
 use Rattle.std.specs.Map.{lookup}
 use Rattle.std.specs.List.{filter}
 use Rattle.std.specs.FinMap as fin
-use Rattle.std.specs.BTreeMap.{BTreeMap, get, get_by, is_at, Updates}
+use Rattle.std.specs.BTreeMap.{BTreeMap, get, is_at, Updates}
 use Rattle.graph_change.specs.View.{map_of}
 
 in_option : {X Y : Type 0} (f : X → Y) (b : Bool) (x : X) (o : Option X) → cond b (Some (f x)) (option_map f o) ≡ option_map f (cond b (Some x) o)
@@ -58,9 +58,9 @@ skipped false e rest q off = refl
 lookup_where : {X : Type 0} (test : ℕ → Bool) (q : ℕ) (es : List (ℕ × X)) → lookup (is_at (nat_cmp q)) (filter (λ e. test e.0) es) ≡ cond (test q) (lookup (is_at (nat_cmp q)) es) None
 lookup_where test q [] = none_either (test q)
   where
-  none_either : {A : Type 0} (b : Bool) → ◌≡◌ {A = Option A} None (cond b None None)
-  none_either true = refl
-  none_either false = refl
+    none_either : {A : Type 0} (b : Bool) → ◌≡◌ {A = Option A} None (cond b None None)
+    none_either true = refl
+    none_either false = refl
 lookup_where {X} test q (e ∷ es) =
     let rest = filter {X = ℕ × X} (λ x. test x.0) es in
     let later = lookup {X = X} (is_at (nat_cmp q)) es in
@@ -89,9 +89,9 @@ where_at f test es q =
     ∙ mapped (test q) f (lookup (is_at (nat_cmp q)) es)
     ∙ ap (λ o. cond (test q) o None) (sym (found f q es))
   where
-  mapped : {X Y : Type 0} (b : Bool) (f : X → Y) (o : Option X) → option_map f (cond b o None) ≡ cond b (option_map f o) None
-  mapped true f o = refl
-  mapped false f o = refl
+    mapped : {X Y : Type 0} (b : Bool) (f : X → Y) (o : Option X) → option_map f (cond b o None) ≡ cond b (option_map f o) None
+    mapped true f o = refl
+    mapped false f o = refl
 
 -- the entries that are left are those whose keys pass
 pub left_where : {X Y : Type 0} (f : X → Y) (test : ℕ → Bool) (es kept : List (ℕ × X)) → kept ≡ filter (λ e. test e.0) es → map_of f kept ≡ fin.retain_keys (map_of f es) test

@@ -1,15 +1,13 @@
 -- The net change with one more effect is the net change and then the effect, of every node, of any kind or none.
-use Rattle.std.proofs.Common.{◌≡◌, ℕ, List, [], refl, Some, None, Option, ap}
+use Rattle.std.proofs.Common.{◌≡◌, ℕ, List, refl, Some, None, Option, ap}
 use Rattle.std.specs.Prelude.{option_map}
 use Rattle.posix_calls.specs.Content.{resized, written}
-use Rattle.file_graph.specs.declared.effect.Kind.{Kind}
-use Rattle.file_graph.specs.declared.effect.Kind.TheVariants as kind
 use Rattle.file_graph.specs.declared.effect.Effect.{Effect}
 use Rattle.file_graph.specs.declared.effect.Effect.TheVariants as effect
 use Rattle.std.specs.FinMap as fin
 use Rattle.file_graph.specs.Graph.{Node, Body, FileBody, DirBody, empty_body, in_file, in_directory, acted}
 use Rattle.graph_change.specs.Bytes.{BytesChange, IsTidy, no_bytes, with_size, with_write}
-use Rattle.graph_change.specs.Net.{Child, Net, EntryChanges, Kept, with_entry, from_base, based, body_after, names_after, edited, node_after, net_after}
+use Rattle.graph_change.specs.Net.{Child, Net, EntryChanges, Kept, with_entry, from_base, based, body_after, names_after, node_after, net_after}
 use Rattle.graph_change.proofs.Bytes.{size_law, write_law, tidy_size, tidy_write, tidy_nothing, nothing_after}
 use Rattle.graph_change.proofs.Entries.{entries_law, no_entries}
 

@@ -1,11 +1,10 @@
 -- What is put into a block.
-use Rattle.std.proofs.Common.{◌≡◌, ℕ, zero, suc, cond, Bool, true, false, List, [], ◌∷◌, get_or, refl, Some, None, Option, ap, sym, ◌∙◌, inl, inr, length, arith}
+use Rattle.std.proofs.Common.{◌≡◌, ℕ, cond, Bool, false, List, get_or, Some, None, ap, ◌∙◌, length, arith}
 use Rattle.std.specs.Prelude.{replicate, if◌then◌else◌, ◌-◌}
 use Rattle.graph_change.specs.Bytes.{is_within}
 use Rattle.graph_change.specs.Change.{Patch, blank, put_patch}
-use Rattle.std.proofs.lemmas.Bool.{cases_lt}
 use Rattle.std.proofs.lemmas.Grind.{common_steps}
-use Rattle.std.proofs.lemmas.List.{get_or-replicate, get_or_past}
+use Rattle.std.proofs.lemmas.List.{get_or_past}
 use Rattle.graph_change.specs.View.{patch_of}
 
 unmarked : (n p : ℕ) → get_or (replicate n false) p false ≡ false

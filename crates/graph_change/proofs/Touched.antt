@@ -1,18 +1,18 @@
 -- No inode and no block changes that the effects leave alone.
-use Rattle.std.proofs.Common.{◌≡◌, ◌≢◌, ◌⊎◌, inl, inr, ℕ, ◌+◌, ◌*◌, ◌/◌, ◌%◌, ◌==◌, if◌then◌else◌, cond, Bool, true, false, List, [], ◌∷◌, length, refl, Some, None, Option, ap, sym, ◌∙◌, subst, min, arith}
+use Rattle.std.proofs.Common.{◌≡◌, ◌⊎◌, inl, inr, ℕ, ◌+◌, ◌*◌, ◌/◌, ◌%◌, ◌==◌, cond, Bool, true, false, List, [], ◌∷◌, length, refl, Some, None, Option, ap, sym, ◌∙◌, min, arith}
 use Rattle.std.specs.Prelude.{◌||◌, ◌&&◌, is_some, nat_eq, nat_lt}
 use Rattle.std.specs.List.{list_any}
 use Rattle.std.specs.Ordering.{nat_cmp}
 use Rattle.std.specs.FinMap as fin
-use Rattle.std.proofs.lemmas.Bool.{cases_lt, eq-eqb, false≢true}
+use Rattle.std.proofs.lemmas.Bool.{cases_lt, false≢true}
 use Rattle.std.proofs.lemmas.Bool.Decides.{eqb_tells}
 use Rattle.posix_calls.specs.declared.limits.TheConstants.{UNIT_BYTES}
 use Rattle.file_graph.specs.declared.effect.Effect.{Effect}
 use Rattle.file_graph.specs.declared.effect.Effect.TheVariants as effect
 use Rattle.graph_change.specs.Bytes.{Length, Grown, Cut, grown_to, sized_to}
 use Rattle.graph_change.specs.Net.{Base, Kept, Made, Gone}
-use Rattle.graph_change.specs.Change.{Patch, Patches, Change, Changes, Coalesces, blank, subject, span, over_patch, patch_at, put_block, put_blocks, cut_patch, cut_patches, new_change, change_after, change_at, with_effect, with_effects, coalesced, ends_within, cuts_within, writes_block, touches_block, change_inode, change_block}
-use Rattle.graph_change.proofs.Blocks.{get_put, get_begun, begun, either}
+use Rattle.graph_change.specs.Change.{Patch, Patches, Change, Changes, Coalesces, subject, span, over_patch, patch_at, put_block, put_blocks, cut_patch, cut_patches, new_change, change_after, change_at, with_effect, with_effects, coalesced, ends_within, cuts_within, writes_block, touches_block, change_inode, change_block}
+use Rattle.graph_change.proofs.Blocks.{get_put, get_begun, begun}
 use Rattle.graph_change.proofs.Law.{change_put, empty_at, coalesced_law}
 
 -- ---- of truth values
@@ -53,9 +53,9 @@ put_has at bytes (x ∷ bs) ps b h =
 begun_has : (n : ℕ) (ps : Patches) (b : ℕ) → fin.contains_key (begun n ps) b ≡ true → fin.contains_key ps b ≡ true
 begun_has n ps b h = kept_some (nat_lt (UNIT_BYTES * b) n) (fin.get ps b) (sym (ap is_some (get_begun n ps b)) ∙ h)
   where
-  kept_some : (t : Bool) (o : Option Patch) → is_some (cond t o None) ≡ true → is_some o ≡ true
-  kept_some true o e = e
-  kept_some false o e = absurd (false≢true e)
+    kept_some : (t : Bool) (o : Option Patch) → is_some (cond t o None) ≡ true → is_some o ≡ true
+    kept_some true o e = e
+    kept_some false o e = absurd (false≢true e)
 
 last_has : (n : ℕ) (ps : Patches) (o : Option Patch) (b : ℕ) → fin.get ps (n / UNIT_BYTES) ≡ o → fin.contains_key (elim o [ None ↦ ps | Some old ↦ fin.insert ps (n / UNIT_BYTES) (cut_patch (n % UNIT_BYTES) old) ]) b ≡ true → fin.contains_key ps b ≡ true
 last_has n ps None b is h = h
@@ -85,7 +85,6 @@ grown_cuts n (Cut least to) b = refl
 
 nothing_written : (base : Base) (b : ℕ) → writes_block (new_change base) b ≡ false
 nothing_written base b = ap (λ o. is_some o || false) (fin.get-empty nat_cmp b)
-
 
 one_effect : (e : Effect) (c : Change) (b : ℕ) → writes_block (change_after e c) b ≡ true → (writes_block c b || touches_block e b) ≡ true
 one_effect (effect.Make i k) c b h = absurd (false≢true (sym (nothing_written (Made k) b) ∙ h))
@@ -134,7 +133,7 @@ block_there e cs i b h =
     elim (eqb_tells i s) [
       | inl here ↦
           elim (or_cases (writes_block (change_at cs s) b) (touches_block e b)
-            (one_effect e (change_at cs s) b (sym (ap (λ x. writes_block x b) (change_put e cs i ∙ ap (λ t. cond t c (change_at cs i)) here.0)) ∙ h))) [
+          (one_effect e (change_at cs s) b (sym (ap (λ x. writes_block x b) (change_put e cs i ∙ ap (λ t. cond t c (change_at cs i)) here.0)) ∙ h))) [
             | inl old ↦ inl (ap (λ k. writes_block (change_at cs k) b) here.1 ∙ old)
             | inr new ↦ inr (and_right (i == s) (touches_block e b) here.0 new)
           ]
@@ -155,7 +154,7 @@ with_blocks (e ∷ es) cs i b h =
 
 pub coalesces : (es : List Effect) → Coalesces es (coalesced es)
 coalesces es = record {
-    meaning = coalesced_law es;
-    inodes = λ i h. sym (ap (λ o. is_some o || change_inode es i) (fin.get-empty nat_cmp i)) ∙ with_has es fin.empty i h;
-    blocks = λ i b h. sym (ap (λ t. t || change_block es i b) (ap (λ c. writes_block c b) (empty_at i) ∙ nothing_written Kept b)) ∙ with_blocks es fin.empty i b h;
-  }
+  meaning = coalesced_law es;
+  inodes = λ i h. sym (ap (λ o. is_some o || change_inode es i) (fin.get-empty nat_cmp i)) ∙ with_has es fin.empty i h;
+  blocks = λ i b h. sym (ap (λ t. t || change_block es i b) (ap (λ c. writes_block c b) (empty_at i) ∙ nothing_written Kept b)) ∙ with_blocks es fin.empty i b h;
+}

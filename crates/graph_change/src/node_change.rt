@@ -56,9 +56,7 @@ impl NodeChange {
                 kind,
                 name,
                 ..
-            } => self
-                .entries
-                .put(name.copy(alloc)?, Some((*inode, *kind))),
+            } => self.entries.put(name.copy(alloc)?, Some((*inode, *kind))),
             Effect::Leave { name, .. } => self.entries.put(name.copy(alloc)?, None),
             Effect::Names { names, .. } => {
                 self.names = Some(*names);
@@ -82,7 +80,6 @@ impl NodeChange {
             }
         }
     }
-
 }
 
 // Puts bytes at an offset of the file. A write that would end past all numbers finds no memory.
@@ -119,7 +116,13 @@ fn put_bytes(
         let start = at + done as u64;
         let place = (start % UNIT_BYTES as u64) as usize;
         let count = (UNIT_BYTES as usize - place).min(bytes.len() - done);
-        put_part(alloc, blocks, start / UNIT_BYTES as u64, place, &bytes[done..done + count])?;
+        put_part(
+            alloc,
+            blocks,
+            start / UNIT_BYTES as u64,
+            place,
+            &bytes[done..done + count],
+        )?;
         done += count;
     }
     Ok(())
