@@ -1,0 +1,22 @@
+//! A change of many inodes at once: what a list of effects comes to.
+//!
+//! A `GraphChange` says of each inode that it touches what becomes of the node there, of its names, of a file's length and of the
+//! bytes in each of its blocks, and of a directory's entries, each one time, however often the effects changed it. Whoever
+//! coalesces effects makes one, and whoever keeps a graph on media applies one; what it makes of a graph is a definition
+//! (`changed` in `specs/Change.antt`), and `changes_are_the_effects` says that this is what the effects make of it.
+//!
+//! An effect on the entries of two directories at once (an exchange of two entries) is no change of single inodes. It would stand
+//! between two changes: what makes nodes and enters names can be done before it, and the rest of a change after it.
+#![tactic(auto)]
+
+mod block_change;
+mod graph_change;
+mod laws;
+mod node_change;
+mod parts;
+
+pub use block_change::BlockChange;
+pub use graph_change::GraphChange;
+pub use laws::changes_are_the_effects;
+pub use node_change::NodeChange;
+pub use parts::{NodeBase, NodeLength};

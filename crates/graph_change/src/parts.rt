@@ -1,0 +1,56 @@
+ghost use Rattle.std.specs.Prelude.{◌≡◌};
+ghost use Rattle.graph_change.specs.Bytes.{grown_to, sized_to};
+ghost use Rattle.graph_change.specs.View.{length_of};
+
+use file_graph::Kind;
+
+/// What the rest of a change starts from.
+#[derive(Clone, Copy, Debug, PartialEq, Eq)]
+pub enum NodeBase {
+    /// The node that was there.
+    Kept,
+    /// A new empty node.
+    Made { kind: Kind },
+    /// No node.
+    Gone,
+}
+
+/// The length that a file gets, in bytes.
+#[derive(Clone, Copy, Debug, PartialEq, Eq)]
+pub enum NodeLength {
+    /// Not cut, and at least so long.
+    Grown { to: u64 },
+    /// Cut to the least of the lengths that it had, and so long in the end.
+    Cut { least: u64, to: u64 },
+}
+
+impl NodeLength {
+    /// After a write that ends there.
+    pub fn grown(self, end: u64) -> Self
+        ensures { length_of result ≡ grown_to end (length_of self) }
+    {
+        match self {
+            NodeLength::Grown { to } => NodeLength::Grown { to: to.max(end) },
+            NodeLength::Cut { least, to } => NodeLength::Cut {
+                least,
+                to: to.max(end),
+            },
+        }
+    }
+
+    /// After it is set.
+    pub fn sized(self, size: u64) -> Self
+        ensures { length_of result ≡ sized_to size (length_of self) }
+    {
+        match self {
+            NodeLength::Grown { .. } => NodeLength::Cut {
+                least: size,
+                to: size,
+            },
+            NodeLength::Cut { least, .. } => NodeLength::Cut {
+                least: least.min(size),
+                to: size,
+            },
+        }
+    }
+}
