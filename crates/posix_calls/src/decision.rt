@@ -16,8 +16,9 @@ use std::alloc::Global;
 /// What a call comes to, for a client with these descriptors: the operation, or else the first error of the call in the order of
 /// its profile. Nothing is changed; who decides carries the operation out.
 ///
-/// The tree may be known in part. What the call needs is asked for in the order of its errors, and the first inode of which more
-/// has to be known is answered by `Missing`; once it is known, the same call may be decided again. Where an answer comes, it is that
+/// The tree may be known in part. What the call needs is asked for in the order of its errors, and the first thing that has to be
+/// known beside is answered by `Missing`; once it is known, the same call may be decided again. Bytes of a file are asked for by
+/// `pread` alone, and only those that it gives. Where an answer comes, it is that
 /// of every tree of which this is a part. Memory is taken for the names of the paths and for what the operation carries; `Memory` may
 /// stand in place of any answer.
 pub fn decide<T: TreeAnswers>(

@@ -1,17 +1,17 @@
 // What the calls that take or give a descriptor come to: open, close, pread, pwrite.
-ghost use Rattle.std.specs.Prelude.{◌≡◌, ◌&&◌, ◌+◌, nat_lt, true};
+ghost use Rattle.std.specs.Prelude.{◌≡◌, ◌<◌, ◌≤◌, ◌&&◌, ◌+◌, ◌^◌, nat_lt, true};
 ghost use Rattle.posix_calls.specs.Walk.{is_there};
-ghost use Rattle.posix_calls.specs.Query.{Part};
+ghost use Rattle.posix_calls.specs.Query.{Part, blocks_of};
 ghost use Rattle.posix_calls.specs.Answers.{Tells};
 ghost use Rattle.posix_calls.specs.Own.{own_of};
-ghost use Rattle.posix_calls.specs.declared.limits.TheConstants.{MAX_DESCRIPTORS};
-ghost use Rattle.posix_calls.specs.Decide.{is_senseless, number_or, lowest_free, opened, empties, open_path, open_at, close, pread, write_at, pwrite};
+ghost use Rattle.posix_calls.specs.declared.limits.TheConstants.{MAX_DESCRIPTORS, MAX_TRANSFER};
+ghost use Rattle.posix_calls.specs.Decide.{is_senseless, number_or, lowest_free, opened, empties, open_path, open_at, close, bytes_from, pread, write_at, pwrite};
 
 use crate::bytes::Bytes;
 use crate::call::{Flags, Reply};
-use crate::operation::{Operation, DecideError};
+use crate::operation::{Operation, DecideError, Missing};
 use crate::errno::Errno;
-use crate::limits::{MAX_FILE, MAX_TRANSFER};
+use crate::limits::{MAX_FILE, MAX_TRANSFER, UNIT_BYTES};
 use crate::own::OwnDescriptors;
 use crate::path::Path;
 use crate::tree_answers::{TreeAnswers, known};
@@ -55,7 +55,7 @@ fn empties<T: TreeAnswers>(tree: &T, truncate: bool, inode: u32) -> Result<bool,
     if !truncate {
         return Ok(false);
     }
-    let size = known(tree.file_size(inode), inode)?;
+    let size = known(tree.file_size(inode), Missing::Node { inode })?;
     Ok(size > 0)
 }
 
@@ -169,11 +169,46 @@ pub(crate) fn pread<T: TreeAnswers>(
 {
     let inode = readable_inode(own, number)?;
     refuse_if(count > MAX_TRANSFER as u64, Errno::Invalid)?;
-    let answer = tree.read(alloc, inode, at, count)?;
-    let bytes = known(answer, inode)?;
+    let size = known(tree.file_size(inode), Missing::Node { inode })?;
+    let bytes = bytes_from(alloc, tree, inode, at, count.min(size.saturating_sub(at)))?;
     Ok(Operation::Tell {
         answer: Reply::Read { bytes },
     })
+}
+
+// So many bytes of a file that there are.
+fn bytes_from<T: TreeAnswers>(
+    alloc: Global,
+    tree: &T,
+    inode: u32,
+    at: u64,
+    count: u64,
+) -> Result<Bytes, DecideError>
+    requires some { at + count < 2 ^ 64 }
+    requires few { count ≤ MAX_TRANSFER }
+    ensures { Tells (T.part tree.now) (bytes_from inode at count) result }
+{
+    if count == 0 {
+        return Ok(Bytes::from_vec(Vec::new(alloc)));
+    }
+    let answer = tree.read(alloc, inode, at, count)?;
+    known(answer, blocks_of(inode, at, count))
+}
+
+// The blocks that a range of the bytes of a file touches.
+fn blocks_of(inode: u32, at: u64, count: u64) -> Missing
+    requires some { at + count < 2 ^ 64 }
+    requires few { count ≤ MAX_TRANSFER }
+    requires any { 0 < count }
+    ensures { result ≡ blocks_of inode at count }
+{
+    let first = at / UNIT_BYTES as u64;
+    let last = (at + (count - 1)) / UNIT_BYTES as u64;
+    Missing::Blocks {
+        inode,
+        first,
+        count: (1 + last - first) as u32,
+    }
 }
 
 pub(crate) fn pwrite(

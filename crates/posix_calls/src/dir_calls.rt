@@ -3,7 +3,7 @@ ghost use Rattle.std.specs.Prelude.{◌≡◌};
 ghost use Rattle.posix_calls.specs.Answers.{Tells};
 ghost use Rattle.posix_calls.specs.Decide.{mkdir, rmdir, rmdir_at};
 
-use crate::operation::{Operation, DecideError};
+use crate::operation::{Operation, DecideError, Missing};
 use crate::errno::Errno;
 use crate::path::Path;
 use crate::tree_answers::{TreeAnswers, known};
@@ -37,7 +37,7 @@ fn rmdir_at<T: TreeAnswers>(alloc: Global, tree: &T, path: &Path) -> Result<Oper
     let inode = there(to.inode)?;
     let is_dir = kind_at(tree, to.inode)?;
     refuse_if(!is_dir, Errno::NotDirectory)?;
-    let entries = known(tree.entry_count(inode), inode)?;
+    let entries = known(tree.entry_count(inode), Missing::Node { inode })?;
     refuse_if(entries > 0, Errno::NotEmpty)?;
     let at = location(alloc, to.parent, path)?;
     Ok(Operation::RemoveDir { at, inode })

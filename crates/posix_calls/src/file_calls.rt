@@ -4,7 +4,7 @@ ghost use Rattle.posix_calls.specs.Answers.{Tells};
 ghost use Rattle.posix_calls.specs.Decide.{truncate, unlink, unlink_at};
 
 use crate::call::Reply;
-use crate::operation::{Operation, DecideError};
+use crate::operation::{Operation, DecideError, Missing};
 use crate::errno::Errno;
 use crate::limits::MAX_FILE;
 use crate::path::Path;
@@ -26,7 +26,7 @@ pub(crate) fn truncate<T: TreeAnswers>(
     let is_dir = kind_at(tree, to.inode)?;
     refuse_if(is_dir, Errno::IsDirectory)?;
     refuse_if(len > MAX_FILE, Errno::FileTooBig)?;
-    let size = known(tree.file_size(inode), inode)?;
+    let size = known(tree.file_size(inode), Missing::Node { inode })?;
     if size == len {
         return Ok(Operation::Tell {
             answer: Reply::Done,

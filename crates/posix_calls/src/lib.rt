@@ -33,7 +33,7 @@ mod walk;
 pub use bytes::Bytes;
 pub use call::{Call, Flags, Reply};
 pub use decision::decide;
-pub use operation::{Operation, Description, DecideError, Replaced, Location};
+pub use operation::{Operation, Description, DecideError, Missing, Replaced, Location};
 pub use descriptor::Descriptor;
 pub use errno::Errno;
 pub use laws::{

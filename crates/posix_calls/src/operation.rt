@@ -94,10 +94,19 @@ pub enum Operation {
 pub enum DecideError {
     /// The call is answered by this error.
     Refused { errno: Errno },
-    /// More has to be known of this inode, which is the first that is asked for.
-    Missing { inode: u32 },
+    /// This has to be known too, and is the first thing that is asked for.
+    Missing { what: Missing },
     /// Memory ran out.
     Memory,
+}
+
+/// What has to be known of a file tree to decide a call.
+#[derive(Clone, Copy, Debug, PartialEq, Eq)]
+pub enum Missing {
+    /// What stands at an inode: whether it is a directory, its entries, or a file's size and number of names.
+    Node { inode: u32 },
+    /// Bytes of a file: `count` blocks of `UNIT_BYTES` bytes from block `first` on, all that a range touches.
+    Blocks { inode: u32, first: u64, count: u32 },
 }
 
 /// What there is to say of what stands at an inode.

@@ -4,7 +4,7 @@ ghost use Rattle.posix_calls.specs.Answers.{Tells};
 ghost use Rattle.posix_calls.specs.Decide.{list_path, list_at, stat};
 
 use crate::call::Reply;
-use crate::operation::{Operation, Description, DecideError};
+use crate::operation::{Operation, Description, DecideError, Missing};
 use crate::errno::Errno;
 use crate::path::Path;
 use crate::tree_answers::{TreeAnswers, known};
@@ -27,7 +27,7 @@ fn list_at<T: TreeAnswers>(alloc: Global, tree: &T, path: &Path) -> Result<Opera
     let is_dir = kind_at(tree, to.inode)?;
     refuse_if(!is_dir, Errno::NotDirectory)?;
     let answer = tree.names(alloc, inode)?;
-    let names = known(answer, inode)?;
+    let names = known(answer, Missing::Node { inode })?;
     Ok(Operation::Tell {
         answer: Reply::Listed { names },
     })
@@ -39,7 +39,7 @@ pub(crate) fn stat<T: TreeAnswers>(alloc: Global, tree: &T, bytes: &[u8]) -> Res
     let path = read_path(alloc, bytes)?;
     let to = prefix(tree, &path)?;
     let inode = there(to.inode)?;
-    let answer = known(tree.describe(inode), inode)?;
+    let answer = known(tree.describe(inode), Missing::Node { inode })?;
     let Some(description) = answer else {
         return Err(DecideError::Refused {
             errno: Errno::NoEntry,

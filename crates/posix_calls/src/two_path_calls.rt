@@ -5,7 +5,7 @@ ghost use Rattle.posix_calls.specs.Walk.{is_full};
 ghost use Rattle.posix_calls.specs.Decide.{link, link_at, rename, rename_at, replacing, is_inode};
 
 use crate::call::Reply;
-use crate::operation::{Operation, DecideError, Replaced};
+use crate::operation::{Operation, DecideError, Missing, Replaced};
 use crate::errno::Errno;
 use crate::limits::MAX_NAMES;
 use crate::path::Path;
@@ -41,7 +41,7 @@ fn link_at<T: TreeAnswers>(
     refuse_if(is_dir, Errno::NotPermitted)?;
     let to = prefix(tree, new_path)?;
     refuse_if(to.is_there(), Errno::Exists)?;
-    let names = known(tree.file_names(inode), inode)?;
+    let names = known(tree.file_names(inode), Missing::Node { inode })?;
     refuse_if(names >= MAX_NAMES, Errno::TooManyLinks)?;
     refuse_if(to.is_full(), Errno::NoSpace)?;
     let at = location(alloc, to.parent, new_path)?;
@@ -74,7 +74,7 @@ fn replaced<T: TreeAnswers>(
     if !new_dir {
         return Ok(Replaced::OldFile { inode });
     }
-    let entries = known(tree.entry_count(inode), inode)?;
+    let entries = known(tree.entry_count(inode), Missing::Node { inode })?;
     refuse_if(entries > 0, Errno::NotEmpty)?;
     Ok(Replaced::OldDir { inode })
 }
@@ -115,7 +115,7 @@ fn rename_at<T: TreeAnswers>(
     refuse_root(new_path)?;
     let from = prefix(tree, old_path)?;
     let inode = there(from.inode)?;
-    let to = walk(tree, new_path, inode)?;
+    let to = walk(tree, new_path, Some(inode))?;
     refuse_if(to.passed, Errno::Invalid)?;
     if is_inode(inode, to.inode) {
         return Ok(Operation::Tell {

@@ -6,7 +6,7 @@ ghost use Rattle.posix_calls.specs.Walk.{said, kind_at, there, is_root, is_there
 ghost use Rattle.posix_calls.specs.Answers.{Tells, last_name, landing, child_at};
 ghost use Rattle.posix_calls.specs.declared.operation.DecideError.TheVariants.{Refused, Memory};
 
-use crate::operation::{DecideError, Location};
+use crate::operation::{DecideError, Missing, Location};
 use crate::errno::Errno;
 use crate::limits::{MAX_ENTRIES, ROOT};
 use crate::name::Name;
@@ -23,9 +23,6 @@ pub struct Landing {
     pub entries: u32,
     pub passed: bool,
 }
-
-// No inode has this number.
-const NOTHING: u32 = 0;
 
 // This error, where the test holds.
 pub(crate) fn refuse_if(test: bool, errno: Errno) -> Result<(), DecideError>
@@ -63,7 +60,7 @@ pub(crate) fn kind_at<T: TreeAnswers>(tree: &T, inode: Option<u32>) -> Result<bo
     let Some(inode) = inode else {
         return Ok(false);
     };
-    let answer = known(tree.is_dir(inode), inode)?;
+    let answer = known(tree.is_dir(inode), Missing::Node { inode })?;
     Ok(answer.unwrap_or(false))
 }
 
@@ -83,13 +80,13 @@ pub(crate) fn there(inode: Option<u32>) -> Result<u32, DecideError>
 fn child_at<T: TreeAnswers>(tree: &T, dir: u32, name: &[u8]) -> Result<u32, DecideError>
     ensures { Tells (T.part tree.now) (child_at dir name.now) result }
 {
-    let entry = known(tree.entry(dir, name), dir)?;
+    let entry = known(tree.entry(dir, name), Missing::Node { inode: dir })?;
     let Some(inode) = entry else {
         return Err(DecideError::Refused {
             errno: Errno::NoEntry,
         });
     };
-    let answer = known(tree.is_dir(inode), inode)?;
+    let answer = known(tree.is_dir(inode), Missing::Node { inode })?;
     match answer {
         Some(true) => Ok(inode),
         Some(false) => Err(DecideError::Refused {
@@ -101,8 +98,8 @@ fn child_at<T: TreeAnswers>(tree: &T, dir: u32, name: &[u8]) -> Result<u32, Deci
     }
 }
 
-// Walks along a path to the parent of its last name, and watches for an inode.
-pub(crate) fn walk<T: TreeAnswers>(tree: &T, path: &Path, watched: u32) -> Result<Landing, DecideError>
+// Walks along a path to the parent of its last name, and watches for an inode where it is to.
+pub(crate) fn walk<T: TreeAnswers>(tree: &T, path: &Path, watched: Option<u32>) -> Result<Landing, DecideError>
     ensures tells { Tells (T.part tree.now) (landing watched path.now) result }
     ensures root { IfOk result (λ to. is_root path.now ≡ true → to.inode ≡ Some ROOT) }
 {
@@ -117,12 +114,12 @@ pub(crate) fn walk<T: TreeAnswers>(tree: &T, path: &Path, watched: u32) -> Resul
     let mut dir = ROOT;
     let mut passed = false;
     for name in before {
-        passed |= dir == watched;
+        passed |= watched == Some(dir);
         dir = child_at(tree, dir, name.as_slice())?;
     }
-    let inode = known(tree.entry(dir, last.as_slice()), dir)?;
-    let entries = known(tree.entry_count(dir), dir)?;
-    passed |= dir == watched;
+    let inode = known(tree.entry(dir, last.as_slice()), Missing::Node { inode: dir })?;
+    let entries = known(tree.entry_count(dir), Missing::Node { inode: dir })?;
+    passed |= watched == Some(dir);
     Ok(Landing {
         parent: dir,
         inode,
@@ -133,10 +130,10 @@ pub(crate) fn walk<T: TreeAnswers>(tree: &T, path: &Path, watched: u32) -> Resul
 
 // Walks along a path to the parent of its last name.
 pub(crate) fn prefix<T: TreeAnswers>(tree: &T, path: &Path) -> Result<Landing, DecideError>
-    ensures tells { Tells (T.part tree.now) (landing 0 path.now) result }
+    ensures tells { Tells (T.part tree.now) (landing None path.now) result }
     ensures root { IfOk result (λ to. is_root path.now ≡ true → to.inode ≡ Some ROOT) }
 {
-    walk(tree, path, NOTHING)
+    walk(tree, path, None)
 }
 
 // The last name of a path, in its directory.
