@@ -1,9 +1,9 @@
 -- What someone who knows a part of a tree answers, piece by piece, and how a decision stands to its questions.
-use Rattle.std.specs.Prelude.{◌≡◌, ℕ, List, [], ◌∷◌, map, Bool, false, ◌==◌, Option, Some, None, Result, Ok, Err}
+use Rattle.std.specs.Prelude.{◌≡◌, ℕ, List, [], ◌∷◌, map, Option, Some, None, Result, Ok, Err}
 use Rattle.std.specs.FinMap as fin
 use Rattle.std.specs.List.{list_any}
 use Rattle.posix_calls.specs.Query.{Seen, File, Dir, Query, Gives, Look, ◌>>=◌, Part, Known, Unknown, run_part}
-use Rattle.posix_calls.specs.Walk.{Place, entries_seen, directory, prefix}
+use Rattle.posix_calls.specs.Walk.{Place, entries_seen, directory, prefix, is_inode}
 use Rattle.posix_calls.specs.declared.errno.Errno.{Errno}
 use Rattle.posix_calls.specs.declared.errno.Errno.TheVariants.{NoMemory}
 use Rattle.posix_calls.specs.declared.operation.DecideError.{DecideError}
@@ -42,14 +42,9 @@ last_name [] = []
 last_name (name ∷ []) = name
 last_name (name ∷ next ∷ names) = last_name (next ∷ names)
 
--- whether a walk went through the inode that is watched for, where one is
-abbrev pub has_passed : Option ℕ → List ℕ → Bool
-has_passed None walked = false
-has_passed (Some i) walked = list_any (λ d. d == i) walked
-
--- what a call needs of a place beside its name, and whether the walk went through an inode
+-- what a call needs of a place beside its name, and whether the walk went through the inode that is watched for, where one is
 abbrev pub landing_of : Option ℕ → Place → Landing
-landing_of watched place = record { parent = place.location.parent; inode = place.inode; entries = place.entries; passed = has_passed watched place.walked }
+landing_of watched place = record { parent = place.location.parent; inode = place.inode; entries = place.entries; passed = list_any (λ d. is_inode d watched) place.walked }
 
 -- a place by what is kept of it
 abbrev pub place_at : List (List ℕ) → Landing → List ℕ → Place

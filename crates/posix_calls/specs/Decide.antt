@@ -6,7 +6,7 @@ use Rattle.posix_calls.specs.Path.{reading}
 use Rattle.posix_calls.specs.Tree.{Own}
 use Rattle.posix_calls.specs.declared.descriptor.Descriptor.{Descriptor}
 use Rattle.posix_calls.specs.Query.{Seen, File, Dir, Query, Gives, Refuses, Look, Range, ◌>>=◌}
-use Rattle.posix_calls.specs.Walk.{Place, refuse, said, entries_at, size_at, size_seen, names_at, kind_at, prefix, is_root, is_there, there, is_full}
+use Rattle.posix_calls.specs.Walk.{Place, refuse, said, entries_at, size_at, size_seen, names_at, kind_at, prefix, is_root, is_there, is_inode, there, is_full}
 use Rattle.posix_calls.specs.declared.limits.TheConstants.{MAX_DESCRIPTORS, MAX_FILE, MAX_NAMES, MAX_TRANSFER}
 use Rattle.posix_calls.specs.declared.errno.Errno.TheVariants as errno
 use Rattle.posix_calls.specs.declared.call.Flags.{Flags}
@@ -204,11 +204,6 @@ replacing from to old_dir (Some j) = do
   _ ← refuse errno.NotDirectory (old_dir && not new_dir)
   _ ← refuse errno.IsDirectory (not old_dir && new_dir)
   if new_dir then replacing_dir j else Gives (OldFile j)
-
--- whether this inode is there
-abbrev pub is_inode : ℕ → Option ℕ → Bool
-is_inode i None = false
-is_inode i (Some j) = i == j
 
 -- the name moves
 abbrev pub renamed : Place → Place → ℕ → Query Operation

@@ -1,5 +1,5 @@
 -- The words of which the calls are made: an error, a node's parts, and the walk along a path.
-use Rattle.std.specs.Prelude.{ℕ, List, [], ◌∷◌, Bool, true, false, nat_le, Option, Some, None, Result, Ok, Err}
+use Rattle.std.specs.Prelude.{ℕ, List, [], ◌∷◌, Bool, true, false, ◌==◌, nat_le, Option, Some, None, Result, Ok, Err}
 use Rattle.std.specs.FinMap as fin
 use Rattle.posix_calls.specs.Content.{Entries}
 use Rattle.posix_calls.specs.Query.{Seen, File, Dir, Query, Gives, Refuses, IsDir, Look, ◌>>=◌}
@@ -108,6 +108,11 @@ is_root (name ∷ names) = false
 abbrev pub is_there : Option ℕ → Bool
 is_there None = false
 is_there (Some i) = true
+
+-- whether this inode is there
+abbrev pub is_inode : ℕ → Option ℕ → Bool
+is_inode i None = false
+is_inode i (Some j) = i == j
 
 -- the inode, or an error where nothing is there
 abbrev pub there : Option ℕ → Query ℕ

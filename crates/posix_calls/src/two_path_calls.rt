@@ -2,7 +2,7 @@
 ghost use Rattle.std.specs.Prelude.{◌≡◌, ◌==◌, ◌&&◌, not, ℕ, List, []};
 ghost use Rattle.posix_calls.specs.Answers.{Tells, place_at};
 ghost use Rattle.posix_calls.specs.Walk.{is_full};
-ghost use Rattle.posix_calls.specs.Decide.{link, link_at, rename, rename_at, replacing, is_inode};
+ghost use Rattle.posix_calls.specs.Decide.{link, link_at, rename, rename_at, replacing};
 
 use crate::call::Reply;
 use crate::operation::{Operation, DecideError, Missing, Replaced};
@@ -10,7 +10,7 @@ use crate::errno::Errno;
 use crate::limits::MAX_NAMES;
 use crate::path::Path;
 use crate::tree_answers::{TreeAnswers, known};
-use crate::walk::{Landing, kind_at, prefix, read_path, refuse_if, refuse_root, location, there, walk};
+use crate::walk::{Landing, is_inode, kind_at, prefix, read_path, refuse_if, refuse_root, location, there, walk};
 use std::alloc::Global;
 
 pub(crate) fn link<T: TreeAnswers>(
@@ -77,16 +77,6 @@ fn replaced<T: TreeAnswers>(
     let entries = known(tree.entry_count(inode), Missing::Node { inode })?;
     refuse_if(entries > 0, Errno::NotEmpty)?;
     Ok(Replaced::OldDir { inode })
-}
-
-// Whether this inode is there.
-fn is_inode(inode: u32, at: Option<u32>) -> bool
-    ensures { result ≡ is_inode inode at }
-{
-    match at {
-        Some(other) => inode == other,
-        None => false,
-    }
 }
 
 pub(crate) fn rename<T: TreeAnswers>(

@@ -2,7 +2,7 @@
 ghost use Rattle.std.specs.Prelude.{◌≡◌, Some, None, Ok, Err, true, false, IfOk, IfErr, nat_le};
 ghost use Rattle.posix_calls.specs.Path.{reading};
 ghost use Rattle.posix_calls.specs.Query.{Part};
-ghost use Rattle.posix_calls.specs.Walk.{said, kind_at, there, is_root, is_there};
+ghost use Rattle.posix_calls.specs.Walk.{said, kind_at, there, is_root, is_there, is_inode};
 ghost use Rattle.posix_calls.specs.Answers.{Tells, last_name, landing, child_at};
 ghost use Rattle.posix_calls.specs.declared.operation.DecideError.TheVariants.{Refused, Memory};
 
@@ -64,6 +64,16 @@ pub(crate) fn kind_at<T: TreeAnswers>(tree: &T, inode: Option<u32>) -> Result<bo
     Ok(answer.unwrap_or(false))
 }
 
+// Whether this inode is there.
+pub(crate) fn is_inode(inode: u32, at: Option<u32>) -> bool
+    ensures { result ≡ is_inode inode at }
+{
+    match at {
+        Some(other) => inode == other,
+        None => false,
+    }
+}
+
 // The inode, where there is one.
 pub(crate) fn there(inode: Option<u32>) -> Result<u32, DecideError>
     ensures { (p : Part) → Tells p (there inode) result }
@@ -114,12 +124,12 @@ pub(crate) fn walk<T: TreeAnswers>(tree: &T, path: &Path, watched: Option<u32>) 
     let mut dir = ROOT;
     let mut passed = false;
     for name in before {
-        passed |= watched == Some(dir);
+        passed |= is_inode(dir, watched);
         dir = child_at(tree, dir, name.as_slice())?;
     }
     let inode = known(tree.entry(dir, last.as_slice()), Missing::Node { inode: dir })?;
     let entries = known(tree.entry_count(dir), Missing::Node { inode: dir })?;
-    passed |= watched == Some(dir);
+    passed |= is_inode(dir, watched);
     Ok(Landing {
         parent: dir,
         inode,

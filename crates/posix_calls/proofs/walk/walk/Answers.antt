@@ -14,7 +14,7 @@ pub returns-in_err-dir-clause-tells : goal.returns-in_err-dir-clause-tells
 returns-in_err-dir-clause-tells g c = exits c.from_residual.ensures.1 (walked_stops (drop (c.loop-name.name-index + 1) (take (length c.names.result.now - 1) c.names.result.now)) c.last-item.result (walked_next (take (length c.names.result.now - 1) c.names.result.now) c.loop-name.name-index c.name-item.result c.last-item.result c.loop-name-test.true c.name-item.is c.loop-name.invariant) (rw (← c.as_slice.ensures.bytes) c.in_err-dir.ensures))
 
 pub loop-name-preserved : goal.loop-name-preserved
-loop-name-preserved g c = walked_on (drop (c.loop-name.name-index + 1) (take (length c.names.result.now - 1) c.names.result.now)) c.last-item.result (walked_next (take (length c.names.result.now - 1) c.names.result.now) c.loop-name.name-index c.name-item.result c.last-item.result c.loop-name-test.true c.name-item.is c.loop-name.invariant) (rw (← c.as_slice.ensures.bytes) c.in_ok-dir.ensures)
+loop-name-preserved g c = rw c.is_inode-passed.ensures (walked_on (drop (c.loop-name.name-index + 1) (take (length c.names.result.now - 1) c.names.result.now)) c.last-item.result (walked_next (take (length c.names.result.now - 1) c.names.result.now) c.loop-name.name-index c.name-item.result c.last-item.result c.loop-name-test.true c.name-item.is c.loop-name.invariant) (rw (← c.as_slice.ensures.bytes) c.in_ok-dir.ensures))
 
 pub returns-in_err-inode-clause-tells : goal.returns-in_err-inode-clause-tells
 returns-in_err-inode-clause-tells g c = exits c.from_residual-in_err-inode.ensures.1 (walked_missing (entry_in c.as_slice-2.result.now) (walked_last (take (length c.names.result.now - 1) c.names.result.now) c.loop-name.name-index c.last-item.result c.loop-name-test.false c.loop-name.invariant) c.in_err-inode.ensures.missing.0 (sym c.entry.ensures ∙ c.in_err-inode.ensures.missing.1))
@@ -23,4 +23,4 @@ pub returns-in_err-entries-clause-tells : goal.returns-in_err-entries-clause-tel
 returns-in_err-entries-clause-tells g c = exits c.from_residual-in_err-entries.ensures.1 (walked_missing count_in (walked_last (take (length c.names.result.now - 1) c.names.result.now) c.loop-name.name-index c.last-item.result c.loop-name-test.false c.loop-name.invariant) c.in_err-entries.ensures.missing.0 (sym c.entry_count.ensures ∙ c.in_err-entries.ensures.missing.1))
 
 pub returns-clause-tells : goal.returns-clause-tells
-returns-clause-tells g c = walked_lands (walked_last (take (length c.names.result.now - 1) c.names.result.now) c.loop-name.name-index c.last-item.result c.loop-name-test.false c.loop-name.invariant) (rw (← c.as_slice-2.ensures.bytes) (sym c.entry.ensures ∙ c.in_ok-inode.ensures.known)) (sym c.entry_count.ensures ∙ c.in_ok-entries.ensures.known)
+returns-clause-tells g c = rw c.is_inode-passed-2.ensures (walked_lands (walked_last (take (length c.names.result.now - 1) c.names.result.now) c.loop-name.name-index c.last-item.result c.loop-name-test.false c.loop-name.invariant) (rw (← c.as_slice-2.ensures.bytes) (sym c.entry.ensures ∙ c.in_ok-inode.ensures.known)) (sym c.entry_count.ensures ∙ c.in_ok-entries.ensures.known))
