@@ -5,8 +5,8 @@ ghost use Rattle.posix_calls.specs.Walk.{names_seen, size_seen};
 ghost use Rattle.posix_calls.specs.declared.operation.DecideError.TheVariants as why;
 
 use crate::bytes::Bytes;
-use crate::operation::{Description, DecideError, Missing};
 use crate::names::Names;
+use crate::operation::{DecideError, Description, Missing};
 use std::alloc::{AllocError, Global};
 
 /// Who knows a file tree or a part of it, and answers what a call asks of it: `None` where the answer isn't known.

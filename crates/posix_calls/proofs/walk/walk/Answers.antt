@@ -11,10 +11,10 @@ pub loop-name-init : goal.loop-name-init
 loop-name-init g c = walked_first _ _ _ _ (sym c.names.ensures.names ∙ split_last c.names.result.now c.last-item.result c.in-len1-up.len_at_least c.last-item.is)
 
 pub returns-in_err-dir-clause-tells : goal.returns-in_err-dir-clause-tells
-returns-in_err-dir-clause-tells g c = exits c.from_residual.ensures.1 (walked_stops (drop (c.loop-name.name-index + 1) (take (length c.names.result.now - 1) c.names.result.now)) c.last-item.result (walked_next (take (length c.names.result.now - 1) c.names.result.now) c.loop-name.name-index c.name-item.result c.last-item.result c.loop-name-test.true c.name-item.is c.loop-name.invariant) (rw (← c.as_slice.ensures.bytes) c.in_err-dir.ensures))
+returns-in_err-dir-clause-tells g c = exits c.from_residual.ensures.1 (walked_stops (drop (c.loop-name.name-index + 1) (take (length c.names.result.now - 1) c.names.result.now)) c.last-item.result (walked_next (take (length c.names.result.now - 1) c.names.result.now) c.loop-name.name-index c.name-item.result c.last-item.result c.loop-name-test.true c.name-item.is c.loop-name.invariant) (rw (← c.as_slice.ensures.bytes) c.in_err-dir.ensures.tells))
 
 pub loop-name-preserved : goal.loop-name-preserved
-loop-name-preserved g c = rw c.is_inode-passed.ensures (walked_on (drop (c.loop-name.name-index + 1) (take (length c.names.result.now - 1) c.names.result.now)) c.last-item.result (walked_next (take (length c.names.result.now - 1) c.names.result.now) c.loop-name.name-index c.name-item.result c.last-item.result c.loop-name-test.true c.name-item.is c.loop-name.invariant) (rw (← c.as_slice.ensures.bytes) c.in_ok-dir.ensures))
+loop-name-preserved g c = rw c.is_inode-passed.ensures (walked_on (drop (c.loop-name.name-index + 1) (take (length c.names.result.now - 1) c.names.result.now)) c.last-item.result (walked_next (take (length c.names.result.now - 1) c.names.result.now) c.loop-name.name-index c.name-item.result c.last-item.result c.loop-name-test.true c.name-item.is c.loop-name.invariant) (rw (← c.as_slice.ensures.bytes) c.in_ok-dir.ensures.tells))
 
 pub returns-in_err-inode-clause-tells : goal.returns-in_err-inode-clause-tells
 returns-in_err-inode-clause-tells g c = exits c.from_residual-in_err-inode.ensures.1 (walked_missing (entry_in c.as_slice-2.result.now) (walked_last (take (length c.names.result.now - 1) c.names.result.now) c.loop-name.name-index c.last-item.result c.loop-name-test.false c.loop-name.invariant) c.in_err-inode.ensures.missing.0 (sym c.entry.ensures ∙ c.in_err-inode.ensures.missing.1))
