@@ -1,12 +1,11 @@
 -- What a call comes to is in range: no more is written than one call may write, and what is opened has the number of a descriptor.
-use Rattle.std.proofs.Common.{◌≡◌, ℕ, ◌+◌, ◌<◌, ◌≤◌, ◌==◌, ◌&&◌, ◌||◌, not, List, [], ◌∷◌, length, Bool, true, false, refl, subst, Option, Some, None, Result, Ok, Err, cond, nat_lt, ltb-false, if◌then◌else◌}
-use Rattle.std.specs.Prelude.{IfOk, nat_le}
-use Rattle.posix_calls.specs.Path.{reading}
+use Rattle.std.proofs.Common.{◌≡◌, ℕ, ◌<◌, ◌==◌, List, [], ◌∷◌, length, Bool, true, false, refl, subst, Option, Some, None, Result, Ok, Err, cond, nat_lt, ltb-false}
+use Rattle.std.specs.Prelude.{IfOk}
 use Rattle.posix_calls.specs.Tree.{Own}
 use Rattle.posix_calls.specs.Query.{Seen, File, Dir, Query, Gives, Refuses, IsDir, Look, Range, ◌>>=◌, Part, Known, Unknown, blocks_of, run_part}
-use Rattle.posix_calls.specs.Walk.{Place, refuse, said, kind_at, prefix, there, is_root, is_there, is_inode, entries_at, names_at, size_at}
+use Rattle.posix_calls.specs.Walk.{Place, refuse, is_inode}
 use Rattle.posix_calls.specs.Answers.{Tells}
-use Rattle.posix_calls.specs.Decide.{opened, lowest_free, number_or, is_senseless, empties, open_there, open_at, open_path, close, bytes_from, pread, write_at, pwrite, truncate, mkdir, rmdir, link, unlink, replacing, renamed, rename, list_path, described, stat}
+use Rattle.posix_calls.specs.Decide.{lowest_free, number_or, open_there, open_path, close, pread, write_at, pwrite, truncate, mkdir, rmdir, link, unlink, renamed, rename, list_path, described, stat}
 use Rattle.posix_calls.specs.Operations.{IsInRange}
 use Rattle.posix_calls.specs.declared.call.Flags.{Flags}
 use Rattle.posix_calls.specs.declared.call.Reply.TheVariants as reply
@@ -137,10 +136,10 @@ pub rename_in_range : (old new : List ℕ) → Always IsInRange (rename old new)
 unfolding rename
 rename_in_range old new =
     then_always _ _ (λ old_names. then_always _ _ (λ new_names. then_always _ _ (λ _. then_always _ _ (λ from. then_always _ _ (λ i. then_always _ _ (λ to. then_always _ _ (λ _. moved from to i (is_inode i to.inode))))))))
-    where
-  moved : (from to : Place) (i : ℕ) (same : Bool) → Always IsInRange (cond same (Gives (Tell reply.Done)) (renamed from to i))
-  moved from to i true = tt
-  moved from to i false = then_always _ _ (λ old_dir. then_always _ _ (λ replaced. tt))
+  where
+    moved : (from to : Place) (i : ℕ) (same : Bool) → Always IsInRange (cond same (Gives (Tell reply.Done)) (renamed from to i))
+    moved from to i true = tt
+    moved from to i false = then_always _ _ (λ old_dir. then_always _ _ (λ replaced. tt))
 
 pub list_in_range : (path : List ℕ) → Always IsInRange (list_path path)
 unfolding list_path

@@ -1,5 +1,5 @@
 -- Which calls take memory when they are decided: for the names on their paths, and for the bytes and names that they carry.
-use Rattle.std.specs.Prelude.{ℕ, ◌+◌, ◌-◌, List, length, min, Bool, true, false, ◌&&◌, ◌||◌, nat_lt, nat_le, Option, Some, None, is_ok}
+use Rattle.std.specs.Prelude.{ℕ, ◌+◌, ◌-◌, List, length, min, Bool, false, ◌&&◌, ◌||◌, nat_lt, nat_le, Option, Some, None, is_ok}
 use Rattle.posix_calls.specs.Path.{reading, comes_to_name}
 use Rattle.posix_calls.specs.Tree.{Own}
 use Rattle.posix_calls.specs.Query.{Seen, Part}
