@@ -1,13 +1,14 @@
 // What a graph has stored at an inode.
-ghost use Rattle.std.specs.Prelude.{◌≡◌, ◌<◌, ◌^◌, true, map, take, drop, IfOk, option_map};
+ghost use Rattle.std.specs.Prelude.{◌≡◌, ◌<◌, ◌^◌, true, map, IfOk, option_map};
 ghost use Rattle.std.specs.FinMap as fin;
 ghost use Rattle.std.specs.Ordering.{nat_cmp};
 ghost use Rattle.std.specs.Cmp.Lexicographic.{slice_cmp};
-ghost use Rattle.posix_calls.specs.Answers.{entry_in, count_in, listed_in, size_in, range_in, description_of};
-ghost use Rattle.posix_calls.specs.Walk.{names_seen};
+ghost use Rattle.posix_calls.specs.Answers.{entry_in, count_in, listed_in, description_of};
+ghost use Rattle.posix_calls.specs.Content.{range};
+ghost use Rattle.posix_calls.specs.Walk.{names_seen, size_seen};
 ghost use Rattle.file_graph.specs.Graph.{graph_of};
 ghost use Rattle.file_graph.specs.Plain.{pairs};
-ghost use Rattle.call_effects.specs.Wholes.{node_is_dir};
+ghost use Rattle.call_effects.specs.Wholes.{node_is_dir, node_bytes};
 ghost use Rattle.graph_answers.specs.Whole.{seen_at, is_counted};
 
 use file_graph::{PlainEntry, PlainGraph};
@@ -97,7 +98,7 @@ fn names_of(alloc: Global, entries: &[PlainEntry]) -> Result<Names, AllocError>
 
 /// How many bytes a file has.
 pub fn file_size(graph: &PlainGraph, inode: u32) -> u64
-    ensures { result ≡ size_in (seen_at (graph_of graph.now) inode) }
+    ensures { result ≡ size_seen (seen_at (graph_of graph.now) inode) }
 {
     match graph.file(inode) {
         Some(file) => file.len() as u64,
@@ -123,7 +124,7 @@ pub fn read(
     at: u64,
     count: u64,
 ) -> Result<Bytes, AllocError>
-    ensures { IfOk result (λ bytes. bytes ≡ range_in at count (seen_at (graph_of graph.now) inode)) }
+    ensures { IfOk result (λ bytes. bytes ≡ range at count (node_bytes (graph_of graph.now inode))) }
 {
     match graph.file(inode) {
         Some(file) => Bytes::copy_of(alloc, range(file, at as usize, count as usize)),
@@ -132,7 +133,7 @@ pub fn read(
 }
 
 fn range(bytes: &[u8], at: usize, count: usize) -> &[u8]
-    ensures { result.now ≡ take count (drop at bytes.now) }
+    ensures { result.now ≡ range at count bytes.now }
 {
     let rest = &bytes[at.min(bytes.len())..];
     &rest[..count.min(rest.len())]
