@@ -1,6 +1,7 @@
 ghost use Rattle.std.specs.Prelude.{◌≡◌, ◌⊎◌, ◌≤◌, ◌<◌, ℕ, true, Ok, Some, length, option_map, IfOk, OnOk, OnErr, MatchOption, None};
-ghost use Rattle.posix_calls.specs.Tree.{opening, empty_tree};
-ghost use Rattle.posix_calls.specs.Query.{view_of, whole};
+ghost use Rattle.std.specs.FinMap as fin;
+ghost use Rattle.posix_calls.specs.Tree.{opening, empty_tree, entries_of};
+ghost use Rattle.posix_calls.specs.Query.{dir_test, view_of, whole};
 ghost use Rattle.posix_calls.specs.Answers.{description_of};
 ghost use Rattle.posix_calls.specs.Operations.{Step, makes, reply_of, state_after, tree_after};
 ghost use Rattle.posix_calls.specs.Exact.{IsAnswered, IsGivenUp, IsLowest, IsTaken};
@@ -11,8 +12,8 @@ use crate::node::PlainNode;
 use crate::nodes::{PlainNodes, lowest_free};
 use crate::operations::{close_at, drop_name, empty_if, make, move_name, open_if, remove_dir};
 use posix_calls::{
-    Bytes, Call, DecideError, Description, Errno, MAX_CLIENTS, Names, Operation, OwnDescriptors,
-    ROOT, Reply, TreeAnswers, decide,
+    Bytes, Call, Child, DecideError, Description, Errno, MAX_CLIENTS, Names, Operation,
+    OwnDescriptors, ROOT, Reply, TreeAnswers, decide,
 };
 use std::alloc::{AllocError, Global};
 use std::marker::Model;
@@ -84,17 +85,11 @@ impl TreeAnswers for PlainTree {
     ghost part = { λ s. whole (view_of (tree_of s.nodes)) };
 
     fn is_dir(&self, inode: u32) -> Option<Option<bool>> {
-        match self.nodes.as_slice().get(inode as usize) {
-            Some(node) => Some(node.is_dir()),
-            None => Some(None),
-        }
+        Some(is_dir(self.nodes.as_slice(), inode))
     }
 
-    fn entry(&self, dir: u32, name: &[u8]) -> Option<Option<u32>> {
-        match self.nodes.as_slice().get(dir as usize) {
-            Some(node) => Some(node.entry(name)),
-            None => Some(None),
-        }
+    fn entry(&self, dir: u32, name: &[u8]) -> Option<Option<Child>> {
+        Some(child(self.nodes.as_slice(), dir, name))
     }
 
     fn entry_count(&self, dir: u32) -> Option<u32> {
@@ -141,6 +136,23 @@ impl TreeAnswers for PlainTree {
     fn describe(&self, inode: u32) -> Option<Option<Description>> {
         Some(describe(&self.nodes, inode))
     }
+}
+
+fn is_dir(nodes: &[PlainNode], inode: u32) -> Option<bool>
+    ensures { result ≡ option_map dir_test (tree_of nodes.now inode) }
+{
+    nodes.get(inode as usize)?.is_dir()
+}
+
+fn child(nodes: &[PlainNode], dir: u32, name: &[u8]) -> Option<Child>
+    ensures inode { option_map (λ e. e.inode) result ≡ fin.get (entries_of (tree_of nodes.now dir)) name.now }
+    ensures kind { (e : Child) → result ≡ Some e → e.is_dir ≡ option_map dir_test (tree_of nodes.now e.inode) }
+{
+    let inode = nodes.get(dir as usize)?.entry(name)?;
+    Some(Child {
+        inode,
+        is_dir: is_dir(nodes, inode),
+    })
 }
 
 fn describe(nodes: &PlainNodes, inode: u32) -> Option<Description>

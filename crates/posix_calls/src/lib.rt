@@ -49,4 +49,4 @@ pub use names::Names;
 pub use operation::{DecideError, Description, Location, Missing, Operation, Replaced};
 pub use own::OwnDescriptors;
 pub use path::Path;
-pub use tree_answers::{TreeAnswers, known};
+pub use tree_answers::{Child, TreeAnswers, known};

@@ -1,17 +1,19 @@
 // The walk along a path, and the tests that several calls have in common. Each function answers one question of a call.
-ghost use Rattle.std.specs.Prelude.{◌≡◌, ◌≢◌, Some, None, Ok, Err, true, false, IfOk, IfErr, nat_le};
+ghost use Rattle.std.specs.Prelude.{◌≡◌, ◌≢◌, Bool, Some, None, Ok, Err, true, false, IfOk, IfErr, nat_le, option_map};
 ghost use Rattle.posix_calls.specs.Path.{comes_to_name, reading};
 ghost use Rattle.posix_calls.specs.Query.{Part};
 ghost use Rattle.posix_calls.specs.Walk.{said, kind_at, there, is_root, is_there, is_inode};
 ghost use Rattle.posix_calls.specs.Answers.{Tells, last_name, landing, child_at};
+ghost use Rattle.posix_calls.specs.declared.operation.DecideError.TheVariants as why;
 ghost use Rattle.posix_calls.specs.declared.operation.DecideError.TheVariants.{Refused, Memory};
+ghost use Rattle.posix_calls.specs.declared.operation.Missing.TheVariants as missing;
 
 use crate::errno::Errno;
 use crate::limits::{MAX_ENTRIES, ROOT};
 use crate::name::Name;
 use crate::operation::{DecideError, Location, Missing};
 use crate::path::Path;
-use crate::tree_answers::{TreeAnswers, known};
+use crate::tree_answers::{Child, TreeAnswers, known};
 use std::alloc::Global;
 
 // Where a path leads: the directory of its last name, the inode there, and how many entries that directory has; and whether
@@ -90,26 +92,48 @@ pub(crate) fn there(inode: Option<u32>) -> Result<u32, DecideError>
     }
 }
 
+// Whether a child is a directory, by its entry or else by what is known of it.
+fn kind_of<T: TreeAnswers>(tree: &T, child: Child) -> Result<Option<bool>, DecideError>
+    requires { (is_dir : Bool) → child.is_dir ≡ Some is_dir → (T.part tree.now).is_dir child.inode ≡ Some (Some is_dir) }
+    ensures known { IfOk result (λ o. (T.part tree.now).is_dir child.inode ≡ Some o) }
+    ensures missing { IfErr result (λ error. (error ≡ why.Missing (missing.Node child.inode)) × ((T.part tree.now).is_dir child.inode ≡ None)) }
+{
+    let inode = child.inode;
+    match child.is_dir {
+        Some(is_dir) => Ok(Some(is_dir)),
+        None => known(tree.is_dir(inode), Missing::Node { inode }),
+    }
+}
+
 // The directory under a name of a directory.
 fn child_at<T: TreeAnswers>(tree: &T, dir: u32, name: &[u8]) -> Result<u32, DecideError>
     ensures tells { Tells (T.part tree.now) (child_at dir name.now) result }
     ensures memory { result ≢ Err Memory }
 {
     let entry = known(tree.entry(dir, name), Missing::Node { inode: dir })?;
-    let Some(inode) = entry else {
+    let Some(child) = entry else {
         return Err(DecideError::Refused {
             errno: Errno::NoEntry,
         });
     };
-    let answer = known(tree.is_dir(inode), Missing::Node { inode })?;
+    let answer = kind_of(tree, child)?;
     match answer {
-        Some(true) => Ok(inode),
+        Some(true) => Ok(child.inode),
         Some(false) => Err(DecideError::Refused {
             errno: Errno::NotDirectory,
         }),
         None => Err(DecideError::Refused {
             errno: Errno::NoEntry,
         }),
+    }
+}
+
+fn inode_of(child: Option<Child>) -> Option<u32>
+    ensures { result ≡ option_map (λ e. e.inode) child }
+{
+    match child {
+        Some(child) => Some(child.inode),
+        None => None,
     }
 }
 
@@ -137,7 +161,7 @@ pub(crate) fn walk<T: TreeAnswers>(
         passed |= is_inode(dir, watched);
         dir = child_at(tree, dir, name.as_slice())?;
     }
-    let inode = known(
+    let child = known(
         tree.entry(dir, last.as_slice()),
         Missing::Node { inode: dir },
     )?;
@@ -145,7 +169,7 @@ pub(crate) fn walk<T: TreeAnswers>(
     passed |= is_inode(dir, watched);
     Ok(Landing {
         parent: dir,
-        inode,
+        inode: inode_of(child),
         entries,
         passed,
     })
