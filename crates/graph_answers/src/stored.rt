@@ -1,5 +1,5 @@
 // What a graph has stored at an inode.
-ghost use Rattle.std.specs.Prelude.{◌≡◌, ◌<◌, ◌^◌, true, map, IfOk, option_map};
+ghost use Rattle.std.specs.Prelude.{◌≡◌, ◌<◌, ◌^◌, Some, true, map, IfOk, option_map};
 ghost use Rattle.std.specs.FinMap as fin;
 ghost use Rattle.std.specs.Ordering.{nat_cmp};
 ghost use Rattle.std.specs.Cmp.Lexicographic.{slice_cmp};
@@ -12,7 +12,7 @@ ghost use Rattle.call_effects.specs.Wholes.{node_is_dir, node_bytes};
 ghost use Rattle.graph_answers.specs.Whole.{seen_at, is_counted};
 
 use file_graph::{PlainEntry, PlainGraph};
-use posix_calls::{Bytes, Description, Names};
+use posix_calls::{Bytes, Child, Description, Names};
 use std::alloc::{AllocError, Global};
 use std::cmp::Ordering;
 
@@ -43,8 +43,22 @@ pub fn is_counted(graph: &PlainGraph, dir: u32) -> bool
     }
 }
 
+/// What a directory has under a name.
+pub fn child(graph: &PlainGraph, dir: u32, name: &[u8]) -> Option<Child>
+    ensures inode { option_map (λ e. e.inode) result ≡ entry_in name.now (seen_at (graph_of graph.now) dir) }
+    ensures kind { (e : Child) → result ≡ Some e → e.is_dir ≡ option_map node_is_dir (graph_of graph.now e.inode) }
+{
+    match entry(graph, dir, name) {
+        Some(inode) => Some(Child {
+            inode,
+            is_dir: is_dir(graph, inode),
+        }),
+        None => None,
+    }
+}
+
 /// The inode under a name of a directory.
-pub fn entry(graph: &PlainGraph, dir: u32, name: &[u8]) -> Option<u32>
+fn entry(graph: &PlainGraph, dir: u32, name: &[u8]) -> Option<u32>
     ensures { result ≡ entry_in name.now (seen_at (graph_of graph.now) dir) }
 {
     match graph.entries(dir) {
