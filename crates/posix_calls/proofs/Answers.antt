@@ -1,7 +1,7 @@
 -- How questions run: one after another, and by a part as by the whole.
-use Rattle.std.proofs.Common.{◌≡◌, ℕ, Bool, refl, Option, Ok, Err, Result}
+use Rattle.std.proofs.Common.{◌≡◌, ℕ, List, Bool, refl, Option, Ok, Err, Result}
 use Rattle.posix_calls.specs.declared.errno.Errno.{Errno}
-use Rattle.posix_calls.specs.Query.{Seen, Query, Gives, Refuses, IsDir, Look, ◌>>=◌, View, run}
+use Rattle.posix_calls.specs.Query.{Seen, Query, Gives, Refuses, IsDir, Look, Range, ◌>>=◌, View, run}
 
 -- what a first answer leads to
 abbrev pub then_run : {A B : Type 0} → Result A Errno → (A → Result B Errno) → Result B Errno
@@ -15,6 +15,7 @@ run_bind v (Gives x) f = refl
 run_bind v (Refuses x) f = refl
 run_bind v (IsDir i next) f = run_bind v (next (v.is_dir i)) f
 run_bind v (Look i next) f = run_bind v (next (v.node i)) f
+run_bind v (Range i at count next) f = run_bind v (next (v.bytes i at count)) f
 
 -- a result is what comes
 pub run_gives : {A : Type 0} (v : View) (x : A) → run v (Gives x) ≡ Ok x
@@ -36,4 +37,9 @@ pub run_look : {A : Type 0} (v : View) (i : ℕ) (next : Option Seen → Query A
 unfolding run
 run_look v i next = refl
 
-pub ruleset runs = (run_bind, run_gives, run_refuses, run_is_dir, run_look)
+-- and a range of bytes
+pub run_range : {A : Type 0} (v : View) (i at count : ℕ) (next : List ℕ → Query A) → run v (Range i at count next) ≡ run v (next (v.bytes i at count))
+unfolding run
+run_range v i at count next = refl
+
+pub ruleset runs = (run_bind, run_gives, run_refuses, run_is_dir, run_look, run_range)

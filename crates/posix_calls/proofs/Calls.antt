@@ -1,6 +1,6 @@
 -- Each call that is not refused comes to an operation that fits the state.
 use Rattle.std.proofs.Common.{◌≡◌, ◌≢◌, ℕ, List, [], ◌∷◌, refl, Some, None, Option, Ok, cond, ap, sym, ◌∙◌, subst, true, false, Bool, ◌==◌}
-use Rattle.std.specs.Prelude.{not, option_map, length}
+use Rattle.std.specs.Prelude.{not, option_map}
 use Rattle.std.proofs.lemmas.Bool.{eq-eqb}
 use Rattle.std.specs.List.{list_any}
 use Rattle.posix_calls.specs.declared.errno.Errno.TheVariants as errno
@@ -11,8 +11,8 @@ use Rattle.posix_calls.specs.declared.call.Reply.TheVariants as reply
 use Rattle.posix_calls.specs.Tree.{State}
 use Rattle.posix_calls.specs.declared.descriptor.Descriptor.{Descriptor}
 use Rattle.posix_calls.specs.Query.{Seen, File, Dir, Gives, View, run, view_of, dir_test}
-use Rattle.posix_calls.specs.Walk.{Place, prefix, is_root, is_there, kind_at, walk}
-use Rattle.posix_calls.specs.Decide.{described, write_at, open_there, is_inode, replacing, replacing_dir, renamed, open_path, close, pread, pwrite, truncate, mkdir, rmdir, link, unlink, rename, list_path, stat, decide}
+use Rattle.posix_calls.specs.Walk.{Place, prefix, is_root, is_there, kind_at, walk, is_inode}
+use Rattle.posix_calls.specs.Decide.{described, write_at, open_there, replacing, replacing_dir, renamed, open_path, close, pread, pwrite, truncate, mkdir, rmdir, link, unlink, rename, list_path, stat, decide}
 use Rattle.posix_calls.specs.declared.operation.Operation.{Operation}
 use Rattle.posix_calls.specs.declared.operation.Replaced.{Replaced}
 use Rattle.posix_calls.specs.declared.operation.Operation.TheVariants.{Tell, Resize}
@@ -84,7 +84,8 @@ module _ (s : State) (fine : IsWellFormed s) where
   pread_fits client number at count operation e =
       let i = bind_ok v _ _ _ e in
       let long = bind_ok v _ _ _ i.2 in
-      let bytes = bind_ok v _ _ _ long.2 in
+      let size = bind_ok v _ _ _ long.2 in
+      let bytes = bind_ok v _ _ _ size.2 in
       fits_as client _ operation (given v bytes.2) tt
 
   write_fits : (client i at : ℕ) (bytes : List ℕ) (operation : Operation) → IsFile (s.tree i) → run v (write_at i at bytes) ≡ Ok operation → FitsIn client operation
@@ -133,9 +134,9 @@ module _ (s : State) (fine : IsWellFormed s) where
       let is_dir = bind_ok v _ _ _ i.2 in
       let refused = bind_ok v _ _ _ is_dir.2 in
       let big = bind_ok v _ _ _ refused.2 in
-      let bytes = bind_ok v _ _ _ big.2 in
+      let size = bind_ok v _ _ _ big.2 in
       let file = file_at names.0 place.0 i.0 is_dir.0 place.1 (there_is v place.0.inode i.0 i.1) is_dir.1 (not_refused v errno.IsDirectory _ _ refused.1) in
-      fits_as client _ operation (given v bytes.2) (elim (length bytes.0 == len) as (λ b. FitsIn client (cond b (Tell reply.Done) (Resize i.0 len))) [ true ↦ tt | false ↦ file ])
+      fits_as client _ operation (given v size.2) (elim (size.0 == len) as (λ b. FitsIn client (cond b (Tell reply.Done) (Resize i.0 len))) [ true ↦ tt | false ↦ file ])
 
   mkdir_fits : (client : ℕ) (path : List ℕ) (operation : Operation) → run v (mkdir path) ≡ Ok operation → FitsIn client operation
   unfolding mkdir

@@ -1,19 +1,21 @@
 -- How a decision that is made step by step stands to a chain of questions.
-use Rattle.std.proofs.Common.{arith, ◌+◌, ◌==◌, ◌||◌, List, [], ◌∷◌, length, not, nat_lt, if◌then◌else◌, ◌≡◌, ℕ, Bool, true, false, refl, Option, Some, None, Result, Ok, Err, ap, sym, ◌∙◌, subst, ◌⊎◌, inl, inr}
-use Rattle.std.specs.Prelude.{option_map}
+use Rattle.std.proofs.Common.{arith, zero, suc, ◌+◌, ◌==◌, ◌||◌, List, [], ◌∷◌, length, not, nat_lt, if◌then◌else◌, ◌≡◌, ℕ, Bool, true, false, refl, Option, Some, None, Result, Ok, Err, ap, sym, ◌∙◌, subst, ◌⊎◌, inl, inr}
+use Rattle.std.specs.Prelude.{option_map, IfOk, IfErr}
 use Rattle.std.specs.FinMap as fin
 use Rattle.std.specs.Result.{IsErrAnd}
 use Rattle.std.proofs.lemmas.Bool.Decides.{nat_tests}
 use Rattle.std.proofs.lemmas.Result.{err_from_is_err_and}
 use Rattle.posix_calls.specs.declared.errno.Errno.{Errno}
 use Rattle.posix_calls.specs.declared.operation.DecideError.{DecideError}
-use Rattle.posix_calls.specs.declared.operation.DecideError.TheVariants.{Refused, Missing, Memory}
+use Rattle.posix_calls.specs.declared.operation.DecideError.TheVariants.{Refused, Memory}
+use Rattle.posix_calls.specs.declared.operation.DecideError.TheVariants as why
+use Rattle.posix_calls.specs.declared.operation.Missing.{Missing}
+use Rattle.posix_calls.specs.declared.operation.Missing.TheVariants as missing
 use Rattle.posix_calls.specs.declared.errno.Errno.TheVariants.{NoMemory}
-use Rattle.posix_calls.specs.Query.{Seen, File, Dir, Query, Gives, Refuses, IsDir, Look, ◌>>=◌, Part, Found, Known, run_part}
-use Rattle.posix_calls.specs.Query as query
+use Rattle.posix_calls.specs.Query.{Seen, File, Dir, Query, Gives, Refuses, IsDir, Look, Range, ◌>>=◌, Part, Found, Known, Unknown, blocks_of, run_part}
 use Rattle.posix_calls.specs.Walk.{refuse, said}
 use Rattle.posix_calls.specs.Answers.{Tells, decide_error, description_of}
-use Rattle.posix_calls.specs.Decide.{described, opened, write_at}
+use Rattle.posix_calls.specs.Decide.{described, opened, bytes_from, write_at}
 use Rattle.posix_calls.specs.declared.descriptor.Descriptor.{Descriptor}
 use Rattle.posix_calls.specs.declared.limits.TheConstants.{MAX_FILE}
 use Rattle.posix_calls.specs.declared.errno.Errno.TheVariants as errno
@@ -25,7 +27,7 @@ use Rattle.posix_calls.specs.declared.call.Reply.TheVariants as reply
 abbrev pub then_found : {A B : Type 0} → Found A → (A → Found B) → Found B
 then_found (Known (Ok x)) f = f x
 then_found (Known (Err e)) f = Known (Err e)
-then_found (query.Missing i) f = query.Missing i
+then_found (Unknown what) f = Unknown what
 
 -- questions one after another come to what the first leads to
 pub part_bind : {A B : Type 0} (p : Part) (q : Query A) (f : A → Query B) → run_part p (q >>= f) ≡ then_found (run_part p q) (λ x. run_part p (f x))
@@ -33,12 +35,17 @@ unfolding run_part ◌>>=◌
 part_bind p (Gives x) f = refl
 part_bind p (Refuses e) f = refl
 part_bind {B = B} p (IsDir i next) f =
-    elim (p.is_dir i) as (λ o. ◌≡◌ {A = Found B} (elim o [ None ↦ query.Missing i | Some a ↦ run_part p (next a >>= f) ]) (then_found (elim o [ None ↦ query.Missing i | Some a ↦ run_part p (next a) ]) (λ x. run_part p (f x)))) [
+    elim (p.is_dir i) as (λ o. ◌≡◌ {A = Found B} (elim o [ None ↦ Unknown (missing.Node i) | Some a ↦ run_part p (next a >>= f) ]) (then_found (elim o [ None ↦ Unknown (missing.Node i) | Some a ↦ run_part p (next a) ]) (λ x. run_part p (f x)))) [
       | None ↦ refl
       | Some a ↦ part_bind p (next a) f
     ]
 part_bind {B = B} p (Look i next) f =
-    elim (p.node i) as (λ o. ◌≡◌ {A = Found B} (elim o [ None ↦ query.Missing i | Some a ↦ run_part p (next a >>= f) ]) (then_found (elim o [ None ↦ query.Missing i | Some a ↦ run_part p (next a) ]) (λ x. run_part p (f x)))) [
+    elim (p.node i) as (λ o. ◌≡◌ {A = Found B} (elim o [ None ↦ Unknown (missing.Node i) | Some a ↦ run_part p (next a >>= f) ]) (then_found (elim o [ None ↦ Unknown (missing.Node i) | Some a ↦ run_part p (next a) ]) (λ x. run_part p (f x)))) [
+      | None ↦ refl
+      | Some a ↦ part_bind p (next a) f
+    ]
+part_bind {B = B} p (Range i at count next) f =
+    elim (p.bytes i at count) as (λ o. ◌≡◌ {A = Found B} (elim o [ None ↦ Unknown (blocks_of i at count) | Some a ↦ run_part p (next a >>= f) ]) (then_found (elim o [ None ↦ Unknown (blocks_of i at count) | Some a ↦ run_part p (next a) ]) (λ x. run_part p (f x)))) [
       | None ↦ refl
       | Some a ↦ part_bind p (next a) f
     ]
@@ -60,8 +67,8 @@ tells_ok {x = x} is = record { gives = λ y h. let same : x ≡ y = cc in is ∙
 pub tells_err : {A : Type 0} {p : Part} {q : Query A} {e : Errno} → run_part p q ≡ Known (Err e) → Tells p q (Err (Refused e))
 tells_err {e = e} is = record { gives = λ y h. absurd (cc); refuses = λ d h. let same : e ≡ d = cc in is ∙ ap (λ z. Known (Err z)) same; missing = λ i h. absurd (cc) }
 
-pub tells_missing : {A : Type 0} {p : Part} {q : Query A} {i : ℕ} → run_part p q ≡ query.Missing i → Tells p q (Err (Missing i))
-tells_missing {i = i} is = record { gives = λ y h. absurd (cc); refuses = λ d h. absurd (cc); missing = λ j h. let same : i ≡ j = cc in is ∙ ap (λ z. query.Missing z) same }
+pub tells_missing : {A : Type 0} {p : Part} {q : Query A} {what : Missing} → run_part p q ≡ Unknown what → Tells p q (Err (why.Missing what))
+tells_missing {what = what} is = record { gives = λ y h. absurd (cc); refuses = λ d h. absurd (cc); missing = λ other h. let same : what ≡ other = cc in is ∙ ap (λ z. Unknown z) same }
 
 -- want of memory says nothing
 pub tells_memory : {A : Type 0} (p : Part) (q : Query A) → Tells p q (Err Memory)
@@ -99,7 +106,7 @@ bind_gives {p = p} {q = q} f {x = x} h rest = tells_same (part_bind p q f ∙ ap
 -- after a stop comes nothing
 pub bind_stops : {A B : Type 0} {p : Part} {q : Query A} (f : A → Query B) {s : DecideError} → Tells p q (Err s) → Tells p (q >>= f) (Err s)
 bind_stops {p = p} {q = q} f {s = Refused e} h = tells_err (part_bind p q f ∙ ap (λ z. then_found z (λ y. run_part p (f y))) (h.refuses e refl))
-bind_stops {p = p} {q = q} f {s = Missing i} h = tells_missing (part_bind p q f ∙ ap (λ z. then_found z (λ y. run_part p (f y))) (h.missing i refl))
+bind_stops {p = p} {q = q} f {s = why.Missing what} h = tells_missing (part_bind p q f ∙ ap (λ z. then_found z (λ y. run_part p (f y))) (h.missing what refl))
 bind_stops {p = p} {q = q} f {s = Memory} h = tells_memory p (q >>= f)
 
 -- a test that does not hold is passed
@@ -139,26 +146,26 @@ apart_if n m x y e = grind (arith, nat_tests)
 -- a question that is answered leads on
 pub is_dir_known : {A : Type 0} {p : Part} {i : ℕ} {next : Option Bool → Query A} {o : Option Bool} {r : Result A DecideError} → p.is_dir i ≡ Some o → Tells p (next o) r → Tells p (IsDir i next) r
 unfolding run_part
-is_dir_known {p = p} {i = i} {next = next} is rest = tells_same (ap (λ z. elim z [ None ↦ query.Missing i | Some a ↦ run_part p (next a) ]) is) rest
+is_dir_known {p = p} {i = i} {next = next} is rest = tells_same (ap (λ z. elim z [ None ↦ Unknown (missing.Node i) | Some a ↦ run_part p (next a) ]) is) rest
 
--- one that is not is lacked
-pub is_dir_missing : {A : Type 0} {p : Part} {i : ℕ} {next : Option Bool → Query A} {s : DecideError} → s ≡ Missing i → p.is_dir i ≡ None → Tells p (IsDir i next) (Err s)
+-- one that is not is missing
+pub is_dir_missing : {A : Type 0} {p : Part} {i : ℕ} {next : Option Bool → Query A} {s : DecideError} → s ≡ why.Missing (missing.Node i) → p.is_dir i ≡ None → Tells p (IsDir i next) (Err s)
 unfolding run_part
-is_dir_missing {p = p} {i = i} {next = next} lack is = subst (λ z. Tells p (IsDir i next) (Err z)) (sym lack) (tells_missing (ap (λ z. elim z [ None ↦ query.Missing i | Some a ↦ run_part p (next a) ]) is))
+is_dir_missing {p = p} {i = i} {next = next} lack is = subst (λ z. Tells p (IsDir i next) (Err z)) (sym lack) (tells_missing (ap (λ z. elim z [ None ↦ Unknown (missing.Node i) | Some a ↦ run_part p (next a) ]) is))
 
 -- the same of a look, by what is told of the node
 pub look_known : {A C : Type 0} {p : Part} {i : ℕ} (g : Option Seen → C) (next : C → Query A) {y : C} {r : Result A DecideError} → option_map g (p.node i) ≡ Some y → Tells p (next y) r → Tells p (Look i (λ s. next (g s))) r
 unfolding run_part
 look_known {A = A} {p = p} {i = i} g next {y = y} is rest =
-    tells_same (elim (p.node i) as (λ z. option_map g z ≡ Some y → ◌≡◌ {A = Found A} (elim z [ None ↦ query.Missing i | Some a ↦ run_part p (next (g a)) ]) (run_part p (next y))) [
+    tells_same (elim (p.node i) as (λ z. option_map g z ≡ Some y → ◌≡◌ {A = Found A} (elim z [ None ↦ Unknown (missing.Node i) | Some a ↦ run_part p (next (g a)) ]) (run_part p (next y))) [
       | None ↦ λ h. absurd (cc)
       | Some a ↦ λ h. let same : g a ≡ y = cc in ap (λ z. run_part p (next z)) same
     ] is) rest
 
-pub look_missing : {A C : Type 0} {p : Part} {i : ℕ} (g : Option Seen → C) (next : Option Seen → Query A) {s : DecideError} → s ≡ Missing i → option_map g (p.node i) ≡ None → Tells p (Look i next) (Err s)
+pub look_missing : {A C : Type 0} {p : Part} {i : ℕ} (g : Option Seen → C) (next : Option Seen → Query A) {s : DecideError} → s ≡ why.Missing (missing.Node i) → option_map g (p.node i) ≡ None → Tells p (Look i next) (Err s)
 unfolding run_part
 look_missing {A = A} {p = p} {i = i} g next lack is =
-    subst (λ z. Tells p (Look i next) (Err z)) (sym lack) (tells_missing (elim (p.node i) as (λ z. option_map g z ≡ None → ◌≡◌ {A = Found A} (elim z [ None ↦ query.Missing i | Some a ↦ run_part p (next a) ]) (query.Missing i)) [
+    subst (λ z. Tells p (Look i next) (Err z)) (sym lack) (tells_missing (elim (p.node i) as (λ z. option_map g z ≡ None → ◌≡◌ {A = Found A} (elim z [ None ↦ Unknown (missing.Node i) | Some a ↦ run_part p (next a) ]) (Unknown (missing.Node i))) [
       | None ↦ λ h. refl
       | Some a ↦ λ h. absurd (cc)
     ] is))
@@ -169,33 +176,47 @@ unfolding run_part
 look_seen {p = p} {i = i} g next {y = y} {r = r} is rest =
     elim (p.node i) as (λ z. p.node i ≡ z → option_map g z ≡ Some y → Tells p (Look i next) r) [
       | None ↦ λ at h. absurd (cc)
-      | Some a ↦ λ at h. let same : g a ≡ y = cc in tells_same (ap (λ z. elim z [ None ↦ query.Missing i | Some a ↦ run_part p (next a) ]) at) (rest a same)
+      | Some a ↦ λ at h. let same : g a ≡ y = cc in tells_same (ap (λ z. elim z [ None ↦ Unknown (missing.Node i) | Some a ↦ run_part p (next a) ]) at) (rest a same)
     ] refl is
 
 pub bind_look : {B C D : Type 0} {p : Part} (i : ℕ) (h : Option Seen → C) (g : Option Seen → D) (f : C → Query B) {y : D} {r : Result B DecideError} → option_map g (p.node i) ≡ Some y → ((s : Option Seen) → g s ≡ y → Tells p (f (h s)) r) → Tells p (Look i (λ s. Gives (h s)) >>= f) r
 unfolding ◌>>=◌
 bind_look i h g f is rest = look_seen g (λ s. f (h s)) is rest
 
-pub bind_look_missing : {B C D : Type 0} {p : Part} (i : ℕ) (h : Option Seen → C) (g : Option Seen → D) (f : C → Query B) {s : DecideError} → s ≡ Missing i → option_map g (p.node i) ≡ None → Tells p (Look i (λ s. Gives (h s)) >>= f) (Err s)
+pub bind_look_missing : {B C D : Type 0} {p : Part} (i : ℕ) (h : Option Seen → C) (g : Option Seen → D) (f : C → Query B) {s : DecideError} → s ≡ why.Missing (missing.Node i) → option_map g (p.node i) ≡ None → Tells p (Look i (λ s. Gives (h s)) >>= f) (Err s)
 bind_look_missing i h g f lack is = bind_stops f (look_missing g _ lack is)
+
+-- the same of a range of bytes
+pub range_known : {A : Type 0} {p : Part} {i at count : ℕ} {next : List ℕ → Query A} {bytes : List ℕ} {r : Result A DecideError} → p.bytes i at count ≡ Some bytes → Tells p (next bytes) r → Tells p (Range i at count next) r
+unfolding run_part
+range_known {p = p} {i = i} {at = at} {count = count} {next = next} is rest = tells_same (ap (λ z. elim z [ None ↦ Unknown (blocks_of i at count) | Some a ↦ run_part p (next a) ]) is) rest
+
+pub range_missing : {A : Type 0} {p : Part} {i at count : ℕ} {next : List ℕ → Query A} {s : DecideError} → s ≡ why.Missing (blocks_of i at count) → p.bytes i at count ≡ None → Tells p (Range i at count next) (Err s)
+unfolding run_part
+range_missing {p = p} {i = i} {at = at} {count = count} {next = next} lack is = subst (λ z. Tells p (Range i at count next) (Err z)) (sym lack) (tells_missing (ap (λ z. elim z [ None ↦ Unknown (blocks_of i at count) | Some a ↦ run_part p (next a) ]) is))
+
+-- so a range is told by what was answered
+pub range_told : {p : Part} (i at count : ℕ) {answer : Option (List ℕ)} {what : Missing} (r : Result (List ℕ) DecideError) → answer ≡ p.bytes i at count → what ≡ blocks_of i at count → IfOk r (λ bytes. answer ≡ Some bytes) → IfErr r (λ e. (e ≡ why.Missing what) × (answer ≡ None)) → Tells p (Range i at count (λ bytes. Gives bytes)) r
+range_told i at count (Ok bytes) is same known lack = range_known (sym is ∙ known) gives
+range_told i at count (Err e) is same known lack = range_missing (lack.0 ∙ ap (λ z. why.Missing z) same) (sym is ∙ lack.1)
 
 -- what stat tells of a node
 pub file_told : {p : Part} (s : Option Seen) (size names : ℕ) → description_of s ≡ Some (description.File size names) → Tells p (described s) (Ok (Tell (reply.File size names)))
 file_told None size names is = absurd (cc)
-file_told (Some (File many bytes)) size names is =
-    let long : length bytes ≡ size = cc in
+file_told (Some (File many long)) size names is =
+    let long_is : long ≡ size = cc in
     let same : many ≡ names = cc in
-    gives_as (ap (λ z. Tell (reply.File z many)) long ∙ ap (λ z. Tell (reply.File size z)) same)
+    gives_as (ap (λ z. Tell (reply.File z many)) long_is ∙ ap (λ z. Tell (reply.File size z)) same)
 file_told (Some (Dir entries)) size names is = absurd (cc)
 
 pub dir_told : {p : Part} (s : Option Seen) (many : ℕ) → description_of s ≡ Some (description.Dir many) → Tells p (described s) (Ok (Tell (reply.Dir many)))
 dir_told None many is = absurd (cc)
-dir_told (Some (File names bytes)) many is = absurd (cc)
+dir_told (Some (File names size)) many is = absurd (cc)
 dir_told (Some (Dir entries)) many is = let same : fin.len entries ≡ many = cc in gives_as (ap (λ z. Tell (reply.Dir z)) same)
 
 pub nothing_told : {p : Part} (s : Option Seen) → description_of s ≡ None → Tells p (described s) (Err (Refused errno.NoEntry))
 nothing_told None is = refuses
-nothing_told (Some (File names bytes)) is = absurd (cc)
+nothing_told (Some (File names size)) is = absurd (cc)
 nothing_told (Some (Dir entries)) is = absurd (cc)
 
 -- what is written
@@ -206,6 +227,14 @@ write_nothing i at (b ∷ bytes) none = absurd (grind (arith, nat_tests))
 pub write_some : (i at : ℕ) (bytes : List ℕ) → (length bytes == 0) ≡ false → write_at i at bytes ≡ (refuse errno.FileTooBig (nat_lt MAX_FILE (at + length bytes)) >>= (λ _. Gives (Write i at bytes)))
 write_some i at [] some = absurd (grind (arith, nat_tests))
 write_some i at (b ∷ bytes) some = refl
+
+-- what is read
+pub bytes_none : (i at count : ℕ) → count ≡ 0 → bytes_from i at count ≡ Gives []
+bytes_none i at count none = ap (bytes_from i at) none
+
+pub bytes_some : (i at count : ℕ) → (count ≡ 0 → ⊥) → bytes_from i at count ≡ Range i at count (λ bytes. Gives bytes)
+bytes_some i at zero some = absurd (some refl)
+bytes_some i at (suc count) some = refl
 
 -- ---- descriptors
 

@@ -9,7 +9,7 @@ use Rattle.posix_calls.specs.declared.errno.Errno.{Errno}
 use Rattle.posix_calls.specs.declared.errno.Errno.TheVariants as errno
 use Rattle.posix_calls.specs.Tree.{Tree, Node, File, Dir, Own, names_of, entries_of}
 use Rattle.posix_calls.specs.declared.descriptor.Descriptor.{Descriptor}
-use Rattle.posix_calls.specs.Query.{Seen, Query, Gives, Refuses, IsDir, Look, ◌>>=◌, View, run, view_of, seen, dir_test}
+use Rattle.posix_calls.specs.Query.{Seen, Query, Gives, Refuses, IsDir, Look, Range, ◌>>=◌, View, run, view_of, seen, dir_test}
 use Rattle.posix_calls.specs.Walk.{Place, refuse, is_true, kind_at, entries_seen, entries_at, directory, directory_if, walk, is_there, there}
 use Rattle.posix_calls.specs.Decide.{opened, lowest_free, number_or}
 use Rattle.posix_calls.specs.WellFormed.{IsDirectory}
@@ -23,6 +23,7 @@ bind_ok v (Gives x) f b e = (x, refl, e)
 bind_ok v (Refuses x) f b e = absurd (cc)
 bind_ok v (IsDir i next) f b e = bind_ok v (next (v.is_dir i)) f b e
 bind_ok v (Look i next) f b e = bind_ok v (next (v.node i)) f b e
+bind_ok v (Range i at count next) f b e = bind_ok v (next (v.bytes i at count)) f b e
 
 -- what was not refused did not pass
 pub not_refused : (v : View) (x : Errno) (test : Bool) (u : Unit {0}) → run v (refuse x test) ≡ Ok u → test ≡ false

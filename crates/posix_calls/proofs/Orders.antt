@@ -23,10 +23,10 @@ module _ (in_a : Entries ℕ) where
   is_dir i = cond (i == 4 || i == 5) (Some false) (Some true)
 
   nodes : ℕ → Option Seen
-  nodes i = cond (i == 1) (Some (Dir (fin.insert (fin.insert (fin.insert (one_of (codes "a") 2) (codes "e") 3) (codes "f") 4) (codes "g") 2))) (cond (i == 2) (Some (Dir in_a)) (cond (i == 3) (Some (Dir fin.empty)) (Some (File 1000 []))))
+  nodes i = cond (i == 1) (Some (Dir (fin.insert (fin.insert (fin.insert (one_of (codes "a") 2) (codes "e") 3) (codes "f") 4) (codes "g") 2))) (cond (i == 2) (Some (Dir in_a)) (cond (i == 3) (Some (Dir fin.empty)) (Some (File 1000 0))))
 
   crowded : View
-  crowded = record { is_dir = is_dir; node = nodes }
+  crowded = record { is_dir = is_dir; node = nodes; bytes = λ i at count. [] }
 
   -- ---- open
 

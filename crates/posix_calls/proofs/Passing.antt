@@ -15,8 +15,8 @@ use Rattle.posix_calls.specs.declared.call.Reply.TheVariants as reply
 use Rattle.posix_calls.specs.Tree.{Tree, Node, File, Dir, State, names_of, entries_of}
 use Rattle.posix_calls.specs.Query.{Seen, Query, Gives, View, run, view_of, seen, dir_test}
 use Rattle.posix_calls.specs.Query as query
-use Rattle.posix_calls.specs.Walk.{Place, said, walk, prefix, is_root, is_there, names_seen}
-use Rattle.posix_calls.specs.Decide.{described, write_at, open_there, is_inode, replacing, replacing_dir, renamed, open_path, close, pread, pwrite, truncate, mkdir, rmdir, link, unlink, rename, list_path, stat, decide}
+use Rattle.posix_calls.specs.Walk.{Place, said, walk, prefix, is_root, is_there, names_seen, is_inode}
+use Rattle.posix_calls.specs.Decide.{described, write_at, open_there, replacing, replacing_dir, renamed, open_path, close, pread, pwrite, truncate, mkdir, rmdir, link, unlink, rename, list_path, stat, decide}
 use Rattle.posix_calls.specs.declared.operation.Operation.{Operation}
 use Rattle.posix_calls.specs.declared.operation.Replaced.{Replaced}
 use Rattle.posix_calls.specs.declared.operation.Operation.TheVariants.{Tell, Resize}
@@ -118,7 +118,8 @@ module _ (s : State) (fine : IsWellFormed s) where
   pread_able client number at count operation e =
       let i = bind_ok v _ _ _ e in
       let long = bind_ok v _ _ _ i.2 in
-      let bytes = bind_ok v _ _ _ long.2 in
+      let size = bind_ok v _ _ _ long.2 in
+      let bytes = bind_ok v _ _ _ size.2 in
       able_as _ operation (given v bytes.2) tt
 
   truncate_able : (path : List ℕ) (len : ℕ) (operation : Operation) → run v (truncate path len) ≡ Ok operation → AbleIn operation
@@ -130,8 +131,8 @@ module _ (s : State) (fine : IsWellFormed s) where
       let is_dir = bind_ok v _ _ _ i.2 in
       let refused = bind_ok v _ _ _ is_dir.2 in
       let big = bind_ok v _ _ _ refused.2 in
-      let bytes = bind_ok v _ _ _ big.2 in
-      able_as _ operation (given v bytes.2) (elim (length bytes.0 == len) as (λ b. AbleIn (cond b (Tell reply.Done) (Resize i.0 len))) [ true ↦ tt | false ↦ ltb-false 1048576 len (not_refused v errno.FileTooBig _ _ big.1) ])
+      let size = bind_ok v _ _ _ big.2 in
+      able_as _ operation (given v size.2) (elim (size.0 == len) as (λ b. AbleIn (cond b (Tell reply.Done) (Resize i.0 len))) [ true ↦ tt | false ↦ ltb-false 1048576 len (not_refused v errno.FileTooBig _ _ big.1) ])
 
   mkdir_able : (path : List ℕ) (operation : Operation) → run v (mkdir path) ≡ Ok operation → AbleIn operation
   unfolding mkdir

@@ -1,16 +1,18 @@
 -- The walk of a call: where it leads, and how it is made step by step.
-use Rattle.std.proofs.Common.{◌≡◌, ℕ, List, [], ◌∷◌, ◌++◌, ◌==◌, ◌||◌, Bool, true, false, refl, Option, Some, None, Result, Ok, Err, ap, sym, ◌∙◌, subst, ◌+◌, ◌-◌, ◌<◌, ◌≤◌, length, take, drop, get_or, arith, add-one, drop-cons, suc}
+use Rattle.std.proofs.Common.{◌≡◌, ℕ, List, [], ◌∷◌, ◌++◌, ◌||◌, Bool, true, false, refl, Option, Some, None, Result, Ok, Err, ap, sym, ◌∙◌, subst, ◌+◌, ◌-◌, ◌<◌, ◌≤◌, length, take, drop, get_or, arith, add-one, drop-cons, suc}
 use Rattle.std.proofs.lemmas.List.{take_more, take_all, drop_all}
 use Rattle.std.specs.Prelude.{option_map}
 use Rattle.std.specs.List.{list_any}
 use Rattle.posix_calls.specs.declared.errno.Errno.{Errno}
 use Rattle.posix_calls.specs.declared.operation.DecideError.{DecideError}
-use Rattle.posix_calls.specs.declared.operation.DecideError.TheVariants.{Refused, Missing, Memory}
+use Rattle.posix_calls.specs.declared.operation.DecideError.TheVariants.{Refused, Memory}
+use Rattle.posix_calls.specs.declared.operation.DecideError.TheVariants as why
+use Rattle.posix_calls.specs.declared.operation.Missing.{Missing}
+use Rattle.posix_calls.specs.declared.operation.Missing.TheVariants as missing
 use Rattle.posix_calls.specs.declared.walk.Landing.{Landing}
 use Rattle.posix_calls.specs.declared.limits.TheConstants.{ROOT}
-use Rattle.posix_calls.specs.Query.{Seen, Query, Gives, Refuses, IsDir, Look, ◌>>=◌, Part, Found, Known, run_part, run, view_of, seen, dir_test}
-use Rattle.posix_calls.specs.Query as query
-use Rattle.posix_calls.specs.Walk.{Place, root_place, walk, prefix, led, directory, directory_if, entries_seen, there}
+use Rattle.posix_calls.specs.Query.{Seen, Query, Gives, Look, ◌>>=◌, Part, Found, Known, Unknown, run_part, run, view_of, seen, dir_test}
+use Rattle.posix_calls.specs.Walk.{Place, root_place, walk, prefix, led, directory, directory_if, entries_seen, is_inode, there}
 use Rattle.posix_calls.specs.Answers.{Tells, entry_in, count_in, last_name, landing_of, landing, place_at, child_at}
 use Rattle.posix_calls.proofs.Chain.{then_found, part_bind, part_gives, tells_ok, tells_err, tells_missing, tells_memory, tells_same, bind_stops, gives, look_missing}
 use Rattle.std.specs.FinMap as fin
@@ -65,7 +67,7 @@ prefix_resolves t (name ∷ names) es is = walk_resolves t name names [] ROOT es
 then_assoc : {A B C : Type 0} (p : Part) (found : Found A) (w : A → Query B) (f : B → Query C) → then_found (then_found found (λ x. run_part p (w x))) (λ y. run_part p (f y)) ≡ then_found found (λ x. run_part p (w x >>= f))
 then_assoc p (Known (Ok x)) w f = sym (part_bind p (w x) f)
 then_assoc p (Known (Err e)) w f = refl
-then_assoc p (query.Missing i) w f = refl
+then_assoc p (Unknown what) w f = refl
 
 -- how questions are grouped does not matter
 pub part_assoc : {A B C : Type 0} (p : Part) (q : Query A) (w : A → Query B) (f : B → Query C) → run_part p (q >>= w >>= f) ≡ run_part p (q >>= (λ x. w x >>= f))
@@ -78,10 +80,10 @@ part_assoc p q w f =
 -- ---- step by step
 
 -- a walk has come to a directory, with these names to go
-pub record Walked (p : Part) (watched : ℕ) (names : List (List ℕ)) (dir : ℕ) (passed : Bool) (rest : List (List ℕ)) : Type 0 where
+pub record Walked (p : Part) (watched : Option ℕ) (names : List (List ℕ)) (dir : ℕ) (passed : Bool) (rest : List (List ℕ)) : Type 0 where
   pub way : List ℕ
   pub same : run_part p (landing watched names) ≡ run_part p (walk dir way rest >>= (λ place. Gives (landing_of watched place)))
-  pub seen : list_any (λ d. d == watched) way ≡ passed
+  pub seen : list_any (λ d. is_inode d watched) way ≡ passed
 
 or_swap : (a b : Bool) → (a || b) ≡ (b || a)
 or_swap true true = refl
@@ -90,7 +92,7 @@ or_swap false true = refl
 or_swap false false = refl
 
 -- it begins at the root
-pub walked_first : (p : Part) (watched : ℕ) (names rest : List (List ℕ)) → names ≡ rest → Walked p watched names ROOT false rest
+pub walked_first : (p : Part) (watched : Option ℕ) (names rest : List (List ℕ)) → names ≡ rest → Walked p watched names ROOT false rest
 walked_first p watched names rest is = record { way = []; same = ap (λ z. run_part p (landing watched z)) is; seen = refl }
 
 -- a step of it
@@ -103,35 +105,35 @@ step_on : (dir : ℕ) (way : List ℕ) (name : List ℕ) (before : List (List �
 step_on dir way name [] last = step_is dir way name last []
 step_on dir way name (b ∷ before) last = step_is dir way name b (before ++ last ∷ [])
 
-same_step : {p : Part} {watched : ℕ} {names : List (List ℕ)} {dir : ℕ} {passed : Bool} {name : List ℕ} (before : List (List ℕ)) (last : List ℕ) (w : Walked p watched names dir passed (name ∷ (before ++ last ∷ []))) → run_part p (landing watched names) ≡ run_part p (child_at dir name >>= (λ child. walk child (dir ∷ w.way) (before ++ last ∷ []) >>= (λ place. Gives (landing_of watched place))))
+same_step : {p : Part} {watched : Option ℕ} {names : List (List ℕ)} {dir : ℕ} {passed : Bool} {name : List ℕ} (before : List (List ℕ)) (last : List ℕ) (w : Walked p watched names dir passed (name ∷ (before ++ last ∷ []))) → run_part p (landing watched names) ≡ run_part p (child_at dir name >>= (λ child. walk child (dir ∷ w.way) (before ++ last ∷ []) >>= (λ place. Gives (landing_of watched place))))
 same_step {p = p} {watched = watched} {dir = dir} {name = name} before last w =
     w.same
     ∙ ap (λ z. run_part p (z >>= (λ place. Gives (landing_of watched place)))) (step_on dir w.way name before last)
     ∙ part_assoc p (child_at dir name) (λ child. walk child (dir ∷ w.way) (before ++ last ∷ [])) (λ place. Gives (landing_of watched place))
 
 -- where a step ends the walk, that is told
-pub walked_stops : {p : Part} {watched : ℕ} {names : List (List ℕ)} {dir : ℕ} {passed : Bool} {name : List ℕ} (before : List (List ℕ)) (last : List ℕ) {s : DecideError} → Walked p watched names dir passed (name ∷ (before ++ last ∷ [])) → Tells p (child_at dir name) (Err s) → Tells p (landing watched names) (Err s)
+pub walked_stops : {p : Part} {watched : Option ℕ} {names : List (List ℕ)} {dir : ℕ} {passed : Bool} {name : List ℕ} (before : List (List ℕ)) (last : List ℕ) {s : DecideError} → Walked p watched names dir passed (name ∷ (before ++ last ∷ [])) → Tells p (child_at dir name) (Err s) → Tells p (landing watched names) (Err s)
 walked_stops before last w h = tells_same (same_step before last w) (bind_stops _ h)
 
 -- otherwise it goes on
-pub walked_on : {p : Part} {watched : ℕ} {names : List (List ℕ)} {dir : ℕ} {passed : Bool} {name : List ℕ} (before : List (List ℕ)) (last : List ℕ) {child : ℕ} → Walked p watched names dir passed (name ∷ (before ++ last ∷ [])) → Tells p (child_at dir name) (Ok child) → Walked p watched names child (passed || (dir == watched)) (before ++ last ∷ [])
+pub walked_on : {p : Part} {watched : Option ℕ} {names : List (List ℕ)} {dir : ℕ} {passed : Bool} {name : List ℕ} (before : List (List ℕ)) (last : List ℕ) {child : ℕ} → Walked p watched names dir passed (name ∷ (before ++ last ∷ [])) → Tells p (child_at dir name) (Ok child) → Walked p watched names child (passed || is_inode dir watched) (before ++ last ∷ [])
 walked_on {p = p} {watched = watched} {dir = dir} {passed = passed} {name = name} before last w h = record {
   way = dir ∷ w.way;
   same = same_step before last w ∙ part_bind p (child_at dir name) (λ child. walk child (dir ∷ w.way) (before ++ last ∷ []) >>= (λ place. Gives (landing_of watched place))) ∙ ap (λ z. then_found z (λ child. run_part p (walk child (dir ∷ w.way) (before ++ last ∷ []) >>= (λ place. Gives (landing_of watched place))))) (h.gives _ refl);
-  seen = ap (λ z. (dir == watched) || z) w.seen ∙ or_swap (dir == watched) passed;
+  seen = ap (λ z. is_inode dir watched || z) w.seen ∙ or_swap (is_inode dir watched) passed;
 }
 
 -- at its end
-last_is : (p : Part) (watched : ℕ) (dir : ℕ) (way : List ℕ) (name : List ℕ) → run_part p (walk dir way (name ∷ []) >>= (λ place. Gives (landing_of watched place))) ≡ run_part {A = Landing} p (Look dir (λ s. Gives (record { parent = dir; inode = entry_in name s; entries = count_in s; passed = (dir == watched) || list_any (λ d. d == watched) way })))
+last_is : (p : Part) (watched : Option ℕ) (dir : ℕ) (way : List ℕ) (name : List ℕ) → run_part p (walk dir way (name ∷ []) >>= (λ place. Gives (landing_of watched place))) ≡ run_part {A = Landing} p (Look dir (λ s. Gives (record { parent = dir; inode = entry_in name s; entries = count_in s; passed = is_inode dir watched || list_any (λ d. is_inode d watched) way })))
 unfolding walk ◌>>=◌
 last_is p watched dir way name = refl
 
--- what is not known of the last directory is lacked
-pub walked_missing : {C : Type 0} {p : Part} {watched : ℕ} {names : List (List ℕ)} {dir : ℕ} {passed : Bool} {last : List ℕ} {s : DecideError} (g : Option Seen → C) → Walked p watched names dir passed (last ∷ []) → s ≡ Missing dir → option_map g (p.node dir) ≡ None → Tells p (landing watched names) (Err s)
+-- what is not known of the last directory is missing
+pub walked_missing : {C : Type 0} {p : Part} {watched : Option ℕ} {names : List (List ℕ)} {dir : ℕ} {passed : Bool} {last : List ℕ} {s : DecideError} (g : Option Seen → C) → Walked p watched names dir passed (last ∷ []) → s ≡ why.Missing (missing.Node dir) → option_map g (p.node dir) ≡ None → Tells p (landing watched names) (Err s)
 walked_missing {p = p} {watched = watched} {dir = dir} {last = last} g w lack is = tells_same (w.same ∙ last_is p watched dir w.way last) (look_missing g _ lack is)
 
 -- what is known is where the walk leads
-lands : (p : Part) (dir : ℕ) (name : List ℕ) (passed : Bool) (o : Option ℕ) (n : ℕ) (s : Option (Option Seen)) → option_map (entry_in name) s ≡ Some o → option_map count_in s ≡ Some n → ◌≡◌ {A = Found Landing} (elim s [ None ↦ query.Missing dir | Some a ↦ run_part {A = Landing} p (Gives (record { parent = dir; inode = entry_in name a; entries = count_in a; passed = passed })) ]) (Known (Ok (record { parent = dir; inode = o; entries = n; passed = passed })))
+lands : (p : Part) (dir : ℕ) (name : List ℕ) (passed : Bool) (o : Option ℕ) (n : ℕ) (s : Option (Option Seen)) → option_map (entry_in name) s ≡ Some o → option_map count_in s ≡ Some n → ◌≡◌ {A = Found Landing} (elim s [ None ↦ Unknown (missing.Node dir) | Some a ↦ run_part {A = Landing} p (Gives (record { parent = dir; inode = entry_in name a; entries = count_in a; passed = passed })) ]) (Known (Ok (record { parent = dir; inode = o; entries = n; passed = passed })))
 lands p dir name passed o n None e h = absurd (cc)
 lands p dir name passed o n (Some a) e h =
     let at : entry_in name a ≡ o = cc in
@@ -144,12 +146,12 @@ look_lands : (p : Part) (dir : ℕ) (name : List ℕ) (passed : Bool) (o : Optio
 unfolding run_part
 look_lands p dir name passed o n e h = lands p dir name passed o n (p.node dir) e h
 
-pub walked_lands : {p : Part} {watched : ℕ} {names : List (List ℕ)} {dir : ℕ} {passed : Bool} {last : List ℕ} {o : Option ℕ} {n : ℕ} → Walked p watched names dir passed (last ∷ []) → option_map (entry_in last) (p.node dir) ≡ Some o → option_map count_in (p.node dir) ≡ Some n → Tells p (landing watched names) (Ok (record { parent = dir; inode = o; entries = n; passed = passed || (dir == watched) }))
+pub walked_lands : {p : Part} {watched : Option ℕ} {names : List (List ℕ)} {dir : ℕ} {passed : Bool} {last : List ℕ} {o : Option ℕ} {n : ℕ} → Walked p watched names dir passed (last ∷ []) → option_map (entry_in last) (p.node dir) ≡ Some o → option_map count_in (p.node dir) ≡ Some n → Tells p (landing watched names) (Ok (record { parent = dir; inode = o; entries = n; passed = passed || is_inode dir watched }))
 walked_lands {p = p} {watched = watched} {dir = dir} {passed = passed} {last = last} {o = o} {n = n} w e h =
-    tells_ok (w.same ∙ last_is p watched dir w.way last ∙ look_lands p dir last ((dir == watched) || list_any (λ d. d == watched) w.way) o n e h ∙ ap (λ z. Known (Ok (record { parent = dir; inode = o; entries = n; passed = (dir == watched) || z }))) w.seen ∙ ap (λ z. Known (Ok (record { parent = dir; inode = o; entries = n; passed = z }))) (or_swap (dir == watched) passed))
+    tells_ok (w.same ∙ last_is p watched dir w.way last ∙ look_lands p dir last (is_inode dir watched || list_any (λ d. is_inode d watched) w.way) o n e h ∙ ap (λ z. Known (Ok (record { parent = dir; inode = o; entries = n; passed = is_inode dir watched || z }))) w.seen ∙ ap (λ z. Known (Ok (record { parent = dir; inode = o; entries = n; passed = z }))) (or_swap (is_inode dir watched) passed))
 
 -- `/` leads to the root
-pub lands_at_root : (p : Part) (watched : ℕ) (names : List (List ℕ)) → length names < 1 → Tells p (landing watched names) (Ok (record { parent = 0; inode = Some ROOT; entries = 0; passed = false }))
+pub lands_at_root : (p : Part) (watched : Option ℕ) (names : List (List ℕ)) → length names < 1 → Tells p (landing watched names) (Ok (record { parent = 0; inode = Some ROOT; entries = 0; passed = false }))
 unfolding walk ◌>>=◌
 lands_at_root p watched [] short = gives
 lands_at_root p watched (name ∷ names) short = absurd (omega arith)
@@ -181,11 +183,11 @@ pub drop_done : (before : List (List ℕ)) (k : ℕ) (tail : List (List ℕ)) �
 drop_done before k tail done = ap (λ z. z ++ tail) (drop_all k before done)
 
 -- the next name of a walk
-pub walked_next : {p : Part} {watched : ℕ} {names : List (List ℕ)} {dir : ℕ} {passed : Bool} (before : List (List ℕ)) (k : ℕ) (name last : List ℕ) → k < length before → name ≡ get_or before k name → Walked p watched names dir passed (drop k before ++ last ∷ []) → Walked p watched names dir passed (name ∷ (drop (k + 1) before ++ last ∷ []))
+pub walked_next : {p : Part} {watched : Option ℕ} {names : List (List ℕ)} {dir : ℕ} {passed : Bool} (before : List (List ℕ)) (k : ℕ) (name last : List ℕ) → k < length before → name ≡ get_or before k name → Walked p watched names dir passed (drop k before ++ last ∷ []) → Walked p watched names dir passed (name ∷ (drop (k + 1) before ++ last ∷ []))
 walked_next {p = p} {watched = watched} {names = names} {dir = dir} {passed = passed} before k name last below is w = subst (λ z. Walked p watched names dir passed z) (drop_next before k name (last ∷ []) below is) w
 
 -- its last name
-pub walked_last : {p : Part} {watched : ℕ} {names : List (List ℕ)} {dir : ℕ} {passed : Bool} (before : List (List ℕ)) (k : ℕ) (last : List ℕ) → length before ≤ k → Walked p watched names dir passed (drop k before ++ last ∷ []) → Walked p watched names dir passed (last ∷ [])
+pub walked_last : {p : Part} {watched : Option ℕ} {names : List (List ℕ)} {dir : ℕ} {passed : Bool} (before : List (List ℕ)) (k : ℕ) (last : List ℕ) → length before ≤ k → Walked p watched names dir passed (drop k before ++ last ∷ []) → Walked p watched names dir passed (last ∷ [])
 walked_last {p = p} {watched = watched} {names = names} {dir = dir} {passed = passed} before k last done w = subst (λ z. Walked p watched names dir passed z) (drop_done before k (last ∷ []) done) w
 
 -- ---- places
@@ -194,15 +196,15 @@ walked_last {p = p} {watched = watched} {names = names} {dir = dir} {passed = pa
 abbrev pub value_or : {A : Type 0} → A → Found A → A
 value_or d (Known (Ok x)) = x
 value_or d (Known (Err e)) = d
-value_or d (query.Missing i) = d
+value_or d (Unknown what) = d
 
 -- what was found after another was found after its value
 found_after : {A B : Type 0} (found : Found A) (k : A → Found B) (y : B) → then_found found k ≡ Known (Ok y) → (x : A) × (found ≡ Known (Ok x)) × (k x ≡ Known (Ok y))
 found_after (Known (Ok x)) k y e = (x, refl, e)
 found_after (Known (Err d)) k y e = absurd (cc)
-found_after (query.Missing i) k y e = absurd (cc)
+found_after (Unknown what) k y e = absurd (cc)
 
-named_here : (p : Part) (dir : ℕ) (way : List ℕ) (name : List ℕ) (place : Place) (s : Option (Option Seen)) → elim s [ None ↦ query.Missing dir | Some a ↦ run_part {A = Place} p (Gives (record { location = record { parent = dir; name = name }; inode = entry_in name a; walked = dir ∷ way; entries = count_in a })) ] ≡ Known (Ok place) → place.location.name ≡ name
+named_here : (p : Part) (dir : ℕ) (way : List ℕ) (name : List ℕ) (place : Place) (s : Option (Option Seen)) → elim s [ None ↦ Unknown (missing.Node dir) | Some a ↦ run_part {A = Place} p (Gives (record { location = record { parent = dir; name = name }; inode = entry_in name a; walked = dir ∷ way; entries = count_in a })) ] ≡ Known (Ok place) → place.location.name ≡ name
 unfolding run_part
 named_here p dir way name place None e = absurd (cc)
 named_here p dir way name place (Some a) e = sym (ap (λ z. (value_or root_place z).location.name) e)
@@ -217,7 +219,7 @@ named p (name ∷ next ∷ names) dir way place e =
     named p (next ∷ names) after.0 (dir ∷ way) place after.2
 
 -- what follows a walk may use what is kept of its place
-pub bind_place : {B : Type 0} {p : Part} (watched : ℕ) (names : List (List ℕ)) {to : Landing} (f : Place → Query B) {r : Result B DecideError} → Tells p (landing watched names) (Ok to) → ((walked : List ℕ) → list_any (λ d. d == watched) walked ≡ to.passed → Tells p (f (place_at names to walked)) r) → Tells p (prefix names >>= f) r
+pub bind_place : {B : Type 0} {p : Part} (watched : Option ℕ) (names : List (List ℕ)) {to : Landing} (f : Place → Query B) {r : Result B DecideError} → Tells p (landing watched names) (Ok to) → ((walked : List ℕ) → list_any (λ d. is_inode d watched) walked ≡ to.passed → Tells p (f (place_at names to walked)) r) → Tells p (prefix names >>= f) r
 bind_place {p = p} watched names {to = to} f {r = r} h rest =
     let after = found_after (run_part p (prefix names)) (λ place. run_part p (Gives (landing_of watched place))) to (sym (part_bind p (prefix names) (λ place. Gives (landing_of watched place))) ∙ h.gives to refl) in
     let place : Place = after.0 in
@@ -231,17 +233,17 @@ bind_place {p = p} watched names {to = to} f {r = r} h rest =
 err_before : {A B : Type 0} (p : Part) (found : Found A) (g : A → B) (e : Errno) → then_found found (λ x. run_part p (Gives (g x))) ≡ Known (Err e) → found ≡ Known (Err e)
 err_before p (Known (Ok x)) g e h = absurd (let clash : Known (Ok (g x)) ≡ Known (Err e) = sym (part_gives p (g x)) ∙ h in cc)
 err_before p (Known (Err d)) g e h = let same : d ≡ e = cc in ap (λ z. Known (Err z)) same
-err_before p (query.Missing i) g e h = absurd (cc)
+err_before p (Unknown what) g e h = absurd (cc)
 
-missing_before : {A B : Type 0} (p : Part) (found : Found A) (g : A → B) (i : ℕ) → then_found found (λ x. run_part p (Gives (g x))) ≡ query.Missing i → found ≡ query.Missing i
-missing_before p (Known (Ok x)) g i h = absurd (let clash : Known (Ok (g x)) ≡ query.Missing i = sym (part_gives p (g x)) ∙ h in cc)
-missing_before p (Known (Err d)) g i h = absurd (cc)
-missing_before p (query.Missing j) g i h = let same : j ≡ i = cc in ap (λ z. query.Missing z) same
+missing_before : {A B : Type 0} (p : Part) (found : Found A) (g : A → B) (what : Missing) → then_found found (λ x. run_part p (Gives (g x))) ≡ Unknown what → found ≡ Unknown what
+missing_before p (Known (Ok x)) g what h = absurd (let clash : Known (Ok (g x)) ≡ Unknown what = sym (part_gives p (g x)) ∙ h in cc)
+missing_before p (Known (Err d)) g what h = absurd (cc)
+missing_before p (Unknown other) g what h = let same : other ≡ what = cc in ap (λ z. Unknown z) same
 
 -- where the walk stops, nothing follows
-pub bind_place_stops : {B : Type 0} {p : Part} (watched : ℕ) (names : List (List ℕ)) (f : Place → Query B) {s : DecideError} → Tells p (landing watched names) (Err s) → Tells p (prefix names >>= f) (Err s)
+pub bind_place_stops : {B : Type 0} {p : Part} (watched : Option ℕ) (names : List (List ℕ)) (f : Place → Query B) {s : DecideError} → Tells p (landing watched names) (Err s) → Tells p (prefix names >>= f) (Err s)
 bind_place_stops {p = p} watched names f {s = Refused e} h =
     bind_stops f (tells_err (err_before p (run_part p (prefix names)) (landing_of watched) e (sym (part_bind p (prefix names) (λ place. Gives (landing_of watched place))) ∙ h.refuses e refl)))
-bind_place_stops {p = p} watched names f {s = Missing i} h =
-    bind_stops f (tells_missing (missing_before p (run_part p (prefix names)) (landing_of watched) i (sym (part_bind p (prefix names) (λ place. Gives (landing_of watched place))) ∙ h.missing i refl)))
+bind_place_stops {p = p} watched names f {s = why.Missing what} h =
+    bind_stops f (tells_missing (missing_before p (run_part p (prefix names)) (landing_of watched) what (sym (part_bind p (prefix names) (λ place. Gives (landing_of watched place))) ∙ h.missing what refl)))
 bind_place_stops {p = p} watched names f {s = Memory} h = tells_memory p (prefix names >>= f)

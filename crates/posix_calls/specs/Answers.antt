@@ -1,14 +1,15 @@
 -- What someone who knows a part of a tree answers, piece by piece, and how a decision stands to its questions.
-use Rattle.std.specs.Prelude.{◌≡◌, ℕ, List, [], ◌∷◌, map, take, drop, length, ◌==◌, Option, Some, None, Result, Ok, Err}
+use Rattle.std.specs.Prelude.{◌≡◌, ℕ, List, [], ◌∷◌, map, Option, Some, None, Result, Ok, Err}
 use Rattle.std.specs.FinMap as fin
 use Rattle.std.specs.List.{list_any}
-use Rattle.posix_calls.specs.Query.{Seen, File, Dir, Query, Gives, Look, ◌>>=◌, Part, Known, run_part}
-use Rattle.posix_calls.specs.Query as query
-use Rattle.posix_calls.specs.Walk.{Place, entries_seen, bytes_seen, directory, prefix}
+use Rattle.posix_calls.specs.Query.{Seen, File, Dir, Query, Gives, Look, ◌>>=◌, Part, Known, Unknown, run_part}
+use Rattle.posix_calls.specs.Walk.{Place, entries_seen, directory, prefix, is_inode}
 use Rattle.posix_calls.specs.declared.errno.Errno.{Errno}
 use Rattle.posix_calls.specs.declared.errno.Errno.TheVariants.{NoMemory}
 use Rattle.posix_calls.specs.declared.operation.DecideError.{DecideError}
-use Rattle.posix_calls.specs.declared.operation.DecideError.TheVariants.{Refused, Missing, Memory}
+use Rattle.posix_calls.specs.declared.operation.DecideError.TheVariants as why
+use Rattle.posix_calls.specs.declared.operation.DecideError.TheVariants.{Refused, Memory}
+use Rattle.posix_calls.specs.declared.operation.Missing.{Missing}
 use Rattle.posix_calls.specs.declared.operation.Description.{Description}
 use Rattle.posix_calls.specs.declared.operation.Description.TheVariants as description
 use Rattle.posix_calls.specs.declared.walk.Landing.{Landing}
@@ -27,18 +28,10 @@ count_in s = fin.len (entries_seen s)
 abbrev pub listed_in : Option Seen → List (List ℕ)
 listed_in s = map (λ e. e.0) (fin.entries (entries_seen s))
 
--- how many bytes a file has
-abbrev pub size_in : Option Seen → ℕ
-size_in s = length (bytes_seen s)
-
--- so many bytes of a file from an offset on, or those that there are
-abbrev pub range_in : ℕ → ℕ → Option Seen → List ℕ
-range_in at count s = take count (drop at (bytes_seen s))
-
 -- what there is to say of a node
 abbrev pub description_of : Option Seen → Option Description
 description_of None = None
-description_of (Some (File names bytes)) = Some (description.File (length bytes) names)
+description_of (Some (File names size)) = Some (description.File size names)
 description_of (Some (Dir entries)) = Some (description.Dir (fin.len entries))
 
 -- ---- of a walk
@@ -49,16 +42,16 @@ last_name [] = []
 last_name (name ∷ []) = name
 last_name (name ∷ next ∷ names) = last_name (next ∷ names)
 
--- what a call needs of a place beside its name, and whether the walk went through an inode
-abbrev pub landing_of : ℕ → Place → Landing
-landing_of watched place = record { parent = place.location.parent; inode = place.inode; entries = place.entries; passed = list_any (λ d. d == watched) place.walked }
+-- what a call needs of a place beside its name, and whether the walk went through the inode that is watched for, where one is
+abbrev pub landing_of : Option ℕ → Place → Landing
+landing_of watched place = record { parent = place.location.parent; inode = place.inode; entries = place.entries; passed = list_any (λ d. is_inode d watched) place.walked }
 
 -- a place by what is kept of it
 abbrev pub place_at : List (List ℕ) → Landing → List ℕ → Place
 place_at names to walked = record { location = record { parent = to.parent; name = last_name names }; inode = to.inode; walked = walked; entries = to.entries }
 
 -- that of the place to which the walk along a path leads
-abbrev pub landing : ℕ → List (List ℕ) → Query Landing
+abbrev pub landing : Option ℕ → List (List ℕ) → Query Landing
 landing watched names = prefix names >>= (λ place. Gives (landing_of watched place))
 
 -- the directory under a name of a directory
@@ -72,8 +65,8 @@ abbrev pub decide_error : Errno → DecideError
 decide_error NoMemory = Memory
 decide_error e = Refused e
 
--- by what is known, a result is what the questions come to, an error too, and what is lacked is what they lack; want of memory says nothing
+-- by what is known, a result is what the questions come to, an error too, and what is missing is what they miss; want of memory says nothing
 pub record Tells {A : Type 0} (p : Part) (q : Query A) (result : Result A DecideError) : Type 0 where
   pub gives : (x : A) → result ≡ Ok x → run_part p q ≡ Known (Ok x)
   pub refuses : (e : Errno) → result ≡ Err (Refused e) → run_part p q ≡ Known (Err e)
-  pub missing : (i : ℕ) → result ≡ Err (Missing i) → run_part p q ≡ query.Missing i
+  pub missing : (what : Missing) → result ≡ Err (why.Missing what) → run_part p q ≡ Unknown what

@@ -13,6 +13,10 @@ resized size bytes = take size bytes ++ replicate (size - length bytes) 0
 abbrev pub written : ℕ → List ℕ → List ℕ → List ℕ
 written at new old = resized at old ++ new ++ drop (at + length new) old
 
+-- so many bytes from an offset on, or those that there are
+abbrev pub range : ℕ → ℕ → List ℕ → List ℕ
+range at count bytes = take count (drop at bytes)
+
 -- what a directory has under each name, in the order of the names' bytes
 abbrev pub Entries : Type 0 → Type 0
 Entries X = FinMap (slice_cmp nat_cmp) X

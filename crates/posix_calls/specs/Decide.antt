@@ -1,12 +1,12 @@
 -- Each call's errors in their order, and the operation that it comes to if none holds.
-use Rattle.std.specs.Prelude.{ℕ, zero, suc, ◌+◌, List, [], ◌∷◌, map, take, drop, length, Bool, true, false, ◌&&◌, ◌||◌, not, ◌==◌, nat_lt, nat_le, Option, Some, None, if◌then◌else◌}
+use Rattle.std.specs.Prelude.{ℕ, zero, suc, ◌+◌, ◌-◌, List, [], ◌∷◌, map, length, min, Bool, true, false, ◌&&◌, ◌||◌, not, ◌==◌, nat_lt, nat_le, Option, Some, None, if◌then◌else◌}
 use Rattle.std.specs.FinMap as fin
 use Rattle.std.specs.List.{list_any}
 use Rattle.posix_calls.specs.Path.{reading}
 use Rattle.posix_calls.specs.Tree.{Own}
 use Rattle.posix_calls.specs.declared.descriptor.Descriptor.{Descriptor}
-use Rattle.posix_calls.specs.Query.{Seen, File, Dir, Query, Gives, Refuses, Look, ◌>>=◌}
-use Rattle.posix_calls.specs.Walk.{Place, refuse, said, entries_at, bytes_at, bytes_seen, names_at, kind_at, prefix, is_root, is_there, there, is_full}
+use Rattle.posix_calls.specs.Query.{Seen, File, Dir, Query, Gives, Refuses, Look, Range, ◌>>=◌}
+use Rattle.posix_calls.specs.Walk.{Place, refuse, said, entries_at, size_at, size_seen, names_at, kind_at, prefix, is_root, is_there, is_inode, there, is_full}
 use Rattle.posix_calls.specs.declared.limits.TheConstants.{MAX_DESCRIPTORS, MAX_FILE, MAX_NAMES, MAX_TRANSFER}
 use Rattle.posix_calls.specs.declared.errno.Errno.TheVariants as errno
 use Rattle.posix_calls.specs.declared.call.Flags.{Flags}
@@ -44,7 +44,7 @@ is_senseless f = (f.truncate && not f.write) || (f.exclusive && not f.create) ||
 -- whether there are bytes to take away
 abbrev pub empties : Bool → ℕ → Query Bool
 empties false i = Gives false
-empties true i = Look i (λ s. Gives (nat_lt 0 (length (bytes_seen s))))
+empties true i = Look i (λ s. Gives (nat_lt 0 (size_seen s)))
 
 -- what is there is opened, and what is not there is made
 abbrev pub open_there : Place → ℕ → Flags → Option ℕ → Query Operation
@@ -79,13 +79,19 @@ close own number = do
   i ← opened (λ d. true) (own number)
   Gives (CloseFile i number)
 
+-- so many bytes of a file that there are; none are asked for where there are none
+abbrev pub bytes_from : ℕ → ℕ → ℕ → Query (List ℕ)
+bytes_from i at zero = Gives []
+bytes_from i at (suc count) = Range i at (suc count) (λ bytes. Gives bytes)
+
 -- the bytes present, up to as many as asked; none at or past the end
 unfoldable pub pread : Own → ℕ → ℕ → ℕ → Query Operation
 pread own number at count = do
   i ← opened (λ d. d.reads) (own number)
   _ ← refuse errno.Invalid (nat_lt MAX_TRANSFER count)
-  bytes ← bytes_at i
-  Gives (Tell (reply.Read (take count (drop at bytes))))
+  size ← size_at i
+  bytes ← bytes_from i at (min count (size - at))
+  Gives (Tell (reply.Read bytes))
 
 -- no bytes are written at once, and change nothing
 abbrev pub write_at : ℕ → ℕ → List ℕ → Query Operation
@@ -112,8 +118,8 @@ truncate path len = do
   is_dir ← kind_at place.inode
   _ ← refuse errno.IsDirectory is_dir
   _ ← refuse errno.FileTooBig (nat_lt MAX_FILE len)
-  bytes ← bytes_at i
-  Gives (if length bytes == len then Tell reply.Done else Resize i len)
+  size ← size_at i
+  Gives (if size == len then Tell reply.Done else Resize i len)
 
 -- an empty directory is made
 unfoldable pub mkdir : List ℕ → Query Operation
@@ -199,11 +205,6 @@ replacing from to old_dir (Some j) = do
   _ ← refuse errno.IsDirectory (not old_dir && new_dir)
   if new_dir then replacing_dir j else Gives (OldFile j)
 
--- whether this inode is there
-abbrev pub is_inode : ℕ → Option ℕ → Bool
-is_inode i None = false
-is_inode i (Some j) = i == j
-
 -- the name moves
 abbrev pub renamed : Place → Place → ℕ → Query Operation
 renamed from to i = do
@@ -249,7 +250,7 @@ list_path path = do
 -- what there is to say of a node
 abbrev pub described : Option Seen → Query Operation
 described None = Refuses errno.NoEntry
-described (Some (File names bytes)) = Gives (Tell (reply.File (length bytes) names))
+described (Some (File names size)) = Gives (Tell (reply.File size names))
 described (Some (Dir entries)) = Gives (Tell (reply.Dir (fin.len entries)))
 
 -- what is at a path

@@ -1,13 +1,16 @@
 -- What a call asks of a file tree, one question after another, and who answers.
-use Rattle.std.specs.Prelude.{◌≡◌, ℕ, List, Bool, true, false, Option, Some, None, Result, Ok, Err, option_map}
-use Rattle.posix_calls.specs.Content.{Entries}
-use Rattle.posix_calls.specs.Tree.{Tree, names_of}
+use Rattle.std.specs.Prelude.{◌≡◌, ℕ, zero, suc, ◌+◌, ◌-◌, ◌/◌, List, length, Bool, true, false, Option, Some, None, Result, Ok, Err, option_map}
+use Rattle.posix_calls.specs.Content.{Entries, range}
+use Rattle.posix_calls.specs.Tree.{Tree, bytes_of, names_of}
 use Rattle.posix_calls.specs.Tree as tree
 use Rattle.posix_calls.specs.declared.errno.Errno.{Errno}
+use Rattle.posix_calls.specs.declared.limits.TheConstants.{UNIT_BYTES}
+use Rattle.posix_calls.specs.declared.operation.Missing.{Missing}
+use Rattle.posix_calls.specs.declared.operation.Missing.TheVariants as missing
 
--- a node as a call sees it: a file with the number of its names
+-- a node as a call sees it: a file with the number of its names and of its bytes
 pub data Seen : Type 0 where
-  File : (names : ℕ) → (bytes : List ℕ) → Seen
+  File : (names size : ℕ) → Seen
   Dir : (entries : Entries ℕ) → Seen
 
 -- a result, an error, or a question whose answer decides what comes next
@@ -18,6 +21,8 @@ pub data Query (A : Type 0) : Type 0 where
   IsDir : (i : ℕ) → (next : Option Bool → Query A) → Query A
   -- the node at an inode, if there is one
   Look : (i : ℕ) → (next : Option Seen → Query A) → Query A
+  -- so many bytes of the file at an inode from an offset on, or those that there are
+  Range : (i at count : ℕ) → (next : List ℕ → Query A) → Query A
 
 -- first these questions, then those that their result leads to
 infixl 10 ◌>>=◌
@@ -26,6 +31,7 @@ unfoldable pub ◌>>=◌ : {A B : Type 0} → Query A → (A → Query B) → Qu
 (Refuses e) >>= f = Refuses e
 (IsDir i next) >>= f = IsDir i (λ o. next o >>= f)
 (Look i next) >>= f = Look i (λ o. next o >>= f)
+(Range i at count next) >>= f = Range i at count (λ bytes. next bytes >>= f)
 
 -- ---- the whole answers every question
 
@@ -33,6 +39,7 @@ unfoldable pub ◌>>=◌ : {A B : Type 0} → Query A → (A → Query B) → Qu
 pub record View : Type 0 where
   pub is_dir : ℕ → Option Bool
   pub node : ℕ → Option Seen
+  pub bytes : ℕ → ℕ → ℕ → List ℕ
 
 -- what the questions come to
 unfoldable pub run : {A : Type 0} → View → Query A → Result A Errno
@@ -40,6 +47,7 @@ run v (Gives x) = Ok x
 run v (Refuses e) = Err e
 run v (IsDir i next) = run v (next (v.is_dir i))
 run v (Look i next) = run v (next (v.node i))
+run v (Range i at count next) = run v (next (v.bytes i at count))
 
 -- whether a node is a directory
 abbrev pub dir_test : tree.Node → Bool
@@ -48,12 +56,16 @@ dir_test (tree.Dir entries) = true
 
 -- a node of so many names as it is seen
 abbrev pub seen : ℕ → tree.Node → Seen
-seen names (tree.File bytes) = File names bytes
+seen names (tree.File bytes) = File names (length bytes)
 seen names (tree.Dir entries) = Dir entries
 
 -- the answers of a tree: by its nodes, whose names are counted
 abbrev pub view_of : Tree → View
-view_of t = record { is_dir = λ i. option_map dir_test (t i); node = λ i. option_map (seen (names_of t i)) (t i) }
+view_of t = record {
+  is_dir = λ i. option_map dir_test (t i);
+  node = λ i. option_map (seen (names_of t i)) (t i);
+  bytes = λ i at count. range at count (bytes_of (t i));
+}
 
 -- ---- someone who knows a part answers what it can
 
@@ -61,37 +73,50 @@ view_of t = record { is_dir = λ i. option_map dir_test (t i); node = λ i. opti
 pub record Part : Type 0 where
   pub is_dir : ℕ → Option (Option Bool)
   pub node : ℕ → Option (Option Seen)
+  pub bytes : ℕ → ℕ → ℕ → Option (List ℕ)
 
 -- who knows the whole of a view
 abbrev pub whole : View → Part
-whole v = record { is_dir = λ i. Some (v.is_dir i); node = λ i. Some (v.node i) }
+whole v = record { is_dir = λ i. Some (v.is_dir i); node = λ i. Some (v.node i); bytes = λ i at count. Some (v.bytes i at count) }
 
--- what a part comes to, or the first inode that it would have to know more of
+-- how many blocks a range of bytes touches
+abbrev pub blocks_touched : ℕ → ℕ → ℕ
+blocks_touched at zero = 0
+blocks_touched at (suc count) = 1 + (at + count) / UNIT_BYTES - at / UNIT_BYTES
+
+-- what has to be known to tell a range of the bytes of a file: the blocks that it touches
+abbrev pub blocks_of : ℕ → ℕ → ℕ → Missing
+blocks_of i at count = missing.Blocks i (at / UNIT_BYTES) (blocks_touched at count)
+
+-- what a part comes to, or the first thing that it would have to know beside
 pub data Found (A : Type 0) : Type 0 where
   Known : (result : Result A Errno) → Found A
-  Missing : (i : ℕ) → Found A
+  Unknown : (what : Missing) → Found A
 
 -- what the questions come to by a part
 unfoldable pub run_part : {A : Type 0} → Part → Query A → Found A
 run_part p (Gives x) = Known (Ok x)
 run_part p (Refuses e) = Known (Err e)
-run_part p (IsDir i next) = elim (p.is_dir i) [ None ↦ Missing i | Some o ↦ run_part p (next o) ]
-run_part p (Look i next) = elim (p.node i) [ None ↦ Missing i | Some o ↦ run_part p (next o) ]
+run_part p (IsDir i next) = elim (p.is_dir i) [ None ↦ Unknown (missing.Node i) | Some o ↦ run_part p (next o) ]
+run_part p (Look i next) = elim (p.node i) [ None ↦ Unknown (missing.Node i) | Some o ↦ run_part p (next o) ]
+run_part p (Range i at count next) = elim (p.bytes i at count) [ None ↦ Unknown (blocks_of i at count) | Some bytes ↦ run_part p (next bytes) ]
 
 -- what the part answers is what the whole does
 pub record IsPart (p : Part) (v : View) : Type 0 where
   pub is_dir : (i : ℕ) (o : Option Bool) → p.is_dir i ≡ Some o → v.is_dir i ≡ o
   pub node : (i : ℕ) (o : Option Seen) → p.node i ≡ Some o → v.node i ≡ o
+  pub bytes : (i at count : ℕ) (bytes : List ℕ) → p.bytes i at count ≡ Some bytes → v.bytes i at count ≡ bytes
 
--- the next question is of this inode, and the part has no answer to it
-abbrev pub IsBeyond : {A : Type 0} → Part → ℕ → Query A → Type 0
-IsBeyond p i (Gives x) = ⊥
-IsBeyond p i (Refuses e) = ⊥
-IsBeyond p i (IsDir j next) = (j ≡ i) × (p.is_dir j ≡ None)
-IsBeyond p i (Look j next) = (j ≡ i) × (p.node j ≡ None)
+-- the next question is of this, and the part has no answer to it
+abbrev pub IsBeyond : {A : Type 0} → Part → Missing → Query A → Type 0
+IsBeyond p what (Gives x) = ⊥
+IsBeyond p what (Refuses e) = ⊥
+IsBeyond p what (IsDir i next) = (missing.Node i ≡ what) × (p.is_dir i ≡ None)
+IsBeyond p what (Look i next) = (missing.Node i ≡ what) × (p.node i ≡ None)
+IsBeyond p what (Range i at count next) = (blocks_of i at count ≡ what) × (p.bytes i at count ≡ None)
 
--- once the part has answered what it can, these questions are left, of this inode first
-pub record IsLeft {A : Type 0} (p : Part) (i : ℕ) (q : Query A) : Type 0 where
+-- once the part has answered what it can, these questions are left, of this first
+pub record IsLeft {A : Type 0} (p : Part) (what : Missing) (q : Query A) : Type 0 where
   pub rest : Query A
-  pub beyond : IsBeyond p i rest
+  pub beyond : IsBeyond p what rest
   pub same : (v : View) → IsPart p v → run v q ≡ run v rest

@@ -1,5 +1,5 @@
 -- The words of which the calls are made: an error, a node's parts, and the walk along a path.
-use Rattle.std.specs.Prelude.{ℕ, List, [], ◌∷◌, Bool, true, false, nat_le, Option, Some, None, Result, Ok, Err}
+use Rattle.std.specs.Prelude.{ℕ, List, [], ◌∷◌, Bool, true, false, ◌==◌, nat_le, Option, Some, None, Result, Ok, Err}
 use Rattle.std.specs.FinMap as fin
 use Rattle.posix_calls.specs.Content.{Entries}
 use Rattle.posix_calls.specs.Query.{Seen, File, Dir, Query, Gives, Refuses, IsDir, Look, ◌>>=◌}
@@ -23,27 +23,27 @@ said (Err e) = Refuses e
 -- the entries of a directory; what is none has none
 abbrev pub entries_seen : Option Seen → Entries ℕ
 entries_seen None = fin.empty
-entries_seen (Some (File names bytes)) = fin.empty
+entries_seen (Some (File names size)) = fin.empty
 entries_seen (Some (Dir entries)) = entries
 
 -- the entries of the directory at an inode
 abbrev pub entries_at : ℕ → Query (Entries ℕ)
 entries_at i = Look i (λ s. Gives (entries_seen s))
 
--- the bytes of a file; what is none has none
-abbrev pub bytes_seen : Option Seen → List ℕ
-bytes_seen None = []
-bytes_seen (Some (File names bytes)) = bytes
-bytes_seen (Some (Dir entries)) = []
+-- how many bytes a file has
+abbrev pub size_seen : Option Seen → ℕ
+size_seen None = 0
+size_seen (Some (File names size)) = size
+size_seen (Some (Dir entries)) = 0
 
--- the bytes of the file at an inode
-abbrev pub bytes_at : ℕ → Query (List ℕ)
-bytes_at i = Look i (λ s. Gives (bytes_seen s))
+-- how many bytes the file at an inode has
+abbrev pub size_at : ℕ → Query ℕ
+size_at i = Look i (λ s. Gives (size_seen s))
 
 -- how many names a file has
 abbrev pub names_seen : Option Seen → ℕ
 names_seen None = 0
-names_seen (Some (File names bytes)) = names
+names_seen (Some (File names size)) = names
 names_seen (Some (Dir entries)) = 0
 
 -- how many names the file at an inode has
@@ -108,6 +108,11 @@ is_root (name ∷ names) = false
 abbrev pub is_there : Option ℕ → Bool
 is_there None = false
 is_there (Some i) = true
+
+-- whether this inode is there
+abbrev pub is_inode : ℕ → Option ℕ → Bool
+is_inode i None = false
+is_inode i (Some j) = i == j
 
 -- the inode, or an error where nothing is there
 abbrev pub there : Option ℕ → Query ℕ

@@ -4,8 +4,9 @@ ghost use Rattle.std.specs.Prelude.{◌≡◌, ◌≢◌, ◌∷◌, ◌++◌, �
 ghost use Rattle.std.specs.FinMap.{get};
 ghost use Rattle.posix_calls.specs.Content.{Entries};
 ghost use Rattle.posix_calls.specs.Tree.{Tree, Dir, State, entries_of, opening};
-ghost use Rattle.posix_calls.specs.Query.{Query, View, Part, Known, Missing, IsPart, IsLeft, run, run_part, view_of};
+ghost use Rattle.posix_calls.specs.Query.{Query, View, Part, Known, Unknown, IsPart, IsLeft, run, run_part, view_of};
 ghost use Rattle.posix_calls.specs.Walk.{inode_at};
+ghost use Rattle.posix_calls.specs.declared.operation.Missing.{Missing};
 ghost use Rattle.posix_calls.specs.declared.operation.Operation.{Operation};
 ghost use Rattle.posix_calls.specs.Operations.{makes, state_after, answer, Follows, Step};
 ghost use Rattle.posix_calls.specs.Run.{Turn, Run, settled};
@@ -36,10 +37,10 @@ pub fn runs_split_anywhere()
     ensures joined { (first rest : List Turn) (old mid last : State) → Run old first mid → Run mid rest last → Run old (first ++ rest) last }
 {}
 
-/// What a part of a tree can tell of a call is what the whole tells; where it lacks an inode, that inode is asked for next.
+/// What a part of a tree can tell of a call is what the whole tells; where something is missing, it is asked for next.
 pub fn part_answers_as_the_whole()
     ensures known { (p : Part) (v : View) → IsPart p v → (q : Query Operation) (r : Result Operation Errno) → run_part p q ≡ Known r → run v q ≡ r }
-    ensures missing { (p : Part) (q : Query Operation) (i : ℕ) → run_part p q ≡ Missing i → IsLeft p i q }
+    ensures missing { (p : Part) (q : Query Operation) (what : Missing) → run_part p q ≡ Unknown what → IsLeft p what q }
 {}
 
 /// The walk of a call leads to the inode that its path names, or is refused by the first error on the way.

@@ -1,5 +1,9 @@
+ghost use Rattle.std.specs.Prelude.{◌≡◌, None, Some, if◌then◌else◌};
+ghost use Rattle.posix_calls.specs.Operations.{IsInRange, makes, only_tells, opens, reply_of};
+
 use crate::bytes::Bytes;
 use crate::call::Reply;
+use crate::descriptor::Descriptor;
 use crate::errno::Errno;
 use crate::name::Name;
 
@@ -89,15 +93,104 @@ pub enum Operation {
     },
 }
 
+impl Operation {
+    /// What the call is answered; of an operation that does no more than tell, `None`: `into_reply` moves its answer out.
+    pub fn reply(&self) -> Option<Reply>
+        requires { IsInRange self.now }
+        ensures { result ≡ (if only_tells self.now then None else Some (reply_of self.now)) }
+    {
+        match self {
+            Operation::Tell { .. } => None,
+            Operation::NewFile { descriptor, .. } => Some(Reply::Opened {
+                descriptor: *descriptor,
+            }),
+            Operation::OpenFile { descriptor, .. } => Some(Reply::Opened {
+                descriptor: *descriptor,
+            }),
+            Operation::Write { bytes, .. } => Some(Reply::Wrote {
+                count: bytes.len() as u32,
+            }),
+            _ => Some(Reply::Done),
+        }
+    }
+
+    /// What the call is answered, with the bytes or names that the operation carries for it.
+    pub fn into_reply(self) -> Reply
+        requires { IsInRange self }
+        ensures { result ≡ reply_of self }
+    {
+        match self {
+            Operation::Tell { answer } => answer,
+            operation => operation.reply().unwrap_or(Reply::Done),
+        }
+    }
+
+    /// Whether it makes a node, which needs a number.
+    pub fn makes_node(&self) -> bool
+        ensures { result ≡ makes self.now }
+    {
+        match self {
+            Operation::NewDir { .. } => true,
+            Operation::NewFile { .. } => true,
+            _ => false,
+        }
+    }
+
+    /// What it opens, and under which number; a node that it makes has the number `new`.
+    pub fn opens(&self, new: u32) -> Option<(u32, Descriptor)>
+        ensures { result ≡ opens new self.now }
+    {
+        match self {
+            Operation::NewFile {
+                descriptor,
+                reads,
+                writes,
+                ..
+            } => Some((
+                *descriptor,
+                Descriptor {
+                    inode: new,
+                    reads: *reads,
+                    writes: *writes,
+                },
+            )),
+            Operation::OpenFile {
+                inode,
+                descriptor,
+                reads,
+                writes,
+                ..
+            } => Some((
+                *descriptor,
+                Descriptor {
+                    inode: *inode,
+                    reads: *reads,
+                    writes: *writes,
+                },
+            )),
+            _ => None,
+        }
+    }
+}
+
 /// Why a call comes to no operation.
 #[derive(Clone, Copy, Debug, PartialEq, Eq)]
 pub enum DecideError {
     /// The call is answered by this error.
     Refused { errno: Errno },
-    /// More has to be known of this inode, which is the first that is asked for.
-    Missing { inode: u32 },
+    /// This has to be known too, and is the first thing that is asked for.
+    Missing { what: Missing },
     /// Memory ran out.
     Memory,
+}
+
+/// What has to be known of a file tree to decide a call.
+#[derive(Clone, Copy, Debug, PartialEq, Eq)]
+pub enum Missing {
+    /// What stands at an inode: whether it is a directory, its entries, or a file's size and number of names.
+    Node { inode: u32 },
+    /// Bytes of a file: `count` blocks of `UNIT_BYTES` bytes from block `first` on, all that a range touches.
+    Blocks { inode: u32, first: u64, count: u32 },
 }
 
 /// What there is to say of what stands at an inode.

@@ -5,8 +5,8 @@ use file_graph::{Effect, PlainGraph};
 use log_record::Record;
 use plain_tree::PlainTree;
 use posix_calls::{
-    Call, Operation, Descriptor, Errno, MAX_CLIENTS, MAX_INODE, DecideError, OwnDescriptors, ROOT, Reply,
-    decide,
+    Call, DecideError, Descriptor, Errno, MAX_CLIENTS, MAX_INODE, Missing, Operation, OwnDescriptors, ROOT,
+    Reply, decide,
 };
 use std::alloc::Global;
 use std::io::{self, ErrorKind};
@@ -95,7 +95,10 @@ impl Beside {
 
     // What is lacked becomes known.
     fn learn(&mut self, why: DecideError) -> io::Result<()> {
-        let DecideError::Missing { inode } = why else {
+        let DecideError::Missing {
+            what: Missing::Node { inode },
+        } = why
+        else {
             return Err(differs());
         };
         self.part.learn(inode)?;
