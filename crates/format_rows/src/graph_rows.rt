@@ -1,74 +1,84 @@
 // What the effects of records do to a graph.
-use crate::data_words::data_of;
-use crate::error::RowError;
+use crate::data_words::Input;
 use crate::record_rows::put_record;
-use crate::words::{put_data, put_entry};
+use crate::words::Text;
 use file_graph::{Effects, PlainEntry, PlainGraph};
 use log_record::read_record;
 use posix_calls::MAX_INODE;
-use std::alloc::{AllocError, Global};
 
 /// `graph DATA ..`: the records that the words spell, one each, and the graph after them, which begins with the root alone.
-pub fn tell_graph(alloc: Global, input: &str, out: &mut String) -> Result<(), RowError> {
-    let mut graph = PlainGraph::with_root(alloc)?;
-    for word in input.split(' ') {
-        let bytes = data_of(alloc, word)?;
-        apply_record(alloc, &mut graph, &bytes, out)?;
+pub fn tell_graph(input: &mut Input<'_>, out: &mut Text) {
+    match PlainGraph::with_root(input.alloc()) {
+        Ok(mut graph) => {
+            apply_records(input, &mut graph, out);
+            put_graph(&graph, out);
+        }
+        Err(_) => input.fail(),
     }
-    put_graph(&graph, out)?;
-    Ok(())
 }
 
-fn apply_record(
-    alloc: Global,
-    graph: &mut PlainGraph,
-    bytes: &[u8],
-    out: &mut String,
-) -> Result<(), AllocError> {
-    match read_record(alloc, bytes) {
+fn apply_records(input: &mut Input<'_>, graph: &mut PlainGraph, out: &mut Text) {
+    for word in input.rest().split(' ') {
+        let mut payload = Input::new(input.alloc(), word);
+        let is_applied = apply_record(&mut payload, graph, out);
+        if payload.is_bad() || !is_applied {
+            input.fail();
+        }
+    }
+}
+
+fn apply_record(payload: &mut Input<'_>, graph: &mut PlainGraph, out: &mut Text) -> bool {
+    let bytes = payload.data();
+    match read_record(payload.alloc(), &bytes) {
         Ok((found, _)) => {
-            put_record(&found, out)?;
-            out.push_str("; ")?;
+            put_record(&found, out);
+            out.put("; ");
             apply_all(graph, &found.effects)
         }
-        Err(error) => write!(out, "{error}; "),
+        Err(error) => {
+            out.field("", &error);
+            out.put("; ");
+            true
+        }
     }
 }
 
-fn apply_all(graph: &mut PlainGraph, effects: &Effects) -> Result<(), AllocError> {
+// Whether there was memory for it.
+fn apply_all(graph: &mut PlainGraph, effects: &Effects) -> bool {
+    let mut is_applied = true;
     for effect in effects.as_slice() {
-        graph.apply(effect)?;
+        is_applied = is_applied && graph.apply(effect).is_ok();
     }
-    Ok(())
+    is_applied
 }
 
 // What the graph costs, and its nodes.
-fn put_graph(graph: &PlainGraph, out: &mut String) -> Result<(), AllocError> {
-    write!(out, "costs {}", graph.charge())?;
+fn put_graph(graph: &PlainGraph, out: &mut Text) {
+    out.field("costs ", &graph.charge());
     for inode in 1..MAX_INODE + 2 {
-        put_node(graph, inode, out)?;
+        if let Some(names) = graph.names(inode) {
+            put_node(graph, inode, names, out);
+        }
     }
-    Ok(())
 }
 
-fn put_node(graph: &PlainGraph, inode: u32, out: &mut String) -> Result<(), AllocError> {
-    let Some(names) = graph.names(inode) else {
-        return Ok(());
-    };
+fn put_node(graph: &PlainGraph, inode: u32, names: u32, out: &mut Text) {
     if let Some(bytes) = graph.file(inode) {
-        write!(out, "; file {inode}, names {names}, ")?;
-        put_data(out, bytes)?;
+        out.field("; file ", &inode);
+        out.field(", names ", &names);
+        out.put(", ");
+        out.data(bytes);
     }
     if let Some(entries) = graph.entries(inode) {
-        write!(out, "; directory {inode}, names {names}:")?;
-        put_entries(entries, out)?;
+        out.field("; directory ", &inode);
+        out.field(", names ", &names);
+        put_entries(entries, out);
     }
-    Ok(())
 }
 
-fn put_entries(entries: &[PlainEntry], out: &mut String) -> Result<(), AllocError> {
+fn put_entries(entries: &[PlainEntry], out: &mut Text) {
+    out.put(":");
     for entry in entries {
-        put_entry(out, entry.name.as_slice(), entry.value.0, entry.value.1)?;
+        out.entry(entry.name.as_slice(), entry.value.0, entry.value.1);
     }
-    Ok(())
 }

@@ -1,30 +1,42 @@
 // Media that are opened: their journal is replayed or refused.
-ghost use Rattle.std.specs.Prelude.{◌≡◌, ◌<◌, ◌≤◌, IfOk, length};
+ghost use Rattle.std.specs.Prelude.{◌≡◌, ◌<◌, ◌≤◌, length};
 ghost use Rattle.tier_device.specs.Memory.{IsAtRest};
 
-use crate::data_words::{allowed_geometry, first_word};
-use crate::error::RowError;
+use crate::data_words::{Input, filled};
 use crate::media::Image;
 use crate::structures::put_reading;
-use crate::words::put_data;
+use crate::words::Text;
 use batch_journal::{Journal, JournalError};
 use layout::{BLOCK, Super};
-use std::alloc::{AllocError, Global};
+use std::alloc::Global;
 use tier_device::{MemMedia, Tier};
 
 /// `journal U,F,B,S LINE; LINE ..`: the superblock, and each other block of slots, of marks and of the node pool that is not
 /// zero, once the medium of these contents is opened.
-pub fn tell_journal(alloc: Global, input: &str, out: &mut String) -> Result<(), RowError> {
-    let (sizes, lines) = first_word(input)?;
-    let image = Image::read(alloc, allowed_geometry(sizes)?, lines, ';')?;
-    match open(alloc, image.tiers()?) {
-        Ok(mut journal) => put_home(alloc, &mut journal, out)?,
-        Err(error) => write!(out, "{error}")?,
+pub fn tell_journal(input: &mut Input<'_>, out: &mut Text) {
+    if let Some(geometry) = input.geometry() {
+        let mut image = Image::new(input.alloc(), geometry);
+        image.put(input, ';');
+        put_opened(&image, out);
     }
-    Ok(())
 }
 
-pub fn open(alloc: Global, media: MemMedia) -> Result<Journal<MemMedia>, JournalError>
+fn put_opened(image: &Image, out: &mut Text) {
+    match opened(image) {
+        Ok(mut journal) => put_home(image.alloc, &mut journal, out),
+        Err(error) => out.field("", &error),
+    }
+}
+
+/// The tiers, once they are opened.
+pub fn opened(image: &Image) -> Result<Journal<MemMedia>, JournalError> {
+    match image.tiers() {
+        Ok(media) => open(image.alloc, media),
+        Err(_) => Err(JournalError::Memory),
+    }
+}
+
+fn open(alloc: Global, media: MemMedia) -> Result<Journal<MemMedia>, JournalError>
     requires { IsAtRest media }
 {
     match Journal::reopen(alloc, media) {
@@ -33,30 +45,24 @@ pub fn open(alloc: Global, media: MemMedia) -> Result<Journal<MemMedia>, Journal
     }
 }
 
-fn put_home(
-    alloc: Global,
-    journal: &mut Journal<MemMedia>,
-    out: &mut String,
-) -> Result<(), AllocError> {
-    let size = BLOCK;
-    let mut block = vec![in alloc; 0u8; size]?;
+fn put_home(alloc: Global, journal: &mut Journal<MemMedia>, out: &mut Text) {
+    let mut block = filled(alloc, 0, BLOCK);
     if read_home(journal, 0, &mut block) {
-        put_reading(alloc, Super::decode(&block), &block, out)?;
+        put_reading(alloc, &Super::decode(&block), &block, out);
     }
     for number in 1..journal.geometry().tier_blocks(Tier::Fast) {
         if read_home(journal, number, &mut block) {
-            put_block(number, without_end(&block), out)?;
+            put_block(number, without_end(&block), out);
         }
     }
-    Ok(())
 }
 
-fn put_block(number: u32, bytes: &[u8], out: &mut String) -> Result<(), AllocError> {
-    if bytes.is_empty() {
-        return Ok(());
+fn put_block(number: u32, bytes: &[u8], out: &mut Text) {
+    if !bytes.is_empty() {
+        out.field("; ", &number);
+        out.put(" ");
+        out.data(bytes);
     }
-    write!(out, "; {number} ")?;
-    put_data(out, bytes)
 }
 
 /// Reads a block that a batch may write, and says whether it could.

@@ -2,10 +2,10 @@
 ghost use Rattle.std.specs.Prelude.{IfOk};
 ghost use Rattle.tier_device.specs.Memory.{IsAtRest};
 
-use crate::data_words::{data_of, first_word, number_of};
-use crate::error::RowError;
+use crate::data_words::{Input, filled};
+use crate::layout_rows::tier_of;
 use layout::{BLOCK, Geometry};
-use std::alloc::Global;
+use std::alloc::{AllocError, Global};
 use tier_device::{MemMedia, Tier};
 use update_log::REGION_SIZE;
 
@@ -15,60 +15,72 @@ pub const REGIONS: usize = 16;
 /// The tiers one after the other, and behind them the regions, by client and number.
 #[derive(Drop)]
 pub struct Image {
-    alloc: Global,
+    pub alloc: Global,
     geometry: Geometry,
     bytes: Vec<u8>,
 }
 
 impl Image {
-    /// The contents that lines tell, parted by a character; all others are zero. Empty lines and comments say nothing.
-    pub fn read(
-        alloc: Global,
-        geometry: Geometry,
-        lines: &str,
-        end: char,
-    ) -> Result<Image, RowError> {
+    /// The media of a geometry, all zeros.
+    pub fn new(alloc: Global, geometry: Geometry) -> Image {
         let size = region_start(&geometry, REGIONS);
-        let mut bytes = vec![in alloc; 0u8; size]?;
-        for line in lines.split(end) {
-            put_line(alloc, &geometry, &mut bytes, line.trim())?;
-        }
-        Ok(Image {
+        Image {
             alloc,
             geometry,
-            bytes,
-        })
+            bytes: filled(alloc, 0, size),
+        }
+    }
+
+    /// Puts what the lines tell, each up to this character, over what is there. Empty lines and comments say nothing.
+    pub fn put(&mut self, input: &mut Input<'_>, end: char) {
+        for line in input.rest().split(end) {
+            let line = line.trim();
+            if !line.is_empty() && !line.starts_with('#') {
+                self.put_line(line, input);
+            }
+        }
+    }
+
+    fn put_line(&mut self, line: &str, input: &mut Input<'_>) {
+        let mut words = Input::new(self.alloc, line);
+        let at = place_of(&self.geometry, &mut words);
+        let text = words.data();
+        let is_put = overwrite(&mut self.bytes, at, &text);
+        if words.is_bad() || !is_put {
+            input.fail();
+        }
     }
 
     /// The medium of the tiers.
-    pub fn tiers(&self) -> Result<MemMedia, RowError>
+    pub fn tiers(&self) -> Result<MemMedia, AllocError>
         ensures { IfOk result IsAtRest }
     {
-        let fast = self.tier(Tier::Fast)?;
-        let block = self.tier(Tier::Block)?;
-        let slow = self.tier(Tier::Slow)?;
-        Ok(MemMedia::of_bytes(self.alloc, fast, block, slow)?)
+        let fast = self.tier(Tier::Fast);
+        let block = self.tier(Tier::Block);
+        let slow = self.tier(Tier::Slow);
+        match MemMedia::of_bytes(self.alloc, fast, block, slow) {
+            Ok(media) => Ok(media),
+            Err(_) => Err(AllocError),
+        }
     }
 
-    fn tier(&self, tier: Tier) -> Result<Vec<u8>, RowError> {
+    fn tier(&self, tier: Tier) -> Vec<u8> {
         let count = self.geometry.tier_blocks(tier) as usize;
-        self.part(
+        let part = self.part(
             tier_start(&self.geometry, tier),
             count.saturating_mul(BLOCK),
-        )
+        );
+        part.to_vec(self.alloc).unwrap_or(Vec::new(self.alloc))
     }
 
     /// The bytes of a region.
-    pub fn region(&self, index: usize) -> Result<Vec<u8>, RowError> {
+    pub fn region(&self, index: usize) -> &[u8] {
         self.part(region_start(&self.geometry, index), REGION_SIZE)
     }
 
     // So many bytes from a place on.
-    fn part(&self, at: usize, size: usize) -> Result<Vec<u8>, RowError> {
-        match self.bytes.get(at..at.saturating_add(size)) {
-            Some(bytes) => Ok(bytes.to_vec(self.alloc)?),
-            None => Err(RowError::Unread),
-        }
+    fn part(&self, at: usize, size: usize) -> &[u8] {
+        self.bytes.get(at..at.saturating_add(size)).unwrap_or(&[])
     }
 }
 
@@ -91,51 +103,32 @@ fn region_start(geometry: &Geometry, index: usize) -> usize {
         .saturating_add(REGION_SIZE.saturating_mul(index))
 }
 
-fn put_line(
-    alloc: Global,
-    geometry: &Geometry,
-    bytes: &mut [u8],
-    line: &str,
-) -> Result<(), RowError> {
-    if line.is_empty() || line.starts_with('#') {
-        return Ok(());
-    }
-    let (place, words) = line.rsplit_once(' ').ok_or(RowError::Unread)?;
-    let at = place_of(geometry, place)?;
-    let text = data_of(alloc, words)?;
-    overwrite(bytes, at, &text)
-}
-
-fn overwrite(bytes: &mut [u8], at: usize, text: &[u8]) -> Result<(), RowError> {
+// Whether there is room for it.
+fn overwrite(bytes: &mut [u8], at: usize, text: &[u8]) -> bool {
     if bytes.len() < at || bytes.len() - at < text.len() {
-        return Err(RowError::Unread);
+        return false;
     }
     bytes[at..at + text.len()].copy_from_slice(text);
-    Ok(())
+    true
 }
 
-fn place_of(geometry: &Geometry, place: &str) -> Result<usize, RowError> {
-    let (medium, number) = first_word(place)?;
-    match medium.as_bytes() {
-        b"fast" => block_place(geometry, Tier::Fast, number),
-        b"block" => block_place(geometry, Tier::Block, number),
-        b"slow" => block_place(geometry, Tier::Slow, number),
-        b"region" => region_place(geometry, number),
-        _ => Err(RowError::Unread),
+// The place that the words in front of a line name.
+fn place_of(geometry: &Geometry, words: &mut Input<'_>) -> usize {
+    match words.word() {
+        "region" => region_place(geometry, words),
+        word => {
+            let tier = tier_of(word, words);
+            let at = BLOCK.saturating_mul(words.number() as usize);
+            tier_start(geometry, tier).saturating_add(at)
+        }
     }
-}
-
-fn block_place(geometry: &Geometry, tier: Tier, number: &str) -> Result<usize, RowError> {
-    let at = BLOCK.saturating_mul(number_of(number)? as usize);
-    Ok(tier_start(geometry, tier).saturating_add(at))
 }
 
 // The place of a client's region 0 or 1.
-fn region_place(geometry: &Geometry, words: &str) -> Result<usize, RowError> {
-    let (client, number) = first_word(words)?;
-    let pair = (number_of(client)? as usize).saturating_sub(1);
+fn region_place(geometry: &Geometry, words: &mut Input<'_>) -> usize {
+    let pair = (words.number() as usize).saturating_sub(1);
     let index = pair
         .saturating_mul(2)
-        .saturating_add(number_of(number)? as usize);
-    Ok(region_start(geometry, index))
+        .saturating_add(words.number() as usize);
+    region_start(geometry, index)
 }

@@ -1,44 +1,41 @@
 // Readings of paths.
-use crate::data_words::data_of;
-use crate::error::RowError;
-use crate::words::put_name;
+use crate::data_words::Input;
+use crate::words::Text;
 use posix_calls::Path;
 use script_lines::PathText;
-use std::alloc::{AllocError, Global};
 
 /// `path PATH`, where `%hh` is a byte.
-pub fn tell_path(alloc: Global, input: &str, out: &mut String) -> Result<(), RowError> {
-    let Some(text) = PathText::read(input.as_bytes()) else {
-        return Err(RowError::Unread);
+pub fn tell_path(input: &mut Input<'_>, out: &mut Text) {
+    let Some(text) = PathText::read(input.rest().as_bytes()) else {
+        return input.fail();
     };
-    let bytes = text.to_bytes(alloc)?;
-    put_reading(alloc, bytes.as_slice(), out)?;
-    Ok(())
+    match text.to_bytes(input.alloc()) {
+        Ok(bytes) => put_reading(input, bytes.as_slice(), out),
+        Err(_) => input.fail(),
+    }
 }
 
 /// `path-data DATA`
-pub fn tell_path_data(alloc: Global, input: &str, out: &mut String) -> Result<(), RowError> {
-    let bytes = data_of(alloc, input)?;
-    put_reading(alloc, &bytes, out)?;
-    Ok(())
+pub fn tell_path_data(input: &mut Input<'_>, out: &mut Text) {
+    let bytes = input.data();
+    put_reading(input, &bytes, out);
 }
 
-fn put_reading(alloc: Global, bytes: &[u8], out: &mut String) -> Result<(), AllocError> {
-    match Path::read(alloc, bytes) {
+fn put_reading(input: &Input<'_>, bytes: &[u8], out: &mut Text) {
+    match Path::read(input.alloc(), bytes) {
         Ok(path) => put_path(&path, out),
-        Err(errno) => out.push_str(errno.standard_name()),
+        Err(errno) => out.put(errno.standard_name()),
     }
 }
 
 // `root`, or the names, each behind a slash.
-fn put_path(path: &Path, out: &mut String) -> Result<(), AllocError> {
+fn put_path(path: &Path, out: &mut Text) {
     if path.is_root() {
-        return out.push_str("the root");
+        return out.put("the root");
     }
-    out.push_str("names")?;
+    out.put("names");
     for name in path.names() {
-        out.push(' ')?;
-        put_name(out, name.as_slice())?;
+        out.put(" ");
+        out.name(name.as_slice());
     }
-    Ok(())
 }

@@ -1,10 +1,10 @@
 // Regions: the records that stand in them.
-ghost use Rattle.std.specs.Prelude.{◌≡◌, IfOk};
+ghost use Rattle.std.specs.Prelude.{IfOk};
 ghost use Rattle.tier_device.specs.Memory.{IsAtRest};
 
-use crate::data_words::{first_word, number_of, padded};
-use crate::error::RowError;
+use crate::data_words::{Input, filled};
 use crate::record_rows::put_record;
+use crate::words::Text;
 use log_record::Record;
 use std::alloc::{AllocError, Global};
 use tier_device::{MemMedia, Tier};
@@ -12,14 +12,13 @@ use update_log::{HEADER, REGION_SIZE, Region, RegionError, Stage};
 
 /// `region SIZE DATA ..`: the stage, the room and the records of a region whose medium has so many bytes, with zeros behind the
 /// data.
-pub fn tell_region(alloc: Global, input: &str, out: &mut String) -> Result<(), RowError> {
-    let (size, words) = first_word(input)?;
-    let bytes = padded(alloc, words, number_of(size)? as usize)?;
-    match found_in(alloc, &bytes) {
-        Ok(found) => put_found(&found, out)?,
-        Err(error) => write!(out, "{error}")?,
+pub fn tell_region(input: &mut Input<'_>, out: &mut Text) {
+    let size = input.number() as usize;
+    let bytes = input.padded(size);
+    match found_in(input.alloc(), &bytes) {
+        Ok(found) => put_found(&found, out),
+        Err(error) => out.field("", &error),
     }
-    Ok(())
 }
 
 /// What stands in a region.
@@ -41,32 +40,49 @@ impl Found {
 
 /// What stands in a region of these bytes.
 pub fn found_in(alloc: Global, bytes: &[u8]) -> Result<Found, RegionError> {
-    let mut region = open(alloc, medium(alloc, bytes)?)?;
-    let records = region.records()?;
-    let room = region.room();
-    let is_same = is_appended(alloc, &records, front_of(bytes, room))?;
-    Ok(Found {
-        stage: region.stage(),
-        room,
-        records,
-        is_same,
-    })
+    match opened(alloc, bytes) {
+        Ok(mut region) => all_of(alloc, &mut region, bytes),
+        Err(error) => Err(error),
+    }
 }
 
-fn medium(alloc: Global, bytes: &[u8]) -> Result<MemMedia, RegionError>
-    ensures { IfOk result IsAtRest }
-{
-    match copied(alloc, bytes) {
-        Ok(media) => Ok(media),
+// What stands in an opened region.
+fn all_of(
+    alloc: Global,
+    region: &mut Region<MemMedia>,
+    bytes: &[u8],
+) -> Result<Found, RegionError> {
+    match region.records() {
+        Ok(records) => {
+            let room = region.room();
+            let is_same = is_appended(alloc, &records, front_of(bytes, room));
+            Ok(Found {
+                stage: region.stage(),
+                room,
+                records,
+                is_same,
+            })
+        }
+        Err(error) => Err(error),
+    }
+}
+
+// A region on a medium of these bytes.
+fn opened(alloc: Global, bytes: &[u8]) -> Result<Region<MemMedia>, RegionError> {
+    match medium(alloc, bytes) {
+        Ok(media) => open(alloc, media),
         Err(_) => Err(RegionError::Memory),
     }
 }
 
-fn copied(alloc: Global, bytes: &[u8]) -> Result<MemMedia, AllocError>
+fn medium(alloc: Global, bytes: &[u8]) -> Result<MemMedia, AllocError>
     ensures { IfOk result IsAtRest }
 {
     let fast = bytes.to_vec(alloc)?;
-    Ok(MemMedia::of_bytes(alloc, fast, Vec::new(alloc), Vec::new(alloc))?)
+    match MemMedia::of_bytes(alloc, fast, Vec::new(alloc), Vec::new(alloc)) {
+        Ok(media) => Ok(media),
+        Err(_) => Err(AllocError),
+    }
 }
 
 fn open(alloc: Global, media: MemMedia) -> Result<Region<MemMedia>, RegionError>
@@ -88,49 +104,48 @@ fn front_of(bytes: &[u8], room: Option<usize>) -> &[u8] {
 }
 
 // Whether an empty region that the records are appended to then begins with these bytes.
-fn is_appended(alloc: Global, records: &[Record], front: &[u8]) -> Result<bool, RegionError> {
-    let Ok(zeros) = padded(alloc, "-", REGION_SIZE) else {
-        return Err(RegionError::Memory);
-    };
-    let mut region = open(alloc, medium(alloc, &zeros)?)?;
-    append_all(&mut region, records)?;
+fn is_appended(alloc: Global, records: &[Record], front: &[u8]) -> bool {
+    match opened(alloc, &filled(alloc, 0, REGION_SIZE)) {
+        Ok(mut region) => append_all(&mut region, records) && begins_with(region, front),
+        Err(_) => false,
+    }
+}
+
+fn begins_with(region: Region<MemMedia>, front: &[u8]) -> bool {
     let media = region.into_media();
     let end = HEADER.saturating_add(front.len());
-    Ok(media.bytes(Tier::Fast).get(HEADER..end) == Some(front))
+    media.bytes(Tier::Fast).get(HEADER..end) == Some(front)
 }
 
-fn append_all(region: &mut Region<MemMedia>, records: &[Record]) -> Result<(), RegionError> {
+// Whether all could be appended.
+fn append_all(region: &mut Region<MemMedia>, records: &[Record]) -> bool {
     for entry in records {
         if region.stage() != Stage::Resting || !entry.has_spelling() {
-            return Err(RegionError::Damaged);
+            return false;
         }
-        region.append(entry)?;
+        if region.append(entry).is_err() {
+            return false;
+        }
     }
-    Ok(())
+    true
 }
 
-fn put_found(found: &Found, out: &mut String) -> Result<(), AllocError> {
-    put_sizes(found, out)?;
+fn put_found(found: &Found, out: &mut Text) {
+    put_sizes(found, out);
     for entry in &found.records {
-        out.push_str("; ")?;
-        put_record(entry, out)?;
+        out.put("; ");
+        put_record(entry, out);
     }
-    Ok(())
 }
 
 /// How many records there are, how long the next may be, and what is wrong with the end.
-pub fn put_sizes(found: &Found, out: &mut String) -> Result<(), AllocError> {
-    write!(
-        out,
-        "{} records, room {}",
-        found.records.len(),
-        found.room.unwrap_or(0)
-    )?;
+pub fn put_sizes(found: &Found, out: &mut Text) {
+    out.field("", &found.records.len());
+    out.field(" records, room ", &found.room.unwrap_or(0));
     if found.stage == Stage::Foreign {
-        out.push_str(", a foreign gate")?;
+        out.put(", a foreign gate");
     }
     if !found.is_same {
-        out.push_str(", but is written otherwise")?;
+        out.put(", but is written otherwise");
     }
-    Ok(())
 }

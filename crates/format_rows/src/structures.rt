@@ -1,9 +1,10 @@
 // The structures of the shared media in words, and spelled again.
-use crate::words::put_entry;
+use crate::data_words::filled;
+use crate::words::Text;
 use layout::{
     BLOCK, DirBlock, ExtentBlock, MAX_EXTENTS, MAX_IN_BLOCK, Marks, SLOT_SIZE, Slot, Super,
 };
-use std::alloc::{AllocError, Global};
+use std::alloc::Global;
 use std::fmt::Display;
 use tier_device::Tier;
 
@@ -12,38 +13,32 @@ pub trait Structure {
     /// Writes it over bytes, where these are as many as it has.
     fn spell(&self, bytes: &mut [u8]);
 
-    fn tell(&self, out: &mut String) -> Result<(), AllocError>;
+    fn tell(&self, out: &mut Text);
 }
 
 /// What bytes were read as: in words, and whether it is spelled otherwise, or the refusal.
-pub fn put_reading<S: Structure + Drop, E: Display + Drop>(
+pub fn put_reading<S: Structure, E: Display>(
     alloc: Global,
-    found: Result<S, E>,
+    found: &Result<S, E>,
     bytes: &[u8],
-    out: &mut String,
-) -> Result<(), AllocError> {
+    out: &mut Text,
+) {
     match found {
         Ok(found) => {
-            found.tell(out)?;
-            put_otherwise(alloc, &found, bytes, out)
+            found.tell(out);
+            if !is_spelled(alloc, found, bytes) {
+                out.put(", but is spelled otherwise");
+            }
         }
-        Err(error) => write!(out, "{error}"),
+        Err(error) => out.field("", error),
     }
 }
 
-fn put_otherwise<S: Structure>(
-    alloc: Global,
-    found: &S,
-    bytes: &[u8],
-    out: &mut String,
-) -> Result<(), AllocError> {
-    let size = bytes.len();
-    let mut again = vec![in alloc; 7u8; size]?;
+// Whether these are the bytes of a structure.
+fn is_spelled<S: Structure>(alloc: Global, found: &S, bytes: &[u8]) -> bool {
+    let mut again = filled(alloc, 7, bytes.len());
     found.spell(&mut again);
-    if again.as_slice() != bytes {
-        out.push_str(", but is spelled otherwise")?;
-    }
-    Ok(())
+    again.as_slice() == bytes
 }
 
 impl Structure for Super {
@@ -53,16 +48,12 @@ impl Structure for Super {
         }
     }
 
-    fn tell(&self, out: &mut String) -> Result<(), AllocError> {
+    fn tell(&self, out: &mut Text) {
         let sizes = self.geometry;
-        let fast = sizes.data_blocks(Tier::Fast);
-        let block = sizes.data_blocks(Tier::Block);
-        let slow = sizes.data_blocks(Tier::Slow);
-        write!(
-            out,
-            "units {}, data blocks {fast} {block} {slow}",
-            sizes.units()
-        )
+        out.field("units ", &sizes.units());
+        out.field(", data blocks ", &sizes.data_blocks(Tier::Fast));
+        out.field(" ", &sizes.data_blocks(Tier::Block));
+        out.field(" ", &sizes.data_blocks(Tier::Slow));
     }
 }
 
@@ -73,9 +64,9 @@ impl Structure for Slot {
         }
     }
 
-    fn tell(&self, out: &mut String) -> Result<(), AllocError> {
-        match *self {
-            Slot::Free => out.push_str("no node"),
+    fn tell(&self, out: &mut Text) {
+        match self {
+            Slot::Free => out.put("no node"),
             Slot::File {
                 names,
                 size,
@@ -83,19 +74,25 @@ impl Structure for Slot {
                 fast,
                 block,
                 slow,
-            } => write!(
-                out,
-                "file, names {names}, size {size}, touch {touch}, roots {fast} {block} {slow}"
-            ),
+            } => {
+                out.field("file, names ", names);
+                out.field(", size ", size);
+                out.field(", touch ", touch);
+                out.field(", roots ", fast);
+                out.field(" ", block);
+                out.field(" ", slow);
+            }
             Slot::Directory {
                 names,
                 entries,
                 touch,
                 root,
-            } => write!(
-                out,
-                "directory, names {names}, entries {entries}, touch {touch}, root {root}"
-            ),
+            } => {
+                out.field("directory, names ", names);
+                out.field(", entries ", entries);
+                out.field(", touch ", touch);
+                out.field(", root ", root);
+            }
         }
     }
 }
@@ -107,12 +104,13 @@ impl Structure for Marks {
         }
     }
 
-    fn tell(&self, out: &mut String) -> Result<(), AllocError> {
-        out.push_str("marks")?;
+    fn tell(&self, out: &mut Text) {
+        out.put("marks");
         for mark in &self.clients {
-            write!(out, " {}:{}", mark.generation, mark.done)?;
+            out.field(" ", &mark.generation);
+            out.field(":", &mark.done);
         }
-        write!(out, ", digests {}", self.digests)
+        out.field(", digests ", &self.digests);
     }
 }
 
@@ -123,16 +121,14 @@ impl Structure for ExtentBlock {
         }
     }
 
-    fn tell(&self, out: &mut String) -> Result<(), AllocError> {
-        write!(out, "extents of {}:", self.owner())?;
+    fn tell(&self, out: &mut Text) {
+        out.field("extents of ", &self.owner());
+        out.put(":");
         for extent in self.extents() {
-            write!(
-                out,
-                " {}+{} at {}",
-                extent.logical, extent.length, extent.place
-            )?;
+            out.field(" ", &extent.logical);
+            out.field("+", &extent.length);
+            out.field(" at ", &extent.place);
         }
-        Ok(())
     }
 }
 
@@ -143,11 +139,11 @@ impl Structure for DirBlock {
         }
     }
 
-    fn tell(&self, out: &mut String) -> Result<(), AllocError> {
-        write!(out, "entries of {}:", self.owner())?;
+    fn tell(&self, out: &mut Text) {
+        out.field("entries of ", &self.owner());
+        out.put(":");
         for entry in self.entries() {
-            put_entry(out, entry.name.as_slice(), entry.inode, entry.kind)?;
+            out.entry(entry.name.as_slice(), entry.inode, entry.kind);
         }
-        Ok(())
     }
 }

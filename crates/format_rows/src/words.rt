@@ -1,35 +1,87 @@
-// Names and bytes as text.
-ghost use Rattle.std.specs.Prelude.{◌≡◌, ◌<◌, IfSome, length};
+// What is told of a row.
+ghost use Rattle.std.specs.Prelude.{◌<◌, IfSome, length};
 
 use file_graph::Kind;
 use script_lines::{is_plain, run_len};
-use std::alloc::AllocError;
+use std::alloc::Global;
+use std::fmt::Display;
 
-/// A name. Bytes from 0x21 to 0x7e but `%` stand as they are, all others as `%hh`.
-pub fn put_name(out: &mut String, name: &[u8]) -> Result<(), AllocError> {
-    for byte in name {
-        if is_plain(*byte) {
-            out.push(char::from(*byte))?;
-        } else {
-            write!(out, "%{byte:02x}")?;
-        }
-    }
-    Ok(())
+/// A text that is put together piece by piece. A piece for which there is no memory is left out, and the row does not hold.
+#[derive(Drop)]
+pub struct Text {
+    text: String,
 }
 
-/// Bytes as runs `hhxN` joined by `+`, or `-` where there is none.
-pub fn put_data(out: &mut String, bytes: &[u8]) -> Result<(), AllocError> {
-    if bytes.is_empty() {
-        return out.push('-');
+impl Text {
+    pub fn new(alloc: Global) -> Self {
+        Text {
+            text: String::new(alloc),
+        }
     }
-    let mut rest = bytes;
-    let mut joint = "";
-    while let Some((byte, count, behind)) = first_run(rest) {
-        write!(out, "{joint}{byte:02x}x{count}")?;
-        rest = behind;
-        joint = "+";
+
+    pub fn as_str(&self) -> &str {
+        &self.text
     }
-    Ok(())
+
+    pub fn clear(&mut self) {
+        self.text.clear();
+    }
+
+    pub fn put(&mut self, piece: &str) {
+        let _ = self.text.push_str(piece);
+    }
+
+    /// Some words, and a value behind them.
+    pub fn field<T: Display>(&mut self, words: &str, value: &T) {
+        let _ = write!(self.text, "{words}{value}");
+    }
+
+    /// A name. Bytes from 0x21 to 0x7e but `%` stand as they are, all others as `%hh`.
+    pub fn name(&mut self, name: &[u8]) {
+        for byte in name {
+            if is_plain(*byte) {
+                let _ = self.text.push(char::from(*byte));
+            } else {
+                self.hex("%", *byte);
+            }
+        }
+    }
+
+    /// Bytes as runs `hhxN` joined by `+`, or `-` where there is none.
+    pub fn data(&mut self, bytes: &[u8]) {
+        let mut rest = bytes;
+        let mut joint = "";
+        while let Some((byte, count, behind)) = first_run(rest) {
+            self.hex(joint, byte);
+            self.field("x", &count);
+            rest = behind;
+            joint = "+";
+        }
+        if bytes.is_empty() {
+            self.put("-");
+        }
+    }
+
+    /// An entry of a directory.
+    pub fn entry(&mut self, name: &[u8], inode: u32, kind: Kind) {
+        self.put(" ");
+        self.name(name);
+        self.field(" ", &inode);
+        self.kind(" ", kind);
+    }
+
+    /// What a node is, behind some words.
+    pub fn kind(&mut self, words: &str, kind: Kind) {
+        self.put(words);
+        self.put(match kind {
+            Kind::File => "file",
+            Kind::Directory => "directory",
+        });
+    }
+
+    fn hex(&mut self, words: &str, byte: u8) {
+        let _ = write!(self.text, "{words}{byte:02x}");
+    }
 }
 
 // The byte in front, how often it stands there in a row, and what stands behind.
@@ -43,18 +95,4 @@ fn first_run(bytes: &[u8]) -> Option<(u8, usize, &[u8])>
         }
         [] => None,
     }
-}
-
-pub fn kind_word(kind: Kind) -> &'static str {
-    match kind {
-        Kind::File => "file",
-        Kind::Directory => "directory",
-    }
-}
-
-/// An entry of a directory.
-pub fn put_entry(out: &mut String, name: &[u8], inode: u32, kind: Kind) -> Result<(), AllocError> {
-    out.push(' ')?;
-    put_name(out, name)?;
-    write!(out, " {inode} {}", kind_word(kind))
 }

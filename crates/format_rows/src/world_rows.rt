@@ -1,74 +1,80 @@
 // Whole media: every block that the superblock, the slots, the extents and the entries name, and every region.
 ghost use Rattle.std.specs.Prelude.{◌≤◌};
 
-use crate::data_words::{allowed_geometry, first_word};
-use crate::error::RowError;
-use crate::journal_rows::{open, read_home};
-use crate::layout_rows::directory_extents;
+use crate::data_words::{Input, filled};
+use crate::journal_rows::{opened, read_home};
 use crate::media::{Image, REGIONS};
 use crate::region_rows::{found_in, put_sizes};
 use crate::structures::put_reading;
+use crate::words::Text;
 use batch_journal::Journal;
 use layout::{
     BLOCK, DirBlock, Extent, ExtentBlock, Geometry, MARKS_BLOCK, Marks, SLOT_SIZE, Slot, Space,
     Super, slot_block, slot_byte,
 };
 use posix_calls::MAX_INODE;
-use std::alloc::{AllocError, Global};
+use std::alloc::Global;
 use std::fs;
 use tier_device::{MemMedia, Tier};
 
 /// `world U,F,B,S FILE`: what stands on the media of a file, once they are opened.
-pub fn tell_world(rt: &HostRuntime, input: &str, out: &mut String) -> Result<(), RowError> {
-    let alloc = rt.alloc();
-    let (sizes, file) = first_word(input)?;
-    let Ok(lines) = fs::read_to_string(rt, file) else {
-        return Err(RowError::File);
-    };
-    let image = Image::read(alloc, allowed_geometry(sizes)?, &lines, '\n')?;
-    tell_tiers(alloc, &image, out)?;
-    for index in 0..REGIONS {
-        put_region(alloc, index, &image.region(index)?, out)?;
+pub fn tell_world(rt: &HostRuntime, input: &mut Input<'_>, out: &mut Text) {
+    if let Some(geometry) = input.geometry() {
+        let mut image = Image::new(input.alloc(), geometry);
+        match fs::read_to_string(rt, input.rest()) {
+            Ok(lines) => put_lines(&mut image, &lines, input),
+            Err(_) => input.fail(),
+        }
+        put_image(&image, out);
     }
-    Ok(())
+}
+
+fn put_lines(image: &mut Image, lines: &str, input: &mut Input<'_>) {
+    let mut lines = Input::new(image.alloc, lines);
+    image.put(&mut lines, '\n');
+    if lines.is_bad() {
+        input.fail();
+    }
+}
+
+fn put_image(image: &Image, out: &mut Text) {
+    match opened(image) {
+        Ok(journal) => put_tiers(image.alloc, journal, out),
+        Err(error) => out.field("", &error),
+    }
+    for index in 0..REGIONS {
+        put_region(image.alloc, index, image.region(index), out);
+    }
 }
 
 // A region that has records, or an open gate.
-fn put_region(
-    alloc: Global,
-    index: usize,
-    bytes: &[u8],
-    out: &mut String,
-) -> Result<(), AllocError> {
+fn put_region(alloc: Global, index: usize, bytes: &[u8], out: &mut Text) {
     match found_in(alloc, bytes) {
+        Ok(found) if found.is_empty() => {}
         Ok(found) => {
-            if found.is_empty() {
-                return Ok(());
-            }
-            write!(out, "; region {} {}: ", index / 2 + 1, index % 2)?;
-            put_sizes(&found, out)
+            out.field("; region ", &(index / 2 + 1));
+            out.field(" ", &(index % 2));
+            out.put(": ");
+            put_sizes(&found, out);
         }
-        Err(error) => write!(out, "; region {index}: {error}"),
+        Err(error) => {
+            out.field("; region ", &index);
+            out.field(": ", &error);
+        }
     }
 }
 
-fn tell_tiers(alloc: Global, image: &Image, out: &mut String) -> Result<(), RowError> {
-    let journal = match open(alloc, image.tiers()?) {
-        Ok(journal) => journal,
-        Err(error) => return Ok(write!(out, "{error}")?),
-    };
-    let size = BLOCK;
+fn put_tiers(alloc: Global, journal: Journal<MemMedia>, out: &mut Text) {
     let mut walk = Walk {
         alloc,
         geometry: journal.geometry(),
         journal,
-        block: vec![in alloc; 0u8; size]?,
+        block: filled(alloc, 0, BLOCK),
     };
-    walk.put_fixed(out)?;
+    walk.put_fixed(out);
     for inode in 1..MAX_INODE + 1 {
-        walk.put_node(inode, out)?;
+        walk.put_node(inode, out);
     }
-    Ok(())
 }
 
 // A walk over the blocks of an opened medium.
@@ -82,12 +88,12 @@ struct Walk {
 
 impl Walk {
     // The superblock and the marks.
-    fn put_fixed(&mut self, out: &mut String) -> Result<(), AllocError> {
+    fn put_fixed(&mut self, out: &mut Text) {
         self.read(0);
-        put_reading(self.alloc, Super::decode(&self.block), &self.block, out)?;
-        out.push_str("; ")?;
+        put_reading(self.alloc, &Super::decode(&self.block), &self.block, out);
+        out.put("; ");
         self.read(MARKS_BLOCK);
-        put_reading(self.alloc, Marks::decode(&self.block), &self.block, out)
+        put_reading(self.alloc, &Marks::decode(&self.block), &self.block, out);
     }
 
     // Reads a block, or zeros where it is none that a batch may write.
@@ -97,8 +103,15 @@ impl Walk {
         }
     }
 
+    // Reads a block, and tells its number.
+    fn put_number(&mut self, number: u32, out: &mut Text) {
+        self.read(number);
+        out.field("; ", &number);
+        out.put(" ");
+    }
+
     // The slot of an inode and what its roots name, where there is a node.
-    fn put_node(&mut self, inode: u32, out: &mut String) -> Result<(), AllocError>
+    fn put_node(&mut self, inode: u32, out: &mut Text)
         requires low { 1 ≤ inode }
         requires high { inode ≤ MAX_INODE }
     {
@@ -106,74 +119,57 @@ impl Walk {
         let at = slot_byte(inode);
         let bytes = self.block.get(at..at + SLOT_SIZE).unwrap_or(&[]);
         let found = Slot::decode(&self.geometry, inode, bytes);
-        if found == Ok(Slot::Free) {
-            return Ok(());
+        if found != Ok(Slot::Free) {
+            out.field("; ", &inode);
+            out.put(" ");
+            put_reading(self.alloc, &found, bytes, out);
+            self.put_roots(found.unwrap_or(Slot::Free), out);
         }
-        write!(out, "; {inode} ")?;
-        put_reading(self.alloc, found, bytes, out)?;
-        self.put_roots(found.unwrap_or(Slot::Free), out)
     }
 
-    fn put_roots(&mut self, slot: Slot, out: &mut String) -> Result<(), AllocError> {
+    fn put_roots(&mut self, slot: Slot, out: &mut Text) {
         match slot {
-            Slot::Free => Ok(()),
+            Slot::Free => {}
             Slot::File {
                 fast,
                 block,
                 slow,
                 ..
             } => {
-                self.put_extents(Tier::Fast, fast, out)?;
-                self.put_extents(Tier::Block, block, out)?;
-                self.put_extents(Tier::Slow, slow, out)
+                self.put_extents(Space::Data(Tier::Fast), fast, out);
+                self.put_extents(Space::Data(Tier::Block), block, out);
+                self.put_extents(Space::Data(Tier::Slow), slow, out);
             }
-            Slot::Directory { root, .. } => self.put_directory(root, out),
+            Slot::Directory { root, .. } => self.put_extents(Space::Nodes, root, out),
         }
     }
 
-    fn put_extents(&mut self, tier: Tier, root: u32, out: &mut String) -> Result<(), AllocError> {
+    // The extents that stand at a root, and of a directory the blocks of entries that they name.
+    fn put_extents(&mut self, space: Space, root: u32, out: &mut Text) {
         if root == 0 {
-            return Ok(());
+            return;
         }
-        self.read(root);
-        write!(out, "; {root} ")?;
-        let found = ExtentBlock::decode(
-            self.alloc,
-            &self.geometry,
-            Space::Data(tier),
-            root,
-            &self.block,
-        );
-        put_reading(self.alloc, found, &self.block, out)
+        self.put_number(root, out);
+        let found = ExtentBlock::decode(self.alloc, &self.geometry, space, root, &self.block);
+        put_reading(self.alloc, &found, &self.block, out);
+        if space == Space::Nodes {
+            if let Ok(found) = &found {
+                self.put_runs(found.extents(), out);
+            }
+        }
     }
 
-    // The extents of a directory, and the blocks of entries that they name.
-    fn put_directory(&mut self, root: u32, out: &mut String) -> Result<(), AllocError> {
-        if root == 0 {
-            return Ok(());
+    fn put_runs(&mut self, runs: &[Extent], out: &mut Text) {
+        for run in runs {
+            for number in run.place..run.place.saturating_add(run.length) {
+                self.put_entries(number, out);
+            }
         }
-        self.read(root);
-        write!(out, "; {root} ")?;
-        let found = directory_extents(self.alloc, &self.geometry, root, &self.block);
-        let places = match &found {
-            Ok(found) => found.extents().to_vec(self.alloc)?,
-            Err(_) => Vec::new(self.alloc),
-        };
-        put_reading(self.alloc, found, &self.block, out)?;
-        for extent in &places {
-            self.put_run(*extent, out)?;
-        }
-        Ok(())
     }
 
-    // The blocks of entries of a run.
-    fn put_run(&mut self, run: Extent, out: &mut String) -> Result<(), AllocError> {
-        for number in run.place..run.place.saturating_add(run.length) {
-            self.read(number);
-            write!(out, "; {number} ")?;
-            let found = DirBlock::decode(self.alloc, number, &self.block);
-            put_reading(self.alloc, found, &self.block, out)?;
-        }
-        Ok(())
+    fn put_entries(&mut self, number: u32, out: &mut Text) {
+        self.put_number(number, out);
+        let found = DirBlock::decode(self.alloc, number, &self.block);
+        put_reading(self.alloc, &found, &self.block, out);
     }
 }

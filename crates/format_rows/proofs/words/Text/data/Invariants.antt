@@ -1,5 +1,5 @@
 use Rattle.std.proofs.Common.{length}
-use Rattle.format_rows.proofs.words.put_data.Given as goal
+use Rattle.format_rows.proofs.words.Text.data.Given as goal
 
 abbrev pub decreases-loop-byte : goal.decreases-loop-byte
 decreases-loop-byte l = length l.rest
