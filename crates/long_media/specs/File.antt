@@ -1,10 +1,12 @@
 -- A medium over a file, as the device model sees it.
-use Rattle.std.specs.Prelude.{◌≡◌, ◌≤◌, ℕ, List, length, Bool}
+use Rattle.std.specs.Prelude.{◌≡◌, ◌≤◌, ℕ, List, length, Bool, false}
 use Rattle.tier_device.specs.declared.media.Tier.{Tier}
+use Rattle.tier_device.specs.DeviceCall.{DeviceCall}
 use Rattle.tier_device.specs.Media.{AtRest}
 use Rattle.tier_device.specs.Rows.{row}
 use Rattle.long_media.specs.declared.file.FileMedia.{FileMedia}
 use Rattle.long_media.specs.Left.{LeftAt, LeftNow}
+use Rattle.long_media.specs.Pending.{pending_in}
 use Rattle.long_media.specs.LeftLaws.{history_seen_now, history_sized}
 
 -- what a read gives of a tier, until a call has failed
@@ -22,6 +24,18 @@ file_left m = LeftAt m.inner.past.history
 -- what a stop now may leave of a tier, by what the system was given and the syncs that it answered with success
 abbrev pub kept_by_system : FileMedia → Tier → List ℕ → Type 0
 kept_by_system m = LeftNow m.inner.host.past.history
+
+-- the calls that the system was given, but for the syncs that failed
+abbrev pub given_to_system : FileMedia → List DeviceCall
+given_to_system m = m.inner.host.past.history.calls
+
+-- whether anything of a tier was written since the last sync
+abbrev pub is_pending : FileMedia → Tier → Bool
+is_pending m = pending_in m.inner.pending
+
+-- nothing was written since the last sync
+abbrev pub IsSynced : FileMedia → Type 0
+IsSynced m = (t : Tier) → is_pending m t ≡ false
 
 -- whether a call of it has failed
 abbrev pub file_failed : FileMedia → Bool

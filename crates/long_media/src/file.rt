@@ -1,5 +1,5 @@
 // A medium over a file of the operating system, with a mirror in memory.
-ghost use Rattle.std.specs.Prelude.{◌≡◌, ◌≤◌, ◌<◌, ◌+◌, ◌^◌, ◌++◌, List, ℕ, length, take, drop, IfOk, OnOk, OnErr, IsErrOf, true, false};
+ghost use Rattle.std.specs.Prelude.{◌≡◌, ◌≢◌, ◌≤◌, ◌<◌, ◌+◌, ◌^◌, ◌++◌, List, ℕ, length, take, drop, IfOk, IsOk, OnOk, OnErr, IsErrOf, true, false};
 ghost use Rattle.tier_device.specs.declared.media.Tier.{Tier};
 ghost use Rattle.tier_device.specs.declared.media.MediaError.TheVariants.{OutOfRange};
 ghost use Rattle.tier_device.specs.Rows.{row};
@@ -25,7 +25,7 @@ pub struct FileMedia {
 }
 
 impl FileMedia {
-    ghost use Rattle.long_media.specs.File.{file_seen, file_left, file_moment, file_failed, failures, kept_by_system, IsAtRest};
+    ghost use Rattle.long_media.specs.File.{file_seen, file_left, file_moment, file_failed, failures, kept_by_system, IsAtRest, IsSynced};
 
     // The medium over an open file that was synced, of which a read gives these tiers.
     pub(crate) fn of(file: File, tiers: Tiers) -> Self
@@ -35,6 +35,7 @@ impl FileMedia {
         ensures clock { file_moment result ≡ 0 }
         ensures faults { failures result ≡ 0 }
         ensures works { file_failed result ≡ false }
+        ensures synced { IsSynced result }
     {
         FileMedia {
             inner: Mirrored::of(file, tiers),
@@ -64,7 +65,7 @@ impl FileMedia {
 }
 
 impl Media for FileMedia {
-    ghost use Rattle.long_media.specs.File.{file_seen, file_moment, file_left, file_seen_now, file_sized, file_failed, failures};
+    ghost use Rattle.long_media.specs.File.{file_seen, file_moment, file_left, file_seen_now, file_sized, file_failed, failures, is_pending, given_to_system};
 
     ghost seen = { file_seen };
 
@@ -93,6 +94,8 @@ impl Media for FileMedia {
         ensures past { Keeps (file_moment self.old) (file_moment self.new) (file_left self.old) (file_left self.new) }
         ensures cause { HasCause (failures self.old) (failures self.new) result }
         ensures failed { Fails (file_failed self.old) (file_failed self.new) result }
+        ensures pending { (t : Tier) → is_pending self.new t ≡ is_pending self.old t }
+        ensures quiet { given_to_system self.new ≡ given_to_system self.old }
     {
         let size = self.bytes(tier).len();
         if size < at || size - at < out.len() {
@@ -116,6 +119,7 @@ impl Media for FileMedia {
         ensures all_left { OnOk result (TearsAll tier at (length bytes.now) (file_left self.old (file_moment self.old)) (file_left self.new (file_moment self.new))) }
         ensures cause { HasCause (failures self.old) (failures self.new) result }
         ensures failed { Fails (file_failed self.old) (file_failed self.new) result }
+        ensures pending { (t : Tier) → t ≢ tier → is_pending self.new t ≡ is_pending self.old t }
     {
         let size = self.bytes(tier).len();
         if size < at || size - at < bytes.len() {
@@ -144,6 +148,11 @@ impl Media for FileMedia {
         ensures settled { OnOk result (Settles tier (file_seen self.old) (file_left self.old (file_moment self.old)) (file_left self.new (file_moment self.new))) }
         ensures cause { HasCause (failures self.old) (failures self.new) result }
         ensures failed { Fails (file_failed self.old) (file_failed self.new) result }
+        ensures synced { OnOk result (is_pending self.new tier ≡ false) }
+
+        // Where nothing of the tier was written since the last sync, it makes no call of the system, and succeeds.
+        ensures quiet { is_pending self.old tier ≡ false → given_to_system self.new ≡ given_to_system self.old }
+        ensures sure { is_pending self.old tier ≡ false → file_failed self.old ≡ false → IsOk result }
     {
         if self.inner.is_failed() {
             self.faults = self.faults.saturating_add(1);

@@ -1,5 +1,5 @@
 // An open file of three tiers with its mirror in memory.
-ghost use Rattle.std.specs.Prelude.{◌≡◌, ◌≤◌, ◌<◌, ◌+◌, ◌^◌, List, ℕ, length, OnOk, OnErr, is_ok, not, true, false};
+ghost use Rattle.std.specs.Prelude.{◌≡◌, ◌≤◌, ◌<◌, ◌+◌, ◌^◌, List, ℕ, length, IsOk, OnOk, OnErr, is_ok, not, true, false};
 ghost use Rattle.tier_device.specs.declared.media.Tier.{Tier};
 ghost use Rattle.tier_device.specs.Rows.{row};
 ghost use Rattle.tier_device.specs.Media.{overwritten, Puts};
@@ -7,7 +7,7 @@ ghost use Rattle.tier_device.specs.DeviceCall.{Write, Fence};
 ghost use Rattle.long_media.specs.History.{and_then, begun};
 ghost use Rattle.long_media.specs.Left.{shown_now, LeftNow};
 ghost use Rattle.long_media.specs.Cover.{Covers};
-ghost use Rattle.long_media.specs.Pending.{pending_in};
+ghost use Rattle.long_media.specs.Pending.{pending_in, SetsPending};
 ghost use Rattle.long_media.specs.Place.{begin_of, total};
 
 use crate::host::Host;
@@ -39,6 +39,7 @@ impl Mirrored {
         ensures tiers { result.tiers ≡ tiers }
         ensures past { result.past.history ≡ begun tiers }
         ensures works { result.host.failed ≡ false }
+        ensures synced { (t : Tier) → pending_in result.pending t ≡ false }
     {
         let host = Host::of(file, &tiers);
         let past = Past::of(&tiers);
@@ -63,6 +64,7 @@ impl Mirrored {
         requires works { self.old.host.failed ≡ false }
         ensures written { Puts tier (overwritten (row self.old.tiers tier) at bytes.now) (row self.old.tiers) (row self.new.tiers) }
         ensures past { self.new.past.history ≡ and_then self.old.past.history (Write tier at bytes.now) }
+        ensures pending { SetsPending tier self.old.pending self.new.pending }
         ensures failed { self.new.host.failed ≡ not (is_ok result) }
     {
         let offset = offset(&self.tiers, tier, at);
@@ -78,6 +80,9 @@ impl Mirrored {
         requires works { self.old.host.failed ≡ false }
         ensures seen { self.new.tiers ≡ self.old.tiers }
         ensures fenced { OnOk result (self.new.past.history ≡ and_then self.old.past.history (Fence tier)) }
+        ensures settled { OnOk result (pending_in self.new.pending tier ≡ false) }
+        ensures quiet { pending_in self.old.pending tier ≡ false → self.new.host ≡ self.old.host }
+        ensures sure { pending_in self.old.pending tier ≡ false → IsOk result }
         ensures lost { OnErr result (self.new.past.history ≡ self.old.past.history) }
         ensures failed { self.new.host.failed ≡ not (is_ok result) }
     {
@@ -91,6 +96,8 @@ impl Mirrored {
         ensures seen { self.new.tiers ≡ self.old.tiers }
         ensures past { self.new.past.history ≡ self.old.past.history }
         ensures settled { OnOk result (pending_in self.new.pending tier ≡ false) }
+        ensures quiet { pending_in self.old.pending tier ≡ false → self.new.host ≡ self.old.host }
+        ensures sure { pending_in self.old.pending tier ≡ false → IsOk result }
         ensures failed { self.new.host.failed ≡ not (is_ok result) }
     {
         if !self.pending.is_pending(tier) {

@@ -3,7 +3,7 @@ ghost use Rattle.std.specs.Prelude.{◌≡◌, ◌≤◌, ◌<◌, ◌+◌, ◌^
 ghost use Rattle.tier_device.specs.declared.media.Tier.TheVariants.{Fast, Block, Slow};
 ghost use Rattle.tier_device.specs.Rows.{row};
 ghost use Rattle.long_media.specs.Place.{total};
-ghost use Rattle.long_media.specs.File.{file_seen, file_moment, file_failed, failures, IsAtRest};
+ghost use Rattle.long_media.specs.File.{file_seen, file_moment, file_failed, failures, IsAtRest, IsSynced};
 
 use crate::error::{FileError, FileProblem};
 use crate::file::FileMedia;
@@ -60,6 +60,7 @@ impl FileMedia {
         ensures clock { IfOk result (λ m. file_moment m ≡ 0) }
         ensures faults { IfOk result (λ m. failures m ≡ 0) }
         ensures works { IfOk result (λ m. file_failed m ≡ false) }
+        ensures synced { IfOk result IsSynced }
     {
         match opened(files, alloc, path, sizes) {
             Ok(media) => Ok(media),
@@ -84,6 +85,7 @@ impl FileMedia {
         ensures clock { IfOk result (λ m. file_moment m ≡ 0) }
         ensures faults { IfOk result (λ m. failures m ≡ 0) }
         ensures works { IfOk result (λ m. file_failed m ≡ false) }
+        ensures synced { IfOk result IsSynced }
     {
         match created(files, alloc, path, sizes) {
             Ok(media) => Ok(media),
@@ -105,6 +107,7 @@ fn opened<R: Files<File = File>>(
     ensures clock { IfOk result (λ m. file_moment m ≡ 0) }
     ensures faults { IfOk result (λ m. failures m ≡ 0) }
     ensures works { IfOk result (λ m. file_failed m ≡ false) }
+    ensures synced { IfOk result IsSynced }
 {
     let Some(wanted) = sizes.file_len() else {
         return Err(FileProblem::TooLarge);
@@ -130,6 +133,7 @@ fn created<R: Files<File = File>>(
     ensures clock { IfOk result (λ m. file_moment m ≡ 0) }
     ensures faults { IfOk result (λ m. failures m ≡ 0) }
     ensures works { IfOk result (λ m. file_failed m ≡ false) }
+    ensures synced { IfOk result IsSynced }
 {
     if sizes.file_len().is_none() {
         return Err(FileProblem::TooLarge);

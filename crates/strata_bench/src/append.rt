@@ -20,7 +20,7 @@ use tier_device::{Media, MemMedia, Tier};
 use update_log::{CLOSED, HEADER, REGION_SIZE, Region, RegionError, Stage};
 
 /// How many regions are filled, and how many bytes of their size are copied.
-const REGIONS: u32 = 200;
+pub const REGIONS: u32 = 200;
 
 /// Over which medium appends are timed.
 #[derive(Clone, Copy)]
@@ -93,8 +93,8 @@ fn over_one<M: Media + Drop>(
     Ok(each(time, count))
 }
 
-// The region of the same medium with no record: its first gate is closed.
-fn emptied<M: Media + Drop>(alloc: Global, region: Region<M>) -> Result<Region<M>> {
+/// The region of the same medium with no record: its first gate is closed.
+pub fn emptied<M: Media + Drop>(alloc: Global, region: Region<M>) -> Result<Region<M>> {
     let mut media = region.into_media();
     if let Err(error) = media.write(Tier::Fast, HEADER, &[CLOSED]) {
         bail!("emptying a region: {error}");
@@ -144,8 +144,8 @@ fn each(time: Duration, count: u64) -> u128 {
 fn report(rt: &HostRuntime, bytes: usize, append: u128, copy: u128) -> Result<()> {
     println!(rt; "append of {bytes} bytes: {append} ns")?;
     println!(rt; "copy of {bytes} bytes: {copy} ns")?;
-    if let Some(ratio) = append.checked_div(copy) {
-        println!(rt; "ratio: {ratio}")?;
+    if let Some(tenths) = append.saturating_mul(10).checked_div(copy) {
+        println!(rt; "ratio: {}.{}", tenths / 10, tenths % 10)?;
     }
     Ok(())
 }
@@ -169,8 +169,8 @@ fn write_of(alloc: Global, bytes: usize) -> Result<Record> {
     Ok(entry)
 }
 
-// An empty region.
-fn fresh(alloc: Global) -> Result<Region<MemMedia>> {
+/// An empty region on a new medium that keeps a record of its calls.
+pub fn fresh(alloc: Global) -> Result<Region<MemMedia>> {
     reopened(alloc, medium(alloc)?)
 }
 
@@ -183,11 +183,13 @@ fn reopened<M: Media + Drop>(alloc: Global, media: M) -> Result<Region<M>>
     }
 }
 
-fn over_ram(alloc: Global) -> Result<Region<RamMedia>> {
+/// An empty region in memory with no record of its calls.
+pub fn over_ram(alloc: Global) -> Result<Region<RamMedia>> {
     reopened(alloc, ram(alloc)?)
 }
 
-fn over_file(rt: &HostRuntime, path: &str) -> Result<Region<FileMedia>> {
+/// An empty region in a file that is made here.
+pub fn over_file(rt: &HostRuntime, path: &str) -> Result<Region<FileMedia>> {
     reopened(rt.alloc(), file(rt, path)?)
 }
 

@@ -3,6 +3,7 @@
 
 mod append;
 mod batch;
+mod calls;
 mod leases;
 mod script;
 
@@ -13,7 +14,7 @@ use std::alloc::Global;
 use std::env;
 use std::process::ExitCode;
 
-/// How many appends are made at least over one medium.
+/// How many appends or calls are made at least over one medium.
 const APPENDS: u64 = 630;
 
 fn command<'a>(alloc: Global) -> Result<Command<'a>> {
@@ -23,6 +24,7 @@ fn command<'a>(alloc: Global) -> Result<Command<'a>> {
         .arg(media_arg(alloc))?
         .arg(path_arg(alloc))?
         .arg(times_arg(alloc))?
+        .arg(calls_arg(alloc))?
         .arg(batch_arg(alloc))?
         .arg(leases_arg(alloc))?
         .arg(script_arg(alloc))?;
@@ -43,7 +45,7 @@ fn media_arg<'a>(alloc: Global) -> Arg<'a> {
         .long("media")
         .value_name("KIND")
         .help(
-            "The medium of the appends: mem (with a record of its calls), ram (with none), or file, made at PATH",
+            "The medium that is logged to: mem (with a record of its calls), ram (with none), or file, made at PATH",
         )
         .action(ArgAction::Set)
 }
@@ -59,9 +61,16 @@ fn times_arg<'a>(alloc: Global) -> Arg<'a> {
     Arg::new(alloc, "times")
         .long("times")
         .value_name("COUNT")
-        .help("Over ram or file make at least so many appends, by default 630")
+        .help("Over ram or file make at least so many appends or calls, by default 630")
         .action(ArgAction::Set)
         .value_parser(value_parser!(u64))
+}
+
+fn calls_arg<'a>(alloc: Global) -> Arg<'a> {
+    Arg::new(alloc, "calls")
+        .long("calls")
+        .help("Time calls that are decided over a graph and logged, before they are answered")
+        .action(ArgAction::SetTrue)
 }
 
 fn batch_arg<'a>(alloc: Global) -> Arg<'a> {
@@ -109,7 +118,7 @@ fn main(rt: HostRuntime) -> Result<ExitCode> {
     }
 }
 
-// The medium that the appends are made over.
+// The medium that is logged to.
 fn over<'a>(matches: &ArgMatches<'a>) -> Result<Over<'a>> {
     match (
         matches.get_str("media").unwrap_or("mem"),
@@ -126,10 +135,14 @@ fn over<'a>(matches: &ArgMatches<'a>) -> Result<Over<'a>> {
 fn run(rt: &HostRuntime, matches: &ArgMatches<'_>) -> Result<()> {
     let append = matches.get_one::<u64>("append");
     let batch = matches.get_one::<u64>("batch");
+    let calls = matches.get_flag("calls");
     let script = matches.get_flag("script");
+    let times = matches.get_one::<u64>("times").unwrap_or(APPENDS);
     if let Some(bytes) = append {
-        let times = matches.get_one::<u64>("times").unwrap_or(APPENDS);
         append::run(rt, bytes as usize, times, over(matches)?)?;
+    }
+    if calls {
+        calls::run(rt, times, over(matches)?)?;
     }
     if let Some(images) = batch {
         batch::run(rt, images as usize)?;
@@ -137,9 +150,9 @@ fn run(rt: &HostRuntime, matches: &ArgMatches<'_>) -> Result<()> {
     if script {
         script::run(rt)?;
     }
-    if append.is_none() && batch.is_none() && !script && !matches.get_flag("leases") {
+    if append.is_none() && !calls && batch.is_none() && !script && !matches.get_flag("leases") {
         println!(rt;
-            "usage: strata_bench [--append BYTES [--media mem|ram|file [PATH]] [--times COUNT]] [--batch IMAGES] [--leases] [--script]"
+            "usage: strata_bench [--append BYTES] [--calls] [--media mem|ram|file [PATH]] [--times COUNT] [--batch IMAGES] [--leases] [--script]"
         )?;
     }
     Ok(())
