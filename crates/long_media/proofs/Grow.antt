@@ -1,16 +1,16 @@
 -- What one event more changes of what a history says.
-use Rattle.std.proofs.Common.{◌≡◌, ◌≢◌, inl, inr, ℕ, suc, ◌+◌, ◌-◌, ◌≤◌, List, ◌∷◌, length, drop, Bool, true, false, refl, sym, ◌∙◌, ap, subst, arith}
+use Rattle.std.proofs.Common.{◌≡◌, ◌≢◌, inl, inr, ℕ, suc, ◌+◌, ◌-◌, ◌≤◌, List, ◌∷◌, length, drop, true, false, sym, ◌∙◌, ap, subst, arith}
 use Rattle.std.specs.Bool.{MatchBool}
 use Rattle.std.specs.Prelude.{nat_le}
 use Rattle.std.proofs.lemmas.Bool.{cases_Bool, and_from, and_left, le-leb, cond-true, cond-false, MatchBool-at_true, MatchBool-at_false}
 use Rattle.tier_device.specs.declared.media.Tier.{Tier}
 use Rattle.tier_device.specs.Media.{overwritten, Torn, Puts, Keeps, Tears, TearsAll, Settles}
-use Rattle.tier_device.specs.Record.{same_tier}
+use Rattle.tier_device.specs.Record.{same_tier, hits}
 use Rattle.tier_device.specs.Rows.{row}
 use Rattle.tier_device.proofs.Grow.{same_self, not_same, cases_Tier}
 use Rattle.long_media.specs.History.{History, Event, Wrote, Fenced, and_then}
-use Rattle.long_media.specs.Left.{lies_in, shown, LeftAfter, LeftNow, LeftAt, shown_now}
-use Rattle.long_media.specs.LeftLaws.{at_now, of_now, shown_left, length-shown}
+use Rattle.long_media.specs.Left.{LeftAfter, LeftNow, LeftAt, shown_now}
+use Rattle.long_media.specs.LeftLaws.{at_now, of_now, shown_left}
 
 drop_one : (e : Event) (es : List Event) (m : ℕ) → m ≤ length es → drop (length (e ∷ es) - m) (e ∷ es) ≡ drop (length es - m) es
 drop_one e es m le = let one : length (e ∷ es) - m ≡ suc (length es - m) = omega arith in ap (λ n. drop n (e ∷ es)) one
@@ -33,17 +33,17 @@ of_grown : (h k : History) (e : Event) → k ≡ and_then h e → (t : Tier) (c 
 of_grown h k e grown t c l = subst (λ (x : History). LeftNow x t c) grown (of_now k t c l)
 
 module _ (h k : History) (tier : Tier) (at : ℕ) (v : List ℕ) (grown : k ≡ and_then h (Wrote tier at v)) (fits : at + length v ≤ length (row h.first tier)) where
-  hit : lies_in tier (row h.first tier) tier at v ≡ true
+  hit : hits tier (row h.first tier) tier at v ≡ true
   hit = and_from (same_tier tier tier) (nat_le (at + length v) (length (row h.first tier))) (same_self tier) (le-leb _ _ fits)
 
-  miss : (u : Tier) → u ≢ tier → lies_in u (row h.first u) tier at v ≡ false
+  miss : (u : Tier) → u ≢ tier → hits u (row h.first u) tier at v ≡ false
   miss u apart = and_left (same_tier tier u) (nat_le (at + length v) (length (row h.first u))) (not_same tier u apart)
 
   write_shows : shown_now k tier ≡ overwritten (shown_now h tier) at v
-  write_shows = ap (λ (x : History). shown_now x tier) grown ∙ cond-true (lies_in tier (row h.first tier) tier at v) (overwritten (shown_now h tier) at v) (shown_now h tier) hit
+  write_shows = ap (λ (x : History). shown_now x tier) grown ∙ cond-true (hits tier (row h.first tier) tier at v) (overwritten (shown_now h tier) at v) (shown_now h tier) hit
 
   write_shows_else : (u : Tier) → u ≢ tier → shown_now k u ≡ shown_now h u
-  write_shows_else u apart = ap (λ (x : History). shown_now x u) grown ∙ cond-false (lies_in u (row h.first u) tier at v) (overwritten (shown_now h u) at v) (shown_now h u) (miss u apart)
+  write_shows_else u apart = ap (λ (x : History). shown_now x u) grown ∙ cond-false (hits u (row h.first u) tier at v) (overwritten (shown_now h u) at v) (shown_now h u) (miss u apart)
 
   -- so what is there is what the longer history shows
   pub write_kept : (old new : Tier → List ℕ) → ((u : Tier) → old u ≡ shown_now h u) → Puts tier (overwritten (old tier) at v) old new → (u : Tier) → new u ≡ shown_now k u

@@ -1,26 +1,22 @@
 -- What a history says of a tier: what a read gives after it, and what a stop at each moment of it may have left.
-use Rattle.std.specs.Prelude.{◌≡◌, ℕ, ◌+◌, ◌-◌, List, [], ◌∷◌, length, drop, Bool, if◌then◌else◌, ◌&&◌, nat_le, MatchBool}
+use Rattle.std.specs.Prelude.{◌≡◌, ℕ, ◌-◌, List, [], ◌∷◌, length, drop, if◌then◌else◌, MatchBool}
 use Rattle.tier_device.specs.declared.media.Tier.{Tier}
-use Rattle.tier_device.specs.Media.{overwritten, Torn, AtRest}
-use Rattle.tier_device.specs.Record.{same_tier}
+use Rattle.tier_device.specs.Media.{overwritten, Torn}
+use Rattle.tier_device.specs.Record.{same_tier, hits}
 use Rattle.tier_device.specs.Rows.{row}
 use Rattle.long_media.specs.History.{History, Event, Wrote, Fenced}
-
--- whether a write is to this tier, and lies in it
-abbrev pub lies_in : Tier → List ℕ → Tier → ℕ → List ℕ → Bool
-lies_in tier first t at bytes = same_tier t tier && nat_le (at + length bytes) (length first)
 
 -- what a read gives of a tier that held these bytes at first
 abbrev pub shown : Tier → List ℕ → List Event → List ℕ
 shown tier first [] = first
-shown tier first (Wrote t at bytes ∷ before) = if lies_in tier first t at bytes then overwritten (shown tier first before) at bytes else shown tier first before
+shown tier first (Wrote t at bytes ∷ before) = if hits tier first t at bytes then overwritten (shown tier first before) at bytes else shown tier first before
 shown tier first (Fenced t ∷ before) = shown tier first before
 
 -- what a stop may leave of it: after a write any bytes in the range, after a fence what a read gives
 abbrev pub LeftAfter : Tier → List ℕ → List Event → List ℕ → Type 0
 LeftAfter tier first [] c = c ≡ first
 LeftAfter tier first (Wrote t at bytes ∷ before) c =
-    MatchBool (lies_in tier first t at bytes) ((d : List ℕ) × LeftAfter tier first before d × Torn at (length bytes) d c) (LeftAfter tier first before c)
+    MatchBool (hits tier first t at bytes) ((d : List ℕ) × LeftAfter tier first before d × Torn at (length bytes) d c) (LeftAfter tier first before c)
 LeftAfter tier first (Fenced t ∷ before) c = MatchBool (same_tier t tier) (c ≡ shown tier first before) (LeftAfter tier first before c)
 
 -- what a read gives of a tier now

@@ -1,24 +1,21 @@
 -- What a read gives is one of the contents that a stop may leave, and a tier keeps its length.
-use Rattle.std.specs.Prelude.{◌≡◌, ℕ, ◌+◌, ◌-◌, ◌≤◌, List, [], ◌∷◌, length, drop, Bool, true, false, cond, nat_le, refl}
+use Rattle.std.specs.Prelude.{◌≡◌, ℕ, ◌+◌, ◌-◌, ◌≤◌, List, [], ◌∷◌, length, drop, true, false, cond, refl}
 use Rattle.std.specs.Bool.{MatchBool}
 use Rattle.std.proofs.Common.{sym, ◌∙◌, ap, subst, inl, inr, arith}
-use Rattle.std.proofs.lemmas.Bool.{cases_Bool, and_parts, leb-true, MatchBool-at_true, MatchBool-at_false}
+use Rattle.std.proofs.lemmas.Bool.{cases_Bool, MatchBool-at_true, MatchBool-at_false}
 use Rattle.tier_device.specs.declared.media.Tier.{Tier}
 use Rattle.tier_device.specs.Media.{overwritten, Torn}
-use Rattle.tier_device.specs.Record.{same_tier}
-use Rattle.tier_device.specs.RecordLaws.{length-overwritten, torn_overwritten}
+use Rattle.tier_device.specs.Record.{same_tier, hits}
+use Rattle.tier_device.specs.RecordLaws.{length-overwritten, torn_overwritten, hit_fits}
 use Rattle.tier_device.specs.Rows.{row}
 use Rattle.long_media.specs.History.{History, Event, Wrote, Fenced}
-use Rattle.long_media.specs.Left.{lies_in, shown, LeftAfter, LeftNow, LeftAt, shown_now}
-
-lies_fits : (tier : Tier) (first : List ℕ) (t : Tier) (at : ℕ) (bytes : List ℕ) → lies_in tier first t at bytes ≡ true → at + length bytes ≤ length first
-lies_fits tier first t at bytes e = leb-true (at + length bytes) (length first) (and_parts (same_tier t tier) (nat_le (at + length bytes) (length first)) e).1
+use Rattle.long_media.specs.Left.{shown, LeftAfter, LeftNow, LeftAt, shown_now}
 
 pub length-shown : (tier : Tier) (first : List ℕ) (es : List Event) → length (shown tier first es) ≡ length first
 length-shown tier first [] = refl
-length-shown tier first (Wrote t at bytes ∷ es) = elim (cases_Bool (lies_in tier first t at bytes)) [
+length-shown tier first (Wrote t at bytes ∷ es) = elim (cases_Bool (hits tier first t at bytes)) [
   | inl is ↦
-      let fits : at + length bytes ≤ length (shown tier first es) = omega (arith, lies_fits tier first t at bytes is, length-shown tier first es) in
+      let fits : at + length bytes ≤ length (shown tier first es) = omega (arith, hit_fits tier first t at bytes is, length-shown tier first es) in
       subst (λ b. length (cond b (overwritten (shown tier first es) at bytes) (shown tier first es)) ≡ length first) (sym is) (length-overwritten (shown tier first es) at bytes fits ∙ length-shown tier first es)
   | inr is ↦ subst (λ b. length (cond b (overwritten (shown tier first es) at bytes) (shown tier first es)) ≡ length first) (sym is) (length-shown tier first es)
 ]
@@ -29,9 +26,9 @@ shown_left tier first [] = refl
 shown_left tier first (Wrote t at bytes ∷ es) =
     let old = shown tier first es in
     let Was = λ (c : List ℕ). LeftAfter tier first es c in
-    elim (cases_Bool (lies_in tier first t at bytes)) [
+    elim (cases_Bool (hits tier first t at bytes)) [
       | inl is ↦
-          let fits : at + length bytes ≤ length old = omega (arith, lies_fits tier first t at bytes is, length-shown tier first es) in
+          let fits : at + length bytes ≤ length old = omega (arith, hit_fits tier first t at bytes is, length-shown tier first es) in
           subst (λ b. MatchBool b ((d : List ℕ) × LeftAfter tier first es d × Torn at (length bytes) d (cond b (overwritten old at bytes) old)) (LeftAfter tier first es (cond b (overwritten old at bytes) old)))
           (sym is) (old, shown_left tier first es, torn_overwritten old at bytes fits)
       | inr is ↦
@@ -44,7 +41,7 @@ shown_left tier first (Fenced t ∷ es) =
 
 pub left_length : (tier : Tier) (first : List ℕ) (es : List Event) (c : List ℕ) → LeftAfter tier first es c → length c ≡ length first
 left_length tier first [] c left = ap length left
-left_length tier first (Wrote t at bytes ∷ es) c left = elim (cases_Bool (lies_in tier first t at bytes)) [
+left_length tier first (Wrote t at bytes ∷ es) c left = elim (cases_Bool (hits tier first t at bytes)) [
   | inl is ↦
       let torn = MatchBool-at_true ((d : List ℕ) × LeftAfter tier first es d × Torn at (length bytes) d c) (LeftAfter tier first es c) is left in
       torn.2.same_length ∙ left_length tier first es torn.0 torn.1
