@@ -4,10 +4,12 @@ use Rattle.block_alloc.specs.declared.free_runs.FreeRuns.TheInside.{Inside}
 use Rattle.block_alloc.specs.Runs.{blocks_of, IsNormal}
 use Rattle.block_alloc.specs.Value.{FreeBlocks}
 
+-- what contracts see of a pool
 abbrev pub free_blocks : Inside → FreeBlocks
 free_blocks a = record { first = a.first; end = a.end; free = blocks_of a.runs.items; room = vec_capacity a.runs - vec_len a.runs }
 
-pub record IsSound (a : Inside) : Type 0 where
+-- the runs are in normal form within the range of the pool, and their blocks are counted
+pub record AreFreeRuns (a : Inside) : Type 0 where
   pub normal : IsNormal a.first a.end a.runs.items
   pub count : a.free ≡ length (blocks_of a.runs.items)
   pub range : a.first ≤ a.end

@@ -24,11 +24,11 @@ impl Model for FreeRuns {
 
     ghost Value = { FreeBlocks };
 
-    ghost use Rattle.block_alloc.specs.Free.{free_blocks, IsSound};
+    ghost use Rattle.block_alloc.specs.Free.{free_blocks, AreFreeRuns};
 
     ghost view = { free_blocks };
 
-    ghost invariant = { IsSound };
+    ghost invariant = { AreFreeRuns };
 }
 
 impl FreeRuns {

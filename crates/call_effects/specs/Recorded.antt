@@ -28,7 +28,7 @@ putting_out names Nothing = []
 putting_out names (OldFile j) = effect.Names j names ∷ []
 putting_out names (OldDir j) = effect.Drop j ∷ []
 
--- the first effect of a rename, if its name is needed for a second one
-abbrev pub copied : Operation → List Effect
-copied (Move from to i is_dir replaced) = leaving_first to replaced
-copied _ = []
+-- the effects that are made before the operation is taken apart: the first one of a rename, if its name is needed for a second one
+abbrev pub made_first : Operation → List Effect
+made_first (Move from to i is_dir replaced) = leaving_first to replaced
+made_first _ = []

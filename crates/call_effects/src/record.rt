@@ -6,7 +6,7 @@ ghost use Rattle.file_graph.specs.declared.effect.Effect.TheVariants.{Size, Leav
 ghost use Rattle.call_effects.specs.Changed.{changes};
 ghost use Rattle.call_effects.specs.Effects.{recounted, kind_if, making, dropping, removing, replacing, effects_by};
 ghost use Rattle.call_effects.specs.Records.{names_if, effects_asked};
-ghost use Rattle.call_effects.specs.Recorded.{effects_told, leaving_first, putting_out, copied};
+ghost use Rattle.call_effects.specs.Recorded.{effects_told, leaving_first, putting_out, made_first};
 
 use crate::changed::has_effects;
 use file_graph::{Effect, Effects, Kind};
@@ -84,7 +84,7 @@ fn names_if<T: TreeAnswers>(tree: &T, inode: Option<u32>) -> Result<u32, DecideE
 
 // Room for the effects of an operation, with the first of them in it where its name is copied.
 fn room_for(alloc: Global, operation: &Operation) -> Result<Vec<Effect>, AllocError>
-    ensures copied { IfOk result (λ effects. effects.items ≡ copied operation.now) }
+    ensures first { IfOk result (λ effects. effects.items ≡ made_first operation.now) }
     ensures room { IfOk result (λ effects. MOST_EFFECTS ≤ vec_capacity effects) }
 {
     let mut effects = Vec::with_capacity(alloc, MOST_EFFECTS)?;
@@ -128,7 +128,7 @@ fn put(effects: &mut Vec<Effect>, effect: Effect)
 
 // The effects of an operation, into which its names and bytes go.
 fn effects_by(effects: Vec<Effect>, names: u32, new: u32, operation: Operation) -> Effects
-    requires copied { effects.items ≡ copied operation }
+    requires first { effects.items ≡ made_first operation }
     requires room { MOST_EFFECTS ≤ vec_capacity effects }
     requires fits { names + 1 < 2 ^ 32 }
     ensures { result ≡ effects_by names new operation }

@@ -2,6 +2,7 @@
 use Rattle.std.specs.Prelude.{ℕ, zero, suc, ◌+◌, ◌-◌, ◌<◌, ◌==◌, Bool, true, ◌&&◌, nat_le, List, [], ◌∷◌, ◌++◌, length, take, drop, replicate, slice_index, Option, Some, None, if◌then◌else◌}
 use Rattle.std.specs.List.{list_all}
 use Rattle.byteorder.specs.Endian.{little_bytes, little_number}
+use Rattle.tier_device.specs.Media as media
 
 -- numbers that are bytes
 abbrev pub AreBytes : List ℕ → Type 0
@@ -25,7 +26,7 @@ filled n text = text ++ zeros (n - length text)
 
 -- bytes with a text over them from a place on
 abbrev pub overwritten : ℕ → List ℕ → List ℕ → List ℕ
-overwritten at text bytes = take at bytes ++ text ++ drop (at + length text) bytes
+overwritten at text bytes = media.overwritten bytes at text
 
 -- a step, and another on its value; none where either is none
 infixl 10 ◌>>=◌
