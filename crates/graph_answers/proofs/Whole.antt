@@ -14,4 +14,5 @@ pub whole_is_stored : (g : Graph) → IsPart (whole_of g) (stored_view g)
 whole_is_stored g = record {
   is_dir = λ i o e. cc;
   node = λ i o e. told (is_counted g i) (seen_at g i) o e;
+  bytes = λ i at count bytes e. cc;
 }

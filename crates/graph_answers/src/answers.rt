@@ -2,10 +2,10 @@ ghost use Rattle.file_graph.specs.Graph.{graph_of};
 ghost use Rattle.graph_answers.specs.Whole.{whole_of};
 
 use crate::stored::{
-    describe, entry, entry_count, file_names, file_size, is_counted, is_dir, names, read,
+    child, describe, entry_count, file_names, file_size, is_counted, is_dir, names, read,
 };
 use file_graph::PlainGraph;
-use posix_calls::{Bytes, Description, Names, TreeAnswers};
+use posix_calls::{Bytes, Child, Description, Names, TreeAnswers};
 use std::alloc::{AllocError, Global};
 
 /// A plain graph as a file tree that is known whole. A directory of more entries than 32 bits count is not known: no call makes one.
@@ -21,9 +21,9 @@ impl TreeAnswers for GraphAnswers<'_> {
         Some(is_dir(self.graph, inode))
     }
 
-    fn entry(&self, dir: u32, name: &[u8]) -> Option<Option<u32>> {
+    fn entry(&self, dir: u32, name: &[u8]) -> Option<Option<Child>> {
         if is_counted(self.graph, dir) {
-            return Some(entry(self.graph, dir, name));
+            return Some(child(self.graph, dir, name));
         }
         None
     }
@@ -63,10 +63,7 @@ impl TreeAnswers for GraphAnswers<'_> {
         at: u64,
         count: u64,
     ) -> Result<Option<Bytes>, AllocError> {
-        if is_counted(self.graph, inode) {
-            return Ok(Some(read(alloc, self.graph, inode, at, count)?));
-        }
-        Ok(None)
+        Ok(Some(read(alloc, self.graph, inode, at, count)?))
     }
 
     fn describe(&self, inode: u32) -> Option<Option<Description>> {

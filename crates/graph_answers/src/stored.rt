@@ -1,17 +1,18 @@
 // What a graph has stored at an inode.
-ghost use Rattle.std.specs.Prelude.{◌≡◌, ◌<◌, ◌^◌, true, map, take, drop, IfOk, option_map};
+ghost use Rattle.std.specs.Prelude.{◌≡◌, ◌<◌, ◌^◌, Some, true, map, IfOk, option_map};
 ghost use Rattle.std.specs.FinMap as fin;
 ghost use Rattle.std.specs.Ordering.{nat_cmp};
 ghost use Rattle.std.specs.Cmp.Lexicographic.{slice_cmp};
-ghost use Rattle.posix_calls.specs.Answers.{entry_in, count_in, listed_in, size_in, range_in, description_of};
-ghost use Rattle.posix_calls.specs.Walk.{names_seen};
+ghost use Rattle.posix_calls.specs.Answers.{entry_in, count_in, listed_in, description_of};
+ghost use Rattle.posix_calls.specs.Content.{range};
+ghost use Rattle.posix_calls.specs.Walk.{names_seen, size_seen};
 ghost use Rattle.file_graph.specs.Graph.{graph_of};
 ghost use Rattle.file_graph.specs.Plain.{pairs};
-ghost use Rattle.call_effects.specs.Wholes.{node_is_dir};
+ghost use Rattle.call_effects.specs.Wholes.{node_is_dir, node_bytes};
 ghost use Rattle.graph_answers.specs.Whole.{seen_at, is_counted};
 
 use file_graph::{PlainEntry, PlainGraph};
-use posix_calls::{Bytes, Description, Names};
+use posix_calls::{Bytes, Child, Description, Names};
 use std::alloc::{AllocError, Global};
 use std::cmp::Ordering;
 
@@ -42,8 +43,22 @@ pub fn is_counted(graph: &PlainGraph, dir: u32) -> bool
     }
 }
 
+/// What a directory has under a name.
+pub fn child(graph: &PlainGraph, dir: u32, name: &[u8]) -> Option<Child>
+    ensures inode { option_map (λ e. e.inode) result ≡ entry_in name.now (seen_at (graph_of graph.now) dir) }
+    ensures kind { (e : Child) → result ≡ Some e → e.is_dir ≡ option_map node_is_dir (graph_of graph.now e.inode) }
+{
+    match entry(graph, dir, name) {
+        Some(inode) => Some(Child {
+            inode,
+            is_dir: is_dir(graph, inode),
+        }),
+        None => None,
+    }
+}
+
 /// The inode under a name of a directory.
-pub fn entry(graph: &PlainGraph, dir: u32, name: &[u8]) -> Option<u32>
+fn entry(graph: &PlainGraph, dir: u32, name: &[u8]) -> Option<u32>
     ensures { result ≡ entry_in name.now (seen_at (graph_of graph.now) dir) }
 {
     match graph.entries(dir) {
@@ -97,7 +112,7 @@ fn names_of(alloc: Global, entries: &[PlainEntry]) -> Result<Names, AllocError>
 
 /// How many bytes a file has.
 pub fn file_size(graph: &PlainGraph, inode: u32) -> u64
-    ensures { result ≡ size_in (seen_at (graph_of graph.now) inode) }
+    ensures { result ≡ size_seen (seen_at (graph_of graph.now) inode) }
 {
     match graph.file(inode) {
         Some(file) => file.len() as u64,
@@ -123,7 +138,7 @@ pub fn read(
     at: u64,
     count: u64,
 ) -> Result<Bytes, AllocError>
-    ensures { IfOk result (λ bytes. bytes ≡ range_in at count (seen_at (graph_of graph.now) inode)) }
+    ensures { IfOk result (λ bytes. bytes ≡ range at count (node_bytes (graph_of graph.now inode))) }
 {
     match graph.file(inode) {
         Some(file) => Bytes::copy_of(alloc, range(file, at as usize, count as usize)),
@@ -132,7 +147,7 @@ pub fn read(
 }
 
 fn range(bytes: &[u8], at: usize, count: usize) -> &[u8]
-    ensures { result.now ≡ take count (drop at bytes.now) }
+    ensures { result.now ≡ range at count bytes.now }
 {
     let rest = &bytes[at.min(bytes.len())..];
     &rest[..count.min(rest.len())]

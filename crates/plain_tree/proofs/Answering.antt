@@ -5,7 +5,8 @@ use Rattle.std.specs.FinMap as fin
 use Rattle.posix_calls.proofs.Counts.{order}
 use Rattle.posix_calls.proofs.Directory.{entries-empty}
 use Rattle.posix_calls.specs.Tree.{Node, File, Dir, entries_of}
-use Rattle.posix_calls.specs.Query.{Query, Gives, Refuses, IsDir, Look, View, Found, Known, Missing, run, run_part, seen, whole}
+use Rattle.posix_calls.specs.declared.operation.Missing.{Missing}
+use Rattle.posix_calls.specs.Query.{Query, Gives, Refuses, IsDir, Look, Range, View, Found, Known, Unknown, run, run_part, seen, whole}
 use Rattle.posix_calls.specs.Walk.{entries_seen}
 use Rattle.plain_tree.specs.Plain.{tree_of}
 use Rattle.std.proofs.lemmas.Bool.{ltb-false}
@@ -22,12 +23,13 @@ whole_knows v (Gives x) = refl
 whole_knows v (Refuses e) = refl
 whole_knows v (IsDir i next) = whole_knows v (next (v.is_dir i))
 whole_knows v (Look i next) = whole_knows v (next (v.node i))
+whole_knows v (Range i at count next) = whole_knows v (next (v.bytes i at count))
 
-pub known_lacks_nothing : {A : Type 0} (v : View) (q : Query A) (i : ℕ) → run_part (whole v) q ≡ Missing i → ⊥
-known_lacks_nothing v q i e = apart (run v q) i (sym (whole_knows v q) ∙ e)
+pub nothing_is_missing : {A : Type 0} (v : View) (q : Query A) (what : Missing) → run_part (whole v) q ≡ Unknown what → ⊥
+nothing_is_missing v q what e = apart (run v q) what (sym (whole_knows v q) ∙ e)
   where
-    apart : {A : Type 0} (r : _) (i : ℕ) → ◌≡◌ {A = Found A} (Known r) (Missing i) → ⊥
-    apart r i e = absurd cc
+    apart : {A : Type 0} (r : _) (what : Missing) → ◌≡◌ {A = Found A} (Known r) (Unknown what) → ⊥
+    apart r what e = absurd cc
 
 pub known_of : {A : Type 0} (v : View) (q : Query A) (r : _) → run_part (whole v) q ≡ Known r → run v q ≡ r
 known_of v q r e = same (run v q) r (sym (whole_knows v q) ∙ e)

@@ -1,12 +1,13 @@
 -- What operations make of the nodes and the rows of a plain tree.
-use Rattle.std.proofs.Common.{◌≡◌, ℕ, List, Option, refl, sym, ap, ◌∙◌}
+use Rattle.std.proofs.Common.{◌≡◌, ℕ, List, Option, None, Some, true, false, if◌then◌else◌, refl, sym, ap, ◌∙◌}
 use Rattle.posix_calls.specs.Tree.{Node, Tree, Descriptors, with_own, State}
-use Rattle.posix_calls.specs.Operations.{tree_after, own_after, held_after, state_after}
+use Rattle.posix_calls.specs.Operations.{tree_after, own_after, held_after, state_after, opens, only_tells, reply_of, IsInRange}
 use Rattle.posix_calls.proofs.Steps.{with_same}
-use Rattle.plain_tree.specs.Plain.{tree_of, held_of, state_in, with_opened, opened_by, HasNumber, IsPlaced}
+use Rattle.plain_tree.specs.Plain.{tree_of, held_of, state_in, with_opened, HasNumber, IsDone}
 use Rattle.posix_calls.specs.declared.operation.Operation.{Operation}
 use Rattle.posix_calls.specs.declared.operation.Operation.TheVariants.{Tell, NewDir, NewFile, OpenFile, CloseFile, Write, Resize, RemoveDir, AddName, DropName, Move}
 use Rattle.posix_calls.specs.declared.descriptor.Descriptor.{Descriptor}
+use Rattle.posix_calls.specs.declared.call.Reply.{Reply}
 
 pub same_state : (t u : Tree) (h k : Descriptors) → t ≡ u → h ≡ k → ◌≡◌ {A = State} (record { tree = t; descriptors = h }) (record { tree = u; descriptors = k })
 same_state t u h k p q = λ i. record { tree = p i; descriptors = q i }
@@ -35,8 +36,29 @@ pub carried_as : (nodes nodes' : List (Option Node)) (rows rows' : List (List (O
     → tree_of nodes' ≡ tree_after (held_of rows') new (tree_of nodes) known → state_in nodes' rows' ≡ state_after client new (state_in nodes rows) operation
 carried_as nodes nodes' rows rows' client new operation known is held tree = carried nodes nodes' rows rows' client new known held tree ∙ ap (state_after client new (state_in nodes rows)) (sym is)
 
+-- an operation that only tells is done at once
+pub told : (nodes : List (Option Node)) (rows : List (List (Option Descriptor))) (client : ℕ) (operation : Operation) (r : Reply) → only_tells operation ≡ true → r ≡ reply_of operation → IsDone (state_in nodes rows) client operation r (state_in nodes rows)
+told nodes rows client (Tell answer) r tells is = (0, λ e. absurd (cc), is, quiet nodes nodes rows client 0 (Tell answer) refl refl)
+told nodes rows client (NewDir at) r tells is = absurd (cc)
+told nodes rows client (NewFile at number reads writes) r tells is = absurd (cc)
+told nodes rows client (OpenFile i empties number reads writes) r tells is = absurd (cc)
+told nodes rows client (CloseFile i number) r tells is = absurd (cc)
+told nodes rows client (Write i at bytes) r tells is = absurd (cc)
+told nodes rows client (Resize i len) r tells is = absurd (cc)
+told nodes rows client (RemoveDir at i) r tells is = absurd (cc)
+told nodes rows client (AddName at i) r tells is = absurd (cc)
+told nodes rows client (DropName at i) r tells is = absurd (cc)
+told nodes rows client (Move from to i is_dir replaced) r tells is = absurd (cc)
+
+-- what the reply of an operation says of it
+pub tells_none : (operation : Operation) → (if only_tells operation then None else Some (reply_of operation)) ≡ None → only_tells operation ≡ true
+tells_none operation e = elim (only_tells operation) as (λ b. ◌≡◌ {A = Option Reply} (if b then None else Some (reply_of operation)) None → b ≡ true) [ true ↦ λ h. refl | false ↦ λ h. absurd (cc) ] e
+
+pub tells_some : (operation : Operation) (r : Reply) → (if only_tells operation then None else Some (reply_of operation)) ≡ Some r → r ≡ reply_of operation
+tells_some operation r e = elim (only_tells operation) as (λ b. ◌≡◌ {A = Option Reply} (if b then None else Some (reply_of operation)) (Some r) → r ≡ reply_of operation) [ true ↦ λ h. absurd (cc) | false ↦ λ h. let same : reply_of operation ≡ r = cc in sym same ] e
+
 -- what an operation that closes nothing makes of the descriptors
-pub opened_held : (held : Descriptors) (client new : ℕ) (operation : Operation) → ((i number : ℕ) → operation ≡ CloseFile i number → ⊥) → with_opened held client (opened_by new operation) ≡ held_after client new held operation
+pub opened_held : (held : Descriptors) (client new : ℕ) (operation : Operation) → ((i number : ℕ) → operation ≡ CloseFile i number → ⊥) → with_opened held client (opens new operation) ≡ held_after client new held operation
 opened_held held client new (Tell answer) closes = sym (with_same held client)
 opened_held held client new (NewDir at) closes = sym (with_same held client)
 opened_held held client new (NewFile at number reads writes) closes = refl
@@ -50,7 +72,7 @@ opened_held held client new (DropName at i) closes = sym (with_same held client)
 opened_held held client new (Move from to i is_dir replaced) closes = sym (with_same held client)
 
 -- what is opened matters to no tree
-pub opened_tree : (held : Descriptors) (client new : ℕ) (t : Tree) (operation : Operation) → tree_after held new t operation ≡ tree_after (with_opened held client (opened_by new operation)) new t operation
+pub opened_tree : (held : Descriptors) (client new : ℕ) (t : Tree) (operation : Operation) → tree_after held new t operation ≡ tree_after (with_opened held client (opens new operation)) new t operation
 opened_tree held client new t (Tell answer) = refl
 opened_tree held client new t (NewDir at) = refl
 opened_tree held client new t (NewFile at number reads writes) = refl
@@ -64,23 +86,23 @@ opened_tree held client new t (DropName at i) = refl
 opened_tree held client new t (Move from to i is_dir replaced) = refl
 
 -- what an operation opens has a number
-pub opened_low : (t : Tree) (new : ℕ) (operation : Operation) → IsPlaced t operation → HasNumber (opened_by new operation)
-opened_low t new (Tell answer) placed = tt
-opened_low t new (NewDir at) placed = tt
-opened_low t new (NewFile at number reads writes) placed = placed.0
-opened_low t new (OpenFile i empties number reads writes) placed = placed.0
-opened_low t new (CloseFile i number) placed = tt
-opened_low t new (Write i at bytes) placed = tt
-opened_low t new (Resize i len) placed = tt
-opened_low t new (RemoveDir at i) placed = tt
-opened_low t new (AddName at i) placed = tt
-opened_low t new (DropName at i) placed = tt
-opened_low t new (Move from to i is_dir replaced) placed = tt
+pub opened_low : (new : ℕ) (operation : Operation) → IsInRange operation → HasNumber (opens new operation)
+opened_low new (Tell answer) range = tt
+opened_low new (NewDir at) range = tt
+opened_low new (NewFile at number reads writes) range = range
+opened_low new (OpenFile i empties number reads writes) range = range
+opened_low new (CloseFile i number) range = tt
+opened_low new (Write i at bytes) range = tt
+opened_low new (Resize i len) range = tt
+opened_low new (RemoveDir at i) range = tt
+opened_low new (AddName at i) range = tt
+opened_low new (DropName at i) range = tt
+opened_low new (Move from to i is_dir replaced) range = tt
 
 -- an operation that closes nothing, by what it makes of the tree, and what it opens
-pub carried_open : (nodes nodes' : List (Option Node)) (rows rows' : List (List (Option Descriptor))) (client new : ℕ) (operation : Operation) (opened : Option (ℕ × Descriptor)) → ((i number : ℕ) → operation ≡ CloseFile i number → ⊥) → opened ≡ opened_by new operation
+pub carried_open : (nodes nodes' : List (Option Node)) (rows rows' : List (List (Option Descriptor))) (client new : ℕ) (operation : Operation) (opened : Option (ℕ × Descriptor)) → ((i number : ℕ) → operation ≡ CloseFile i number → ⊥) → opened ≡ opens new operation
     → tree_of nodes' ≡ tree_after (held_of rows) new (tree_of nodes) operation → held_of rows' ≡ with_opened (held_of rows) client opened → state_in nodes' rows' ≡ state_after client new (state_in nodes rows) operation
 carried_open nodes nodes' rows rows' client new operation opened closes is tree held =
-    let now : held_of rows' ≡ with_opened (held_of rows) client (opened_by new operation) = held ∙ ap (with_opened (held_of rows) client) is in
+    let now : held_of rows' ≡ with_opened (held_of rows) client (opens new operation) = held ∙ ap (with_opened (held_of rows) client) is in
     carried nodes nodes' rows rows' client new operation (now ∙ opened_held (held_of rows) client new operation closes)
     (tree ∙ opened_tree (held_of rows) client new (tree_of nodes) operation ∙ ap (λ (h : Descriptors). tree_after h new (tree_of nodes) operation) (sym now))

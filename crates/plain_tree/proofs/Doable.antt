@@ -1,10 +1,11 @@
 -- What a call comes to in a sound state can be done.
-use Rattle.std.proofs.Common.{◌≡◌, ℕ, true, Some, None, Ok, refl, sym, ap, ◌∙◌, arith}
+use Rattle.std.proofs.Common.{◌≡◌, ℕ, true, Some, None, Ok, refl, sym, ap, ◌∙◌}
 use Rattle.std.specs.Prelude.{option_map}
-use Rattle.posix_calls.specs.Tree.{Tree, Own, State, IsBare}
+use Rattle.posix_calls.specs.Tree.{Own, State, IsBare}
 use Rattle.posix_calls.specs.Query.{run, view_of, dir_test}
 use Rattle.posix_calls.specs.Decide.{decide}
-use Rattle.plain_tree.specs.Plain.{IsSound, IsHeld, Replaces, IsSmall, IsPlaced, IsDoable}
+use Rattle.posix_calls.specs.Operations.{IsInRange}
+use Rattle.plain_tree.specs.Plain.{IsSound, IsHeld, Replaces, IsPlaced, IsDoable}
 use Rattle.posix_calls.specs.WellFormed.{IsDirectory}
 use Rattle.posix_calls.specs.declared.operation.Location.{Location}
 use Rattle.posix_calls.specs.declared.operation.Operation.{Operation}
@@ -15,22 +16,7 @@ use Rattle.posix_calls.specs.declared.call.Call.{Call}
 use Rattle.posix_calls.proofs.Changes.{entry, entry_parent, bare_file}
 use Rattle.posix_calls.proofs.Trees.{tree_of, range_of}
 use Rattle.posix_calls.proofs.Fits.{Fits, FitsReplaced}
-use Rattle.posix_calls.proofs.Able.{Able}
 use Rattle.posix_calls.proofs.Calls.{decide_fits}
-use Rattle.posix_calls.proofs.Passing.{decide_able}
-
-small : (t : Tree) (operation : Operation) → Able t operation → IsSmall operation
-small t (Tell answer) able = tt
-small t (NewDir at) able = tt
-small t (NewFile at number reads writes) able = tt
-small t (OpenFile i empties number reads writes) able = tt
-small t (CloseFile i number) able = tt
-small t (Write i at bytes) able = omega (arith, able)
-small t (Resize i len) able = tt
-small t (RemoveDir at i) able = tt
-small t (AddName at i) able = tt
-small t (DropName at i) able = tt
-small t (Move from to i is_dir replaced) able = tt
 
 module _ (s : State) (sound : IsSound s) where
   -- a name's directory is there, and has an inode number
@@ -57,8 +43,8 @@ module _ (s : State) (sound : IsSound s) where
   placed : (client : ℕ) (operation : Operation) → Fits s.tree (s.descriptors client) operation → IsPlaced s.tree operation
   placed client (Tell answer) fits = tt
   placed client (NewDir at) fits = held at fits.directory
-  placed client (NewFile at number reads writes) fits = (fits.1.few, held at fits.0.directory)
-  placed client (OpenFile i empties number reads writes) fits = (fits.1.few, bare_file (s.tree i) fits.0)
+  placed client (NewFile at number reads writes) fits = held at fits.0.directory
+  placed client (OpenFile i empties number reads writes) fits = bare_file (s.tree i) fits.0
   placed client (CloseFile i number) fits = bare_open (s.descriptors client) number i client refl fits
   placed client (Write i at bytes) fits = bare_file (s.tree i) fits
   placed client (Resize i len) fits = bare_file (s.tree i) fits
@@ -67,5 +53,5 @@ module _ (s : State) (sound : IsSound s) where
   placed client (DropName at i) fits = (named at i fits.0, bare_file (s.tree i) fits.1)
   placed client (Move from to i is_dir replaced) fits = (named from i fits.0, goal_held to i replaced fits.1, (fits.0, replaces to i replaced fits.1))
 
-  pub doable : (client : ℕ) (call : Call) (operation : Operation) → run (view_of s.tree) (decide (s.descriptors client) call) ≡ Ok operation → IsDoable s.tree operation
-  doable client call operation e = (small s.tree operation (decide_able s sound.0 client call operation e), sound.1.names, placed client operation (decide_fits s sound.0 client call operation e))
+  pub doable : (client : ℕ) (call : Call) (operation : Operation) → IsInRange operation → run (view_of s.tree) (decide (s.descriptors client) call) ≡ Ok operation → IsDoable s.tree operation
+  doable client call operation range e = (range, sound.1.names, placed client operation (decide_fits s sound.0 client call operation e))

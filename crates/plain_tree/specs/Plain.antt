@@ -1,9 +1,9 @@
 -- The state that a plain tree stores.
-use Rattle.std.specs.Prelude.{◌≡◌, ◌≢◌, ◌⊎◌, length, true, ℕ, zero, suc, ◌<◌, ◌≤◌, ◌==◌, List, [], get_or, Option, Some, None, if◌then◌else◌}
+use Rattle.std.specs.Prelude.{◌≡◌, ◌≢◌, ◌⊎◌, true, ℕ, zero, suc, ◌<◌, ◌≤◌, ◌==◌, List, [], get_or, Option, Some, None, if◌then◌else◌}
 use Rattle.std.specs.FinMap as fin
 use Rattle.posix_calls.specs.Tree.{Node, Tree, set_node, entries_of, IsBare, names_of, Descriptors, State, set_descriptor}
 use Rattle.posix_calls.specs.Own.{own_of}
-use Rattle.posix_calls.specs.Operations.{less_unused, makes, reply_of, state_after}
+use Rattle.posix_calls.specs.Operations.{less_unused, makes, reply_of, state_after, IsInRange}
 use Rattle.posix_calls.specs.Exact.{IsLowest, IsTaken}
 use Rattle.posix_calls.specs.declared.operation.Location.{Location}
 use Rattle.posix_calls.specs.declared.operation.Replaced.{Replaced}
@@ -14,7 +14,7 @@ use Rattle.posix_calls.specs.WellFormed.{IsWellFormed, IsWithinLimits}
 use Rattle.posix_calls.specs.declared.call.Reply.{Reply}
 use Rattle.posix_calls.specs.declared.call.Reply.TheVariants.{Failed}
 use Rattle.posix_calls.specs.declared.errno.Errno.TheVariants as errno
-use Rattle.posix_calls.specs.declared.limits.TheConstants.{ROOT, MAX_INODE, MAX_DESCRIPTORS, MAX_FILE, MAX_NAMES}
+use Rattle.posix_calls.specs.declared.limits.TheConstants.{ROOT, MAX_INODE, MAX_DESCRIPTORS, MAX_NAMES}
 use Rattle.posix_calls.specs.declared.descriptor.Descriptor.{Descriptor}
 
 -- the tree with these nodes, from inode 0 on
@@ -92,26 +92,10 @@ state_in nodes rows = state_of (record { nodes = nodes; rows = rows })
 
 -- ---- operations
 
--- an operation that does more than tell
-abbrev pub IsChange : Operation → Type 0
-IsChange (Tell answer) = ⊥
-IsChange _ = Unit {0}
-
--- no more bytes than a file may have
-abbrev pub IsSmall : Operation → Type 0
-IsSmall (Write i at bytes) = length bytes ≤ MAX_FILE
-IsSmall _ = Unit {0}
-
 -- an operation that closes nothing
 abbrev pub IsNoClose : Operation → Type 0
 IsNoClose (CloseFile i number) = ⊥
 IsNoClose _ = Unit {0}
-
--- what an operation opens, and its number
-abbrev pub opened_by : ℕ → Operation → Option (ℕ × Descriptor)
-opened_by new (NewFile at number reads writes) = Some (number, record { inode = new; reads = reads; writes = writes })
-opened_by new (OpenFile i empties number reads writes) = Some (number, record { inode = i; reads = reads; writes = writes })
-opened_by new _ = None
 
 -- the descriptors with what a client opens, if it opens anything
 abbrev pub with_opened : Descriptors → ℕ → Option (ℕ × Descriptor) → Descriptors
@@ -127,12 +111,12 @@ HasNumber (Some (number, what)) = number < MAX_DESCRIPTORS
 abbrev pub IsHeld : Tree → Location → Type 0
 IsHeld t at = IsInode at.parent × (t at.parent ≢ None)
 
--- names come and go in directories that are there, what is written or goes has no entries, descriptors have numbers, and what moves can move
+-- names come and go in directories that are there, what is written or goes has no entries, and what moves can move
 abbrev pub IsPlaced : Tree → Operation → Type 0
 IsPlaced t (Tell answer) = Unit {0}
 IsPlaced t (NewDir at) = IsHeld t at
-IsPlaced t (NewFile at number reads writes) = (number < MAX_DESCRIPTORS) × IsHeld t at
-IsPlaced t (OpenFile i empties number reads writes) = (number < MAX_DESCRIPTORS) × IsBare (t i)
+IsPlaced t (NewFile at number reads writes) = IsHeld t at
+IsPlaced t (OpenFile i empties number reads writes) = IsBare (t i)
 IsPlaced t (CloseFile i number) = IsBare (t i)
 IsPlaced t (Write i at bytes) = IsBare (t i)
 IsPlaced t (Resize i len) = IsBare (t i)
@@ -147,7 +131,7 @@ HasFewNames t = (i : ℕ) → names_of t i ≤ MAX_NAMES
 
 -- an operation that a call can come to
 abbrev pub IsDoable : Tree → Operation → Type 0
-IsDoable t operation = IsSmall operation × HasFewNames t × IsPlaced t operation
+IsDoable t operation = IsInRange operation × HasFewNames t × IsPlaced t operation
 
 -- the operation was done, and a node that it makes has the lowest number that is free
 abbrev pub IsDone : State → ℕ → Operation → Reply → State → Type 0

@@ -4,10 +4,10 @@
 //! `posix_calls` say: a new node gets the lowest inode number that is free.
 #![tactic(auto)]
 
-mod operations;
 mod name_counts;
 mod node;
 mod nodes;
+mod operations;
 mod plain;
 
 pub use plain::PlainTree;

@@ -1,6 +1,6 @@
-ghost use Rattle.std.specs.Prelude.{◌≡◌, ◌≤◌, ◌<◌, ◌-◌, ℕ, [], Option, None, Some, length, OnOk, OnErr, get_or, MatchOption, IsTrue, ◌↔◌};
+ghost use Rattle.std.specs.Prelude.{◌≡◌, ◌≤◌, ◌<◌, ℕ, [], Option, None, Some, length, OnOk, OnErr, get_or, MatchOption, IsTrue, ◌↔◌};
 ghost use Rattle.posix_calls.specs.Content.{resized, written};
-ghost use Rattle.posix_calls.specs.Tree.{File, bytes_of, set_node, any_up_to, refers_to, names_of, is_open, IsBare};
+ghost use Rattle.posix_calls.specs.Tree.{File, bytes_of, set_node, has_open, names_of, is_open, IsBare};
 ghost use Rattle.posix_calls.specs.Operations.{entered, left, less_unused};
 ghost use Rattle.posix_calls.specs.Own.{own_of};
 ghost use Rattle.posix_calls.specs.Exact.{IsLowest, IsTaken};
@@ -9,9 +9,7 @@ ghost use Rattle.posix_calls.specs.declared.limits.TheConstants.{MAX_NAMES};
 
 use crate::name_counts::{make_counts, name_came, name_count, name_went};
 use crate::node::PlainNode;
-use posix_calls::{
-    Descriptor, MAX_CLIENTS, MAX_DESCRIPTORS, MAX_INODE, OwnDescriptors, ROOT, Location,
-};
+use posix_calls::{Location, MAX_CLIENTS, MAX_INODE, OwnDescriptors, ROOT};
 use std::alloc::{AllocError, Global};
 use std::marker::Model;
 
@@ -185,7 +183,12 @@ fn clear(nodes: &mut Vec<PlainNode>, inode: u32)
     }
 }
 
-fn enter(alloc: Global, nodes: &mut Vec<PlainNode>, at: Location, inode: u32) -> Result<(), AllocError>
+fn enter(
+    alloc: Global,
+    nodes: &mut Vec<PlainNode>,
+    at: Location,
+    inode: u32,
+) -> Result<(), AllocError>
     ensures ok { OnOk result (tree_of nodes.new.items ≡ entered (tree_of nodes.old.items) at inode) }
     ensures err { OnErr result (tree_of nodes.new.items ≡ tree_of nodes.old.items) }
     ensures longer { length nodes.old.items ≤ length nodes.new.items }
@@ -247,30 +250,10 @@ pub fn is_open(rows: &[OwnDescriptors], inode: u32) -> bool
 }
 
 fn is_open_by(rows: &[OwnDescriptors], row: usize, inode: u32) -> bool
-    ensures { result ≡ any_up_to MAX_DESCRIPTORS (λ n. refers_to inode (own_of (get_or rows.now row []) (n - 1))) }
+    ensures { result ≡ has_open (own_of (get_or rows.now row [])) inode }
 {
     match rows.get(row) {
-        Some(own) => has_open(own, inode),
-        None => false,
-    }
-}
-
-fn has_open(own: &OwnDescriptors, inode: u32) -> bool
-    ensures { result ≡ any_up_to MAX_DESCRIPTORS (λ n. refers_to inode (own_of own.now (n - 1))) }
-{
-    for number in 0..MAX_DESCRIPTORS {
-        if refers_to(own.get(number), inode) {
-            return true;
-        }
-    }
-    false
-}
-
-fn refers_to(what: Option<Descriptor>, inode: u32) -> bool
-    ensures { result ≡ refers_to inode what }
-{
-    match what {
-        Some(descriptor) => descriptor.inode == inode,
+        Some(own) => own.has_open(inode),
         None => false,
     }
 }

@@ -6,7 +6,7 @@ ghost use Rattle.posix_calls.specs.declared.limits.TheConstants.{MAX_NAMES};
 
 use crate::node::PlainNode;
 use crate::nodes::PlainNodes;
-use posix_calls::{Descriptor, MAX_DESCRIPTORS, OwnDescriptors, Replaced, Location};
+use posix_calls::{Descriptor, Location, MAX_DESCRIPTORS, OwnDescriptors, Replaced};
 use std::alloc::{AllocError, Global};
 
 /// A node is made, and gets a name. The name is put in first, since that may want memory; where there is none, the tree stays

@@ -1,18 +1,19 @@
 ghost use Rattle.std.specs.Prelude.{◌≡◌, ◌⊎◌, ◌≤◌, ◌<◌, ℕ, true, Ok, Some, length, option_map, IfOk, OnOk, OnErr, MatchOption, None};
-ghost use Rattle.posix_calls.specs.Tree.{opening, empty_tree};
-ghost use Rattle.posix_calls.specs.Query.{view_of, whole};
+ghost use Rattle.std.specs.FinMap as fin;
+ghost use Rattle.posix_calls.specs.Tree.{opening, empty_tree, entries_of};
+ghost use Rattle.posix_calls.specs.Query.{dir_test, view_of, whole};
 ghost use Rattle.posix_calls.specs.Answers.{description_of};
 ghost use Rattle.posix_calls.specs.Operations.{Step, makes, reply_of, state_after, tree_after};
 ghost use Rattle.posix_calls.specs.Exact.{IsAnswered, IsGivenUp, IsLowest, IsTaken};
-ghost use Rattle.plain_tree.specs.Plain.{tree_of, held_of, state_of, state_in, opened_by, IsChange, IsNoClose, IsSmall, IsDoable, IsDone, IsDropped};
+ghost use Rattle.plain_tree.specs.Plain.{tree_of, held_of, state_of, state_in, IsNoClose, IsDoable, IsDone, IsDropped};
 ghost use Rattle.posix_calls.specs.declared.call.Reply.TheVariants.{Failed};
 
-use crate::operations::{close_at, drop_name, empty_if, make, move_name, open_if, remove_dir};
 use crate::node::PlainNode;
 use crate::nodes::{PlainNodes, lowest_free};
+use crate::operations::{close_at, drop_name, empty_if, make, move_name, open_if, remove_dir};
 use posix_calls::{
-    Bytes, Call, Operation, Description, Descriptor, Errno, MAX_CLIENTS, Names, DecideError, OwnDescriptors,
-    ROOT, Reply, TreeAnswers, decide,
+    Bytes, Call, Child, DecideError, Description, Errno, MAX_CLIENTS, Names, Operation,
+    OwnDescriptors, ROOT, Reply, TreeAnswers, decide,
 };
 use std::alloc::{AllocError, Global};
 use std::marker::Model;
@@ -63,7 +64,13 @@ impl PlainTree {
             };
         }
         match decide(self.alloc, self, &self.rows[client as usize - 1], call) {
-            Ok(operation) => carry_out(self.alloc, &mut self.nodes, &mut self.rows, client, operation),
+            Ok(operation) => carry_out(
+                self.alloc,
+                &mut self.nodes,
+                &mut self.rows,
+                client,
+                operation,
+            ),
             Err(DecideError::Refused { errno }) => Reply::Failed { errno },
             Err(DecideError::Memory) => Reply::Failed {
                 errno: Errno::NoMemory,
@@ -78,17 +85,11 @@ impl TreeAnswers for PlainTree {
     ghost part = { λ s. whole (view_of (tree_of s.nodes)) };
 
     fn is_dir(&self, inode: u32) -> Option<Option<bool>> {
-        match self.nodes.as_slice().get(inode as usize) {
-            Some(node) => Some(node.is_dir()),
-            None => Some(None),
-        }
+        Some(is_dir(self.nodes.as_slice(), inode))
     }
 
-    fn entry(&self, dir: u32, name: &[u8]) -> Option<Option<u32>> {
-        match self.nodes.as_slice().get(dir as usize) {
-            Some(node) => Some(node.entry(name)),
-            None => Some(None),
-        }
+    fn entry(&self, dir: u32, name: &[u8]) -> Option<Option<Child>> {
+        Some(child(self.nodes.as_slice(), dir, name))
     }
 
     fn entry_count(&self, dir: u32) -> Option<u32> {
@@ -135,6 +136,23 @@ impl TreeAnswers for PlainTree {
     fn describe(&self, inode: u32) -> Option<Option<Description>> {
         Some(describe(&self.nodes, inode))
     }
+}
+
+fn is_dir(nodes: &[PlainNode], inode: u32) -> Option<bool>
+    ensures { result ≡ option_map dir_test (tree_of nodes.now inode) }
+{
+    nodes.get(inode as usize)?.is_dir()
+}
+
+fn child(nodes: &[PlainNode], dir: u32, name: &[u8]) -> Option<Child>
+    ensures inode { option_map (λ e. e.inode) result ≡ fin.get (entries_of (tree_of nodes.now dir)) name.now }
+    ensures kind { (e : Child) → result ≡ Some e → e.is_dir ≡ option_map dir_test (tree_of nodes.now e.inode) }
+{
+    let inode = nodes.get(dir as usize)?.entry(name)?;
+    Some(Child {
+        inode,
+        is_dir: is_dir(nodes, inode),
+    })
 }
 
 fn describe(nodes: &PlainNodes, inode: u32) -> Option<Description>
@@ -187,28 +205,28 @@ fn carry_out(
     ensures done { IsDone (state_in nodes.old rows.old.items) client operation result (state_in nodes.new rows.new.items) ⊎ IsDropped (state_in nodes.old rows.old.items) operation result (state_in nodes.new rows.new.items) }
     ensures kept { length rows.new.items ≡ length rows.old.items }
 {
-    match operation {
-        Operation::Tell { answer } => answer,
-        operation => change(alloc, nodes, rows, client, operation),
+    match operation.reply() {
+        None => operation.into_reply(),
+        Some(reply) => change(alloc, nodes, rows, client, operation, reply),
     }
 }
 
-// Carries out an operation that changes something.
+// Carries out an operation that changes something, whose call has this reply.
 fn change(
     alloc: Global,
     nodes: &mut PlainNodes,
     rows: &mut Vec<OwnDescriptors>,
     client: u32,
     operation: Operation,
+    reply: Reply,
 ) -> Reply
     requires low { 0 < client }
     requires high { client ≤ length rows.old.items }
     requires doable { IsDoable (tree_of nodes.old) operation }
-    requires change { IsChange operation }
+    requires reply { reply ≡ reply_of operation }
     ensures done { IsDone (state_in nodes.old rows.old.items) client operation result (state_in nodes.new rows.new.items) ⊎ IsDropped (state_in nodes.old rows.old.items) operation result (state_in nodes.new rows.new.items) }
     ensures kept { length rows.new.items ≡ length rows.old.items }
 {
-    let reply = reply_to(&operation);
     let Some(inode) = new_inode(nodes.as_slice(), &operation) else {
         return Reply::Failed {
             errno: Errno::NoSpace,
@@ -222,44 +240,14 @@ fn change(
     }
 }
 
-// What a change is answered.
-fn reply_to(operation: &Operation) -> Reply
-    requires change { IsChange operation.now }
-    requires small { IsSmall operation.now }
-    ensures { result ≡ reply_of operation.now }
-{
-    match operation {
-        Operation::NewFile { descriptor, .. } => Reply::Opened {
-            descriptor: *descriptor,
-        },
-        Operation::OpenFile { descriptor, .. } => Reply::Opened {
-            descriptor: *descriptor,
-        },
-        Operation::Write { bytes, .. } => Reply::Wrote {
-            count: bytes.len() as u32,
-        },
-        _ => Reply::Done,
-    }
-}
-
 // The number of the node that an operation makes; what makes none needs none.
 fn new_inode(nodes: &[PlainNode], operation: &Operation) -> Option<u32>
     ensures { MatchOption result ((makes operation.now ≡ true) × IsTaken (tree_of nodes.now)) (λ i. makes operation.now ≡ true → IsLowest (tree_of nodes.now) i) }
 {
-    if makes_node(operation) {
+    if operation.makes_node() {
         return lowest_free(nodes);
     }
     Some(0)
-}
-
-fn makes_node(operation: &Operation) -> bool
-    ensures { result ≡ makes operation.now }
-{
-    match operation {
-        Operation::NewDir { .. } => true,
-        Operation::NewFile { .. } => true,
-        _ => false,
-    }
 }
 
 // Carries an operation out, where a new node gets this number. Where there is no memory for it, all stays as it was.
@@ -286,47 +274,11 @@ fn apply(
             Ok(())
         }
         operation => {
-            let opened = opened_by(&operation, new);
+            let opened = operation.opens(new);
             apply_to_tree(alloc, nodes, rows, new, operation)?;
             open_if(rows, client, opened);
             Ok(())
         }
-    }
-}
-
-// What an operation opens, and its number.
-fn opened_by(operation: &Operation, new: u32) -> Option<(u32, Descriptor)>
-    ensures { result ≡ opened_by new operation.now }
-{
-    match operation {
-        Operation::NewFile {
-            descriptor,
-            reads,
-            writes,
-            ..
-        } => Some((
-            *descriptor,
-            Descriptor {
-                inode: new,
-                reads: *reads,
-                writes: *writes,
-            },
-        )),
-        Operation::OpenFile {
-            inode,
-            descriptor,
-            reads,
-            writes,
-            ..
-        } => Some((
-            *descriptor,
-            Descriptor {
-                inode: *inode,
-                reads: *reads,
-                writes: *writes,
-            },
-        )),
-        _ => None,
     }
 }
 

@@ -1,6 +1,6 @@
 -- Each call that is not refused comes to an operation that fits the state.
 use Rattle.std.proofs.Common.{◌≡◌, ◌≢◌, ℕ, List, [], ◌∷◌, refl, Some, None, Option, Ok, cond, ap, sym, ◌∙◌, subst, true, false, Bool, ◌==◌}
-use Rattle.std.specs.Prelude.{not, option_map, length}
+use Rattle.std.specs.Prelude.{not, option_map}
 use Rattle.std.proofs.lemmas.Bool.{eq-eqb}
 use Rattle.std.specs.List.{list_any}
 use Rattle.posix_calls.specs.declared.errno.Errno.TheVariants as errno

@@ -1,5 +1,5 @@
 -- What passes the reading of paths is a name, and how a path's components come off from the left.
-use Rattle.std.proofs.Common.{◌≡◌, ◌==◌, ◌||◌, All, List, ℕ, ◌+◌, ◌<◌, ◌≤◌, Bool, true, false, Option, None, Some, [], ◌∷◌, refl, arith, length, take, drop}
+use Rattle.std.proofs.Common.{◌≡◌, ◌==◌, ◌||◌, All, List, ℕ, ◌+◌, ◌<◌, ◌≤◌, Bool, true, false, Option, None, Some, [], ◌∷◌, ◌⊎◌, inl, inr, refl, ap, ◌∙◌, arith, length, take, drop}
 use Rattle.std.proofs.lemmas.Grind.{common_steps}
 use Rattle.std.specs.List.{list_any, position, position_or_len}
 use Rattle.std.proofs.lemmas.List.Folds.{list_any_none}
@@ -8,7 +8,7 @@ use Rattle.std.proofs.lemmas.List.Sums.{fails_before_first}
 use Rattle.std.specs.Option.{option_or}
 use Rattle.posix_calls.specs.declared.errno.Errno.{Errno}
 use Rattle.posix_calls.specs.Name.{is_name}
-use Rattle.posix_calls.specs.Path.{has_no_slash, is_invalid, fault, first_fault, components}
+use Rattle.posix_calls.specs.Path.{has_no_slash, is_invalid, fault, first_fault, first_is_faultless, components}
 
 -- a byte that no name has is a zero byte or a slash
 pub bad_bytes : (part : List ℕ) → list_any (λ b. (b == 0) || (b == 47)) part ≡ (list_any (λ b. b == 0) part || list_any (λ b. b == 47) part)
@@ -62,3 +62,15 @@ option_or_none (Some e) = refl
 -- a lone component decides
 pub first_fault_last : (bytes : List ℕ) → position (λ b. b == 47) bytes ≡ None → first_fault (components bytes) ≡ fault bytes
 first_fault_last bytes none = rw (components_last bytes none) (option_or_none (fault bytes))
+
+-- a first component with no fault
+pub faultless_step : (bytes : List ℕ) (at : ℕ) → position (λ b. b == 47) bytes ≡ Some at → fault (take at bytes) ≡ None → first_is_faultless (components bytes) ≡ true
+faultless_step bytes at found none = rw (components_step bytes at found, none) refl
+
+pub faultless_last : (bytes : List ℕ) → position (λ b. b == 47) bytes ≡ None → fault bytes ≡ None → first_is_faultless (components bytes) ≡ true
+faultless_last bytes last none = rw (components_last bytes last, none) refl
+
+-- the first component of all is that of the rest, or it had no fault
+pub faultless_all : (all rest : List (List ℕ)) → (all ≡ rest) ⊎ (first_is_faultless all ≡ true) → first_is_faultless rest ≡ true → first_is_faultless all ≡ true
+faultless_all all rest (inl same) first = ap first_is_faultless same ∙ first
+faultless_all all rest (inr is) first = is

@@ -27,5 +27,6 @@ pub mod Readings
 pub mod Passing
 pub mod Bounds
 pub mod Chain
+mod Ranges
 pub mod Walks
 pub mod Places

@@ -1,5 +1,5 @@
 -- The walk of a call: where it leads, and how it is made step by step.
-use Rattle.std.proofs.Common.{◌≡◌, ℕ, List, [], ◌∷◌, ◌++◌, ◌==◌, ◌||◌, Bool, true, false, refl, Option, Some, None, Result, Ok, Err, ap, sym, ◌∙◌, subst, ◌+◌, ◌-◌, ◌<◌, ◌≤◌, length, take, drop, get_or, arith, add-one, drop-cons, suc}
+use Rattle.std.proofs.Common.{◌≡◌, ℕ, List, [], ◌∷◌, ◌++◌, ◌||◌, Bool, true, false, refl, Option, Some, None, Result, Ok, Err, ap, sym, ◌∙◌, subst, ◌+◌, ◌-◌, ◌<◌, ◌≤◌, length, take, drop, get_or, arith, add-one, drop-cons, suc}
 use Rattle.std.proofs.lemmas.List.{take_more, take_all, drop_all}
 use Rattle.std.specs.Prelude.{option_map}
 use Rattle.std.specs.List.{list_any}
@@ -11,7 +11,7 @@ use Rattle.posix_calls.specs.declared.operation.Missing.{Missing}
 use Rattle.posix_calls.specs.declared.operation.Missing.TheVariants as missing
 use Rattle.posix_calls.specs.declared.walk.Landing.{Landing}
 use Rattle.posix_calls.specs.declared.limits.TheConstants.{ROOT}
-use Rattle.posix_calls.specs.Query.{Seen, Query, Gives, Refuses, IsDir, Look, ◌>>=◌, Part, Found, Known, Unknown, run_part, run, view_of, seen, dir_test}
+use Rattle.posix_calls.specs.Query.{Seen, Query, Gives, Look, ◌>>=◌, Part, Found, Known, Unknown, run_part, run, view_of, seen, dir_test}
 use Rattle.posix_calls.specs.Walk.{Place, root_place, walk, prefix, led, directory, directory_if, entries_seen, is_inode, there}
 use Rattle.posix_calls.specs.Answers.{Tells, entry_in, count_in, last_name, landing_of, landing, place_at, child_at}
 use Rattle.posix_calls.proofs.Chain.{then_found, part_bind, part_gives, tells_ok, tells_err, tells_missing, tells_memory, tells_same, bind_stops, gives, look_missing}

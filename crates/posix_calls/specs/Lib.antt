@@ -13,3 +13,4 @@ pub mod Resolve
 pub mod WellFormed
 pub mod Answers
 pub mod Own
+pub mod Memory

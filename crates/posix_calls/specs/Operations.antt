@@ -1,16 +1,17 @@
 -- What an operation makes of a tree and its descriptors, and one step of the file tree.
-use Rattle.std.specs.Prelude.{◌≡◌, ◌⊎◌, ℕ, ◌<◌, ◌≤◌, [], length, Bool, true, false, ◌&&◌, not, ◌==◌, nat_le, Some, None, Result, Ok, Err, if◌then◌else◌}
+use Rattle.std.specs.Prelude.{◌≡◌, ◌⊎◌, ℕ, ◌<◌, ◌≤◌, [], length, Bool, true, false, ◌&&◌, not, ◌==◌, nat_le, Option, Some, None, Result, Ok, Err, if◌then◌else◌}
 use Rattle.std.specs.FinMap as fin
 use Rattle.posix_calls.specs.Content.{resized, written}
 use Rattle.posix_calls.specs.Tree.{File, Dir, Tree, set_node, bytes_of, entries_of, Own, Descriptors, set_own, with_own, State, names_of, is_open}
 use Rattle.posix_calls.specs.Query.{view_of, run}
+use Rattle.posix_calls.specs.declared.descriptor.Descriptor.{Descriptor}
 use Rattle.posix_calls.specs.declared.operation.Location.{Location}
 use Rattle.posix_calls.specs.Decide.{decide}
 use Rattle.posix_calls.specs.declared.operation.Replaced.{Replaced}
 use Rattle.posix_calls.specs.declared.operation.Operation.{Operation}
 use Rattle.posix_calls.specs.declared.operation.Operation.TheVariants.{Tell, NewDir, NewFile, OpenFile, CloseFile, Write, Resize, RemoveDir, AddName, DropName, Move}
 use Rattle.posix_calls.specs.declared.operation.Replaced.TheVariants.{Nothing, OldFile, OldDir}
-use Rattle.posix_calls.specs.declared.limits.TheConstants.{ROOT, MAX_INODE, MAX_CLIENTS}
+use Rattle.posix_calls.specs.declared.limits.TheConstants.{ROOT, MAX_INODE, MAX_CLIENTS, MAX_DESCRIPTORS, MAX_TRANSFER}
 use Rattle.posix_calls.specs.declared.errno.Errno.{Errno}
 use Rattle.posix_calls.specs.declared.errno.Errno.TheVariants as errno
 use Rattle.posix_calls.specs.declared.call.Call.{Call}
@@ -63,6 +64,24 @@ reply_of (NewFile at number reads writes) = reply.Opened number
 reply_of (OpenFile i empties number reads writes) = reply.Opened number
 reply_of (Write i at bytes) = reply.Wrote (length bytes)
 reply_of _ = reply.Done
+
+-- whether an operation does no more than tell
+abbrev pub only_tells : Operation → Bool
+only_tells (Tell answer) = true
+only_tells _ = false
+
+-- what an operation opens, and its number, where a new node has the number new
+abbrev pub opens : ℕ → Operation → Option (ℕ × Descriptor)
+opens new (NewFile at number reads writes) = Some (number, record { inode = new; reads = reads; writes = writes })
+opens new (OpenFile i empties number reads writes) = Some (number, record { inode = i; reads = reads; writes = writes })
+opens new _ = None
+
+-- no more is written than one call may write, and what is opened has the number of a descriptor
+abbrev pub IsInRange : Operation → Type 0
+IsInRange (Write i at bytes) = length bytes ≤ MAX_TRANSFER
+IsInRange (NewFile at number reads writes) = number < MAX_DESCRIPTORS
+IsInRange (OpenFile i empties number reads writes) = number < MAX_DESCRIPTORS
+IsInRange _ = Unit {0}
 
 -- whether an operation makes a node
 abbrev pub makes : Operation → Bool

@@ -96,9 +96,13 @@ abbrev pub refers_to : ℕ → Option Descriptor → Bool
 refers_to i None = false
 refers_to i (Some d) = d.inode == i
 
--- whether some client has an inode open; numbers of descriptors are from 0 on
+-- whether a client has an inode open; numbers of descriptors are from 0 on
+abbrev pub has_open : Own → ℕ → Bool
+has_open own i = any_up_to MAX_DESCRIPTORS (λ n. refers_to i (own (n - 1)))
+
+-- whether some client has an inode open
 unfoldable pub is_open : Descriptors → ℕ → Bool
-is_open held i = any_up_to MAX_CLIENTS (λ c. any_up_to MAX_DESCRIPTORS (λ n. refers_to i (held c (n - 1))))
+is_open held i = any_up_to MAX_CLIENTS (λ c. has_open (held c) i)
 
 -- units of what stands at an inode
 abbrev pub units : Option Node → ℕ

@@ -39,6 +39,13 @@ impl Bytes {
         &self.bytes
     }
 
+    /// The vector of the bytes.
+    pub fn into_vec(self) -> Vec<u8>
+        ensures { result.items ≡ self }
+    {
+        self.bytes
+    }
+
     /// How many bytes there are.
     pub fn len(&self) -> usize
         ensures { result ≡ length self.now }

@@ -2,8 +2,8 @@ ghost use Rattle.std.specs.Prelude.{◌≡◌};
 ghost use Rattle.posix_calls.specs.Answers.{decide_error};
 ghost use Rattle.posix_calls.specs.declared.operation.DecideError.TheVariants.{Memory};
 
-use crate::operation::DecideError;
 use crate::errno::Errno;
+use crate::operation::DecideError;
 use std::alloc::AllocError;
 
 impl From<AllocError> for DecideError {

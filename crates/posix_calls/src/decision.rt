@@ -1,12 +1,16 @@
+ghost use Rattle.std.specs.Prelude.{◌≡◌, Err, IfOk, true};
 ghost use Rattle.posix_calls.specs.Answers.{Tells};
 ghost use Rattle.posix_calls.specs.Decide.{decide};
+ghost use Rattle.posix_calls.specs.Memory.{takes_memory};
+ghost use Rattle.posix_calls.specs.Operations.{IsInRange};
 ghost use Rattle.posix_calls.specs.Own.{own_of};
+ghost use Rattle.posix_calls.specs.declared.operation.DecideError.TheVariants.{Memory};
 
 use crate::call::Call;
-use crate::operation::{Operation, DecideError};
 use crate::descriptor_calls::{close, open, pread, pwrite};
 use crate::dir_calls::{mkdir, rmdir};
 use crate::file_calls::{truncate, unlink};
+use crate::operation::{DecideError, Operation};
 use crate::own::OwnDescriptors;
 use crate::tell_calls::{list, stat};
 use crate::tree_answers::TreeAnswers;
@@ -19,15 +23,17 @@ use std::alloc::Global;
 /// The tree may be known in part. What the call needs is asked for in the order of its errors, and the first thing that has to be
 /// known beside is answered by `Missing`; once it is known, the same call may be decided again. Bytes of a file are asked for by
 /// `pread` alone, and only those that it gives. Where an answer comes, it is that
-/// of every tree of which this is a part. Memory is taken for the names of the paths and for what the operation carries; `Memory` may
-/// stand in place of any answer.
+/// of every tree of which this is a part. Memory is taken for the names of the paths and for what the operation carries; where it is
+/// taken `Memory` may stand in place of any answer.
 pub fn decide<T: TreeAnswers>(
     alloc: Global,
     tree: &T,
     own: &OwnDescriptors,
     call: &Call,
 ) -> Result<Operation, DecideError>
-    ensures { Tells (T.part tree.now) (decide (own_of own.now) call.now) result }
+    ensures tells { Tells (T.part tree.now) (decide (own_of own.now) call.now) result }
+    ensures memory { result ≡ Err Memory → takes_memory (T.part tree.now) (own_of own.now) call.now ≡ true }
+    ensures range { IfOk result (λ operation. IsInRange operation) }
 {
     match call {
         Call::Open { path, flags } => open(alloc, tree, own, path.as_slice(), *flags),

@@ -1,6 +1,10 @@
 // What the calls that take or give a descriptor come to: open, close, pread, pwrite.
-ghost use Rattle.std.specs.Prelude.{◌≡◌, ◌<◌, ◌≤◌, ◌&&◌, ◌+◌, ◌^◌, nat_lt, true};
-ghost use Rattle.posix_calls.specs.Walk.{is_there};
+ghost use Rattle.std.specs.Prelude.{◌≡◌, ◌≢◌, ◌<◌, ◌≤◌, ◌&&◌, ◌+◌, ◌^◌, nat_lt, true, false, Some, Err, IfOk};
+ghost use Rattle.posix_calls.specs.Path.{comes_to_name};
+ghost use Rattle.posix_calls.specs.Memory.{reads_bytes, writes_bytes};
+ghost use Rattle.posix_calls.specs.Walk.{is_there, is_root};
+ghost use Rattle.posix_calls.specs.declared.descriptor.Descriptor.{Descriptor};
+ghost use Rattle.posix_calls.specs.declared.operation.DecideError.TheVariants.{Memory};
 ghost use Rattle.posix_calls.specs.Query.{Part, blocks_of};
 ghost use Rattle.posix_calls.specs.Answers.{Tells};
 ghost use Rattle.posix_calls.specs.Own.{own_of};
@@ -9,13 +13,13 @@ ghost use Rattle.posix_calls.specs.Decide.{is_senseless, number_or, lowest_free,
 
 use crate::bytes::Bytes;
 use crate::call::{Flags, Reply};
-use crate::operation::{Operation, DecideError, Missing};
 use crate::errno::Errno;
 use crate::limits::{MAX_FILE, MAX_TRANSFER, UNIT_BYTES};
+use crate::operation::{DecideError, Missing, Operation};
 use crate::own::OwnDescriptors;
 use crate::path::Path;
 use crate::tree_answers::{TreeAnswers, known};
-use crate::walk::{Landing, kind_at, prefix, read_path, refuse_if, location};
+use crate::walk::{Landing, kind_at, location, prefix, read_path, refuse_if};
 use std::alloc::Global;
 
 impl Flags {
@@ -38,7 +42,8 @@ impl Flags {
 
 // The lowest number that is free.
 fn free_number(own: &OwnDescriptors) -> Result<u32, DecideError>
-    ensures { (p : Part) → Tells p (number_or (lowest_free (own_of own.now) 0 MAX_DESCRIPTORS)) result }
+    ensures tells { (p : Part) → Tells p (number_or (lowest_free (own_of own.now) 0 MAX_DESCRIPTORS)) result }
+    ensures memory { result ≢ Err Memory }
 {
     match own.lowest_free() {
         Some(number) => Ok(number),
@@ -50,7 +55,8 @@ fn free_number(own: &OwnDescriptors) -> Result<u32, DecideError>
 
 // Whether there are bytes to take away.
 fn empties<T: TreeAnswers>(tree: &T, truncate: bool, inode: u32) -> Result<bool, DecideError>
-    ensures { Tells (T.part tree.now) (empties truncate inode) result }
+    ensures tells { Tells (T.part tree.now) (empties truncate inode) result }
+    ensures memory { result ≢ Err Memory }
 {
     if !truncate {
         return Ok(false);
@@ -66,7 +72,8 @@ pub(crate) fn open<T: TreeAnswers>(
     bytes: &[u8],
     flags: Flags,
 ) -> Result<Operation, DecideError>
-    ensures { Tells (T.part tree.now) (open_path (own_of own.now) bytes.now flags) result }
+    ensures tells { Tells (T.part tree.now) (open_path (own_of own.now) bytes.now flags) result }
+    ensures memory { result ≡ Err Memory → comes_to_name bytes.now ≡ true }
 {
     let path = read_path(alloc, bytes)?;
     open_at(alloc, tree, own, &path, flags)
@@ -80,7 +87,8 @@ fn open_at<T: TreeAnswers>(
     path: &Path,
     flags: Flags,
 ) -> Result<Operation, DecideError>
-    ensures { Tells (T.part tree.now) (open_at (own_of own.now) path.now flags) result }
+    ensures tells { Tells (T.part tree.now) (open_at (own_of own.now) path.now flags) result }
+    ensures memory { result ≡ Err Memory → is_root path.now ≡ false }
 {
     refuse_if(flags.is_senseless(), Errno::Invalid)?;
     let descriptor = free_number(own)?;
@@ -111,7 +119,8 @@ fn open_at<T: TreeAnswers>(
 
 // The inode that is open at a number.
 fn open_inode(own: &OwnDescriptors, number: u32) -> Result<u32, DecideError>
-    ensures { (p : Part) → Tells p (opened (λ d. true) (own_of own.now number)) result }
+    ensures tells { (p : Part) → Tells p (opened (λ d. true) (own_of own.now number)) result }
+    ensures memory { result ≢ Err Memory }
 {
     match own.get(number) {
         Some(descriptor) => Ok(descriptor.inode),
@@ -123,7 +132,9 @@ fn open_inode(own: &OwnDescriptors, number: u32) -> Result<u32, DecideError>
 
 // The inode that is open at a number for reading.
 fn readable_inode(own: &OwnDescriptors, number: u32) -> Result<u32, DecideError>
-    ensures { (p : Part) → Tells p (opened (λ d. d.reads) (own_of own.now number)) result }
+    ensures tells { (p : Part) → Tells p (opened (λ d. d.reads) (own_of own.now number)) result }
+    ensures memory { result ≢ Err Memory }
+    ensures open { IfOk result (λ inode. (d : Descriptor) × (own_of own.now number ≡ Some d) × (d.reads ≡ true) × (d.inode ≡ inode)) }
 {
     let Some(descriptor) = own.get(number) else {
         return Err(DecideError::Refused {
@@ -136,7 +147,9 @@ fn readable_inode(own: &OwnDescriptors, number: u32) -> Result<u32, DecideError>
 
 // The inode that is open at a number for writing.
 fn writable_inode(own: &OwnDescriptors, number: u32) -> Result<u32, DecideError>
-    ensures { (p : Part) → Tells p (opened (λ d. d.writes) (own_of own.now number)) result }
+    ensures tells { (p : Part) → Tells p (opened (λ d. d.writes) (own_of own.now number)) result }
+    ensures memory { result ≢ Err Memory }
+    ensures open { IfOk result (λ inode. (d : Descriptor) × (own_of own.now number ≡ Some d) × (d.writes ≡ true) × (d.inode ≡ inode)) }
 {
     let Some(descriptor) = own.get(number) else {
         return Err(DecideError::Refused {
@@ -148,7 +161,8 @@ fn writable_inode(own: &OwnDescriptors, number: u32) -> Result<u32, DecideError>
 }
 
 pub(crate) fn close(own: &OwnDescriptors, number: u32) -> Result<Operation, DecideError>
-    ensures { (p : Part) → Tells p (close (own_of own.now) number) result }
+    ensures tells { (p : Part) → Tells p (close (own_of own.now) number) result }
+    ensures memory { result ≢ Err Memory }
 {
     let inode = open_inode(own, number)?;
     Ok(Operation::CloseFile {
@@ -165,7 +179,8 @@ pub(crate) fn pread<T: TreeAnswers>(
     at: u64,
     count: u64,
 ) -> Result<Operation, DecideError>
-    ensures { Tells (T.part tree.now) (pread (own_of own.now) number at count) result }
+    ensures tells { Tells (T.part tree.now) (pread (own_of own.now) number at count) result }
+    ensures memory { result ≡ Err Memory → reads_bytes (T.part tree.now) (own_of own.now number) at count ≡ true }
 {
     let inode = readable_inode(own, number)?;
     refuse_if(count > MAX_TRANSFER as u64, Errno::Invalid)?;
@@ -186,7 +201,8 @@ fn bytes_from<T: TreeAnswers>(
 ) -> Result<Bytes, DecideError>
     requires some { at + count < 2 ^ 64 }
     requires few { count ≤ MAX_TRANSFER }
-    ensures { Tells (T.part tree.now) (bytes_from inode at count) result }
+    ensures tells { Tells (T.part tree.now) (bytes_from inode at count) result }
+    ensures memory { result ≡ Err Memory → 0 < count }
 {
     if count == 0 {
         return Ok(Bytes::from_vec(Vec::new(alloc)));
@@ -218,7 +234,8 @@ pub(crate) fn pwrite(
     at: u64,
     bytes: &[u8],
 ) -> Result<Operation, DecideError>
-    ensures { (p : Part) → Tells p (pwrite (own_of own.now) number at bytes.now) result }
+    ensures tells { (p : Part) → Tells p (pwrite (own_of own.now) number at bytes.now) result }
+    ensures memory { result ≡ Err Memory → writes_bytes (own_of own.now number) at bytes.now ≡ true }
 {
     let inode = writable_inode(own, number)?;
     refuse_if(bytes.len() > MAX_TRANSFER, Errno::Invalid)?;

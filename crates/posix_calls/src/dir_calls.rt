@@ -1,17 +1,25 @@
 // What the calls that make and take away a directory come to: mkdir, rmdir.
-ghost use Rattle.std.specs.Prelude.{◌≡◌};
+ghost use Rattle.std.specs.Prelude.{◌≡◌, Err, true, false};
+ghost use Rattle.posix_calls.specs.Path.{comes_to_name};
+ghost use Rattle.posix_calls.specs.Walk.{is_root};
+ghost use Rattle.posix_calls.specs.declared.operation.DecideError.TheVariants.{Memory};
 ghost use Rattle.posix_calls.specs.Answers.{Tells};
 ghost use Rattle.posix_calls.specs.Decide.{mkdir, rmdir, rmdir_at};
 
-use crate::operation::{Operation, DecideError, Missing};
 use crate::errno::Errno;
+use crate::operation::{DecideError, Missing, Operation};
 use crate::path::Path;
 use crate::tree_answers::{TreeAnswers, known};
-use crate::walk::{kind_at, prefix, read_path, refuse_if, refuse_root, location, there};
+use crate::walk::{kind_at, location, prefix, read_path, refuse_if, refuse_root, there};
 use std::alloc::Global;
 
-pub(crate) fn mkdir<T: TreeAnswers>(alloc: Global, tree: &T, bytes: &[u8]) -> Result<Operation, DecideError>
-    ensures { Tells (T.part tree.now) (mkdir bytes.now) result }
+pub(crate) fn mkdir<T: TreeAnswers>(
+    alloc: Global,
+    tree: &T,
+    bytes: &[u8],
+) -> Result<Operation, DecideError>
+    ensures tells { Tells (T.part tree.now) (mkdir bytes.now) result }
+    ensures memory { result ≡ Err Memory → comes_to_name bytes.now ≡ true }
 {
     let path = read_path(alloc, bytes)?;
     let to = prefix(tree, &path)?;
@@ -21,8 +29,13 @@ pub(crate) fn mkdir<T: TreeAnswers>(alloc: Global, tree: &T, bytes: &[u8]) -> Re
     Ok(Operation::NewDir { at })
 }
 
-pub(crate) fn rmdir<T: TreeAnswers>(alloc: Global, tree: &T, bytes: &[u8]) -> Result<Operation, DecideError>
-    ensures { Tells (T.part tree.now) (rmdir bytes.now) result }
+pub(crate) fn rmdir<T: TreeAnswers>(
+    alloc: Global,
+    tree: &T,
+    bytes: &[u8],
+) -> Result<Operation, DecideError>
+    ensures tells { Tells (T.part tree.now) (rmdir bytes.now) result }
+    ensures memory { result ≡ Err Memory → comes_to_name bytes.now ≡ true }
 {
     let path = read_path(alloc, bytes)?;
     rmdir_at(alloc, tree, &path)
@@ -30,7 +43,8 @@ pub(crate) fn rmdir<T: TreeAnswers>(alloc: Global, tree: &T, bytes: &[u8]) -> Re
 
 // What follows once the path is read.
 fn rmdir_at<T: TreeAnswers>(alloc: Global, tree: &T, path: &Path) -> Result<Operation, DecideError>
-    ensures { Tells (T.part tree.now) (rmdir_at path.now) result }
+    ensures tells { Tells (T.part tree.now) (rmdir_at path.now) result }
+    ensures memory { result ≡ Err Memory → is_root path.now ≡ false }
 {
     refuse_root(path)?;
     let to = prefix(tree, path)?;

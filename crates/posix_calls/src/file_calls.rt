@@ -1,15 +1,18 @@
 // What the calls that cut a file and take a name of it away come to: truncate, unlink.
-ghost use Rattle.std.specs.Prelude.{◌≡◌};
+ghost use Rattle.std.specs.Prelude.{◌≡◌, Err, true, false};
+ghost use Rattle.posix_calls.specs.Path.{comes_to_name};
+ghost use Rattle.posix_calls.specs.Walk.{is_root};
+ghost use Rattle.posix_calls.specs.declared.operation.DecideError.TheVariants.{Memory};
 ghost use Rattle.posix_calls.specs.Answers.{Tells};
 ghost use Rattle.posix_calls.specs.Decide.{truncate, unlink, unlink_at};
 
 use crate::call::Reply;
-use crate::operation::{Operation, DecideError, Missing};
 use crate::errno::Errno;
 use crate::limits::MAX_FILE;
+use crate::operation::{DecideError, Missing, Operation};
 use crate::path::Path;
 use crate::tree_answers::{TreeAnswers, known};
-use crate::walk::{kind_at, prefix, read_path, refuse_if, refuse_root, location, there};
+use crate::walk::{kind_at, location, prefix, read_path, refuse_if, refuse_root, there};
 use std::alloc::Global;
 
 pub(crate) fn truncate<T: TreeAnswers>(
@@ -18,7 +21,8 @@ pub(crate) fn truncate<T: TreeAnswers>(
     bytes: &[u8],
     len: u64,
 ) -> Result<Operation, DecideError>
-    ensures { Tells (T.part tree.now) (truncate bytes.now len) result }
+    ensures tells { Tells (T.part tree.now) (truncate bytes.now len) result }
+    ensures memory { result ≡ Err Memory → comes_to_name bytes.now ≡ true }
 {
     let path = read_path(alloc, bytes)?;
     let to = prefix(tree, &path)?;
@@ -35,8 +39,13 @@ pub(crate) fn truncate<T: TreeAnswers>(
     Ok(Operation::Resize { inode, len })
 }
 
-pub(crate) fn unlink<T: TreeAnswers>(alloc: Global, tree: &T, bytes: &[u8]) -> Result<Operation, DecideError>
-    ensures { Tells (T.part tree.now) (unlink bytes.now) result }
+pub(crate) fn unlink<T: TreeAnswers>(
+    alloc: Global,
+    tree: &T,
+    bytes: &[u8],
+) -> Result<Operation, DecideError>
+    ensures tells { Tells (T.part tree.now) (unlink bytes.now) result }
+    ensures memory { result ≡ Err Memory → comes_to_name bytes.now ≡ true }
 {
     let path = read_path(alloc, bytes)?;
     unlink_at(alloc, tree, &path)
@@ -44,7 +53,8 @@ pub(crate) fn unlink<T: TreeAnswers>(alloc: Global, tree: &T, bytes: &[u8]) -> R
 
 // What follows once the path is read.
 fn unlink_at<T: TreeAnswers>(alloc: Global, tree: &T, path: &Path) -> Result<Operation, DecideError>
-    ensures { Tells (T.part tree.now) (unlink_at path.now) result }
+    ensures tells { Tells (T.part tree.now) (unlink_at path.now) result }
+    ensures memory { result ≡ Err Memory → is_root path.now ≡ false }
 {
     refuse_root(path)?;
     let to = prefix(tree, path)?;

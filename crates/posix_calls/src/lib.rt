@@ -11,8 +11,8 @@
 
 mod bytes;
 mod call;
+mod decide_error;
 mod decision;
-mod operation;
 mod descriptor;
 mod descriptor_calls;
 mod dir_calls;
@@ -22,7 +22,7 @@ mod laws;
 mod limits;
 mod name;
 mod names;
-mod decide_error;
+mod operation;
 mod own;
 mod path;
 mod tell_calls;
@@ -33,7 +33,6 @@ mod walk;
 pub use bytes::Bytes;
 pub use call::{Call, Flags, Reply};
 pub use decision::decide;
-pub use operation::{Operation, Description, DecideError, Missing, Replaced, Location};
 pub use descriptor::Descriptor;
 pub use errno::Errno;
 pub use laws::{
@@ -47,6 +46,7 @@ pub use limits::{
 };
 pub use name::Name;
 pub use names::Names;
+pub use operation::{DecideError, Description, Location, Missing, Operation, Replaced};
 pub use own::OwnDescriptors;
 pub use path::Path;
-pub use tree_answers::{TreeAnswers, known};
+pub use tree_answers::{Child, TreeAnswers, known};

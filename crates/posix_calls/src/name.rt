@@ -1,5 +1,5 @@
 ghost use Rattle.std.specs.List.{list_any};
-ghost use Rattle.std.specs.Prelude.{◌≡◌, ◌⊎◌, ◌==◌, ◌||◌, List, ℕ, true, false, None, Some, IfOk, IfErr, IsTrue};
+ghost use Rattle.std.specs.Prelude.{◌≡◌, ◌⊎◌, ◌==◌, ◌||◌, List, ℕ, true, false, None, Some, Err, IfOk, IfErr, IsTrue};
 ghost use Rattle.posix_calls.specs.Name.{is_name, is_dots};
 ghost use Rattle.posix_calls.specs.Path.{has_no_slash, fault};
 
@@ -54,6 +54,7 @@ impl Name {
         ensures valid { IfOk result (λ name. is_name name ≡ true) }
         ensures faultless { IfOk result (λ _. fault part.now ≡ None) }
         ensures refused { IfErr result (λ errno. (errno ≡ Errno.NoMemory) ⊎ (fault part.now ≡ Some errno)) }
+        ensures memory { result ≡ Err Errno.NoMemory → fault part.now ≡ None }
     {
         if part.is_empty() || is_dots(part) || has_zero(part) {
             return Err(Errno::Invalid);
@@ -73,6 +74,14 @@ impl Name {
         Ok(Name {
             bytes: self.bytes.to_vec(alloc)?,
         })
+    }
+
+    /// The vector of its bytes.
+    pub fn into_vec(self) -> Vec<u8>
+        ensures bytes { result.items ≡ self }
+        ensures name { is_name self ≡ true }
+    {
+        self.bytes
     }
 
     /// The bytes of the name.

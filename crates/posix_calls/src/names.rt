@@ -30,6 +30,13 @@ impl Names {
         &self.names
     }
 
+    /// The vector of the names.
+    pub fn into_vec(self) -> Vec<Name>
+        ensures { result.items ≡ self }
+    {
+        self.names
+    }
+
     /// How many names there are.
     pub fn len(&self) -> usize
         ensures { result ≡ length self.now }

@@ -1,5 +1,9 @@
+ghost use Rattle.std.specs.Prelude.{◌≡◌, None, Some, if◌then◌else◌};
+ghost use Rattle.posix_calls.specs.Operations.{IsInRange, makes, only_tells, opens, reply_of};
+
 use crate::bytes::Bytes;
 use crate::call::Reply;
+use crate::descriptor::Descriptor;
 use crate::errno::Errno;
 use crate::name::Name;
 
@@ -87,6 +91,86 @@ pub enum Operation {
         is_dir: bool,
         replaced: Replaced,
     },
+}
+
+impl Operation {
+    /// What the call is answered; of an operation that does no more than tell, `None`: `into_reply` moves its answer out.
+    pub fn reply(&self) -> Option<Reply>
+        requires { IsInRange self.now }
+        ensures { result ≡ (if only_tells self.now then None else Some (reply_of self.now)) }
+    {
+        match self {
+            Operation::Tell { .. } => None,
+            Operation::NewFile { descriptor, .. } => Some(Reply::Opened {
+                descriptor: *descriptor,
+            }),
+            Operation::OpenFile { descriptor, .. } => Some(Reply::Opened {
+                descriptor: *descriptor,
+            }),
+            Operation::Write { bytes, .. } => Some(Reply::Wrote {
+                count: bytes.len() as u32,
+            }),
+            _ => Some(Reply::Done),
+        }
+    }
+
+    /// What the call is answered, with the bytes or names that the operation carries for it.
+    pub fn into_reply(self) -> Reply
+        requires { IsInRange self }
+        ensures { result ≡ reply_of self }
+    {
+        match self {
+            Operation::Tell { answer } => answer,
+            operation => operation.reply().unwrap_or(Reply::Done),
+        }
+    }
+
+    /// Whether it makes a node, which needs a number.
+    pub fn makes_node(&self) -> bool
+        ensures { result ≡ makes self.now }
+    {
+        match self {
+            Operation::NewDir { .. } => true,
+            Operation::NewFile { .. } => true,
+            _ => false,
+        }
+    }
+
+    /// What it opens, and under which number; a node that it makes has the number `new`.
+    pub fn opens(&self, new: u32) -> Option<(u32, Descriptor)>
+        ensures { result ≡ opens new self.now }
+    {
+        match self {
+            Operation::NewFile {
+                descriptor,
+                reads,
+                writes,
+                ..
+            } => Some((
+                *descriptor,
+                Descriptor {
+                    inode: new,
+                    reads: *reads,
+                    writes: *writes,
+                },
+            )),
+            Operation::OpenFile {
+                inode,
+                descriptor,
+                reads,
+                writes,
+                ..
+            } => Some((
+                *descriptor,
+                Descriptor {
+                    inode: *inode,
+                    reads: *reads,
+                    writes: *writes,
+                },
+            )),
+            _ => None,
+        }
+    }
 }
 
 /// Why a call comes to no operation.

@@ -1,10 +1,12 @@
 ghost use Rattle.std.specs.Prelude.{◌≡◌, ◌<◌, ℕ, None};
-ghost use Rattle.posix_calls.specs.Tree.{set_own};
+ghost use Rattle.posix_calls.specs.Tree.{set_own, refers_to, has_open};
+ghost use Rattle.posix_calls.specs.Operations.{IsInRange, own_after};
 ghost use Rattle.posix_calls.specs.Decide.{lowest_free};
 ghost use Rattle.posix_calls.specs.Own.{own_of};
 
 use crate::descriptor::Descriptor;
 use crate::limits::MAX_DESCRIPTORS;
+use crate::operation::Operation;
 use std::marker::Model;
 
 const PLACES: usize = 32;
@@ -56,6 +58,30 @@ impl OwnDescriptors {
         clear_place(&mut self.places, number as usize);
     }
 
+    /// Opens or closes what an operation of this client does; a node that it makes has the number `new`.
+    pub fn carry_out(&mut self, operation: &Operation, new: u32)
+        requires { IsInRange operation.now }
+        ensures { (n : ℕ) → own_of self.new n ≡ own_after new (own_of self.old) operation.now n }
+    {
+        if let Operation::CloseFile { descriptor, .. } = operation {
+            self.clear(*descriptor);
+        } else if let Some((number, descriptor)) = operation.opens(new) {
+            self.set(number, Some(descriptor));
+        }
+    }
+
+    /// Whether an inode is open.
+    pub fn has_open(&self, inode: u32) -> bool
+        ensures { result ≡ has_open (own_of self.now) inode }
+    {
+        for number in 0..MAX_DESCRIPTORS {
+            if refers_to(self.get(number), inode) {
+                return true;
+            }
+        }
+        false
+    }
+
     /// The lowest number at which nothing is open.
     pub fn lowest_free(&self) -> Option<u32>
         ensures { result ≡ lowest_free (own_of self.now) 0 MAX_DESCRIPTORS }
@@ -66,6 +92,15 @@ impl OwnDescriptors {
             };
         }
         None
+    }
+}
+
+fn refers_to(what: Option<Descriptor>, inode: u32) -> bool
+    ensures { result ≡ refers_to inode what }
+{
+    match what {
+        Some(descriptor) => descriptor.inode == inode,
+        None => false,
     }
 }
 

@@ -1,7 +1,7 @@
 ghost use Rattle.std.specs.Prelude.{◌≡◌, ◌⊎◌, ◌==◌, ◌↔◌, All, List, ℕ, true, None, Some, Ok, Err, [], IfOk, IfErr, IsTrue};
 ghost use Rattle.std.specs.List.{position};
 ghost use Rattle.posix_calls.specs.Name.{is_name};
-ghost use Rattle.posix_calls.specs.Path.{components, first_fault, reading};
+ghost use Rattle.posix_calls.specs.Path.{components, first_fault, first_is_faultless, comes_to_name, reading};
 
 use crate::errno::Errno;
 use crate::limits::MAX_PATH;
@@ -29,10 +29,11 @@ impl Path {
     /// Reads a path: `/`, or one or more names with a `/` before each. What is wrong with it is answered in this order: over
     /// 1,024 bytes, `NameTooLong`; empty, or not beginning with `/`, `Invalid`; then the first bad component decides: empty,
     /// `.`, `..` or with a zero byte, `Invalid`; over 64 bytes, `NameTooLong`. So a `/` at the end is `Invalid`. `NoMemory` may
-    /// stand in place of any answer.
+    /// stand in place of any answer to a path of at most 1,024 bytes that begins with `/` and a name.
     pub fn read(alloc: Global, bytes: &[u8]) -> Result<Path, Errno>
         ensures names { IfOk result (λ path. reading bytes.now ≡ Ok path) }
         ensures refused { IfErr result (λ errno. (errno ≡ Errno.NoMemory) ⊎ (reading bytes.now ≡ Err errno)) }
+        ensures memory { result ≡ Err Errno.NoMemory → comes_to_name bytes.now ≡ true }
     {
         if bytes.len() > MAX_PATH {
             return Err(Errno::NameTooLong);
@@ -70,6 +71,7 @@ fn read_components(alloc: Global, bytes: &[u8]) -> Result<Vec<Name>, Errno>
     ensures valid { IfOk result (λ names. All (λ name. is_name name ≡ true) names.items) }
     ensures faultless { IfOk result (λ _. first_fault (components bytes.now) ≡ None) }
     ensures refused { IfErr result (λ errno. (errno ≡ Errno.NoMemory) ⊎ (first_fault (components bytes.now) ≡ Some errno)) }
+    ensures memory { result ≡ Err Errno.NoMemory → first_is_faultless (components bytes.now) ≡ true }
 {
     let mut names = Vec::new(alloc);
     let mut rest = bytes;

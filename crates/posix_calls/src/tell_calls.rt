@@ -1,18 +1,25 @@
 // What the calls that only tell come to: list, stat.
-ghost use Rattle.std.specs.Prelude.{◌≡◌};
+ghost use Rattle.std.specs.Prelude.{◌≡◌, ◌||◌, Err, is_ok, true};
+ghost use Rattle.posix_calls.specs.Path.{comes_to_name, reading};
+ghost use Rattle.posix_calls.specs.declared.operation.DecideError.TheVariants.{Memory};
 ghost use Rattle.posix_calls.specs.Answers.{Tells};
 ghost use Rattle.posix_calls.specs.Decide.{list_path, list_at, stat};
 
 use crate::call::Reply;
-use crate::operation::{Operation, Description, DecideError, Missing};
 use crate::errno::Errno;
+use crate::operation::{DecideError, Description, Missing, Operation};
 use crate::path::Path;
 use crate::tree_answers::{TreeAnswers, known};
 use crate::walk::{kind_at, prefix, read_path, refuse_if, there};
 use std::alloc::Global;
 
-pub(crate) fn list<T: TreeAnswers>(alloc: Global, tree: &T, bytes: &[u8]) -> Result<Operation, DecideError>
-    ensures { Tells (T.part tree.now) (list_path bytes.now) result }
+pub(crate) fn list<T: TreeAnswers>(
+    alloc: Global,
+    tree: &T,
+    bytes: &[u8],
+) -> Result<Operation, DecideError>
+    ensures tells { Tells (T.part tree.now) (list_path bytes.now) result }
+    ensures memory { result ≡ Err Memory → (is_ok (reading bytes.now) || comes_to_name bytes.now) ≡ true }
 {
     let path = read_path(alloc, bytes)?;
     list_at(alloc, tree, &path)
@@ -33,8 +40,13 @@ fn list_at<T: TreeAnswers>(alloc: Global, tree: &T, path: &Path) -> Result<Opera
     })
 }
 
-pub(crate) fn stat<T: TreeAnswers>(alloc: Global, tree: &T, bytes: &[u8]) -> Result<Operation, DecideError>
-    ensures { Tells (T.part tree.now) (stat bytes.now) result }
+pub(crate) fn stat<T: TreeAnswers>(
+    alloc: Global,
+    tree: &T,
+    bytes: &[u8],
+) -> Result<Operation, DecideError>
+    ensures tells { Tells (T.part tree.now) (stat bytes.now) result }
+    ensures memory { result ≡ Err Memory → comes_to_name bytes.now ≡ true }
 {
     let path = read_path(alloc, bytes)?;
     let to = prefix(tree, &path)?;

@@ -1,13 +1,21 @@
-ghost use Rattle.std.specs.Prelude.{◌≡◌, Some, None, option_map, IfOk, IfErr};
+ghost use Rattle.std.specs.Prelude.{◌≡◌, Bool, Some, None, option_map, IfOk, IfErr};
 ghost use Rattle.posix_calls.specs.Query.{Part};
 ghost use Rattle.posix_calls.specs.Answers.{entry_in, count_in, listed_in, description_of};
 ghost use Rattle.posix_calls.specs.Walk.{names_seen, size_seen};
 ghost use Rattle.posix_calls.specs.declared.operation.DecideError.TheVariants as why;
 
 use crate::bytes::Bytes;
-use crate::operation::{Description, DecideError, Missing};
 use crate::names::Names;
+use crate::operation::{DecideError, Description, Missing};
 use std::alloc::{AllocError, Global};
+
+/// What a directory has under a name.
+#[derive(Clone, Copy, Debug, PartialEq, Eq)]
+pub struct Child {
+    pub inode: u32,
+    /// Whether it is a directory, where that is at hand.
+    pub is_dir: Option<bool>,
+}
 
 /// Who knows a file tree or a part of it, and answers what a call asks of it: `None` where the answer isn't known.
 ///
@@ -22,9 +30,11 @@ pub trait TreeAnswers {
     fn is_dir(&self, inode: u32) -> Option<Option<bool>>
         ensures { result ≡ (part self.now).is_dir inode };
 
-    /// The inode under a name of a directory; `Some(None)` where it has no such name.
-    fn entry(&self, dir: u32, name: &[u8]) -> Option<Option<u32>>
-        ensures { result ≡ option_map (entry_in name.now) ((part self.now).node dir) };
+    /// What a directory has under a name; `Some(None)` where it has no such name. Whether that is a directory is told beside it
+    /// where it is at hand, so that it need not be looked up.
+    fn entry(&self, dir: u32, name: &[u8]) -> Option<Option<Child>>
+        ensures inode { option_map (option_map (λ e. e.inode)) result ≡ option_map (entry_in name.now) ((part self.now).node dir) }
+        ensures kind { (e : Child) (is_dir : Bool) → result ≡ Some (Some e) → e.is_dir ≡ Some is_dir → (part self.now).is_dir e.inode ≡ Some (Some is_dir) };
 
     /// How many entries a directory has.
     fn entry_count(&self, dir: u32) -> Option<u32>

@@ -1,16 +1,20 @@
 // What the calls on two paths come to: link, rename.
-ghost use Rattle.std.specs.Prelude.{◌≡◌, ◌==◌, ◌&&◌, not, ℕ, List, []};
+ghost use Rattle.std.specs.Prelude.{◌≡◌, ◌≢◌, ◌==◌, ◌&&◌, not, ℕ, List, [], Err, true, false};
+ghost use Rattle.posix_calls.specs.Memory.{come_to_names};
+ghost use Rattle.posix_calls.specs.declared.operation.DecideError.TheVariants.{Memory};
 ghost use Rattle.posix_calls.specs.Answers.{Tells, place_at};
-ghost use Rattle.posix_calls.specs.Walk.{is_full};
+ghost use Rattle.posix_calls.specs.Walk.{is_full, is_root};
 ghost use Rattle.posix_calls.specs.Decide.{link, link_at, rename, rename_at, replacing};
 
 use crate::call::Reply;
-use crate::operation::{Operation, DecideError, Missing, Replaced};
 use crate::errno::Errno;
 use crate::limits::MAX_NAMES;
+use crate::operation::{DecideError, Missing, Operation, Replaced};
 use crate::path::Path;
 use crate::tree_answers::{TreeAnswers, known};
-use crate::walk::{Landing, is_inode, kind_at, prefix, read_path, refuse_if, refuse_root, location, there, walk};
+use crate::walk::{
+    Landing, is_inode, kind_at, location, prefix, read_path, refuse_if, refuse_root, there, walk,
+};
 use std::alloc::Global;
 
 pub(crate) fn link<T: TreeAnswers>(
@@ -19,7 +23,8 @@ pub(crate) fn link<T: TreeAnswers>(
     old: &[u8],
     new: &[u8],
 ) -> Result<Operation, DecideError>
-    ensures { Tells (T.part tree.now) (link old.now new.now) result }
+    ensures tells { Tells (T.part tree.now) (link old.now new.now) result }
+    ensures memory { result ≡ Err Memory → come_to_names old.now new.now ≡ true }
 {
     let old_path = read_path(alloc, old)?;
     let new_path = read_path(alloc, new)?;
@@ -33,7 +38,8 @@ fn link_at<T: TreeAnswers>(
     old_path: &Path,
     new_path: &Path,
 ) -> Result<Operation, DecideError>
-    ensures { Tells (T.part tree.now) (link_at old_path.now new_path.now) result }
+    ensures tells { Tells (T.part tree.now) (link_at old_path.now new_path.now) result }
+    ensures memory { result ≡ Err Memory → is_root new_path.now ≡ false }
 {
     let from = prefix(tree, old_path)?;
     let inode = there(from.inode)?;
@@ -62,7 +68,8 @@ fn replaced<T: TreeAnswers>(
     to: Landing,
     old_dir: bool,
 ) -> Result<Replaced, DecideError>
-    ensures { (a b : List (List ℕ)) (v w : List ℕ) → Tells (T.part tree.now) (replacing (place_at a from v) (place_at b to w) old_dir to.inode) result }
+    ensures tells { (a b : List (List ℕ)) (v w : List ℕ) → Tells (T.part tree.now) (replacing (place_at a from v) (place_at b to w) old_dir to.inode) result }
+    ensures memory { result ≢ Err Memory }
 {
     let Some(inode) = to.inode else {
         refuse_if(missing_room(from, to), Errno::NoSpace)?;
@@ -85,7 +92,8 @@ pub(crate) fn rename<T: TreeAnswers>(
     old: &[u8],
     new: &[u8],
 ) -> Result<Operation, DecideError>
-    ensures { Tells (T.part tree.now) (rename old.now new.now) result }
+    ensures tells { Tells (T.part tree.now) (rename old.now new.now) result }
+    ensures memory { result ≡ Err Memory → come_to_names old.now new.now ≡ true }
 {
     let old_path = read_path(alloc, old)?;
     let new_path = read_path(alloc, new)?;
@@ -99,7 +107,8 @@ fn rename_at<T: TreeAnswers>(
     old_path: &Path,
     new_path: &Path,
 ) -> Result<Operation, DecideError>
-    ensures { Tells (T.part tree.now) (rename_at old_path.now new_path.now) result }
+    ensures tells { Tells (T.part tree.now) (rename_at old_path.now new_path.now) result }
+    ensures memory { result ≡ Err Memory → is_root old_path.now ≡ false }
 {
     refuse_root(old_path)?;
     refuse_root(new_path)?;

@@ -1,17 +1,19 @@
 // The walk along a path, and the tests that several calls have in common. Each function answers one question of a call.
-ghost use Rattle.std.specs.Prelude.{◌≡◌, Some, None, Ok, Err, true, false, IfOk, IfErr, nat_le};
-ghost use Rattle.posix_calls.specs.Path.{reading};
+ghost use Rattle.std.specs.Prelude.{◌≡◌, ◌≢◌, Bool, Some, None, Ok, Err, true, false, IfOk, IfErr, nat_le, option_map};
+ghost use Rattle.posix_calls.specs.Path.{comes_to_name, reading};
 ghost use Rattle.posix_calls.specs.Query.{Part};
 ghost use Rattle.posix_calls.specs.Walk.{said, kind_at, there, is_root, is_there, is_inode};
 ghost use Rattle.posix_calls.specs.Answers.{Tells, last_name, landing, child_at};
+ghost use Rattle.posix_calls.specs.declared.operation.DecideError.TheVariants as why;
 ghost use Rattle.posix_calls.specs.declared.operation.DecideError.TheVariants.{Refused, Memory};
+ghost use Rattle.posix_calls.specs.declared.operation.Missing.TheVariants as missing;
 
-use crate::operation::{DecideError, Missing, Location};
 use crate::errno::Errno;
 use crate::limits::{MAX_ENTRIES, ROOT};
 use crate::name::Name;
+use crate::operation::{DecideError, Location, Missing};
 use crate::path::Path;
-use crate::tree_answers::{TreeAnswers, known};
+use crate::tree_answers::{Child, TreeAnswers, known};
 use std::alloc::Global;
 
 // Where a path leads: the directory of its last name, the inode there, and how many entries that directory has; and whether
@@ -48,14 +50,17 @@ pub(crate) fn refuse_root(path: &Path) -> Result<(), DecideError>
 
 // Reads a path.
 pub(crate) fn read_path(alloc: Global, bytes: &[u8]) -> Result<Path, DecideError>
-    ensures { (p : Part) → Tells p (said (reading bytes.now)) result }
+    ensures tells { (p : Part) → Tells p (said (reading bytes.now)) result }
+    ensures memory { result ≡ Err Memory → comes_to_name bytes.now ≡ true }
+    ensures names { IfOk result (λ path. reading bytes.now ≡ Ok path) }
 {
     Ok(Path::read(alloc, bytes)?)
 }
 
 // Whether there is a directory.
 pub(crate) fn kind_at<T: TreeAnswers>(tree: &T, inode: Option<u32>) -> Result<bool, DecideError>
-    ensures { Tells (T.part tree.now) (kind_at inode) result }
+    ensures tells { Tells (T.part tree.now) (kind_at inode) result }
+    ensures memory { result ≢ Err Memory }
 {
     let Some(inode) = inode else {
         return Ok(false);
@@ -76,7 +81,8 @@ pub(crate) fn is_inode(inode: u32, at: Option<u32>) -> bool
 
 // The inode, where there is one.
 pub(crate) fn there(inode: Option<u32>) -> Result<u32, DecideError>
-    ensures { (p : Part) → Tells p (there inode) result }
+    ensures tells { (p : Part) → Tells p (there inode) result }
+    ensures memory { result ≢ Err Memory }
 {
     match inode {
         Some(inode) => Ok(inode),
@@ -86,19 +92,33 @@ pub(crate) fn there(inode: Option<u32>) -> Result<u32, DecideError>
     }
 }
 
+// Whether a child is a directory, by its entry or else by what is known of it.
+fn kind_of<T: TreeAnswers>(tree: &T, child: Child) -> Result<Option<bool>, DecideError>
+    requires { (is_dir : Bool) → child.is_dir ≡ Some is_dir → (T.part tree.now).is_dir child.inode ≡ Some (Some is_dir) }
+    ensures known { IfOk result (λ o. (T.part tree.now).is_dir child.inode ≡ Some o) }
+    ensures missing { IfErr result (λ error. (error ≡ why.Missing (missing.Node child.inode)) × ((T.part tree.now).is_dir child.inode ≡ None)) }
+{
+    let inode = child.inode;
+    match child.is_dir {
+        Some(is_dir) => Ok(Some(is_dir)),
+        None => known(tree.is_dir(inode), Missing::Node { inode }),
+    }
+}
+
 // The directory under a name of a directory.
 fn child_at<T: TreeAnswers>(tree: &T, dir: u32, name: &[u8]) -> Result<u32, DecideError>
-    ensures { Tells (T.part tree.now) (child_at dir name.now) result }
+    ensures tells { Tells (T.part tree.now) (child_at dir name.now) result }
+    ensures memory { result ≢ Err Memory }
 {
     let entry = known(tree.entry(dir, name), Missing::Node { inode: dir })?;
-    let Some(inode) = entry else {
+    let Some(child) = entry else {
         return Err(DecideError::Refused {
             errno: Errno::NoEntry,
         });
     };
-    let answer = known(tree.is_dir(inode), Missing::Node { inode })?;
+    let answer = kind_of(tree, child)?;
     match answer {
-        Some(true) => Ok(inode),
+        Some(true) => Ok(child.inode),
         Some(false) => Err(DecideError::Refused {
             errno: Errno::NotDirectory,
         }),
@@ -108,9 +128,23 @@ fn child_at<T: TreeAnswers>(tree: &T, dir: u32, name: &[u8]) -> Result<u32, Deci
     }
 }
 
+fn inode_of(child: Option<Child>) -> Option<u32>
+    ensures { result ≡ option_map (λ e. e.inode) child }
+{
+    match child {
+        Some(child) => Some(child.inode),
+        None => None,
+    }
+}
+
 // Walks along a path to the parent of its last name, and watches for an inode where it is to.
-pub(crate) fn walk<T: TreeAnswers>(tree: &T, path: &Path, watched: Option<u32>) -> Result<Landing, DecideError>
+pub(crate) fn walk<T: TreeAnswers>(
+    tree: &T,
+    path: &Path,
+    watched: Option<u32>,
+) -> Result<Landing, DecideError>
     ensures tells { Tells (T.part tree.now) (landing watched path.now) result }
+    ensures memory { result ≢ Err Memory }
     ensures root { IfOk result (λ to. is_root path.now ≡ true → to.inode ≡ Some ROOT) }
 {
     let [before @ .., last] = path.names() else {
@@ -127,12 +161,15 @@ pub(crate) fn walk<T: TreeAnswers>(tree: &T, path: &Path, watched: Option<u32>) 
         passed |= is_inode(dir, watched);
         dir = child_at(tree, dir, name.as_slice())?;
     }
-    let inode = known(tree.entry(dir, last.as_slice()), Missing::Node { inode: dir })?;
+    let child = known(
+        tree.entry(dir, last.as_slice()),
+        Missing::Node { inode: dir },
+    )?;
     let entries = known(tree.entry_count(dir), Missing::Node { inode: dir })?;
     passed |= is_inode(dir, watched);
     Ok(Landing {
         parent: dir,
-        inode,
+        inode: inode_of(child),
         entries,
         passed,
     })
@@ -141,6 +178,7 @@ pub(crate) fn walk<T: TreeAnswers>(tree: &T, path: &Path, watched: Option<u32>) 
 // Walks along a path to the parent of its last name.
 pub(crate) fn prefix<T: TreeAnswers>(tree: &T, path: &Path) -> Result<Landing, DecideError>
     ensures tells { Tells (T.part tree.now) (landing None path.now) result }
+    ensures memory { result ≢ Err Memory }
     ensures root { IfOk result (λ to. is_root path.now ≡ true → to.inode ≡ Some ROOT) }
 {
     walk(tree, path, None)

@@ -10,4 +10,5 @@ abbrev pub part_of : Graph → List ℕ → List ℕ → Part
 part_of g nodes kinds = record {
   is_dir = λ i. if i == ROOT || is_among i kinds then (whole_of g).is_dir i else None;
   node = λ i. if is_among i nodes then (whole_of g).node i else None;
+  bytes = λ i at count. if is_among i nodes then (whole_of g).bytes i at count else None;
 }

@@ -2,7 +2,7 @@
 ghost use Rattle.std.specs.Prelude.{◌≡◌, ℕ, IfOk, IfSome, Ok, codes};
 ghost use Rattle.posix_calls.specs.Query.{run};
 ghost use Rattle.posix_calls.specs.Decide.{decide};
-ghost use Rattle.posix_calls.specs.Operations.{reply_of};
+ghost use Rattle.posix_calls.specs.Operations.{IsInRange};
 ghost use Rattle.posix_calls.specs.Own.{own_of};
 ghost use Rattle.file_graph.specs.Graph.{graph_of};
 ghost use Rattle.call_effects.specs.Known.{stored_view};
@@ -99,7 +99,7 @@ pub fn logged(
 {
     let operation = decided(alloc, graph, own, call)?;
     let units = units_of(graph, &operation)?;
-    let Some(reply) = reply_to(&operation) else {
+    let Some(reply) = operation.reply() else {
         return Err(RunError::Damaged);
     };
     let entry = recorded(alloc, graph, operation, new, units)?;
@@ -112,7 +112,8 @@ fn decided(
     own: &OwnDescriptors,
     call: &Call,
 ) -> Result<Operation, RunError>
-    ensures { IfOk result (λ operation. run (stored_view (graph_of graph.now)) (decide (own_of own.now) call.now) ≡ Ok operation) }
+    ensures comes { IfOk result (λ operation. run (stored_view (graph_of graph.now)) (decide (own_of own.now) call.now) ≡ Ok operation) }
+    ensures range { IfOk result (λ operation. IsInRange operation) }
 {
     match decide(alloc, &GraphAnswers { graph }, own, call) {
         Ok(operation) => Ok(operation),
@@ -145,25 +146,5 @@ fn recorded(
     match record_of(alloc, &GraphAnswers { graph }, operation, new, units) {
         Ok(entry) => Ok(entry),
         Err((why, _operation)) => Err(RunError::from(why)),
-    }
-}
-
-// What an operation that changes something is answered.
-fn reply_to(operation: &Operation) -> Option<Reply>
-    ensures { IfSome result (λ reply. reply ≡ reply_of operation.now) }
-{
-    match operation {
-        Operation::Tell { .. } => None,
-        Operation::NewFile { descriptor, .. } => Some(Reply::Opened {
-            descriptor: *descriptor,
-        }),
-        Operation::OpenFile { descriptor, .. } => Some(Reply::Opened {
-            descriptor: *descriptor,
-        }),
-        Operation::Write { bytes, .. } => match u32::try_from(bytes.len()) {
-            Ok(count) => Some(Reply::Wrote { count }),
-            Err(_) => None,
-        },
-        _ => Some(Reply::Done),
     }
 }

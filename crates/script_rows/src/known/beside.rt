@@ -4,8 +4,8 @@ use call_effects::{growth_of, has_effects, record_of};
 use file_graph::{Effect, Effects, PlainGraph};
 use plain_tree::PlainTree;
 use posix_calls::{
-    Call, Operation, Descriptor, Errno, MAX_CLIENTS, MAX_INODE, DecideError, OwnDescriptors, ROOT, Reply,
-    decide,
+    Call, DecideError, Descriptor, Errno, MAX_CLIENTS, MAX_INODE, Missing, Operation, OwnDescriptors, ROOT,
+    Reply, decide,
 };
 use std::alloc::Global;
 use std::io::{self, ErrorKind};
@@ -94,7 +94,10 @@ impl Beside {
 
     // What is lacked becomes known.
     fn learn(&mut self, why: DecideError) -> io::Result<()> {
-        let DecideError::Missing { inode } = why else {
+        let DecideError::Missing {
+            what: Missing::Node { inode },
+        } = why
+        else {
             return Err(differs());
         };
         self.part.learn(inode)?;

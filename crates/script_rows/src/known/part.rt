@@ -5,7 +5,7 @@ ghost use Rattle.script_rows.specs.Known.{part_of};
 
 use file_graph::PlainGraph;
 use graph_answers::GraphAnswers;
-use posix_calls::{Bytes, Description, Names, ROOT, TreeAnswers};
+use posix_calls::{Bytes, Child, Description, Names, ROOT, TreeAnswers};
 use std::alloc::{AllocError, Global};
 
 /// A plain graph, and which inodes of it are known: whole, or only as to what they are. That the root is a directory is known
@@ -73,11 +73,17 @@ impl TreeAnswers for KnownPart {
         None
     }
 
-    fn entry(&self, dir: u32, name: &[u8]) -> Option<Option<u32>> {
-        if is_among(dir, &self.nodes) {
-            return self.whole().entry(dir, name);
+    fn entry(&self, dir: u32, name: &[u8]) -> Option<Option<Child>> {
+        if !is_among(dir, &self.nodes) {
+            return None;
         }
-        None
+        match self.whole().entry(dir, name) {
+            Some(Some(child)) => Some(Some(Child {
+                inode: child.inode,
+                is_dir: self.is_dir(child.inode).flatten(),
+            })),
+            answer => answer,
+        }
     }
 
     fn entry_count(&self, dir: u32) -> Option<u32> {

@@ -12,10 +12,10 @@ returns-in-CloseFile-clause-ok c =
     (c.drop_unused.ensures.tree ∙ ap (λ rows. less_unused (held_of rows) (tree_of c.args.nodes.now) c.in-CloseFile.inode) c.deref.ensures.value)
 
 pub open_if-requires-clause-number : goal.open_if-requires-clause-number
-open_if-requires-clause-number c = subst HasNumber (sym c.opened_by-opened.ensures) (opened_low (tree_of c.args.nodes.now) c.args.new c.args.operation c.requires.doable.2)
+open_if-requires-clause-number c = subst HasNumber (sym c.opens-opened.ensures) (opened_low c.args.new c.args.operation c.requires.doable.0)
 
 pub returns-in_ok-apply_to_tree-in_default-clause-ok : goal.returns-in_ok-apply_to_tree-in_default-clause-ok
 returns-in_ok-apply_to_tree-in_default-clause-ok c =
-    carried_open c.args.nodes.now c.apply_to_tree.new.nodes c.args.rows.now.items c.open_if.new.rows.items c.args.client c.args.new c.args.operation c.opened_by-opened.result c.in_default.not-CloseFile c.opened_by-opened.ensures
+    carried_open c.args.nodes.now c.apply_to_tree.new.nodes c.args.rows.now.items c.open_if.new.rows.items c.args.client c.args.new c.args.operation c.opens-opened.result c.in_default.not-CloseFile c.opens-opened.ensures
     (c.in_ok-apply_to_tree-in_default.ensures.ok ∙ ap (λ rows. tree_after (held_of rows) c.args.new (tree_of c.args.nodes.now) c.args.operation) c.deref-in_default.ensures.value)
     c.open_if.ensures.held

@@ -8,7 +8,7 @@ use Rattle.plain_tree.proofs.plain.change.Goals as goal
 
 pub returns-in-Ok-clause-done : goal.returns-in-Ok-clause-done
 returns-in-Ok-clause-done c =
-    inl (c.in-Some.inode, subst (λ (nodes : List (Option Node)). makes c.args.operation ≡ true → IsLowest (tree_of nodes) c.in-Some.inode) c.as_slice.ensures c.in-Some.ensures, c.reply_to-reply.ensures, c.in-Ok.ensures.ok)
+    inl (c.in-Some.inode, subst (λ (nodes : List (Option Node)). makes c.args.operation ≡ true → IsLowest (tree_of nodes) c.in-Some.inode) c.as_slice.ensures c.in-Some.ensures, c.requires.reply, c.in-Ok.ensures.ok)
 
 pub returns-in-Err-clause-done : goal.returns-in-Err-clause-done
 returns-in-Err-clause-done c = inr (inl refl, c.in-Err.ensures.err)

@@ -4,22 +4,22 @@ use Rattle.posix_calls.proofs.Walks.{bind_place, bind_place_stops}
 use Rattle.posix_calls.specs.Decide.{mkdir}
 use Rattle.posix_calls.proofs.dir_calls.mkdir.Goals as goal
 
-pub returns-in_err-path : goal.returns-in_err-path
+pub returns-in_err-path-clause-tells : goal.returns-in_err-path-clause-tells
 unfolding mkdir
-returns-in_err-path g c = exits c.from_residual.ensures.1 (bind_stops _ (c.in_err-path.ensures _))
+returns-in_err-path-clause-tells g c = exits c.from_residual.ensures.1 (bind_stops _ (c.in_err-path.ensures.tells _))
 
-pub returns-in_err-to : goal.returns-in_err-to
+pub returns-in_err-to-clause-tells : goal.returns-in_err-to-clause-tells
 unfolding mkdir
-returns-in_err-to g c = exits c.from_residual-in_err-to.ensures.1 (bind_gives _ (c.in_ok-path.ensures _) (bind_place_stops None c.in_ok-path.path _ c.in_err-to.ensures.tells))
+returns-in_err-to-clause-tells g c = exits c.from_residual-in_err-to.ensures.1 (bind_gives _ (c.in_ok-path.ensures.tells _) (bind_place_stops None c.in_ok-path.path _ c.in_err-to.ensures.tells))
 
-pub returns-in_err-refuse_if : goal.returns-in_err-refuse_if
+pub returns-in_err-refuse_if-clause-tells : goal.returns-in_err-refuse_if-clause-tells
 unfolding mkdir
-returns-in_err-refuse_if g c = exits c.from_residual-in_err-refuse_if.ensures.1 (bind_gives _ (c.in_ok-path.ensures _) (bind_place None c.in_ok-path.path _ c.in_ok-to.ensures.tells (λ to_walked to_seen. fails _ _ c.in_err-refuse_if.ensures.refused.0 (sym c.is_there.ensures ∙ c.in_err-refuse_if.ensures.refused.1))))
+returns-in_err-refuse_if-clause-tells g c = exits c.from_residual-in_err-refuse_if.ensures.1 (bind_gives _ (c.in_ok-path.ensures.tells _) (bind_place None c.in_ok-path.path _ c.in_ok-to.ensures.tells (λ to_walked to_seen. fails _ _ c.in_err-refuse_if.ensures.refused.0 (sym c.is_there.ensures ∙ c.in_err-refuse_if.ensures.refused.1))))
 
-pub returns-in_err-refuse_if-2 : goal.returns-in_err-refuse_if-2
+pub returns-in_err-refuse_if-2-clause-tells : goal.returns-in_err-refuse_if-2-clause-tells
 unfolding mkdir
-returns-in_err-refuse_if-2 g c = exits c.from_residual-in_err-refuse_if-2.ensures.1 (bind_gives _ (c.in_ok-path.ensures _) (bind_place None c.in_ok-path.path _ c.in_ok-to.ensures.tells (λ to_walked to_seen. passes _ _ (sym c.is_there.ensures ∙ c.in_ok-refuse_if.ensures.clear) (fails _ _ c.in_err-refuse_if-2.ensures.refused.0 (sym c.is_full.ensures ∙ c.in_err-refuse_if-2.ensures.refused.1)))))
+returns-in_err-refuse_if-2-clause-tells g c = exits c.from_residual-in_err-refuse_if-2.ensures.1 (bind_gives _ (c.in_ok-path.ensures.tells _) (bind_place None c.in_ok-path.path _ c.in_ok-to.ensures.tells (λ to_walked to_seen. passes _ _ (sym c.is_there.ensures ∙ c.in_ok-refuse_if.ensures.clear) (fails _ _ c.in_err-refuse_if-2.ensures.refused.0 (sym c.is_full.ensures ∙ c.in_err-refuse_if-2.ensures.refused.1)))))
 
-pub returns : goal.returns
+pub returns-clause-tells : goal.returns-clause-tells
 unfolding mkdir
-returns g c = rw c.in_ok-at.ensures.location (bind_gives _ (c.in_ok-path.ensures _) (bind_place None c.in_ok-path.path _ c.in_ok-to.ensures.tells (λ to_walked to_seen. passes _ _ (sym c.is_there.ensures ∙ c.in_ok-refuse_if.ensures.clear) (passes _ _ (sym c.is_full.ensures ∙ c.in_ok-refuse_if-2.ensures.clear) (gives)))))
+returns-clause-tells g c = rw c.in_ok-at.ensures.location (bind_gives _ (c.in_ok-path.ensures.tells _) (bind_place None c.in_ok-path.path _ c.in_ok-to.ensures.tells (λ to_walked to_seen. passes _ _ (sym c.is_there.ensures ∙ c.in_ok-refuse_if.ensures.clear) (passes _ _ (sym c.is_full.ensures ∙ c.in_ok-refuse_if-2.ensures.clear) (gives)))))

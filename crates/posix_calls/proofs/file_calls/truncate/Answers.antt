@@ -5,38 +5,38 @@ use Rattle.posix_calls.proofs.Walks.{bind_place, bind_place_stops}
 use Rattle.posix_calls.specs.Decide.{truncate}
 use Rattle.posix_calls.proofs.file_calls.truncate.Goals as goal
 
-pub returns-in_err-path : goal.returns-in_err-path
+pub returns-in_err-path-clause-tells : goal.returns-in_err-path-clause-tells
 unfolding truncate
-returns-in_err-path g c = exits c.from_residual.ensures.1 (bind_stops _ (c.in_err-path.ensures _))
+returns-in_err-path-clause-tells g c = exits c.from_residual.ensures.1 (bind_stops _ (c.in_err-path.ensures.tells _))
 
-pub returns-in_err-to : goal.returns-in_err-to
+pub returns-in_err-to-clause-tells : goal.returns-in_err-to-clause-tells
 unfolding truncate
-returns-in_err-to g c = exits c.from_residual-in_err-to.ensures.1 (bind_gives _ (c.in_ok-path.ensures _) (bind_place_stops None c.in_ok-path.path _ c.in_err-to.ensures.tells))
+returns-in_err-to-clause-tells g c = exits c.from_residual-in_err-to.ensures.1 (bind_gives _ (c.in_ok-path.ensures.tells _) (bind_place_stops None c.in_ok-path.path _ c.in_err-to.ensures.tells))
 
-pub returns-in_err-inode : goal.returns-in_err-inode
+pub returns-in_err-inode-clause-tells : goal.returns-in_err-inode-clause-tells
 unfolding truncate
-returns-in_err-inode g c = exits c.from_residual-in_err-inode.ensures.1 (bind_gives _ (c.in_ok-path.ensures _) (bind_place None c.in_ok-path.path _ c.in_ok-to.ensures.tells (λ to_walked to_seen. bind_stops _ (c.in_err-inode.ensures _))))
+returns-in_err-inode-clause-tells g c = exits c.from_residual-in_err-inode.ensures.1 (bind_gives _ (c.in_ok-path.ensures.tells _) (bind_place None c.in_ok-path.path _ c.in_ok-to.ensures.tells (λ to_walked to_seen. bind_stops _ (c.in_err-inode.ensures.tells _))))
 
-pub returns-in_err-is_dir : goal.returns-in_err-is_dir
+pub returns-in_err-is_dir-clause-tells : goal.returns-in_err-is_dir-clause-tells
 unfolding truncate
-returns-in_err-is_dir g c = exits c.from_residual-in_err-is_dir.ensures.1 (bind_gives _ (c.in_ok-path.ensures _) (bind_place None c.in_ok-path.path _ c.in_ok-to.ensures.tells (λ to_walked to_seen. bind_gives _ (c.in_ok-inode.ensures _) (bind_stops _ c.in_err-is_dir.ensures))))
+returns-in_err-is_dir-clause-tells g c = exits c.from_residual-in_err-is_dir.ensures.1 (bind_gives _ (c.in_ok-path.ensures.tells _) (bind_place None c.in_ok-path.path _ c.in_ok-to.ensures.tells (λ to_walked to_seen. bind_gives _ (c.in_ok-inode.ensures.tells _) (bind_stops _ c.in_err-is_dir.ensures.tells))))
 
-pub returns-in_err-refuse_if : goal.returns-in_err-refuse_if
+pub returns-in_err-refuse_if-clause-tells : goal.returns-in_err-refuse_if-clause-tells
 unfolding truncate
-returns-in_err-refuse_if g c = exits c.from_residual-in_err-refuse_if.ensures.1 (bind_gives _ (c.in_ok-path.ensures _) (bind_place None c.in_ok-path.path _ c.in_ok-to.ensures.tells (λ to_walked to_seen. bind_gives _ (c.in_ok-inode.ensures _) (bind_gives _ c.in_ok-is_dir.ensures (fails _ _ c.in_err-refuse_if.ensures.refused.0 (c.in_err-refuse_if.ensures.refused.1))))))
+returns-in_err-refuse_if-clause-tells g c = exits c.from_residual-in_err-refuse_if.ensures.1 (bind_gives _ (c.in_ok-path.ensures.tells _) (bind_place None c.in_ok-path.path _ c.in_ok-to.ensures.tells (λ to_walked to_seen. bind_gives _ (c.in_ok-inode.ensures.tells _) (bind_gives _ c.in_ok-is_dir.ensures.tells (fails _ _ c.in_err-refuse_if.ensures.refused.0 (c.in_err-refuse_if.ensures.refused.1))))))
 
-pub returns-in_err-refuse_if-2 : goal.returns-in_err-refuse_if-2
+pub returns-in_err-refuse_if-2-clause-tells : goal.returns-in_err-refuse_if-2-clause-tells
 unfolding truncate
-returns-in_err-refuse_if-2 g c = exits c.from_residual-in_err-refuse_if-2.ensures.1 (bind_gives _ (c.in_ok-path.ensures _) (bind_place None c.in_ok-path.path _ c.in_ok-to.ensures.tells (λ to_walked to_seen. bind_gives _ (c.in_ok-inode.ensures _) (bind_gives _ c.in_ok-is_dir.ensures (passes _ _ (c.in_ok-refuse_if.ensures.clear) (fails _ _ c.in_err-refuse_if-2.ensures.refused.0 (c.in_err-refuse_if-2.ensures.refused.1)))))))
+returns-in_err-refuse_if-2-clause-tells g c = exits c.from_residual-in_err-refuse_if-2.ensures.1 (bind_gives _ (c.in_ok-path.ensures.tells _) (bind_place None c.in_ok-path.path _ c.in_ok-to.ensures.tells (λ to_walked to_seen. bind_gives _ (c.in_ok-inode.ensures.tells _) (bind_gives _ c.in_ok-is_dir.ensures.tells (passes _ _ (c.in_ok-refuse_if.ensures.clear) (fails _ _ c.in_err-refuse_if-2.ensures.refused.0 (c.in_err-refuse_if-2.ensures.refused.1)))))))
 
-pub returns-in_err-size : goal.returns-in_err-size
+pub returns-in_err-size-clause-tells : goal.returns-in_err-size-clause-tells
 unfolding truncate
-returns-in_err-size g c = exits c.from_residual-in_err-size.ensures.1 (bind_gives _ (c.in_ok-path.ensures _) (bind_place None c.in_ok-path.path _ c.in_ok-to.ensures.tells (λ to_walked to_seen. bind_gives _ (c.in_ok-inode.ensures _) (bind_gives _ c.in_ok-is_dir.ensures (passes _ _ (c.in_ok-refuse_if.ensures.clear) (passes _ _ (c.in_ok-refuse_if-2.ensures.clear) (bind_look_missing _ size_seen size_seen _ c.in_err-size.ensures.missing.0 (sym c.file_size.ensures ∙ c.in_err-size.ensures.missing.1))))))))
+returns-in_err-size-clause-tells g c = exits c.from_residual-in_err-size.ensures.1 (bind_gives _ (c.in_ok-path.ensures.tells _) (bind_place None c.in_ok-path.path _ c.in_ok-to.ensures.tells (λ to_walked to_seen. bind_gives _ (c.in_ok-inode.ensures.tells _) (bind_gives _ c.in_ok-is_dir.ensures.tells (passes _ _ (c.in_ok-refuse_if.ensures.clear) (passes _ _ (c.in_ok-refuse_if-2.ensures.clear) (bind_look_missing _ size_seen size_seen _ c.in_err-size.ensures.missing.0 (sym c.file_size.ensures ∙ c.in_err-size.ensures.missing.1))))))))
 
-pub returns-then-size-len : goal.returns-then-size-len
+pub returns-then-size-len-clause-tells : goal.returns-then-size-len-clause-tells
 unfolding truncate
-returns-then-size-len g c = (bind_gives _ (c.in_ok-path.ensures _) (bind_place None c.in_ok-path.path _ c.in_ok-to.ensures.tells (λ to_walked to_seen. bind_gives _ (c.in_ok-inode.ensures _) (bind_gives _ c.in_ok-is_dir.ensures (passes _ _ (c.in_ok-refuse_if.ensures.clear) (passes _ _ (c.in_ok-refuse_if-2.ensures.clear) (bind_look _ size_seen size_seen _ (sym c.file_size.ensures ∙ c.in_ok-size.ensures.known) (λ s is. gives_as (same_if _ _ _ _ (is ∙ c.if-size-len.true))))))))))
+returns-then-size-len-clause-tells g c = (bind_gives _ (c.in_ok-path.ensures.tells _) (bind_place None c.in_ok-path.path _ c.in_ok-to.ensures.tells (λ to_walked to_seen. bind_gives _ (c.in_ok-inode.ensures.tells _) (bind_gives _ c.in_ok-is_dir.ensures.tells (passes _ _ (c.in_ok-refuse_if.ensures.clear) (passes _ _ (c.in_ok-refuse_if-2.ensures.clear) (bind_look _ size_seen size_seen _ (sym c.file_size.ensures ∙ c.in_ok-size.ensures.known) (λ s is. gives_as (same_if _ _ _ _ (is ∙ c.if-size-len.true))))))))))
 
-pub returns : goal.returns
+pub returns-clause-tells : goal.returns-clause-tells
 unfolding truncate
-returns g c = (bind_gives _ (c.in_ok-path.ensures _) (bind_place None c.in_ok-path.path _ c.in_ok-to.ensures.tells (λ to_walked to_seen. bind_gives _ (c.in_ok-inode.ensures _) (bind_gives _ c.in_ok-is_dir.ensures (passes _ _ (c.in_ok-refuse_if.ensures.clear) (passes _ _ (c.in_ok-refuse_if-2.ensures.clear) (bind_look _ size_seen size_seen _ (sym c.file_size.ensures ∙ c.in_ok-size.ensures.known) (λ s is. gives_as (apart_if _ _ _ _ (λ e. c.if-size-len.false (sym is ∙ e)))))))))))
+returns-clause-tells g c = (bind_gives _ (c.in_ok-path.ensures.tells _) (bind_place None c.in_ok-path.path _ c.in_ok-to.ensures.tells (λ to_walked to_seen. bind_gives _ (c.in_ok-inode.ensures.tells _) (bind_gives _ c.in_ok-is_dir.ensures.tells (passes _ _ (c.in_ok-refuse_if.ensures.clear) (passes _ _ (c.in_ok-refuse_if-2.ensures.clear) (bind_look _ size_seen size_seen _ (sym c.file_size.ensures ∙ c.in_ok-size.ensures.known) (λ s is. gives_as (apart_if _ _ _ _ (λ e. c.if-size-len.false (sym is ∙ e)))))))))))

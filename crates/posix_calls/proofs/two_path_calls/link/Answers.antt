@@ -2,14 +2,14 @@ use Rattle.posix_calls.proofs.Chain.{exits, bind_gives, bind_stops}
 use Rattle.posix_calls.specs.Decide.{link}
 use Rattle.posix_calls.proofs.two_path_calls.link.Goals as goal
 
-pub returns-in_err-old_path : goal.returns-in_err-old_path
+pub returns-in_err-old_path-clause-tells : goal.returns-in_err-old_path-clause-tells
 unfolding link
-returns-in_err-old_path g c = exits c.from_residual.ensures.1 (bind_stops _ (c.in_err-old_path.ensures _))
+returns-in_err-old_path-clause-tells g c = exits c.from_residual.ensures.1 (bind_stops _ (c.in_err-old_path.ensures.tells _))
 
-pub returns-in_err-new_path : goal.returns-in_err-new_path
+pub returns-in_err-new_path-clause-tells : goal.returns-in_err-new_path-clause-tells
 unfolding link
-returns-in_err-new_path g c = exits c.from_residual-in_err-new_path.ensures.1 (bind_gives _ (c.in_ok-old_path.ensures _) (bind_stops _ (c.in_err-new_path.ensures _)))
+returns-in_err-new_path-clause-tells g c = exits c.from_residual-in_err-new_path.ensures.1 (bind_gives _ (c.in_ok-old_path.ensures.tells _) (bind_stops _ (c.in_err-new_path.ensures.tells _)))
 
-pub returns : goal.returns
+pub returns-clause-tells : goal.returns-clause-tells
 unfolding link
-returns g c = bind_gives _ (c.in_ok-old_path.ensures _) (bind_gives _ (c.in_ok-new_path.ensures _) c.link_at.ensures)
+returns-clause-tells g c = bind_gives _ (c.in_ok-old_path.ensures.tells _) (bind_gives _ (c.in_ok-new_path.ensures.tells _) c.link_at.ensures.tells)

@@ -4,32 +4,32 @@ use Rattle.posix_calls.proofs.Chain.{exits, gives, bind_gives, bind_stops, passe
 use Rattle.posix_calls.proofs.Walks.{bind_place, bind_place_stops}
 use Rattle.posix_calls.proofs.two_path_calls.link_at.Goals as goal
 
-pub returns-in_err-from : goal.returns-in_err-from
-returns-in_err-from g c = exits c.from_residual.ensures.1 (bind_place_stops None c.args.old_path.now _ c.in_err-from.ensures.tells)
+pub returns-in_err-from-clause-tells : goal.returns-in_err-from-clause-tells
+returns-in_err-from-clause-tells g c = exits c.from_residual.ensures.1 (bind_place_stops None c.args.old_path.now _ c.in_err-from.ensures.tells)
 
-pub returns-in_err-inode : goal.returns-in_err-inode
-returns-in_err-inode g c = exits c.from_residual-in_err-inode.ensures.1 (bind_place None c.args.old_path.now _ c.in_ok-from.ensures.tells (λ from_walked from_seen. bind_stops _ (c.in_err-inode.ensures _)))
+pub returns-in_err-inode-clause-tells : goal.returns-in_err-inode-clause-tells
+returns-in_err-inode-clause-tells g c = exits c.from_residual-in_err-inode.ensures.1 (bind_place None c.args.old_path.now _ c.in_ok-from.ensures.tells (λ from_walked from_seen. bind_stops _ (c.in_err-inode.ensures.tells _)))
 
-pub returns-in_err-is_dir : goal.returns-in_err-is_dir
-returns-in_err-is_dir g c = exits c.from_residual-in_err-is_dir.ensures.1 (bind_place None c.args.old_path.now _ c.in_ok-from.ensures.tells (λ from_walked from_seen. bind_gives _ (c.in_ok-inode.ensures _) (bind_stops _ c.in_err-is_dir.ensures)))
+pub returns-in_err-is_dir-clause-tells : goal.returns-in_err-is_dir-clause-tells
+returns-in_err-is_dir-clause-tells g c = exits c.from_residual-in_err-is_dir.ensures.1 (bind_place None c.args.old_path.now _ c.in_ok-from.ensures.tells (λ from_walked from_seen. bind_gives _ (c.in_ok-inode.ensures.tells _) (bind_stops _ c.in_err-is_dir.ensures.tells)))
 
-pub returns-in_err-refuse_if : goal.returns-in_err-refuse_if
-returns-in_err-refuse_if g c = exits c.from_residual-in_err-refuse_if.ensures.1 (bind_place None c.args.old_path.now _ c.in_ok-from.ensures.tells (λ from_walked from_seen. bind_gives _ (c.in_ok-inode.ensures _) (bind_gives _ c.in_ok-is_dir.ensures (fails _ _ c.in_err-refuse_if.ensures.refused.0 (c.in_err-refuse_if.ensures.refused.1)))))
+pub returns-in_err-refuse_if-clause-tells : goal.returns-in_err-refuse_if-clause-tells
+returns-in_err-refuse_if-clause-tells g c = exits c.from_residual-in_err-refuse_if.ensures.1 (bind_place None c.args.old_path.now _ c.in_ok-from.ensures.tells (λ from_walked from_seen. bind_gives _ (c.in_ok-inode.ensures.tells _) (bind_gives _ c.in_ok-is_dir.ensures.tells (fails _ _ c.in_err-refuse_if.ensures.refused.0 (c.in_err-refuse_if.ensures.refused.1)))))
 
-pub returns-in_err-to : goal.returns-in_err-to
-returns-in_err-to g c = exits c.from_residual-in_err-to.ensures.1 (bind_place None c.args.old_path.now _ c.in_ok-from.ensures.tells (λ from_walked from_seen. bind_gives _ (c.in_ok-inode.ensures _) (bind_gives _ c.in_ok-is_dir.ensures (passes _ _ (c.in_ok-refuse_if.ensures.clear) (bind_place_stops None c.args.new_path.now _ c.in_err-to.ensures.tells)))))
+pub returns-in_err-to-clause-tells : goal.returns-in_err-to-clause-tells
+returns-in_err-to-clause-tells g c = exits c.from_residual-in_err-to.ensures.1 (bind_place None c.args.old_path.now _ c.in_ok-from.ensures.tells (λ from_walked from_seen. bind_gives _ (c.in_ok-inode.ensures.tells _) (bind_gives _ c.in_ok-is_dir.ensures.tells (passes _ _ (c.in_ok-refuse_if.ensures.clear) (bind_place_stops None c.args.new_path.now _ c.in_err-to.ensures.tells)))))
 
-pub returns-in_err-refuse_if-2 : goal.returns-in_err-refuse_if-2
-returns-in_err-refuse_if-2 g c = exits c.from_residual-in_err-refuse_if-2.ensures.1 (bind_place None c.args.old_path.now _ c.in_ok-from.ensures.tells (λ from_walked from_seen. bind_gives _ (c.in_ok-inode.ensures _) (bind_gives _ c.in_ok-is_dir.ensures (passes _ _ (c.in_ok-refuse_if.ensures.clear) (bind_place None c.args.new_path.now _ c.in_ok-to.ensures.tells (λ to_walked to_seen. fails _ _ c.in_err-refuse_if-2.ensures.refused.0 (sym c.is_there.ensures ∙ c.in_err-refuse_if-2.ensures.refused.1)))))))
+pub returns-in_err-refuse_if-2-clause-tells : goal.returns-in_err-refuse_if-2-clause-tells
+returns-in_err-refuse_if-2-clause-tells g c = exits c.from_residual-in_err-refuse_if-2.ensures.1 (bind_place None c.args.old_path.now _ c.in_ok-from.ensures.tells (λ from_walked from_seen. bind_gives _ (c.in_ok-inode.ensures.tells _) (bind_gives _ c.in_ok-is_dir.ensures.tells (passes _ _ (c.in_ok-refuse_if.ensures.clear) (bind_place None c.args.new_path.now _ c.in_ok-to.ensures.tells (λ to_walked to_seen. fails _ _ c.in_err-refuse_if-2.ensures.refused.0 (sym c.is_there.ensures ∙ c.in_err-refuse_if-2.ensures.refused.1)))))))
 
-pub returns-in_err-names : goal.returns-in_err-names
-returns-in_err-names g c = exits c.from_residual-in_err-names.ensures.1 (bind_place None c.args.old_path.now _ c.in_ok-from.ensures.tells (λ from_walked from_seen. bind_gives _ (c.in_ok-inode.ensures _) (bind_gives _ c.in_ok-is_dir.ensures (passes _ _ (c.in_ok-refuse_if.ensures.clear) (bind_place None c.args.new_path.now _ c.in_ok-to.ensures.tells (λ to_walked to_seen. passes _ _ (sym c.is_there.ensures ∙ c.in_ok-refuse_if-2.ensures.clear) (bind_look_missing _ names_seen names_seen _ c.in_err-names.ensures.missing.0 (sym c.file_names.ensures ∙ c.in_err-names.ensures.missing.1))))))))
+pub returns-in_err-names-clause-tells : goal.returns-in_err-names-clause-tells
+returns-in_err-names-clause-tells g c = exits c.from_residual-in_err-names.ensures.1 (bind_place None c.args.old_path.now _ c.in_ok-from.ensures.tells (λ from_walked from_seen. bind_gives _ (c.in_ok-inode.ensures.tells _) (bind_gives _ c.in_ok-is_dir.ensures.tells (passes _ _ (c.in_ok-refuse_if.ensures.clear) (bind_place None c.args.new_path.now _ c.in_ok-to.ensures.tells (λ to_walked to_seen. passes _ _ (sym c.is_there.ensures ∙ c.in_ok-refuse_if-2.ensures.clear) (bind_look_missing _ names_seen names_seen _ c.in_err-names.ensures.missing.0 (sym c.file_names.ensures ∙ c.in_err-names.ensures.missing.1))))))))
 
-pub returns-in_err-refuse_if-3 : goal.returns-in_err-refuse_if-3
-returns-in_err-refuse_if-3 g c = exits c.from_residual-in_err-refuse_if-3.ensures.1 (bind_place None c.args.old_path.now _ c.in_ok-from.ensures.tells (λ from_walked from_seen. bind_gives _ (c.in_ok-inode.ensures _) (bind_gives _ c.in_ok-is_dir.ensures (passes _ _ (c.in_ok-refuse_if.ensures.clear) (bind_place None c.args.new_path.now _ c.in_ok-to.ensures.tells (λ to_walked to_seen. passes _ _ (sym c.is_there.ensures ∙ c.in_ok-refuse_if-2.ensures.clear) (bind_look _ names_seen names_seen _ (sym c.file_names.ensures ∙ c.in_ok-names.ensures.known) (λ s is. fails _ _ c.in_err-refuse_if-3.ensures.refused.0 (ap (nat_le 1000) is ∙ c.in_err-refuse_if-3.ensures.refused.1)))))))))
+pub returns-in_err-refuse_if-3-clause-tells : goal.returns-in_err-refuse_if-3-clause-tells
+returns-in_err-refuse_if-3-clause-tells g c = exits c.from_residual-in_err-refuse_if-3.ensures.1 (bind_place None c.args.old_path.now _ c.in_ok-from.ensures.tells (λ from_walked from_seen. bind_gives _ (c.in_ok-inode.ensures.tells _) (bind_gives _ c.in_ok-is_dir.ensures.tells (passes _ _ (c.in_ok-refuse_if.ensures.clear) (bind_place None c.args.new_path.now _ c.in_ok-to.ensures.tells (λ to_walked to_seen. passes _ _ (sym c.is_there.ensures ∙ c.in_ok-refuse_if-2.ensures.clear) (bind_look _ names_seen names_seen _ (sym c.file_names.ensures ∙ c.in_ok-names.ensures.known) (λ s is. fails _ _ c.in_err-refuse_if-3.ensures.refused.0 (ap (nat_le 1000) is ∙ c.in_err-refuse_if-3.ensures.refused.1)))))))))
 
-pub returns-in_err-refuse_if-4 : goal.returns-in_err-refuse_if-4
-returns-in_err-refuse_if-4 g c = exits c.from_residual-in_err-refuse_if-4.ensures.1 (bind_place None c.args.old_path.now _ c.in_ok-from.ensures.tells (λ from_walked from_seen. bind_gives _ (c.in_ok-inode.ensures _) (bind_gives _ c.in_ok-is_dir.ensures (passes _ _ (c.in_ok-refuse_if.ensures.clear) (bind_place None c.args.new_path.now _ c.in_ok-to.ensures.tells (λ to_walked to_seen. passes _ _ (sym c.is_there.ensures ∙ c.in_ok-refuse_if-2.ensures.clear) (bind_look _ names_seen names_seen _ (sym c.file_names.ensures ∙ c.in_ok-names.ensures.known) (λ s is. passes _ _ (ap (nat_le 1000) is ∙ c.in_ok-refuse_if-3.ensures.clear) (fails _ _ c.in_err-refuse_if-4.ensures.refused.0 (sym c.is_full.ensures ∙ c.in_err-refuse_if-4.ensures.refused.1))))))))))
+pub returns-in_err-refuse_if-4-clause-tells : goal.returns-in_err-refuse_if-4-clause-tells
+returns-in_err-refuse_if-4-clause-tells g c = exits c.from_residual-in_err-refuse_if-4.ensures.1 (bind_place None c.args.old_path.now _ c.in_ok-from.ensures.tells (λ from_walked from_seen. bind_gives _ (c.in_ok-inode.ensures.tells _) (bind_gives _ c.in_ok-is_dir.ensures.tells (passes _ _ (c.in_ok-refuse_if.ensures.clear) (bind_place None c.args.new_path.now _ c.in_ok-to.ensures.tells (λ to_walked to_seen. passes _ _ (sym c.is_there.ensures ∙ c.in_ok-refuse_if-2.ensures.clear) (bind_look _ names_seen names_seen _ (sym c.file_names.ensures ∙ c.in_ok-names.ensures.known) (λ s is. passes _ _ (ap (nat_le 1000) is ∙ c.in_ok-refuse_if-3.ensures.clear) (fails _ _ c.in_err-refuse_if-4.ensures.refused.0 (sym c.is_full.ensures ∙ c.in_err-refuse_if-4.ensures.refused.1))))))))))
 
-pub returns : goal.returns
-returns g c = rw c.in_ok-at.ensures.location (bind_place None c.args.old_path.now _ c.in_ok-from.ensures.tells (λ from_walked from_seen. bind_gives _ (c.in_ok-inode.ensures _) (bind_gives _ c.in_ok-is_dir.ensures (passes _ _ (c.in_ok-refuse_if.ensures.clear) (bind_place None c.args.new_path.now _ c.in_ok-to.ensures.tells (λ to_walked to_seen. passes _ _ (sym c.is_there.ensures ∙ c.in_ok-refuse_if-2.ensures.clear) (bind_look _ names_seen names_seen _ (sym c.file_names.ensures ∙ c.in_ok-names.ensures.known) (λ s is. passes _ _ (ap (nat_le 1000) is ∙ c.in_ok-refuse_if-3.ensures.clear) (passes _ _ (sym c.is_full.ensures ∙ c.in_ok-refuse_if-4.ensures.clear) (gives))))))))))
+pub returns-clause-tells : goal.returns-clause-tells
+returns-clause-tells g c = rw c.in_ok-at.ensures.location (bind_place None c.args.old_path.now _ c.in_ok-from.ensures.tells (λ from_walked from_seen. bind_gives _ (c.in_ok-inode.ensures.tells _) (bind_gives _ c.in_ok-is_dir.ensures.tells (passes _ _ (c.in_ok-refuse_if.ensures.clear) (bind_place None c.args.new_path.now _ c.in_ok-to.ensures.tells (λ to_walked to_seen. passes _ _ (sym c.is_there.ensures ∙ c.in_ok-refuse_if-2.ensures.clear) (bind_look _ names_seen names_seen _ (sym c.file_names.ensures ∙ c.in_ok-names.ensures.known) (λ s is. passes _ _ (ap (nat_le 1000) is ∙ c.in_ok-refuse_if-3.ensures.clear) (passes _ _ (sym c.is_full.ensures ∙ c.in_ok-refuse_if-4.ensures.clear) (gives))))))))))

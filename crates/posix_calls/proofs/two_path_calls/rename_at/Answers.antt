@@ -3,32 +3,32 @@ use Rattle.posix_calls.proofs.Chain.{exits, gives, bind_gives, bind_stops, passe
 use Rattle.posix_calls.proofs.Walks.{bind_place, bind_place_stops}
 use Rattle.posix_calls.proofs.two_path_calls.rename_at.Goals as goal
 
-pub returns-in_err-refuse_root : goal.returns-in_err-refuse_root
-returns-in_err-refuse_root g c = exits c.from_residual.ensures.1 (fails _ _ c.in_err-refuse_root.ensures.refused.0 (or_left _ c.in_err-refuse_root.ensures.refused.1))
+pub returns-in_err-refuse_root-clause-tells : goal.returns-in_err-refuse_root-clause-tells
+returns-in_err-refuse_root-clause-tells g c = exits c.from_residual.ensures.1 (fails _ _ c.in_err-refuse_root.ensures.refused.0 (or_left _ c.in_err-refuse_root.ensures.refused.1))
 
-pub returns-in_err-refuse_root-2 : goal.returns-in_err-refuse_root-2
-returns-in_err-refuse_root-2 g c = exits c.from_residual-in_err-refuse_root-2.ensures.1 (fails _ _ c.in_err-refuse_root-2.ensures.refused.0 (or_right _ c.in_err-refuse_root-2.ensures.refused.1))
+pub returns-in_err-refuse_root-2-clause-tells : goal.returns-in_err-refuse_root-2-clause-tells
+returns-in_err-refuse_root-2-clause-tells g c = exits c.from_residual-in_err-refuse_root-2.ensures.1 (fails _ _ c.in_err-refuse_root-2.ensures.refused.0 (or_right _ c.in_err-refuse_root-2.ensures.refused.1))
 
-pub returns-in_err-from : goal.returns-in_err-from
-returns-in_err-from g c = exits c.from_residual-in_err-from.ensures.1 (passes _ _ (or_clear c.in_ok-refuse_root.ensures.clear c.in_ok-refuse_root-2.ensures.clear) (bind_place_stops None c.args.old_path.now _ c.in_err-from.ensures.tells))
+pub returns-in_err-from-clause-tells : goal.returns-in_err-from-clause-tells
+returns-in_err-from-clause-tells g c = exits c.from_residual-in_err-from.ensures.1 (passes _ _ (or_clear c.in_ok-refuse_root.ensures.clear c.in_ok-refuse_root-2.ensures.clear) (bind_place_stops None c.args.old_path.now _ c.in_err-from.ensures.tells))
 
-pub returns-in_err-inode : goal.returns-in_err-inode
-returns-in_err-inode g c = exits c.from_residual-in_err-inode.ensures.1 (passes _ _ (or_clear c.in_ok-refuse_root.ensures.clear c.in_ok-refuse_root-2.ensures.clear) (bind_place None c.args.old_path.now _ c.in_ok-from.ensures.tells (λ from_walked from_seen. bind_stops _ (c.in_err-inode.ensures _))))
+pub returns-in_err-inode-clause-tells : goal.returns-in_err-inode-clause-tells
+returns-in_err-inode-clause-tells g c = exits c.from_residual-in_err-inode.ensures.1 (passes _ _ (or_clear c.in_ok-refuse_root.ensures.clear c.in_ok-refuse_root-2.ensures.clear) (bind_place None c.args.old_path.now _ c.in_ok-from.ensures.tells (λ from_walked from_seen. bind_stops _ (c.in_err-inode.ensures.tells _))))
 
-pub returns-in_err-to : goal.returns-in_err-to
-returns-in_err-to g c = exits c.from_residual-in_err-to.ensures.1 (passes _ _ (or_clear c.in_ok-refuse_root.ensures.clear c.in_ok-refuse_root-2.ensures.clear) (bind_place None c.args.old_path.now _ c.in_ok-from.ensures.tells (λ from_walked from_seen. bind_gives _ (c.in_ok-inode.ensures _) (bind_place_stops (Some c.in_ok-inode.inode) c.args.new_path.now _ c.in_err-to.ensures.tells))))
+pub returns-in_err-to-clause-tells : goal.returns-in_err-to-clause-tells
+returns-in_err-to-clause-tells g c = exits c.from_residual-in_err-to.ensures.1 (passes _ _ (or_clear c.in_ok-refuse_root.ensures.clear c.in_ok-refuse_root-2.ensures.clear) (bind_place None c.args.old_path.now _ c.in_ok-from.ensures.tells (λ from_walked from_seen. bind_gives _ (c.in_ok-inode.ensures.tells _) (bind_place_stops (Some c.in_ok-inode.inode) c.args.new_path.now _ c.in_err-to.ensures.tells))))
 
-pub returns-in_err-refuse_if : goal.returns-in_err-refuse_if
-returns-in_err-refuse_if g c = exits c.from_residual-in_err-refuse_if.ensures.1 (passes _ _ (or_clear c.in_ok-refuse_root.ensures.clear c.in_ok-refuse_root-2.ensures.clear) (bind_place None c.args.old_path.now _ c.in_ok-from.ensures.tells (λ from_walked from_seen. bind_gives _ (c.in_ok-inode.ensures _) (bind_place (Some c.in_ok-inode.inode) c.args.new_path.now _ c.in_ok-to.ensures.tells (λ to_walked to_seen. fails _ _ c.in_err-refuse_if.ensures.refused.0 (to_seen ∙ c.in_err-refuse_if.ensures.refused.1))))))
+pub returns-in_err-refuse_if-clause-tells : goal.returns-in_err-refuse_if-clause-tells
+returns-in_err-refuse_if-clause-tells g c = exits c.from_residual-in_err-refuse_if.ensures.1 (passes _ _ (or_clear c.in_ok-refuse_root.ensures.clear c.in_ok-refuse_root-2.ensures.clear) (bind_place None c.args.old_path.now _ c.in_ok-from.ensures.tells (λ from_walked from_seen. bind_gives _ (c.in_ok-inode.ensures.tells _) (bind_place (Some c.in_ok-inode.inode) c.args.new_path.now _ c.in_ok-to.ensures.tells (λ to_walked to_seen. fails _ _ c.in_err-refuse_if.ensures.refused.0 (to_seen ∙ c.in_err-refuse_if.ensures.refused.1))))))
 
-pub returns-in_err-is_dir : goal.returns-in_err-is_dir
-returns-in_err-is_dir g c = exits c.from_residual-in_err-is_dir.ensures.1 (passes _ _ (or_clear c.in_ok-refuse_root.ensures.clear c.in_ok-refuse_root-2.ensures.clear) (bind_place None c.args.old_path.now _ c.in_ok-from.ensures.tells (λ from_walked from_seen. bind_gives _ (c.in_ok-inode.ensures _) (bind_place (Some c.in_ok-inode.inode) c.args.new_path.now _ c.in_ok-to.ensures.tells (λ to_walked to_seen. passes _ _ (to_seen ∙ c.in_ok-refuse_if.ensures.clear) (if_fails _ (sym c.is_inode.ensures ∙ c.if-is_inode.false) (bind_stops _ c.in_err-is_dir.ensures)))))))
+pub returns-in_err-is_dir-clause-tells : goal.returns-in_err-is_dir-clause-tells
+returns-in_err-is_dir-clause-tells g c = exits c.from_residual-in_err-is_dir.ensures.1 (passes _ _ (or_clear c.in_ok-refuse_root.ensures.clear c.in_ok-refuse_root-2.ensures.clear) (bind_place None c.args.old_path.now _ c.in_ok-from.ensures.tells (λ from_walked from_seen. bind_gives _ (c.in_ok-inode.ensures.tells _) (bind_place (Some c.in_ok-inode.inode) c.args.new_path.now _ c.in_ok-to.ensures.tells (λ to_walked to_seen. passes _ _ (to_seen ∙ c.in_ok-refuse_if.ensures.clear) (if_fails _ (sym c.is_inode.ensures ∙ c.if-is_inode.false) (bind_stops _ c.in_err-is_dir.ensures.tells)))))))
 
-pub returns-in_err-replaced : goal.returns-in_err-replaced
-returns-in_err-replaced g c = exits c.from_residual-in_err-replaced.ensures.1 (passes _ _ (or_clear c.in_ok-refuse_root.ensures.clear c.in_ok-refuse_root-2.ensures.clear) (bind_place None c.args.old_path.now _ c.in_ok-from.ensures.tells (λ from_walked from_seen. bind_gives _ (c.in_ok-inode.ensures _) (bind_place (Some c.in_ok-inode.inode) c.args.new_path.now _ c.in_ok-to.ensures.tells (λ to_walked to_seen. passes _ _ (to_seen ∙ c.in_ok-refuse_if.ensures.clear) (if_fails _ (sym c.is_inode.ensures ∙ c.if-is_inode.false) (bind_gives _ c.in_ok-is_dir.ensures (bind_stops _ (c.in_err-replaced.ensures c.args.old_path.now c.args.new_path.now from_walked to_walked)))))))))
+pub returns-in_err-replaced-clause-tells : goal.returns-in_err-replaced-clause-tells
+returns-in_err-replaced-clause-tells g c = exits c.from_residual-in_err-replaced.ensures.1 (passes _ _ (or_clear c.in_ok-refuse_root.ensures.clear c.in_ok-refuse_root-2.ensures.clear) (bind_place None c.args.old_path.now _ c.in_ok-from.ensures.tells (λ from_walked from_seen. bind_gives _ (c.in_ok-inode.ensures.tells _) (bind_place (Some c.in_ok-inode.inode) c.args.new_path.now _ c.in_ok-to.ensures.tells (λ to_walked to_seen. passes _ _ (to_seen ∙ c.in_ok-refuse_if.ensures.clear) (if_fails _ (sym c.is_inode.ensures ∙ c.if-is_inode.false) (bind_gives _ c.in_ok-is_dir.ensures.tells (bind_stops _ (c.in_err-replaced.ensures.tells c.args.old_path.now c.args.new_path.now from_walked to_walked)))))))))
 
-pub returns-then-is_inode : goal.returns-then-is_inode
-returns-then-is_inode g c = (passes _ _ (or_clear c.in_ok-refuse_root.ensures.clear c.in_ok-refuse_root-2.ensures.clear) (bind_place None c.args.old_path.now _ c.in_ok-from.ensures.tells (λ from_walked from_seen. bind_gives _ (c.in_ok-inode.ensures _) (bind_place (Some c.in_ok-inode.inode) c.args.new_path.now _ c.in_ok-to.ensures.tells (λ to_walked to_seen. passes _ _ (to_seen ∙ c.in_ok-refuse_if.ensures.clear) (if_holds _ (sym c.is_inode.ensures ∙ c.if-is_inode.true) (gives)))))))
+pub returns-then-is_inode-clause-tells : goal.returns-then-is_inode-clause-tells
+returns-then-is_inode-clause-tells g c = (passes _ _ (or_clear c.in_ok-refuse_root.ensures.clear c.in_ok-refuse_root-2.ensures.clear) (bind_place None c.args.old_path.now _ c.in_ok-from.ensures.tells (λ from_walked from_seen. bind_gives _ (c.in_ok-inode.ensures.tells _) (bind_place (Some c.in_ok-inode.inode) c.args.new_path.now _ c.in_ok-to.ensures.tells (λ to_walked to_seen. passes _ _ (to_seen ∙ c.in_ok-refuse_if.ensures.clear) (if_holds _ (sym c.is_inode.ensures ∙ c.if-is_inode.true) (gives)))))))
 
-pub returns : goal.returns
-returns g c = rw (c.in_ok-old_location.ensures.location, c.in_ok-new_location.ensures.location) (passes _ _ (or_clear c.in_ok-refuse_root.ensures.clear c.in_ok-refuse_root-2.ensures.clear) (bind_place None c.args.old_path.now _ c.in_ok-from.ensures.tells (λ from_walked from_seen. bind_gives _ (c.in_ok-inode.ensures _) (bind_place (Some c.in_ok-inode.inode) c.args.new_path.now _ c.in_ok-to.ensures.tells (λ to_walked to_seen. passes _ _ (to_seen ∙ c.in_ok-refuse_if.ensures.clear) (if_fails _ (sym c.is_inode.ensures ∙ c.if-is_inode.false) (bind_gives _ c.in_ok-is_dir.ensures (bind_gives _ (c.in_ok-replaced.ensures c.args.old_path.now c.args.new_path.now from_walked to_walked) (gives)))))))))
+pub returns-clause-tells : goal.returns-clause-tells
+returns-clause-tells g c = rw (c.in_ok-old_location.ensures.location, c.in_ok-new_location.ensures.location) (passes _ _ (or_clear c.in_ok-refuse_root.ensures.clear c.in_ok-refuse_root-2.ensures.clear) (bind_place None c.args.old_path.now _ c.in_ok-from.ensures.tells (λ from_walked from_seen. bind_gives _ (c.in_ok-inode.ensures.tells _) (bind_place (Some c.in_ok-inode.inode) c.args.new_path.now _ c.in_ok-to.ensures.tells (λ to_walked to_seen. passes _ _ (to_seen ∙ c.in_ok-refuse_if.ensures.clear) (if_fails _ (sym c.is_inode.ensures ∙ c.if-is_inode.false) (bind_gives _ c.in_ok-is_dir.ensures.tells (bind_gives _ (c.in_ok-replaced.ensures.tells c.args.old_path.now c.args.new_path.now from_walked to_walked) (gives)))))))))

@@ -1,0 +1,38 @@
+use Rattle.posix_calls.proofs.Ranges.{told_in_range, open_in_range, close_in_range, pread_in_range, pwrite_in_range, truncate_in_range, mkdir_in_range, rmdir_in_range, link_in_range, unlink_in_range, rename_in_range, list_in_range, stat_in_range}
+use Rattle.posix_calls.proofs.decision.decide.Goals as goal
+
+pub returns-in-Open-clause-range : goal.returns-in-Open-clause-range
+returns-in-Open-clause-range g c = told_in_range c.open.result (open_in_range _ _ _) c.open.ensures.tells
+
+pub returns-in-Close-clause-range : goal.returns-in-Close-clause-range
+returns-in-Close-clause-range g c = told_in_range c.close.result (close_in_range _ _) (c.close.ensures.tells (g.T.TreeAnswers.part c.args.tree.now))
+
+pub returns-in-Pread-clause-range : goal.returns-in-Pread-clause-range
+returns-in-Pread-clause-range g c = told_in_range c.pread.result (pread_in_range _ _ _ _) c.pread.ensures.tells
+
+pub returns-in-Pwrite-clause-range : goal.returns-in-Pwrite-clause-range
+returns-in-Pwrite-clause-range g c = told_in_range c.pwrite.result (pwrite_in_range _ _ _ _) (c.pwrite.ensures.tells (g.T.TreeAnswers.part c.args.tree.now))
+
+pub returns-in-Truncate-clause-range : goal.returns-in-Truncate-clause-range
+returns-in-Truncate-clause-range g c = told_in_range c.truncate.result (truncate_in_range _ _) c.truncate.ensures.tells
+
+pub returns-in-Mkdir-clause-range : goal.returns-in-Mkdir-clause-range
+returns-in-Mkdir-clause-range g c = told_in_range c.mkdir.result (mkdir_in_range _) c.mkdir.ensures.tells
+
+pub returns-in-Rmdir-clause-range : goal.returns-in-Rmdir-clause-range
+returns-in-Rmdir-clause-range g c = told_in_range c.rmdir.result (rmdir_in_range _) c.rmdir.ensures.tells
+
+pub returns-in-Link-clause-range : goal.returns-in-Link-clause-range
+returns-in-Link-clause-range g c = told_in_range c.link.result (link_in_range _ _) c.link.ensures.tells
+
+pub returns-in-Unlink-clause-range : goal.returns-in-Unlink-clause-range
+returns-in-Unlink-clause-range g c = told_in_range c.unlink.result (unlink_in_range _) c.unlink.ensures.tells
+
+pub returns-in-Rename-clause-range : goal.returns-in-Rename-clause-range
+returns-in-Rename-clause-range g c = told_in_range c.rename.result (rename_in_range _ _) c.rename.ensures.tells
+
+pub returns-in-List-clause-range : goal.returns-in-List-clause-range
+returns-in-List-clause-range g c = told_in_range c.list.result (list_in_range _) c.list.ensures.tells
+
+pub returns-in-Stat-clause-range : goal.returns-in-Stat-clause-range
+returns-in-Stat-clause-range g c = told_in_range c.stat.result (stat_in_range _) c.stat.ensures.tells

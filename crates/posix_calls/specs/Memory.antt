@@ -1,0 +1,44 @@
+-- Which calls take memory when they are decided: for the names on their paths, and for the bytes and names that they carry.
+use Rattle.std.specs.Prelude.{ℕ, ◌+◌, ◌-◌, List, length, min, Bool, false, ◌&&◌, ◌||◌, nat_lt, nat_le, Option, Some, None, is_ok}
+use Rattle.posix_calls.specs.Path.{reading, comes_to_name}
+use Rattle.posix_calls.specs.Tree.{Own}
+use Rattle.posix_calls.specs.Query.{Seen, Part}
+use Rattle.posix_calls.specs.Walk.{size_seen}
+use Rattle.posix_calls.specs.declared.limits.TheConstants.{MAX_TRANSFER, MAX_FILE}
+use Rattle.posix_calls.specs.declared.descriptor.Descriptor.{Descriptor}
+use Rattle.posix_calls.specs.declared.call.Call.{Call}
+use Rattle.posix_calls.specs.declared.call.Call.TheVariants as call
+
+-- whether a file is known to have bytes there
+abbrev pub has_bytes : ℕ → ℕ → Option (Option Seen) → Bool
+has_bytes at count None = false
+has_bytes at count (Some s) = nat_lt 0 (min count (size_seen s - at))
+
+-- whether a read comes to bytes
+abbrev pub reads_bytes : Part → Option Descriptor → ℕ → ℕ → Bool
+reads_bytes p None at count = false
+reads_bytes p (Some d) at count = d.reads && nat_le count MAX_TRANSFER && has_bytes at count (p.node d.inode)
+
+-- whether a write comes to bytes
+abbrev pub writes_bytes : Option Descriptor → ℕ → List ℕ → Bool
+writes_bytes None at bytes = false
+writes_bytes (Some d) at bytes = d.writes && nat_lt 0 (length bytes) && nat_le (length bytes) MAX_TRANSFER && nat_le (at + length bytes) MAX_FILE
+
+-- whether the paths of a call on two of them come to a name
+abbrev pub come_to_names : List ℕ → List ℕ → Bool
+come_to_names old new = comes_to_name old || (is_ok (reading old) && comes_to_name new)
+
+-- whether a call takes memory, decided by who knows a part of the tree
+abbrev pub takes_memory : Part → Own → Call → Bool
+takes_memory p own (call.Open path flags) = comes_to_name path
+takes_memory p own (call.Close number) = false
+takes_memory p own (call.Pread number at count) = reads_bytes p (own number) at count
+takes_memory p own (call.Pwrite number at bytes) = writes_bytes (own number) at bytes
+takes_memory p own (call.Truncate path len) = comes_to_name path
+takes_memory p own (call.Mkdir path) = comes_to_name path
+takes_memory p own (call.Rmdir path) = comes_to_name path
+takes_memory p own (call.Link old new) = come_to_names old new
+takes_memory p own (call.Unlink path) = comes_to_name path
+takes_memory p own (call.Rename old new) = come_to_names old new
+takes_memory p own (call.List path) = is_ok (reading path) || comes_to_name path
+takes_memory p own (call.Stat path) = comes_to_name path
