@@ -17,8 +17,8 @@ use Rattle.posix_calls.specs.declared.operation.Operation.TheVariants.{Tell, Res
 use Rattle.posix_calls.specs.declared.operation.Replaced.{Replaced}
 use Rattle.posix_calls.specs.declared.operation.Replaced.TheVariants.{OldFile}
 use Rattle.posix_calls.specs.Query.{Seen, File, Dir, Gives, Refuses, Look, View, run}
-use Rattle.posix_calls.specs.Walk.{Place, is_root, is_there, is_true, there, prefix, entries_seen, entries_at, kind_at}
-use Rattle.posix_calls.specs.Decide.{opened, open_there, lowest_free, number_or, is_inode, replacing, replacing_dir, renamed, write_at, described, mkdir, unlink, rmdir, link, rename, truncate, pwrite, pread, close, open_path, list_path, stat, decide}
+use Rattle.posix_calls.specs.Walk.{Place, is_root, is_inode, is_there, is_true, there, prefix, entries_seen, entries_at, kind_at}
+use Rattle.posix_calls.specs.Decide.{opened, open_there, lowest_free, number_or, replacing, replacing_dir, renamed, write_at, described, mkdir, unlink, rmdir, link, rename, truncate, pwrite, pread, close, open_path, list_path, stat, decide}
 use Rattle.posix_calls.proofs.Open as opens
 use Rattle.file_graph.specs.Graph.{Graph}
 use Rattle.file_graph.specs.declared.effect.Kind.TheVariants as kind
@@ -158,7 +158,7 @@ truncate_fits g d own path len operation sound e =
     let big = bind_ok v _ _ _ refused.2 in
     let seen = bind_ok v _ _ _ big.2 in
     let node = file_beyond g d names.0 place.0 i.0 is_dir.0 sound (place_of g d names.0 place.0 sound place.1) (there_is v place.0.inode i.0 i.1) is_dir.1 (not_refused v errno.IsDirectory _ _ refused.1) in
-    fits_as g d own _ operation (given v seen.2) (elim (length seen.0 == len) as (λ b. Fits g d own (cond b (Tell replies.Done) (Resize i.0 len))) [ true ↦ tt | false ↦ node ])
+    fits_as g d own _ operation (given v seen.2) (elim (seen.0 == len) as (λ b. Fits g d own (cond b (Tell replies.Done) (Resize i.0 len))) [ true ↦ tt | false ↦ node ])
 
 link_fits : (g : Graph) (d : Descriptors) (own : Own) (old new : List ℕ) (operation : Operation) → IsFair g d → run (graph_view g d) (link old new) ≡ Ok operation → Fits g d own operation
 unfolding link
@@ -348,7 +348,8 @@ pread_fits g d own number at count operation e =
     let v = graph_view g d in
     let i = bind_ok v _ _ _ e in
     let long = bind_ok v _ _ _ i.2 in
-    let bytes = bind_ok v _ _ _ long.2 in
+    let size = bind_ok v _ _ _ long.2 in
+    let bytes = bind_ok v _ _ _ size.2 in
     fits_as g d own _ operation (given v bytes.2) tt
 
 list_fits : (g : Graph) (d : Descriptors) (own : Own) (path : List ℕ) (operation : Operation) → run (graph_view g d) (list_path path) ≡ Ok operation → Fits g d own operation
@@ -366,7 +367,7 @@ list_fits g d own path operation e =
 described_fits : (g : Graph) (d : Descriptors) (own : Own) (v : View) (s : Option Seen) (operation : Operation) → run v (described s) ≡ Ok operation → Fits g d own operation
 unfolding run
 described_fits g d own v None operation e = absurd (cc)
-described_fits g d own v (Some (File names bytes)) operation e = fits_as g d own _ operation (given v e) tt
+described_fits g d own v (Some (File names size)) operation e = fits_as g d own _ operation (given v e) tt
 described_fits g d own v (Some (Dir entries)) operation e = fits_as g d own _ operation (given v e) tt
 
 node_described : (v : View) (i : ℕ) (operation : Operation) → run v (Look i described) ≡ Ok operation → run v (described (v.node i)) ≡ Ok operation

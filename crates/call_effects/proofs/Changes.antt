@@ -14,6 +14,7 @@ use Rattle.file_graph.specs.declared.effect.Effect.{Effect}
 use Rattle.file_graph.specs.declared.effect.Effect.TheVariants as effect
 use Rattle.call_effects.specs.Effects.{stored}
 use Rattle.call_effects.specs.Wholes.{without_kinds, tree_of, tree_node, keep, kept, kind_of, one_if, IsTyped, IsSound, AreReached}
+use Rattle.posix_calls.specs.declared.descriptor.Descriptor.{Descriptor}
 use Rattle.posix_calls.specs.Operations.{entered, left}
 use Rattle.posix_calls.proofs.Sums.{names_of-set_node}
 use Rattle.posix_calls.proofs.Counts.{counted, counted_is, counted_insert, counted_remove}
@@ -149,8 +150,9 @@ typed_put g d i x typed low high keeps own = record {
   in_range = typed.in_range;
 }
 
-pub typed_drop : (g : Graph) (d : Descriptors) (i : ℕ) → IsTyped g d → kind_of (g i) ≡ Some kind.Directory → i ≢ 1 → named g i ≡ 0 → IsTyped (put g i None) d
-typed_drop g d i typed is other none =
+-- what has no name and is not open goes
+pub typed_drop : (g : Graph) (d : Descriptors) (i : ℕ) → IsTyped g d → ((c n : ℕ) (o : Descriptor) → d c n ≡ Some o → o.inode ≢ i) → i ≢ 1 → named g i ≡ 0 → IsTyped (put g i None) d
+typed_drop g d i typed closed other none =
     let stays = λ (j : ℕ) (off : j ≢ i). ap kind_of (put_other g i j None off) in
     record {
       kinds = λ p n es name e at there. elim (put_cases g i p None (dir n es) at) [
@@ -165,7 +167,7 @@ typed_drop g d i typed is other none =
         | inr off ↦ typed.numbers j k (sym (ap (λ b. kind_of (cond b None (g j))) off.0) ∙ at)
       ];
       root = stays 1 (λ e. other (sym e)) ∙ typed.root;
-      opened = λ c n o at. stays o.inode (λ same. let now : kind_of (g i) ≡ Some kind.File = ap (λ y. kind_of (g y)) (sym same) ∙ typed.opened c n o at in cc) ∙ typed.opened c n o at;
+      opened = λ c n o at. stays o.inode (closed c n o at) ∙ typed.opened c n o at;
       in_range = typed.in_range;
     }
 

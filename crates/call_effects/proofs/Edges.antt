@@ -276,7 +276,7 @@ module _ (g : Graph) (d : Descriptors) (i : ℕ) (n : ℕ) (at : Location) (es :
       let names : named go_2 i ≡ 0 = go_stay i ∙ no_name in
       let root = no_root in
       sound_of g go_2 d d i sound
-      (typed_drop go_1 d i (typed_leave g d at.parent entry.names at.name entry.entries sound.typed entry.is) (ap kind_of in_go) i_no_root no_name)
+      (typed_drop go_1 d i (typed_leave g d at.parent entry.names at.name entry.entries sound.typed entry.is) (λ c m o held same. let now : Some kind.Directory ≡ Some kind.File = sym (ap kind_of is) ∙ ap (λ y. kind_of (g y)) (sym same) ∙ sound.typed.opened c m o held in cc) i_no_root no_name)
       (go_other stored (sym (ap stored entry.is)))
       (go_other kind_of (sym (ap kind_of entry.is)))
       (λ j off. let m = go_leaves j in let s = go_stay j in let z = off_one i j off in omega (arith, m, s, z))

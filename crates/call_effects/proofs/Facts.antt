@@ -1,5 +1,5 @@
 -- What a call that is not refused tells of the graph.
-use Rattle.std.proofs.Common.{◌≡◌, ◌≢◌, ◌⊎◌, inl, inr, ℕ, ◌+◌, ◌≤◌, List, [], ◌∷◌, refl, Some, None, Option, Ok, cond, ap, sym, ◌∙◌, subst, true, false, Bool, arith, ◌==◌, ◌||◌, if◌then◌else◌}
+use Rattle.std.proofs.Common.{◌≡◌, ◌≢◌, ◌⊎◌, inl, inr, ℕ, ◌+◌, ◌≤◌, List, [], ◌∷◌, length, refl, Some, None, Option, Ok, cond, ap, sym, ◌∙◌, subst, true, false, Bool, arith, ◌==◌, ◌||◌, if◌then◌else◌}
 use Rattle.std.specs.Prelude.{option_map, ◌&&◌, not}
 use Rattle.std.specs.List.{list_any}
 use Rattle.std.proofs.lemmas.Bool.Decides.{eqb_tells}
@@ -74,7 +74,7 @@ view_dir g d i n es is = ap (λ o. option_map node_seen (keep (is_open d i) o)) 
 pub view_is_dir : (g : Graph) (d : Descriptors) (i n : ℕ) (es : Entries (ℕ × Kind)) → g i ≡ dir n es → (graph_view g d).is_dir i ≡ Some true
 view_is_dir g d i n es is = ap (λ o. option_map node_is_dir (keep (is_open d i) o)) is
 
-pub view_file : (g : Graph) (d : Descriptors) (i n : ℕ) (bytes : List ℕ) → g i ≡ file n bytes → IsUsed d i n → (graph_view g d).node i ≡ Some (query.File n bytes)
+pub view_file : (g : Graph) (d : Descriptors) (i n : ℕ) (bytes : List ℕ) → g i ≡ file n bytes → IsUsed d i n → (graph_view g d).node i ≡ Some (query.File n (length bytes))
 view_file g d i n bytes is used = ap (λ o. option_map node_seen (keep (is_open d i) o)) is ∙ ap (λ b. option_map node_seen (cond b None (file n bytes))) used
 
 pub view_is_file : (g : Graph) (d : Descriptors) (i n : ℕ) (bytes : List ℕ) → g i ≡ file n bytes → IsUsed d i n → (graph_view g d).is_dir i ≡ Some false

@@ -10,7 +10,7 @@ use Rattle.std.specs.FinMap.Entries.{below_all}
 use Rattle.posix_calls.specs.Content.{Entries, written, resized, file_units, directory_units}
 use Rattle.posix_calls.specs.Tree.{Descriptors, Own}
 use Rattle.posix_calls.specs.Query.{Gives, ◌>>=◌, View, run}
-use Rattle.posix_calls.specs.Walk.{entries_seen, bytes_seen, bytes_at}
+use Rattle.posix_calls.specs.Walk.{entries_seen, size_seen, size_at}
 use Rattle.posix_calls.specs.declared.operation.Location.{Location}
 use Rattle.posix_calls.specs.declared.operation.Operation.{Operation}
 use Rattle.posix_calls.specs.declared.operation.Operation.TheVariants.{Tell, NewDir, NewFile, OpenFile, CloseFile, Write, Resize, RemoveDir, AddName, DropName, Move}
@@ -74,10 +74,10 @@ entry_asked g d p n es is =
     let seen : fin.len (entries_seen ((graph_view g d).node p)) ≡ fin.len es = ap (λ s. fin.len (entries_seen s)) (view_dir g d p n es is) ∙ len_seen es in
     ap (λ count. Ok (directory_units (count + 1) - directory_units count)) seen
 
--- a file's bytes, as they are asked
-bytes_asked : (g : Graph) (d : Descriptors) (i : ℕ) (f : List ℕ → ℕ) (x : IsUsedFile g d i) → run (graph_view g d) (bytes_at i >>= (λ old. Gives (f old))) ≡ Ok (f x.bytes)
+-- a file's size, as it is asked
+size_asked : (g : Graph) (d : Descriptors) (i : ℕ) (f : ℕ → ℕ) (x : IsUsedFile g d i) → run (graph_view g d) (size_at i >>= (λ old. Gives (f old))) ≡ Ok (f (length x.bytes))
 unfolding run ◌>>=◌
-bytes_asked g d i f x = ap (λ s. Ok (f (bytes_seen s))) (view_file g d i x.names x.bytes x.is x.used)
+size_asked g d i f x = ap (λ s. Ok (f (size_seen s))) (view_file g d i x.names x.bytes x.is x.used)
 
 gives : (v : View) (n : ℕ) → run v (Gives n) ≡ Ok n
 unfolding run
@@ -85,7 +85,7 @@ gives v n = refl
 
 -- ---- a file's bytes
 
-written_length : (at : ℕ) (new old : List ℕ) → length (written at new old) ≡ max (length old) (at + length new)
+pub written_length : (at : ℕ) (new old : List ℕ) → length (written at new old) ≡ max (length old) (at + length new)
 written_length at new old = grind (arith, common_steps)
 
 same_le : (a b : ℕ) → a ≡ b → a ≤ b
@@ -267,8 +267,8 @@ module _ (g : Graph) (d : Descriptors) (sound : IsSound g d) where
   growth_as_asked own new (OpenFile i false number reads writes) free fits = gives (graph_view g d) 0 ∙ ap (λ n. Ok n) (sym nothing_rises)
   growth_as_asked own new (CloseFile i number) free fits = gives (graph_view g d) 0 ∙ ap (λ n. Ok n) (sym nothing_rises)
   growth_as_asked own new (Write i at bytes) free f =
-      bytes_asked g d i (λ old. file_rise (length old) (max (length old) (at + length bytes))) f ∙ ap (λ n. Ok n) (sym (written_rises i at bytes f))
-  growth_as_asked own new (Resize i len) free f = bytes_asked g d i (λ old. file_rise (length old) len) f ∙ ap (λ n. Ok n) (sym (resized_rises i len f))
+      size_asked g d i (λ old. file_rise old (max old (at + length bytes))) f ∙ ap (λ n. Ok n) (sym (written_rises i at bytes f))
+  growth_as_asked own new (Resize i len) free f = size_asked g d i (λ old. file_rise old len) f ∙ ap (λ n. Ok n) (sym (resized_rises i len f))
   growth_as_asked own new (RemoveDir at i) free fits = gives (graph_view g d) 0 ∙ ap (λ n. Ok n) (sym (removed_rises i at))
   growth_as_asked own new (AddName at i) free (room, f) = entry_asked g d at.parent room.names room.entries room.is ∙ ap (λ n. Ok n) (sym (added_rises i (stored (g i) + 1) at room))
   growth_as_asked own new (DropName at i) free fits = gives (graph_view g d) 0 ∙ ap (λ n. Ok n) (sym (dropped_rises i (stored (g i) - 1) at))

@@ -1,34 +1,32 @@
 -- What clients know after a call of one of them agrees with the whole again.
-use Rattle.std.proofs.Common.{◌≡◌, ◌≢◌, inl, inr, ℕ, List, [], ◌∷◌, refl, Some, None, Option, cond, ap, sym, ◌∙◌, subst, true, false, Bool, ◌==◌}
+use Rattle.std.proofs.Common.{◌≡◌, ◌≢◌, ◌⊎◌, inl, inr, ℕ, List, [], ◌∷◌, refl, Some, None, Option, cond, ap, sym, ◌∙◌, subst, true, false, Bool, ◌==◌}
 use Rattle.std.specs.Prelude.{option_map, ◌&&◌, ◌||◌, not}
 use Rattle.std.proofs.lemmas.Bool.{eq-eqb}
 use Rattle.std.proofs.lemmas.Bool.Decides.{eqb_tells}
-use Rattle.posix_calls.specs.Tree.{Descriptors, with_own}
+use Rattle.posix_calls.specs.Tree.{Own, Descriptors, with_own}
+use Rattle.posix_calls.specs.declared.operation.Location.{Location}
 use Rattle.posix_calls.specs.Operations.{makes, own_after}
 use Rattle.posix_calls.specs.declared.operation.Operation.{Operation}
 use Rattle.posix_calls.specs.declared.operation.Operation.TheVariants.{Tell, NewDir, NewFile, OpenFile, CloseFile, Write, Resize, RemoveDir, AddName, DropName, Move}
 use Rattle.posix_calls.specs.declared.operation.Replaced.TheVariants.{Nothing, OldFile, OldDir}
 use Rattle.posix_calls.specs.declared.call.Call.{Call}
-use Rattle.file_graph.specs.Graph.{Graph, Node, subjects, is_among, acted, after_effect, after_effects, touches}
+use Rattle.file_graph.specs.Graph.{Graph, Node, is_among, acted, after_effect, after_effects, touches, file_bytes}
+use Rattle.file_graph.specs.declared.effect.Kind.{Kind}
+use Rattle.file_graph.specs.declared.effect.Kind.TheVariants as kind
 use Rattle.file_graph.specs.declared.effect.Effect.{Effect}
 use Rattle.file_graph.specs.declared.effect.Effect.TheVariants as effect
 use Rattle.file_graph.proofs.Touches.{untouched}
 use Rattle.call_effects.specs.Effects.{effects_by, effects_of, stored_at, recounted}
 use Rattle.call_effects.specs.Wholes.{IsSound}
-use Rattle.call_effects.specs.Fits.{IsNew}
-use Rattle.call_effects.specs.Known.{Knowledge, Agrees, IsPlanned, knows_after}
+use Rattle.call_effects.specs.Blocks.{block_of, block_after}
+use Rattle.call_effects.specs.NodeView.{NodeView, view_of_node, view_after}
+use Rattle.call_effects.specs.Fits.{Fits, IsNew, IsRoom, IsEntry, IsUsedFile}
+use Rattle.call_effects.specs.Known.{Knowledge, Agrees, IsGone, IsPutBack, IsPlanned, knows_after}
 use Rattle.call_effects.proofs.KnownTold.{both_hold}
 use Rattle.call_effects.proofs.KnownSteps.{planned_answer}
-
--- ---- effects act at each inode by itself
-
-pub effects_at : (g : Graph) (es : List Effect) (i : ℕ) (o : Option Node) → g i ≡ o → after_effects g es i ≡ after_effects (λ j. o) es i
-effects_at g [] i o is = is
-effects_at g (e ∷ es) i o is =
-    let here : after_effect g e i ≡ after_effect (λ j. o) e i = ap (λ x. cond (is_among i (subjects e)) (acted e x) x) is in
-    effects_at (after_effect g e) es i (after_effect g e i) refl
-    ∙ ap (λ x. after_effects (λ j. x) es i) here
-    ∙ sym (effects_at (after_effect (λ j. o) e) es i (after_effect (λ j. o) e i) refl)
+use Rattle.call_effects.proofs.Steps.{answer_fits}
+use Rattle.call_effects.proofs.Blocks.{mapped}
+use Rattle.call_effects.proofs.NodeViews.{effects_at, viewed_after, block_known_after}
 
 or_false : (b : Bool) → b ≡ false → (b || false) ≡ false
 or_false b e = ap (λ x. x || false) e
@@ -84,6 +82,72 @@ new_stays g new i operation es is apart free = record {
   none = effects_at g es i None free.none ∙ stays_none es i (subst (NoneMakes i) is (operation_makes (stored_at g (recounted operation)) new i operation apart));
 }
 
+-- ---- what effects touch stands in the whole, but for a new node
+
+abbrev Each : List ℕ → (ℕ → Type 0) → Type 0
+Each [] P = Unit {0}
+Each (i ∷ is) P = P i × Each is P
+
+among_each : (P : ℕ → Type 0) (is : List ℕ) (i : ℕ) → Each is P → is_among i is ≡ true → P i
+among_each P [] i all e = absurd (cc)
+among_each P (j ∷ is) i (here, rest) e = elim (eqb_tells j i) [
+  | inl same ↦ subst P same.1 here
+  | inr off ↦ among_each P is i rest (sym (ap (λ b. b || is_among i is) off.0) ∙ e)
+]
+
+module _ (g : Graph) (d : Descriptors) (own : Own) (new : ℕ) where
+  -- where nothing stands, a node is made
+  abbrev IsMade : Operation → ℕ → Type 0
+  IsMade operation i = g i ≡ None → (makes operation ≡ true) × (i ≡ new)
+
+  stands : (operation : Operation) (i : ℕ) (n : Node) → g i ≡ Some n → IsMade operation i
+  stands operation i n is none = absurd (let clash : None ≡ Some n = sym none ∙ is in cc)
+
+  of_room : (operation : Operation) (at : Location) → IsRoom g at → IsMade operation at.parent
+  of_room operation at room = stands operation at.parent _ room.is
+
+  of_entry : (operation : Operation) (at : Location) (e : ℕ × Kind) → IsEntry g at e → IsMade operation at.parent
+  of_entry operation at e entry = stands operation at.parent _ entry.is
+
+  of_file : (operation : Operation) (i : ℕ) → IsUsedFile g d i → IsMade operation i
+  of_file operation i f = stands operation i _ f.is
+
+  touched_stands : (operation : Operation) → Fits g d own operation → Each (touches (effects_of g new operation)) (IsMade operation)
+  touched_stands (Tell answer) fits = tt
+  touched_stands (NewDir at) room = ((λ none. (refl, refl)), (of_room (NewDir at) at room, ((λ none. (refl, refl)), tt)))
+  touched_stands (NewFile at number reads writes) fits = ((λ none. (refl, refl)), (of_room (NewFile at number reads writes) at fits.0, ((λ none. (refl, refl)), tt)))
+  touched_stands (OpenFile i true number reads writes) fits = (of_file (OpenFile i true number reads writes) i fits.0, tt)
+  touched_stands (OpenFile i false number reads writes) fits = tt
+  touched_stands (CloseFile i number) fits = tt
+  touched_stands (Write i at bytes) f = (of_file (Write i at bytes) i f, tt)
+  touched_stands (Resize i len) f = (of_file (Resize i len) i f, tt)
+  touched_stands (RemoveDir at i) fits = (of_entry (RemoveDir at i) at _ fits.0, (stands (RemoveDir at i) i _ fits.1.is, tt))
+  touched_stands (AddName at i) fits = (of_room (AddName at i) at fits.0, (of_file (AddName at i) i fits.1, tt))
+  touched_stands (DropName at i) fits = (of_entry (DropName at i) at _ fits.0, (of_file (DropName at i) i fits.1, tt))
+  touched_stands (Move from to i is_dir Nothing) fits = let o = Move from to i is_dir Nothing in (of_entry o from _ fits.0, (of_room o to fits.2, tt))
+  touched_stands (Move from to i is_dir (OldFile j)) (entry, clear, old) = let o = Move from to i is_dir (OldFile j) in (of_entry o to _ old.1, (of_file o j old.2, (of_entry o from _ entry, (of_entry o to _ old.1, tt))))
+  touched_stands (Move from to i is_dir (OldDir j)) (entry, clear, old) = let o = Move from to i is_dir (OldDir j) in (of_entry o to _ old.1, (stands o j _ old.2.is, (of_entry o from _ entry, (of_entry o to _ old.1, tt))))
+
+-- a new node is the same whatever stood there
+made_alike : (new : ℕ) (k : Kind) (es : List Effect) (o p : Option Node) → after_effects (λ j. o) (effect.Make new k ∷ es) new ≡ after_effects (λ j. p) (effect.Make new k ∷ es) new
+made_alike new k es o p =
+    let made = acted (effect.Make new k) None in
+    let here = λ (x : Option Node). let h : after_effect (λ j. x) (effect.Make new k) new ≡ acted (effect.Make new k) None = ap (λ b. cond (b || false) (acted (effect.Make new k) None) x) (eq-eqb new new refl) in h in
+    effects_at (after_effect (λ j. o) (effect.Make new k)) es new made (here o) ∙ sym (effects_at (after_effect (λ j. p) (effect.Make new k)) es new made (here p))
+
+new_alike : (names new : ℕ) (operation : Operation) (o p : Option Node) → makes operation ≡ true → after_effects (λ j. o) (effects_by names new operation) new ≡ after_effects (λ j. p) (effects_by names new operation) new
+new_alike names new (NewDir at) o p e = made_alike new kind.Directory (effect.Enter at.parent new kind.Directory at.name ∷ effect.Names new 1 ∷ []) o p
+new_alike names new (NewFile at number reads writes) o p e = made_alike new kind.File (effect.Enter at.parent new kind.File at.name ∷ effect.Names new 1 ∷ []) o p
+new_alike names new (Tell answer) o p e = absurd (cc)
+new_alike names new (OpenFile i empties number reads writes) o p e = absurd (cc)
+new_alike names new (CloseFile i number) o p e = absurd (cc)
+new_alike names new (Write i at bytes) o p e = absurd (cc)
+new_alike names new (Resize i len) o p e = absurd (cc)
+new_alike names new (RemoveDir at i) o p e = absurd (cc)
+new_alike names new (AddName at i) o p e = absurd (cc)
+new_alike names new (DropName at i) o p e = absurd (cc)
+new_alike names new (Move from to i is_dir replaced) o p e = absurd (cc)
+
 -- ---- one's own knowledge
 
 -- a number that is left is not the new one
@@ -98,15 +162,37 @@ module _ (k : Knowledge) (g : Graph) (d : Descriptors) (c : Call) (new : ℕ) (o
   effects_are_those : effects_of g new operation ≡ es
   effects_are_those = (planned_answer k g d c new operation es sound agrees plan).1
 
-  copy_after : (i : ℕ) (known : Option (Option Node)) (copy : Option Node) → k.copies i ≡ known → option_map (λ x. after_effects (λ j. x) es i) known ≡ Some copy → after_effects g es i ≡ copy
-  copy_after i None copy is e = absurd (cc)
-  copy_after i (Some x) copy is e = effects_at g es i x (agrees.copies i x is) ∙ (let same : after_effects (λ j. x) es i ≡ copy = cc in same)
+  -- where nothing stands in the whole and the effects touch, they make the new node
+  made_there : (i : ℕ) → g i ≡ None → is_among i (touches es) ≡ true → (makes operation ≡ true) × (i ≡ new)
+  made_there i none touched =
+      let fits = answer_fits g d k.client c operation sound (planned_answer k g d c new operation es sound agrees plan).0 in
+      among_each (IsMade g d (d k.client) new operation) (touches es) i (subst (λ es. Each (touches es) (IsMade g d (d k.client) new operation)) effects_are_those (touched_stands g d (d k.client) new operation fits)) touched none
+
+  new_same : (o p : Option Node) → makes operation ≡ true → after_effects (λ j. o) es new ≡ after_effects (λ j. p) es new
+  new_same o p m = subst (λ es. after_effects (λ j. o) es new ≡ after_effects (λ j. p) es new) effects_are_those (new_alike (stored_at g (recounted operation)) new operation o p m)
+
+  -- the files that were put back are put back still
+  put_back_after : IsPutBack (after_effects g es) (after_effects agrees.back es)
+  put_back_after i = elim (agrees.put_back i) [
+    | inl same ↦ inl (effects_at agrees.back es i (g i) same ∙ sym (effects_at g es i (g i) refl))
+    | inr gone ↦ elim (is_among i (touches es)) as (λ b. is_among i (touches es) ≡ b → (after_effects agrees.back es i ≡ after_effects g es i) ⊎ IsGone (after_effects g es i) (after_effects agrees.back es i)) [
+      | true ↦ λ touched.
+          let m = made_there i gone.nothing touched in
+          inl (effects_at agrees.back es i (agrees.back i) refl ∙ subst (λ j. after_effects (λ x. agrees.back i) es j ≡ after_effects (λ x. g i) es j) (sym m.1) (new_same (agrees.back i) (g i) m.0) ∙ sym (effects_at g es i (g i) refl))
+      | false ↦ λ apart. inr (record { nothing = untouched g es i apart ∙ gone.nothing; bytes = gone.bytes; file = untouched agrees.back es i apart ∙ gone.file })
+    ] refl
+  ]
 
   pub agrees_after : Agrees (knows_after k new operation es) (after_effects g es) (with_own d k.client (own_after new k.own operation))
   agrees_after = record {
     client = agrees.client;
     own = λ number. ap (λ b. cond b (own_after new k.own operation number) (d k.client number)) (eq-eqb k.client k.client refl);
-    copies = λ i copy is. copy_after i (k.copies i) copy refl is;
+    back = after_effects agrees.back es;
+    put_back = put_back_after;
+    copies = λ i copy is.
+        let was = mapped (view_after es i) (k.copies i) copy is in
+        viewed_after agrees.back es i was.0 (agrees.copies i was.0 was.1) ∙ was.2;
+    blocks = λ i b bytes is. block_known_after agrees.back es i b (k.blocks i b) bytes (agrees.blocks i b) is;
     granted = λ i is.
         let r = both_hold (k.granted i) (not (makes operation && i == new)) is in
         new_stays g new i operation es effects_are_those (is_other (makes operation) i new r.1) (agrees.granted i r.0);
@@ -120,13 +206,29 @@ module _ (k : Knowledge) (g : Graph) (d : Descriptors) (c : Call) (new : ℕ) (o
     | inr off ↦ off.0
   ]
 
-  pub other_agrees : (other : Knowledge) → Agrees other g d → other.client ≢ k.client → ((i : ℕ) (copy : Option Node) → other.copies i ≡ Some copy → is_among i (touches es) ≡ false) → (makes operation ≡ true → other.granted new ≡ false) → Agrees other (after_effects g es) (with_own d k.client (own_after new k.own operation))
-  other_agrees other known apart copies numbers = record {
+  -- what the effects touch stands as it does in the whole, the rest as it did
+  abbrev also_back : Graph → Graph
+  also_back back i = cond (is_among i (touches es)) (after_effects g es i) (back i)
+
+  also_put_back : (back : Graph) → IsPutBack g back → IsPutBack (after_effects g es) (also_back back)
+  also_put_back back put_back i = elim (is_among i (touches es)) as (λ b. is_among i (touches es) ≡ b → (cond b (after_effects g es i) (back i) ≡ after_effects g es i) ⊎ IsGone (after_effects g es i) (cond b (after_effects g es i) (back i))) [
+    | true ↦ λ touched. inl refl
+    | false ↦ λ apart. elim (put_back i) [
+      | inl same ↦ inl (same ∙ sym (untouched g es i apart))
+      | inr gone ↦ inr (record { nothing = untouched g es i apart ∙ gone.nothing; bytes = gone.bytes; file = gone.file })
+    ]
+  ] refl
+
+  pub other_agrees : (other : Knowledge) → Agrees other g d → other.client ≢ k.client → ((i : ℕ) (copy : Option NodeView) → other.copies i ≡ Some copy → is_among i (touches es) ≡ false) → ((i b : ℕ) (bytes : List ℕ) → other.blocks i b ≡ Some bytes → is_among i (touches es) ≡ false) → (makes operation ≡ true → other.granted new ≡ false) → Agrees other (after_effects g es) (with_own d k.client (own_after new k.own operation))
+  other_agrees other known apart copies blocks numbers = record {
     client = known.client;
     own = λ number. elim (eqb_tells other.client k.client) [
       | inl same ↦ absurd (apart same.1)
       | inr off ↦ ap (λ b. cond b (own_after new k.own operation number) (d other.client number)) off.0 ∙ known.own number
     ];
-    copies = λ i copy is. untouched g es i (copies i copy is) ∙ known.copies i copy is;
+    back = also_back known.back;
+    put_back = also_put_back known.back known.put_back;
+    copies = λ i copy is. ap (λ b. option_map view_of_node (cond b (after_effects g es i) (known.back i))) (copies i copy is) ∙ known.copies i copy is;
+    blocks = λ i b bytes is. ap (λ t. option_map (block_of b) (file_bytes (cond t (after_effects g es i) (known.back i)))) (blocks i b bytes is) ∙ known.blocks i b bytes is;
     granted = λ i is. new_stays g new i operation es effects_are_those (not_new other numbers i is) (known.granted i is);
   }

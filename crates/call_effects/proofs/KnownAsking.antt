@@ -1,5 +1,6 @@
 -- What a call asks of: the root, what an entry of a directory that was looked at names, and what its client has open.
-use Rattle.std.proofs.Common.{◌≡◌, ℕ, List, [], ◌∷◌, refl, Some, None, Option, Ok, Err, Result, cond, ap, ◌∙◌, subst, true, false, Bool}
+use Rattle.std.proofs.Common.{◌≡◌, ℕ, zero, suc, ◌+◌, ◌-◌, ◌≤◌, arith, List, [], ◌∷◌, refl, Some, None, Option, Ok, Err, Result, cond, ap, ◌∙◌, subst, true, false, Bool}
+use Rattle.std.specs.Prelude.{min}
 use Rattle.std.specs.FinMap as fin
 use Rattle.posix_calls.specs.Content.{Entries}
 use Rattle.posix_calls.specs.Path.{reading}
@@ -14,43 +15,54 @@ use Rattle.posix_calls.specs.declared.call.Reply.TheVariants as reply
 use Rattle.posix_calls.specs.declared.operation.Operation.{Operation}
 use Rattle.posix_calls.specs.declared.operation.Operation.TheVariants.{Tell, CloseFile}
 use Rattle.posix_calls.specs.declared.operation.Replaced.TheVariants.{OldFile}
-use Rattle.posix_calls.specs.Query.{Seen, File, Dir, Query, Gives, Refuses, IsDir, Look, ◌>>=◌, Part, Found, Known, Missing, run_part}
-use Rattle.posix_calls.specs.Walk.{Place, root_place, refuse, said, entries_at, kind_at, directory, directory_if, walk, prefix, there}
-use Rattle.posix_calls.specs.Decide.{opened, number_or, empties, open_there, write_at, is_inode, replacing, replacing_dir, renamed, described, open_path, close, pread, pwrite, truncate, mkdir, rmdir, link, unlink, rename, list_path, stat, decide}
+use Rattle.posix_calls.specs.declared.operation.Missing.TheVariants as missing
+use Rattle.posix_calls.specs.Query.{Seen, File, Dir, Query, Gives, Refuses, IsDir, Look, Range, ◌>>=◌, Part, Found, Known, Unknown, blocks_of, run_part}
+use Rattle.posix_calls.specs.Walk.{Place, root_place, refuse, said, entries_at, size_at, kind_at, directory, directory_if, walk, prefix, is_inode, there}
+use Rattle.posix_calls.specs.Decide.{opened, number_or, empties, open_there, bytes_from, write_at, replacing, replacing_dir, renamed, described, open_path, close, pread, pwrite, truncate, mkdir, rmdir, link, unlink, rename, list_path, stat, decide}
 
--- each inode that is asked of, for its kind or to be looked at, passes, as the part answers what comes before
-unfoldable pub QueryAll : {A : Type 0} → Part → (ℕ → Type 0) → (ℕ → Type 0) → Query A → Type 0
-QueryAll p OnDir OnNode (Gives x) = Unit {0}
-QueryAll p OnDir OnNode (Refuses e) = Unit {0}
-QueryAll p OnDir OnNode (IsDir i next) = OnDir i × ((o : Option Bool) → p.is_dir i ≡ Some o → QueryAll p OnDir OnNode (next o))
-QueryAll p OnDir OnNode (Look i next) = OnNode i × ((o : Option Seen) → p.node i ≡ Some o → QueryAll p OnDir OnNode (next o))
+-- each inode that is asked of, for its kind, to be looked at, or for a range of bytes, passes, as the part answers what comes before
+unfoldable pub QueryAll : {A : Type 0} → Part → (ℕ → Type 0) → (ℕ → Type 0) → (ℕ → ℕ → ℕ → Type 0) → Query A → Type 0
+QueryAll p OnDir OnNode OnRange (Gives x) = Unit {0}
+QueryAll p OnDir OnNode OnRange (Refuses e) = Unit {0}
+QueryAll p OnDir OnNode OnRange (IsDir i next) = OnDir i × ((o : Option Bool) → p.is_dir i ≡ Some o → QueryAll p OnDir OnNode OnRange (next o))
+QueryAll p OnDir OnNode OnRange (Look i next) = OnNode i × ((o : Option Seen) → p.node i ≡ Some o → QueryAll p OnDir OnNode OnRange (next o))
+QueryAll p OnDir OnNode OnRange (Range i at count next) = OnRange i at count × ((bytes : List ℕ) → p.bytes i at count ≡ Some bytes → QueryAll p OnDir OnNode OnRange (next bytes))
 
 -- ---- how questions run by a part
 
 -- what a part answered leads on
 pub dir_answered : {A : Type 0} (p : Part) (i : ℕ) (next : Option Bool → Query A) (o : Option Bool) → p.is_dir i ≡ Some o → run_part p (IsDir i next) ≡ run_part p (next o)
 unfolding run_part
-dir_answered {A = A} p i next o is = ap (λ x. elim x as (λ _. Found A) [ None ↦ Missing i | Some a ↦ run_part p (next a) ]) is
+dir_answered {A = A} p i next o is = ap (λ x. elim x as (λ _. Found A) [ None ↦ Unknown (missing.Node i) | Some a ↦ run_part p (next a) ]) is
 
 pub node_answered : {A : Type 0} (p : Part) (i : ℕ) (next : Option Seen → Query A) (o : Option Seen) → p.node i ≡ Some o → run_part p (Look i next) ≡ run_part p (next o)
 unfolding run_part
-node_answered {A = A} p i next o is = ap (λ x. elim x as (λ _. Found A) [ None ↦ Missing i | Some a ↦ run_part p (next a) ]) is
+node_answered {A = A} p i next o is = ap (λ x. elim x as (λ _. Found A) [ None ↦ Unknown (missing.Node i) | Some a ↦ run_part p (next a) ]) is
+
+pub bytes_answered : {A : Type 0} (p : Part) (i at count : ℕ) (next : List ℕ → Query A) (bytes : List ℕ) → p.bytes i at count ≡ Some bytes → run_part p (Range i at count next) ≡ run_part p (next bytes)
+unfolding run_part
+bytes_answered {A = A} p i at count next bytes is = ap (λ x. elim x as (λ _. Found A) [ None ↦ Unknown (blocks_of i at count) | Some a ↦ run_part p (next a) ]) is
 
 given_known : {A : Type 0} (p : Part) (x : A) → run_part p (Gives x) ≡ Known (Ok x)
 unfolding run_part
 given_known p x = refl
 
-bind_known : {A B : Type 0} (p : Part) (q : Query A) (f : A → Query B) (b : B) → run_part p (q >>= f) ≡ Known (Ok b) → (a : A) × (run_part p q ≡ Known (Ok a)) × (run_part p (f a) ≡ Known (Ok b))
+pub bind_known : {A B : Type 0} (p : Part) (q : Query A) (f : A → Query B) (b : B) → run_part p (q >>= f) ≡ Known (Ok b) → (a : A) × (run_part p q ≡ Known (Ok a)) × (run_part p (f a) ≡ Known (Ok b))
 unfolding run_part ◌>>=◌
 bind_known p (Gives x) f b e = (x, refl, e)
 bind_known p (Refuses x) f b e = absurd (cc)
 bind_known {A = A} {B = B} p (IsDir i next) f b e =
-    elim (p.is_dir i) as (λ o. ◌≡◌ {A = Found B} (elim o [ None ↦ Missing i | Some a ↦ run_part p (next a >>= f) ]) (Known (Ok b)) → (a : A) × (◌≡◌ {A = Found A} (elim o [ None ↦ Missing i | Some a ↦ run_part p (next a) ]) (Known (Ok a))) × (run_part p (f a) ≡ Known (Ok b))) [
+    elim (p.is_dir i) as (λ o. ◌≡◌ {A = Found B} (elim o [ None ↦ Unknown (missing.Node i) | Some a ↦ run_part p (next a >>= f) ]) (Known (Ok b)) → (a : A) × (◌≡◌ {A = Found A} (elim o [ None ↦ Unknown (missing.Node i) | Some a ↦ run_part p (next a) ]) (Known (Ok a))) × (run_part p (f a) ≡ Known (Ok b))) [
       | None ↦ λ missing. absurd (cc)
       | Some a ↦ λ known. bind_known p (next a) f b known
     ] e
 bind_known {A = A} {B = B} p (Look i next) f b e =
-    elim (p.node i) as (λ o. ◌≡◌ {A = Found B} (elim o [ None ↦ Missing i | Some a ↦ run_part p (next a >>= f) ]) (Known (Ok b)) → (a : A) × (◌≡◌ {A = Found A} (elim o [ None ↦ Missing i | Some a ↦ run_part p (next a) ]) (Known (Ok a))) × (run_part p (f a) ≡ Known (Ok b))) [
+    elim (p.node i) as (λ o. ◌≡◌ {A = Found B} (elim o [ None ↦ Unknown (missing.Node i) | Some a ↦ run_part p (next a >>= f) ]) (Known (Ok b)) → (a : A) × (◌≡◌ {A = Found A} (elim o [ None ↦ Unknown (missing.Node i) | Some a ↦ run_part p (next a) ]) (Known (Ok a))) × (run_part p (f a) ≡ Known (Ok b))) [
+      | None ↦ λ missing. absurd (cc)
+      | Some a ↦ λ known. bind_known p (next a) f b known
+    ] e
+bind_known {A = A} {B = B} p (Range i at count next) f b e =
+    elim (p.bytes i at count) as (λ o. ◌≡◌ {A = Found B} (elim o [ None ↦ Unknown (blocks_of i at count) | Some a ↦ run_part p (next a >>= f) ]) (Known (Ok b)) → (a : A) × (◌≡◌ {A = Found A} (elim o [ None ↦ Unknown (blocks_of i at count) | Some a ↦ run_part p (next a) ]) (Known (Ok a))) × (run_part p (f a) ≡ Known (Ok b))) [
       | None ↦ λ missing. absurd (cc)
       | Some a ↦ λ known. bind_known p (next a) f b known
     ] e
@@ -59,18 +71,22 @@ bind_known {A = A} {B = B} p (Look i next) f b e =
 pub read_known : {A : Type 0} (p : Part) (i : ℕ) (f : Option Seen → A) (x : A) → run_part p (Look i (λ s. Gives (f s))) ≡ Known (Ok x) → (o : Option Seen) × (p.node i ≡ Some o) × (f o ≡ x)
 unfolding run_part
 read_known {A = A} p i f x e =
-    elim (p.node i) as (λ o. p.node i ≡ o → ◌≡◌ {A = Found A} (elim o [ None ↦ Missing i | Some a ↦ Known (Ok (f a)) ]) (Known (Ok x)) → (s : Option Seen) × (p.node i ≡ Some s) × (f s ≡ x)) [
+    elim (p.node i) as (λ o. p.node i ≡ o → ◌≡◌ {A = Found A} (elim o [ None ↦ Unknown (missing.Node i) | Some a ↦ Known (Ok (f a)) ]) (Known (Ok x)) → (s : Option Seen) × (p.node i ≡ Some s) × (f s ≡ x)) [
       | None ↦ λ is missing. absurd (cc)
       | Some a ↦ λ is known. (a, is, (let same : f a ≡ x = cc in same))
     ] refl e
 
-result_is : {A : Type 0} (p : Part) (x y : A) → run_part p (Gives x) ≡ Known (Ok y) → x ≡ y
+pub result_is : {A : Type 0} (p : Part) (x y : A) → run_part p (Gives x) ≡ Known (Ok y) → x ≡ y
 unfolding run_part
 result_is p x y e = cc
 
-module _ (p : Part) (OnDir OnNode : ℕ → Type 0) where
+-- bytes that a file has, cut to its size
+there_are : (count size at few : ℕ) → min count (size - at) ≡ suc few → at + suc few ≤ size
+there_are count size at few e = omega (arith, e)
+
+module _ (p : Part) (OnDir OnNode : ℕ → Type 0) (OnRange : ℕ → ℕ → ℕ → Type 0) where
   abbrev QueryIn : {A : Type 0} → Query A → Type 0
-  QueryIn q = QueryAll p OnDir OnNode q
+  QueryIn q = QueryAll p OnDir OnNode OnRange q
 
   pub query_then : {A B : Type 0} (q : Query A) (f : A → Query B) → QueryIn q → ((x : A) → run_part p q ≡ Known (Ok x) → QueryIn (f x)) → QueryIn (q >>= f)
   unfolding QueryAll ◌>>=◌
@@ -78,6 +94,7 @@ module _ (p : Part) (OnDir OnNode : ℕ → Type 0) where
   query_then (Refuses e) f first rest = tt
   query_then (IsDir i next) f (met, first) rest = (met, λ o is. query_then (next o) f (first o is) (λ x e. rest x (dir_answered p i next o is ∙ e)))
   query_then (Look i next) f (met, first) rest = (met, λ o is. query_then (next o) f (first o is) (λ x e. rest x (node_answered p i next o is ∙ e)))
+  query_then (Range i at count next) f (met, first) rest = (met, λ bytes is. query_then (next bytes) f (first bytes is) (λ x e. rest x (bytes_answered p i at count next bytes is ∙ e)))
 
   pub query_gives : {A : Type 0} (x : A) → QueryIn (Gives x)
   unfolding QueryAll
@@ -112,6 +129,10 @@ module _ (p : Part) (OnDir OnNode : ℕ → Type 0) where
   unfolding QueryAll
   query_look i f met rest = (met, λ o is. rest o)
 
+  pub query_range : {A : Type 0} (i at count : ℕ) (f : List ℕ → Query A) → OnRange i at count → ((bytes : List ℕ) → QueryIn (f bytes)) → QueryIn (Range i at count f)
+  unfolding QueryAll
+  query_range i at count f met rest = (met, λ bytes is. rest bytes)
+
   pub query_entries : (i : ℕ) → OnNode i → QueryIn (entries_at i)
   query_entries i met = query_look i _ met (λ s. query_gives _)
 
@@ -132,7 +153,7 @@ module _ (p : Part) (OnDir OnNode : ℕ → Type 0) where
   query_described : (s : Option Seen) → QueryIn (described s)
   unfolding QueryAll
   query_described None = tt
-  query_described (Some (File names bytes)) = tt
+  query_described (Some (File names size)) = tt
   query_described (Some (Dir entries)) = tt
 
   query_past : (e : Errno) (test : Bool) (f : Unit {0} → Query Operation) → QueryIn (f tt) → QueryIn (refuse e test >>= f)
@@ -155,13 +176,17 @@ module _ (p : Part) (OnDir OnNode : ℕ → Type 0) where
   directory_known : (o : Option ℕ) (child : ℕ) → run_part p (directory o) ≡ Known (Ok child) → o ≡ Some child
   unfolding run_part
   directory_known None child e = absurd (cc)
-  directory_known (Some i) child e = elim (p.is_dir i) as (λ o. ◌≡◌ {A = Found ℕ} (elim o [ None ↦ Missing i | Some a ↦ run_part p (directory_if i a) ]) (Known (Ok child)) → Some i ≡ Some child) [
+  directory_known (Some i) child e = elim (p.is_dir i) as (λ o. ◌≡◌ {A = Found ℕ} (elim o [ None ↦ Unknown (missing.Node i) | Some a ↦ run_part p (directory_if i a) ]) (Known (Ok child)) → Some i ≡ Some child) [
     | None ↦ λ missing. absurd (cc)
     | Some a ↦ λ known. ap (λ x. Some x) (directory_by i child a known)
   ] e
 
-  -- where the root passes, what an entry names, and what is open, so does all that a call asks of
-  module _ (own : Own) (root : OnDir 1 × OnNode 1) (named : (at i : ℕ) (name : List ℕ) (entries : Entries ℕ) → run_part p (entries_at at) ≡ Known (Ok entries) → fin.get entries name ≡ Some i → OnDir i × OnNode i) (opens : (number : ℕ) (x : Descriptor) → own number ≡ Some x → OnNode x.inode) where
+  query_bytes : (i at count : ℕ) → ((few : ℕ) → count ≡ suc few → OnRange i at (suc few)) → QueryIn (bytes_from i at count)
+  query_bytes i at zero met = query_gives []
+  query_bytes i at (suc count) met = query_range i at (suc count) _ (met count refl) (λ bytes. query_gives bytes)
+
+  -- where the root passes, what an entry names, what is open, and the bytes of that which there are, so does all that a call asks of
+  module _ (own : Own) (root : OnDir 1 × OnNode 1) (named : (at i : ℕ) (name : List ℕ) (entries : Entries ℕ) → run_part p (entries_at at) ≡ Known (Ok entries) → fin.get entries name ≡ Some i → OnDir i × OnNode i) (opens : (number : ℕ) (x : Descriptor) → own number ≡ Some x → OnNode x.inode) (reads : (number : ℕ) (x : Descriptor) (size at count : ℕ) → own number ≡ Some x → run_part p (size_at x.inode) ≡ Known (Ok size) → at + suc count ≤ size → OnRange x.inode at (suc count)) where
     query_walk : (from : ℕ) (way : List ℕ) (names : List (List ℕ)) → OnNode from → QueryIn (walk from way names)
     unfolding walk
     query_walk from way [] met = query_gives root_place
@@ -323,7 +348,8 @@ module _ (p : Part) (OnDir OnNode : ℕ → Type 0) where
     query_pread number at count =
         query_opened _ (own number) _ (λ x is.
         query_past _ _ _ (
-        query_then _ _ (query_look x.inode _ (opens number x is) (λ s. query_gives _)) (λ bytes s. query_gives _)))
+        query_then _ _ (query_look x.inode _ (opens number x is) (λ s. query_gives _)) (λ size s.
+        query_then _ _ (query_bytes x.inode at (min count (size - at)) (λ few e. reads number x size at few is s (there_are count size at few e))) (λ bytes r. query_gives _))))
 
     query_write_at : (i at : ℕ) (bytes : List ℕ) → QueryIn (write_at i at bytes)
     query_write_at i at [] = query_gives _

@@ -9,7 +9,7 @@ use Rattle.posix_calls.specs.declared.operation.Replaced.{Replaced}
 use Rattle.posix_calls.specs.declared.operation.Replaced.TheVariants.{Nothing, OldFile, OldDir}
 use Rattle.posix_calls.specs.Query.{Gives, ◌>>=◌, Part, run}
 use Rattle.posix_calls.specs.Query.{whole}
-use Rattle.posix_calls.specs.Walk.{names_seen, bytes_at}
+use Rattle.posix_calls.specs.Walk.{names_seen, size_at}
 use Rattle.file_graph.specs.Graph.{Graph}
 use Rattle.call_effects.specs.Effects.{stored, stored_at, recounted, replaced_file, effects_by, effects_of}
 use Rattle.call_effects.specs.Records.{names_if, effects_asked, file_rise, entry_rise, move_rise, growth_asked}
@@ -59,32 +59,35 @@ module _ (g : Graph) (d : Descriptors) (own : Own) (fair : IsFair g d) where
   abbrev Kept : ℕ → Type 0
   Kept i = Stays g d fair i
 
+  abbrev KeptRange : ℕ → ℕ → ℕ → Type 0
+  KeptRange i at count = Kept i
+
   gives : {A : Type 0} (x : A) → QueryKept g d fair (Gives x)
-  gives x = query_gives p Kept Kept x
+  gives x = query_gives p Kept Kept KeptRange x
 
   query_count : (o : Option ℕ) → ((i : ℕ) → o ≡ Some i → IsUsedFile g d i) → QueryKept g d fair (names_if o)
   query_count None used = gives 0
-  query_count (Some i) used = query_look p Kept Kept i _ (used_stays g d fair i (used i refl)) (λ s. gives _)
+  query_count (Some i) used = query_look p Kept Kept KeptRange i _ (used_stays g d fair i (used i refl)) (λ s. gives _)
 
   pub query_effects : (new : ℕ) (operation : Operation) → Fits g d own operation → QueryKept g d fair (effects_asked new operation)
-  query_effects new operation fits = query_then p Kept Kept _ _ (query_count (recounted operation) (λ i is. recounted_used g d own operation i fits is)) (λ n e. gives _)
+  query_effects new operation fits = query_then p Kept Kept KeptRange _ _ (query_count (recounted operation) (λ i is. recounted_used g d own operation i fits is)) (λ n e. gives _)
 
   query_rise : (at : Location) → IsRoom g at → QueryKept g d fair (entry_rise at.parent)
-  query_rise at room = query_then p Kept Kept _ _ (query_entries p Kept Kept at.parent (dir_stays g d fair at.parent (ap kind_of room.is))) (λ entries e. gives _)
+  query_rise at room = query_then p Kept Kept KeptRange _ _ (query_entries p Kept Kept KeptRange at.parent (dir_stays g d fair at.parent (ap kind_of room.is))) (λ entries e. gives _)
 
   query_move : (from to : Location) (i : ℕ) (replaced : Replaced) → FitsReplaced g d to i replaced → QueryKept g d fair (move_rise from to replaced)
   query_move from to i Nothing room = elim (from.parent == to.parent) as (λ b. QueryKept g d fair (cond b (Gives 0) (entry_rise to.parent))) [ true ↦ gives 0 | false ↦ query_rise to room ]
   query_move from to i (OldFile j) fits = gives 0
   query_move from to i (OldDir j) fits = gives 0
 
-  query_size : (i : ℕ) (f : List ℕ → ℕ) → IsUsedFile g d i → QueryKept g d fair (bytes_at i >>= (λ old. Gives (f old)))
-  query_size i f used = query_then p Kept Kept _ _ (query_look p Kept Kept i _ (used_stays g d fair i used) (λ s. gives _)) (λ old e. gives _)
+  query_size : (i : ℕ) (f : ℕ → ℕ) → IsUsedFile g d i → QueryKept g d fair (size_at i >>= (λ old. Gives (f old)))
+  query_size i f used = query_then p Kept Kept KeptRange _ _ (query_look p Kept Kept KeptRange i _ (used_stays g d fair i used) (λ s. gives _)) (λ old e. gives _)
 
   pub query_growth : (operation : Operation) → Fits g d own operation → QueryKept g d fair (growth_asked operation)
-  query_growth (NewDir at) room = query_then p Kept Kept _ _ (query_rise at room) (λ rise e. gives _)
-  query_growth (NewFile at number reads writes) fits = query_then p Kept Kept _ _ (query_rise at fits.0) (λ rise e. gives _)
-  query_growth (Write i at bytes) used = query_size i (λ old. file_rise (length old) (max (length old) (at + length bytes))) used
-  query_growth (Resize i len) used = query_size i (λ old. file_rise (length old) len) used
+  query_growth (NewDir at) room = query_then p Kept Kept KeptRange _ _ (query_rise at room) (λ rise e. gives _)
+  query_growth (NewFile at number reads writes) fits = query_then p Kept Kept KeptRange _ _ (query_rise at fits.0) (λ rise e. gives _)
+  query_growth (Write i at bytes) used = query_size i (λ old. file_rise old (max old (at + length bytes))) used
+  query_growth (Resize i len) used = query_size i (λ old. file_rise old len) used
   query_growth (AddName at i) fits = query_rise at fits.0
   query_growth (Move from to i is_dir replaced) fits = query_move from to i replaced fits.2
   query_growth (Tell answer) fits = gives 0

@@ -2,11 +2,13 @@
 use Rattle.std.proofs.Common.{◌≡◌, ℕ, List, refl, Some, None, Option, Ok, cond, ap, sym, ◌∙◌, subst, true, false, Bool}
 use Rattle.std.specs.Prelude.{option_map, ◌&&◌, not, ◌==◌}
 use Rattle.std.specs.FinMap as fin
-use Rattle.posix_calls.specs.Content.{Entries}
+use Rattle.posix_calls.specs.Content.{Entries, range}
 use Rattle.posix_calls.specs.Tree.{Descriptors, is_open}
 use Rattle.posix_calls.specs.declared.descriptor.Descriptor.{Descriptor}
 use Rattle.posix_calls.specs.declared.call.Call.{Call}
-use Rattle.posix_calls.specs.Query.{Query, Gives, Refuses, IsDir, Look, View, Part, Found, Known, Missing, IsPart, run, run_part}
+use Rattle.posix_calls.specs.declared.operation.Missing.{Missing}
+use Rattle.posix_calls.specs.declared.operation.Missing.TheVariants as missing
+use Rattle.posix_calls.specs.Query.{Query, Gives, Refuses, IsDir, Look, Range, View, Part, Found, Known, Unknown, blocks_of, IsPart, run, run_part}
 use Rattle.posix_calls.specs.Query.{whole}
 use Rattle.posix_calls.specs.Walk.{entries_seen, entries_at}
 use Rattle.posix_calls.specs.Decide.{decide}
@@ -14,42 +16,63 @@ use Rattle.posix_calls.proofs.Counts.{order}
 use Rattle.file_graph.specs.Graph.{Graph, Node, FileBody, DirBody}
 use Rattle.file_graph.specs.declared.effect.Kind.{Kind}
 use Rattle.file_graph.specs.declared.effect.Kind.TheVariants as kind
-use Rattle.call_effects.specs.Wholes.{keep, kept, kind_of, graph_view, node_is_dir, node_seen, without_kinds}
-use Rattle.call_effects.specs.Known.{stored_view}
+use Rattle.call_effects.specs.Wholes.{keep, kept, kind_of, graph_view, node_is_dir, node_seen, node_bytes, without_kinds}
+use Rattle.call_effects.specs.Known.{IsPutBack, stored_view}
 use Rattle.call_effects.specs.Fits.{IsUsedFile}
 use Rattle.call_effects.proofs.KnownAsking.{QueryAll, query_call, read_known}
 use Rattle.call_effects.proofs.Inodes.{get_inodes}
 use Rattle.call_effects.proofs.Changes.{IsFair, file, dir}
 use Rattle.call_effects.proofs.Facts.{has_dir, has_file, used_by_name, some_first}
 use Rattle.call_effects.proofs.Calls.{open_file}
+use Rattle.call_effects.proofs.PutBack.{stands_back}
 
 -- ---- two that answer alike of all that is asked
 
+record IsAlike (v w : View) (i : ℕ) : Type 0 where
+  is_dir : v.is_dir i ≡ w.is_dir i
+  node : v.node i ≡ w.node i
+  bytes : (at count : ℕ) → v.bytes i at count ≡ w.bytes i at count
+
 abbrev AnswersAlike : View → View → (ℕ → Type 0) → Type 0
-AnswersAlike v w Passes = (i : ℕ) → Passes i → (v.is_dir i ≡ w.is_dir i) × (v.node i ≡ w.node i)
+AnswersAlike v w Passes = (i : ℕ) → Passes i → IsAlike v w i
+
+-- of what is asked, whatever the question is
+abbrev pub AsksOf : {A : Type 0} → Part → (ℕ → Type 0) → Query A → Type 0
+AsksOf p Passes q = QueryAll p Passes Passes (λ i at count. Passes i) q
 
 -- come to the same
-run_alike : {A : Type 0} (v w : View) (Passes : ℕ → Type 0) (q : Query A) → AnswersAlike v w Passes → QueryAll (whole v) Passes Passes q → run v q ≡ run w q
+run_alike : {A : Type 0} (v w : View) (Passes : ℕ → Type 0) (q : Query A) → AnswersAlike v w Passes → AsksOf (whole v) Passes q → run v q ≡ run w q
 unfolding QueryAll run
 run_alike v w Passes (Gives x) same asks = refl
 run_alike v w Passes (Refuses e) same asks = refl
-run_alike v w Passes (IsDir i next) same (met, rest) = run_alike v w Passes (next (v.is_dir i)) same (rest (v.is_dir i) refl) ∙ ap (λ o. run w (next o)) (same i met).0
-run_alike v w Passes (Look i next) same (met, rest) = run_alike v w Passes (next (v.node i)) same (rest (v.node i) refl) ∙ ap (λ o. run w (next o)) (same i met).1
+run_alike v w Passes (IsDir i next) same (met, rest) = run_alike v w Passes (next (v.is_dir i)) same (rest (v.is_dir i) refl) ∙ ap (λ o. run w (next o)) (same i met).is_dir
+run_alike v w Passes (Look i next) same (met, rest) = run_alike v w Passes (next (v.node i)) same (rest (v.node i) refl) ∙ ap (λ o. run w (next o)) (same i met).node
+run_alike v w Passes (Range i at count next) same (met, rest) = run_alike v w Passes (next (v.bytes i at count)) same (rest (v.bytes i at count) refl) ∙ ap (λ bytes. run w (next bytes)) ((same i met).bytes at count)
 
--- and what a part of the other lacks is among what is asked of
-missing_asked : {A : Type 0} (p : Part) (v w : View) (Passes : ℕ → Type 0) (q : Query A) (i : ℕ) → AnswersAlike v w Passes → IsPart p w → QueryAll (whole v) Passes Passes q → run_part p q ≡ Missing i → Passes i
+-- the inode of what is missing passes
+abbrev pub MissingOf : (ℕ → Type 0) → Missing → Type 0
+MissingOf Passes (missing.Node i) = Passes i
+MissingOf Passes (missing.Blocks i first count) = Passes i
+
+-- and what a part of the other lacks is of what is asked of
+missing_asked : {A : Type 0} (p : Part) (v w : View) (Passes : ℕ → Type 0) (q : Query A) (what : Missing) → AnswersAlike v w Passes → IsPart p w → AsksOf (whole v) Passes q → run_part p q ≡ Unknown what → MissingOf Passes what
 unfolding QueryAll run_part
-missing_asked p v w Passes (Gives x) i same part asks e = absurd (cc)
-missing_asked p v w Passes (Refuses x) i same part asks e = absurd (cc)
-missing_asked {A = A} p v w Passes (IsDir j next) i same part (met, rest) e =
-    elim (p.is_dir j) as (λ o. p.is_dir j ≡ o → ◌≡◌ {A = Found A} (elim o [ None ↦ Missing j | Some a ↦ run_part p (next a) ]) (Missing i) → Passes i) [
-      | None ↦ λ is missing. let here : j ≡ i = cc in subst Passes here met
-      | Some a ↦ λ is missing. missing_asked p v w Passes (next a) i same part (rest a (ap (λ o. Some o) ((same j met).0 ∙ part.is_dir j a is))) missing
+missing_asked p v w Passes (Gives x) what same part asks e = absurd (cc)
+missing_asked p v w Passes (Refuses x) what same part asks e = absurd (cc)
+missing_asked {A = A} p v w Passes (IsDir j next) what same part (met, rest) e =
+    elim (p.is_dir j) as (λ o. p.is_dir j ≡ o → ◌≡◌ {A = Found A} (elim o [ None ↦ Unknown (missing.Node j) | Some a ↦ run_part p (next a) ]) (Unknown what) → MissingOf Passes what) [
+      | None ↦ λ is lacking. let here : missing.Node j ≡ what = cc in subst (MissingOf Passes) here met
+      | Some a ↦ λ is lacking. missing_asked p v w Passes (next a) what same part (rest a (ap (λ o. Some o) ((same j met).is_dir ∙ part.is_dir j a is))) lacking
     ] refl e
-missing_asked {A = A} p v w Passes (Look j next) i same part (met, rest) e =
-    elim (p.node j) as (λ o. p.node j ≡ o → ◌≡◌ {A = Found A} (elim o [ None ↦ Missing j | Some a ↦ run_part p (next a) ]) (Missing i) → Passes i) [
-      | None ↦ λ is missing. let here : j ≡ i = cc in subst Passes here met
-      | Some a ↦ λ is missing. missing_asked p v w Passes (next a) i same part (rest a (ap (λ o. Some o) ((same j met).1 ∙ part.node j a is))) missing
+missing_asked {A = A} p v w Passes (Look j next) what same part (met, rest) e =
+    elim (p.node j) as (λ o. p.node j ≡ o → ◌≡◌ {A = Found A} (elim o [ None ↦ Unknown (missing.Node j) | Some a ↦ run_part p (next a) ]) (Unknown what) → MissingOf Passes what) [
+      | None ↦ λ is lacking. let here : missing.Node j ≡ what = cc in subst (MissingOf Passes) here met
+      | Some a ↦ λ is lacking. missing_asked p v w Passes (next a) what same part (rest a (ap (λ o. Some o) ((same j met).node ∙ part.node j a is))) lacking
+    ] refl e
+missing_asked {A = A} p v w Passes (Range j at count next) what same part (met, rest) e =
+    elim (p.bytes j at count) as (λ o. p.bytes j at count ≡ o → ◌≡◌ {A = Found A} (elim o [ None ↦ Unknown (blocks_of j at count) | Some a ↦ run_part p (next a) ]) (Unknown what) → MissingOf Passes what) [
+      | None ↦ λ is lacking. let here : blocks_of j at count ≡ what = cc in subst (MissingOf Passes) here met
+      | Some a ↦ λ is lacking. missing_asked p v w Passes (next a) what same part (rest a (ap (λ o. Some o) ((same j met).bytes at count ∙ part.bytes j at count a is))) lacking
     ] refl e
 
 -- ---- what is kept
@@ -87,7 +110,7 @@ module _ (g : Graph) (d : Descriptors) (fair : IsFair g d) where
   v = graph_view g d
 
   abbrev pub QueryKept : {A : Type 0} → Query A → Type 0
-  QueryKept q = QueryAll (whole v) Stays Stays q
+  QueryKept q = AsksOf (whole v) Stays q
 
   pub dir_stays : (i : ℕ) → kind_of (g i) ≡ Some kind.Directory → Stays i
   dir_stays i is = let f = has_dir g i is in record { node = record { names = f.names; body = DirBody f.entries }; stored = f.is; kept = ap (keep (is_open d i)) f.is }
@@ -116,18 +139,22 @@ module _ (g : Graph) (d : Descriptors) (fair : IsFair g d) where
   open_stays client number x is = used_stays x.inode (open_file g d client number x x.inode fair is refl)
 
   pub call_asks_kept : (client : ℕ) (c : Call) → QueryKept (decide (d client) c)
-  call_asks_kept client c = let root = dir_stays 1 fair.typed.root in query_call (whole v) Stays Stays (d client) (root, root) named_stays (open_stays client) c
+  call_asks_kept client c = let root = dir_stays 1 fair.typed.root in query_call (whole v) Stays Stays (λ i at count. Stays i) (d client) (root, root) named_stays (open_stays client) (λ number x size at count is seen few. open_stays client number x is) c
 
-  seen_alike : AnswersAlike v (stored_view g) Stays
-  seen_alike i stays = let same = stays.kept ∙ sym stays.stored in (ap (option_map node_is_dir) same, ap (option_map node_seen) same)
+  -- where files are put back that are gone, what is kept is the same
+  module _ (back : Graph) (put_back : IsPutBack g back) where
+    seen_alike : AnswersAlike v (stored_view back) Stays
+    seen_alike i stays =
+        let same = stays.kept ∙ sym (stands_back g back put_back i stays.node stays.stored) in
+        record { is_dir = ap (option_map node_is_dir) same; node = ap (option_map node_seen) same; bytes = λ at count. ap (λ o. range at count (node_bytes o)) same }
 
-  -- questions that meet nothing that is gone come to the same over the stored graph
-  pub stored_alike : {A : Type 0} (q : Query A) → QueryKept q → run v q ≡ run (stored_view g) q
-  stored_alike q asks = run_alike v (stored_view g) Stays q seen_alike asks
+    -- questions that meet nothing that is gone come to the same over the stored graph
+    pub stored_alike : {A : Type 0} (q : Query A) → QueryKept q → run v q ≡ run (stored_view back) q
+    stored_alike q asks = run_alike v (stored_view back) Stays q seen_alike asks
 
-  -- and a part of it lacks only what is kept
-  pub missing_kept : {A : Type 0} (p : Part) (q : Query A) (i : ℕ) → IsPart p (stored_view g) → QueryKept q → run_part p q ≡ Missing i → Stays i
-  missing_kept p q i part asks e = missing_asked p v (stored_view g) Stays q i seen_alike part asks e
+    -- and a part of it lacks only what is kept
+    pub missing_kept : {A : Type 0} (p : Part) (q : Query A) (what : Missing) → IsPart p (stored_view back) → QueryKept q → run_part p q ≡ Unknown what → MissingOf Stays what
+    missing_kept p q what part asks e = missing_asked p v (stored_view back) Stays q what seen_alike part asks e
 
-pub no_call_meets : (g : Graph) (d : Descriptors) (client : ℕ) (c : Call) → IsFair g d → run (graph_view g d) (decide (d client) c) ≡ run (stored_view g) (decide (d client) c)
-no_call_meets g d client c fair = stored_alike g d fair (decide (d client) c) (call_asks_kept g d fair client c)
+pub no_call_meets : (g back : Graph) (d : Descriptors) (client : ℕ) (c : Call) → IsFair g d → IsPutBack g back → run (graph_view g d) (decide (d client) c) ≡ run (stored_view back) (decide (d client) c)
+no_call_meets g back d client c fair put_back = stored_alike g d fair back put_back (decide (d client) c) (call_asks_kept g d fair client c)

@@ -10,17 +10,16 @@ use Rattle.posix_calls.specs.Content.{Entries}
 use Rattle.posix_calls.specs.Tree.{Descriptors}
 use Rattle.posix_calls.proofs.Counts.{order}
 use Rattle.posix_calls.proofs.Sums.{any_there}
-use Rattle.file_graph.specs.Graph.{Graph, Node, DirBody}
+use Rattle.file_graph.specs.Graph.{Graph}
 use Rattle.file_graph.specs.declared.effect.Kind.{Kind}
 use Rattle.file_graph.specs.declared.effect.Kind.TheVariants as kind
 use Rattle.call_effects.specs.Effects.{kind_if}
 use Rattle.call_effects.specs.Wholes.{kind_of, node_is_dir}
-use Rattle.call_effects.specs.Known.{Knowledge, Agrees, copied, same_kind, tells, is_told, is_dir_by, part_of}
-use Rattle.call_effects.specs.Fits.{IsEntry}
+use Rattle.call_effects.specs.Known.{Knowledge, Agrees, IsCopiedEntry, copied, same_kind, tells, is_told, is_dir_by, part_of}
+use Rattle.call_effects.specs.NodeView.{DirView}
 use Rattle.posix_calls.specs.declared.operation.Location.{Location}
-use Rattle.call_effects.proofs.Changes.{IsFair, dir}
-use Rattle.call_effects.proofs.Facts.{has_dir, has_file}
-use Rattle.call_effects.proofs.KnownTold.{part_is}
+use Rattle.call_effects.proofs.Changes.{IsFair}
+use Rattle.call_effects.proofs.KnownTold.{dir_copied, dir_stands, file_stands, part_is}
 use Rattle.call_effects.proofs.KnownMissing.{Answers, by_dir, by_file}
 
 pub or_true : (b : Bool) → (b || true) ≡ true
@@ -41,9 +40,9 @@ itself kind.File = refl
 itself kind.Directory = refl
 
 module _ (k : Knowledge) (g : Graph) (d : Descriptors) (fair : IsFair g d) (agrees : Agrees k g d) where
-  pub entry_told : (at n i : ℕ) (es : Entries (ℕ × Kind)) (name : List ℕ) (what : Kind) → k.copies at ≡ Some (dir n es) → fin.get es name ≡ Some (i, what) → is_told k i what ≡ true
+  pub entry_told : (at n i : ℕ) (es : Entries (ℕ × Kind)) (name : List ℕ) (what : Kind) → k.copies at ≡ Some (Some (DirView n es)) → fin.get es name ≡ Some (i, what) → is_told k i what ≡ true
   entry_told at n i es name what copy is =
-      let range = fair.typed.numbers at kind.Directory (ap kind_of (agrees.copies at (dir n es) copy)) in
+      let range = fair.typed.numbers at kind.Directory (ap kind_of (dir_copied k g d fair agrees at n es copy)) in
       let test : (i == i && same_kind what what) ≡ true = ap (λ b. b && same_kind what what) (eq-eqb i i refl) ∙ itself what in
       any_there 1024 at (λ x. tells i what (copied k x)) range.0 range.1
       (ap (λ x. tells i what (unwrap_or x None)) copy ∙ found_any (λ (e : ℕ × Kind). e.0 == i && same_kind e.1 what) name (i, what) (fin.entries es) (sym (fin.get-entries es name) ∙ is) test)
@@ -60,18 +59,13 @@ module _ (k : Knowledge) (g : Graph) (d : Descriptors) (fair : IsFair g d) (agre
         (a.0, ap (λ b. cond b (Some (Some true)) (is_dir_by (k.copies i) (is_told k i kind.Directory) (is_told k i kind.File))) off.0 ∙ a.1)
   ]
 
-  kind_test : (i : ℕ) (b : Bool) → kind_of (g i) ≡ Some (kind_if b) → option_map node_is_dir (g i) ≡ Some b
-  kind_test i true is = let f = has_dir g i is in ap (option_map node_is_dir) f.is
-  kind_test i false is = let f = has_file g i is in ap (option_map node_is_dir) f.is
-
-  a_copy : (o : Option (Option Node)) (n : Node) → unwrap_or o None ≡ Some n → o ≡ Some (Some n)
-  a_copy None n e = absurd (cc)
-  a_copy (Some x) n e = ap (λ y. Some y) e
+  kind_test : (i : ℕ) (b : Bool) → kind_of (g i) ≡ Some (kind_if b) → option_map node_is_dir (agrees.back i) ≡ Some b
+  kind_test i true is = dir_stands k g d fair agrees i is
+  kind_test i false is = file_stands k g d fair agrees i is
 
   -- an entry of a copy tells its kind
-  pub entry_tells_kind : (at : Location) (i : ℕ) (b : Bool) → IsEntry (copied k) at (i, kind_if b) → (part_of k).is_dir i ≡ Some (Some b)
+  pub entry_tells_kind : (at : Location) (i : ℕ) (b : Bool) → IsCopiedEntry k at (i, kind_if b) → (part_of k).is_dir i ≡ Some (Some b)
   entry_tells_kind at i b entry =
-      let copy = a_copy (k.copies at.parent) (record { names = entry.names; body = DirBody entry.entries }) entry.is in
-      let a = told_answered i (kind_if b) (entry_told at.parent entry.names i entry.entries at.name (kind_if b) copy entry.there) in
-      let so : a.0 ≡ Some b = sym ((part_is k g d fair agrees).is_dir i a.0 a.1) ∙ kind_test i b (fair.typed.kinds at.parent entry.names entry.entries at.name (i, kind_if b) (agrees.copies at.parent (dir entry.names entry.entries) copy) entry.there) in
+      let a = told_answered i (kind_if b) (entry_told at.parent entry.names i entry.entries at.name (kind_if b) entry.copy entry.there) in
+      let so : a.0 ≡ Some b = sym ((part_is k g d fair agrees).is_dir i a.0 a.1) ∙ kind_test i b (fair.typed.kinds at.parent entry.names entry.entries at.name (i, kind_if b) (dir_copied k g d fair agrees at.parent entry.names entry.entries entry.copy) entry.there) in
       a.1 ∙ ap (λ x. Some x) so

@@ -10,19 +10,24 @@ use Rattle.std.specs.declared.cmp.Ordering.TheVariants.{Less, Equal, Greater}
 use Rattle.std.specs.FinMap as fin
 use Rattle.std.specs.FinMap.Entries.{below_all}
 use Rattle.std.proofs.lemmas.Bool.Decides.{eqb_tells}
-use Rattle.posix_calls.specs.Content.{Entries}
+use Rattle.posix_calls.specs.Content.{Entries, range}
 use Rattle.posix_calls.specs.Tree.{Descriptors}
-use Rattle.posix_calls.specs.Query.{IsPart}
+use Rattle.posix_calls.specs.Query.{Seen, IsPart}
 use Rattle.posix_calls.proofs.Counts.{order}
 use Rattle.posix_calls.proofs.Directory.{names_same}
 use Rattle.posix_calls.proofs.Sums.{any_is}
 use Rattle.file_graph.specs.Graph.{Graph, Node, FileBody, DirBody}
 use Rattle.file_graph.specs.declared.effect.Kind.{Kind}
 use Rattle.file_graph.specs.declared.effect.Kind.TheVariants as kind
-use Rattle.call_effects.specs.Wholes.{kind_of, node_is_dir, node_seen}
+use Rattle.call_effects.specs.Blocks.{range_by}
+use Rattle.call_effects.specs.NodeView.{NodeView, FileView, DirView, view_seen, view_is_dir}
+use Rattle.call_effects.specs.Wholes.{kind_of, node_is_dir, node_seen, node_bytes}
 use Rattle.call_effects.specs.Known.{Knowledge, Agrees, copied, same_kind, tells, is_told, is_dir_by, part_of, stored_view}
 use Rattle.call_effects.proofs.Changes.{IsFair, dir}
 use Rattle.call_effects.proofs.Facts.{has_dir, has_file}
+use Rattle.call_effects.proofs.Blocks.{range_is}
+use Rattle.call_effects.proofs.NodeViews.{dir_viewed, kind_viewed, seen_viewed, block_told}
+use Rattle.call_effects.proofs.PutBack.{stands_back, dir_stood}
 
 -- ---- an entry that passes is found by its name
 
@@ -84,6 +89,13 @@ same_number : (a b : ℕ) → (a == b) ≡ true → a ≡ b
 same_number a b e = elim (eqb_tells a b) [ inl same ↦ same.1 | inr off ↦ absurd (let clash : true ≡ false = sym e ∙ off.0 in cc) ]
 
 module _ (k : Knowledge) (g : Graph) (d : Descriptors) (fair : IsFair g d) (agrees : Agrees k g d) where
+  abbrev back : Graph
+  back = agrees.back
+
+  -- what is copied of a directory stands in the whole
+  pub dir_copied : (at names : ℕ) (es : Entries (ℕ × Kind)) → k.copies at ≡ Some (Some (DirView names es)) → g at ≡ dir names es
+  dir_copied at names es is = dir_stood g back agrees.put_back at names es (dir_viewed (back at) names es (agrees.copies at (Some (DirView names es)) is))
+
   entry_tells : (at n i : ℕ) (es : Entries (ℕ × Kind)) (what : Kind) → g at ≡ dir n es → list_any (λ e. e.1.0 == i && same_kind e.1.1 what) (fin.entries es) ≡ true → kind_of (g i) ≡ Some what
   entry_tells at n i es what is any =
       let r = found_by (λ (e : List ℕ × (ℕ × Kind)). e.1.0 == i && same_kind e.1.1 what) (fin.entries es) (fin.entries_sorted es) any in
@@ -92,14 +104,11 @@ module _ (k : Knowledge) (g : Graph) (d : Descriptors) (fair : IsFair g d) (agre
       ∙ fair.typed.kinds at n es r.name r.what is (fin.get-entries es r.name ∙ r.found)
       ∙ ap (λ x. Some x) (same_kind_is r.what.1 what test.1)
 
-  copy_tells : (at i : ℕ) (what : Kind) (copy : Option (Option Node)) → k.copies at ≡ copy → tells i what (unwrap_or copy None) ≡ true → kind_of (g i) ≡ Some what
+  copy_tells : (at i : ℕ) (what : Kind) (copy : Option (Option NodeView)) → k.copies at ≡ copy → tells i what (unwrap_or copy None) ≡ true → kind_of (g i) ≡ Some what
   copy_tells at i what None is e = absurd (cc)
   copy_tells at i what (Some None) is e = absurd (cc)
-  copy_tells at i what (Some (Some n)) is e =
-      elim (n.body) as (λ y. n.body ≡ y → elim y [ FileBody bytes ↦ false | DirBody es ↦ list_any (λ e. e.1.0 == i && same_kind e.1.1 what) (fin.entries es) ] ≡ true → kind_of (g i) ≡ Some what) [
-        | FileBody bytes ↦ λ body any. absurd (cc)
-        | DirBody es ↦ λ body any. entry_tells at n.names i es what (agrees.copies at (Some n) is ∙ ap (λ y. Some (record { names = n.names; body = y })) body) any
-      ] refl e
+  copy_tells at i what (Some (Some (FileView names size))) is e = absurd (cc)
+  copy_tells at i what (Some (Some (DirView names es))) is e = entry_tells at names i es what (dir_copied at names es is) e
 
   pub told_is : (i : ℕ) (what : Kind) → is_told k i what ≡ true → kind_of (g i) ≡ Some what
   told_is i what e =
@@ -108,24 +117,32 @@ module _ (k : Knowledge) (g : Graph) (d : Descriptors) (fair : IsFair g d) (agre
 
   -- ---- the part
 
-  is_dir_of : (i : ℕ) (o : Option Bool) (copy : Option (Option Node)) (as_dir as_file : Bool) → k.copies i ≡ copy → is_told k i kind.Directory ≡ as_dir → is_told k i kind.File ≡ as_file → is_dir_by copy as_dir as_file ≡ Some o → option_map node_is_dir (g i) ≡ o
-  is_dir_of i o (Some copy) as_dir as_file is b c e = ap (option_map node_is_dir) (agrees.copies i copy is) ∙ (let same : option_map node_is_dir copy ≡ o = cc in same)
-  is_dir_of i o None true as_file is b c e = let f = has_dir g i (told_is i kind.Directory b) in ap (option_map node_is_dir) f.is ∙ (let same : Some true ≡ o = cc in same)
-  is_dir_of i o None false true is b c e = let f = has_file g i (told_is i kind.File c) in ap (option_map node_is_dir) f.is ∙ (let same : Some false ≡ o = cc in same)
+  pub dir_stands : (i : ℕ) → kind_of (g i) ≡ Some kind.Directory → option_map node_is_dir (back i) ≡ Some true
+  dir_stands i is = let f = has_dir g i is in ap (option_map node_is_dir) (stands_back g back agrees.put_back i (record { names = f.names; body = DirBody f.entries }) f.is)
+
+  pub file_stands : (i : ℕ) → kind_of (g i) ≡ Some kind.File → option_map node_is_dir (back i) ≡ Some false
+  file_stands i is = let f = has_file g i is in ap (option_map node_is_dir) (stands_back g back agrees.put_back i (record { names = f.names; body = FileBody f.bytes }) f.is)
+
+  is_dir_of : (i : ℕ) (o : Option Bool) (copy : Option (Option NodeView)) (as_dir as_file : Bool) → k.copies i ≡ copy → is_told k i kind.Directory ≡ as_dir → is_told k i kind.File ≡ as_file → is_dir_by copy as_dir as_file ≡ Some o → option_map node_is_dir (back i) ≡ o
+  is_dir_of i o (Some copy) as_dir as_file is b c e = kind_viewed (back i) ∙ ap (option_map view_is_dir) (agrees.copies i copy is) ∙ (let same : option_map view_is_dir copy ≡ o = cc in same)
+  is_dir_of i o None true as_file is b c e = dir_stands i (told_is i kind.Directory b) ∙ (let same : Some true ≡ o = cc in same)
+  is_dir_of i o None false true is b c e = file_stands i (told_is i kind.File c) ∙ (let same : Some false ≡ o = cc in same)
   is_dir_of i o None false false is b c e = absurd (cc)
 
-  dir_of : (i : ℕ) (o : Option Bool) → (part_of k).is_dir i ≡ Some o → option_map node_is_dir (g i) ≡ o
+  dir_of : (i : ℕ) (o : Option Bool) → (part_of k).is_dir i ≡ Some o → option_map node_is_dir (back i) ≡ o
   dir_of i o e = elim (eqb_tells i 1) [
     | inl same ↦
-        let f = has_dir g 1 fair.typed.root in
         let is : Some (Some true) ≡ Some o = sym (ap (λ b. cond b (Some (Some true)) (is_dir_by (k.copies i) (is_told k i kind.Directory) (is_told k i kind.File))) same.0) ∙ e in
-        ap (λ j. option_map node_is_dir (g j)) same.1 ∙ ap (option_map node_is_dir) f.is ∙ (let one : Some true ≡ o = cc in one)
+        ap (λ j. option_map node_is_dir (back j)) same.1 ∙ dir_stands 1 fair.typed.root ∙ (let one : Some true ≡ o = cc in one)
     | inr off ↦ is_dir_of i o (k.copies i) (is_told k i kind.Directory) (is_told k i kind.File) refl refl refl (sym (ap (λ b. cond b (Some (Some true)) (is_dir_by (k.copies i) (is_told k i kind.Directory) (is_told k i kind.File))) off.0) ∙ e)
   ]
 
-  node_of : (i : ℕ) (o : Option _) (copy : Option (Option Node)) → k.copies i ≡ copy → option_map (λ c. option_map node_seen c) copy ≡ Some o → option_map node_seen (g i) ≡ o
+  node_of : (i : ℕ) (o : Option Seen) (copy : Option (Option NodeView)) → k.copies i ≡ copy → option_map (λ c. option_map view_seen c) copy ≡ Some o → option_map node_seen (back i) ≡ o
   node_of i o None is e = absurd (cc)
-  node_of i o (Some copy) is e = ap (option_map node_seen) (agrees.copies i copy is) ∙ (let same : option_map node_seen copy ≡ o = cc in same)
+  node_of i o (Some copy) is e = seen_viewed (back i) ∙ ap (option_map view_seen) (agrees.copies i copy is) ∙ (let same : option_map view_seen copy ≡ o = cc in same)
 
-  pub part_is : IsPart (part_of k) (stored_view g)
-  part_is = record { is_dir = dir_of; node = λ i o e. node_of i o (k.copies i) refl e }
+  bytes_of : (i at count : ℕ) (bytes : List ℕ) → range_by (k.blocks i) at count ≡ Some bytes → range at count (node_bytes (back i)) ≡ bytes
+  bytes_of i at count bytes e = range_is (k.blocks i) (node_bytes (back i)) (λ b block is. block_told b (back i) block (agrees.blocks i b block is)) at count bytes e
+
+  pub part_is : IsPart (part_of k) (stored_view back)
+  part_is = record { is_dir = dir_of; node = λ i o e. node_of i o (k.copies i) refl e; bytes = bytes_of }

@@ -1,4 +1,5 @@
 pub mod Asked
+pub mod Blocks
 pub mod Calls
 pub mod Changes
 pub mod Operations
@@ -9,21 +10,27 @@ pub mod GrowthAsked
 mod GrowthExamples
 pub mod Held
 pub mod Inodes
+pub mod JoinedBlocks
 pub mod KnownAfter
 pub mod KnownAsking
 pub mod KnownEffects
 pub mod KnownGone
 pub mod KnownKinds
 pub mod KnownMissing
+pub mod KnownNodes
 pub mod KnownLooks
+pub mod KnownReads
 pub mod KnownRoot
 pub mod KnownRows
 pub mod KnownSteps
 pub mod KnownTold
 pub mod KnownUnits
 pub mod NewNodes
+pub mod NodeViews
+pub mod PutBack
 pub mod Puts
 pub mod Reached
+pub mod Rise
 pub mod Rises
 pub mod Settled
 pub mod Spelled
@@ -31,6 +38,7 @@ pub mod SpelledQuery
 pub mod Steps
 pub mod SubjectLists
 pub mod Unchanged
+pub mod Unused
 pub mod Views
 pub mod Ways
 pub mod WellFormed

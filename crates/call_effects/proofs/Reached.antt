@@ -60,7 +60,7 @@ reached_kept g d reached = reached_alike (tree_of g) (tree_of (kept g d))
     (λ a. sym (kept_alike entries_of (λ bytes. refl) (is_open d a) (g a)))
     (λ j is. is_dir_is (tree_of g j) (sym (kept_alike is_dir (λ bytes. refl) (is_open d j) (g j)) ∙ dir_is (tree_of (kept g d) j) is)) reached
 
-reached_whole : (g : Graph) (d : Descriptors) → way.AreReached (tree_of (kept g d)) → way.AreReached (tree_of g)
+pub reached_whole : (g : Graph) (d : Descriptors) → way.AreReached (tree_of (kept g d)) → way.AreReached (tree_of g)
 reached_whole g d reached = reached_alike (tree_of (kept g d)) (tree_of g)
     (λ a. kept_alike entries_of (λ bytes. refl) (is_open d a) (g a))
     (λ j is. is_dir_is (tree_of (kept g d) j) (kept_alike is_dir (λ bytes. refl) (is_open d j) (g j) ∙ dir_is (tree_of g j) is)) reached

@@ -1,14 +1,14 @@
 -- What holds of every result that questions may come to, whoever answers them.
 use Rattle.std.proofs.Common.{◌≡◌, ℕ, ◌+◌, ◌-◌, ◌≤◌, List, [], ◌∷◌, length, Bool, true, false, Option, Some, None, Ok, refl, subst, arith, ◌==◌, cond}
-use Rattle.std.specs.Prelude.{max, nat_lt}
+use Rattle.std.specs.Prelude.{max, min, nat_lt}
 use Rattle.std.proofs.lemmas.Bool.Decides.{nat_tests}
 use Rattle.std.specs.FinMap as fin
 use Rattle.posix_calls.specs.Content.{file_units, directory_units}
 use Rattle.posix_calls.specs.Path.{reading}
 use Rattle.posix_calls.specs.Tree.{Own}
-use Rattle.posix_calls.specs.Query.{Seen, File, Dir, Query, Gives, Refuses, IsDir, Look, ◌>>=◌, View, run}
-use Rattle.posix_calls.specs.Walk.{Place, refuse, said, entries_at, bytes_at, names_at, kind_at, prefix, there, entries_seen, bytes_seen}
-use Rattle.posix_calls.specs.Decide.{opened, lowest_free, number_or, empties, open_there, open_path, close, pread, write_at, pwrite, truncate, mkdir, rmdir, link, unlink, is_inode, replacing, renamed, rename, list_path, described, stat, decide}
+use Rattle.posix_calls.specs.Query.{Seen, File, Dir, Query, Gives, Refuses, IsDir, Look, Range, ◌>>=◌, View, run}
+use Rattle.posix_calls.specs.Walk.{Place, is_inode, refuse, said, entries_at, size_at, names_at, kind_at, prefix, there, entries_seen, size_seen}
+use Rattle.posix_calls.specs.Decide.{opened, lowest_free, number_or, empties, open_there, open_path, close, bytes_from, pread, write_at, pwrite, truncate, mkdir, rmdir, link, unlink, replacing, renamed, rename, list_path, described, stat, decide}
 use Rattle.posix_calls.specs.declared.errno.Errno.TheVariants as errno
 use Rattle.posix_calls.specs.declared.limits.TheConstants.{MAX_TRANSFER}
 use Rattle.posix_calls.specs.declared.call.Flags.{Flags}
@@ -26,6 +26,7 @@ Always P (Gives x) = P x
 Always P (Refuses e) = Unit {0}
 Always P (IsDir i next) = (o : Option Bool) → Always P (next o)
 Always P (Look i next) = (o : Option Seen) → Always P (next o)
+Always P (Range i at count next) = (bytes : List ℕ) → Always P (next bytes)
 
 pub of_run : {A : Type 0} (P : A → Type 0) (v : View) (q : Query A) (x : A) → Always P q → run v q ≡ Ok x → P x
 unfolding run
@@ -33,6 +34,7 @@ of_run P v (Gives y) x all e = let same : y ≡ x = cc in subst P same all
 of_run P v (Refuses n) x all e = absurd cc
 of_run P v (IsDir i next) x all e = of_run P v (next (v.is_dir i)) x (all (v.is_dir i)) e
 of_run P v (Look i next) x all e = of_run P v (next (v.node i)) x (all (v.node i)) e
+of_run P v (Range i at count next) x all e = of_run P v (next (v.bytes i at count)) x (all (v.bytes i at count)) e
 
 -- where the first results are such, what they lead to
 pub then_always : {A B : Type 0} (P : A → Type 0) (Q : B → Type 0) (q : Query A) (f : A → Query B) → Always P q → ((x : A) → P x → Always Q (f x)) → Always Q (q >>= f)
@@ -41,6 +43,7 @@ then_always P Q (Gives x) f all rest = rest x all
 then_always P Q (Refuses e) f all rest = tt
 then_always P Q (IsDir i next) f all rest = λ o. then_always P Q (next o) f (all o) rest
 then_always P Q (Look i next) f all rest = λ o. then_always P Q (next o) f (all o) rest
+then_always P Q (Range i at count next) f all rest = λ bytes. then_always P Q (next bytes) f (all bytes) rest
 
 -- whatever the first results are
 pub after_any : {A B : Type 0} (Q : B → Type 0) (q : Query A) (f : A → Query B) → ((x : A) → Always Q (f x)) → Always Q (q >>= f)
@@ -49,6 +52,7 @@ after_any Q (Gives x) f rest = rest x
 after_any Q (Refuses e) f rest = tt
 after_any Q (IsDir i next) f rest = λ o. after_any Q (next o) f rest
 after_any Q (Look i next) f rest = λ o. after_any Q (next o) f rest
+after_any Q (Range i at count next) f rest = λ bytes. after_any Q (next bytes) f rest
 
 -- ---- a write that a call comes to has bytes, and no more than one call may write
 
@@ -75,7 +79,7 @@ close_fine own number = after_any HasBytes (opened (λ d. true) (own number)) _ 
 
 pread_fine : (own : Own) (number at count : ℕ) → Fine (pread own number at count)
 unfolding pread
-pread_fine own number at count = after_any HasBytes (opened (λ d. d.reads) (own number)) _ (λ i. after_any HasBytes _ _ (λ a. after_any HasBytes (bytes_at i) _ (λ bytes. tt)))
+pread_fine own number at count = after_any HasBytes (opened (λ d. d.reads) (own number)) _ (λ i. after_any HasBytes _ _ (λ a. after_any HasBytes (size_at i) _ (λ size. after_any HasBytes (bytes_from i at (min count (size - at))) _ (λ bytes. tt))))
 
 write_fine : (i at : ℕ) (bytes : List ℕ) → length bytes ≤ MAX_TRANSFER → Fine (write_at i at bytes)
 write_fine i at [] few = tt
@@ -103,7 +107,7 @@ truncate_fine : (path : List ℕ) (len : ℕ) → Fine (truncate path len)
 unfolding truncate
 truncate_fine path len =
     after_any HasBytes (said (reading path)) _ (λ names. after_any HasBytes (prefix names) _ (λ place. after_any HasBytes (there place.inode) _ (λ i. after_any HasBytes (kind_at place.inode) _ (λ is_dir.
-    after_any HasBytes _ _ (λ a. after_any HasBytes _ _ (λ b. after_any HasBytes (bytes_at i) _ (λ bytes. told_or_resized (length bytes == len) _ i len)))))))
+    after_any HasBytes _ _ (λ a. after_any HasBytes _ _ (λ b. after_any HasBytes (size_at i) _ (λ size. told_or_resized (size == len) _ i len)))))))
 
 mkdir_fine : (path : List ℕ) → Fine (mkdir path)
 unfolding mkdir
@@ -202,6 +206,7 @@ weaker P Q so (Gives x) all = so x all
 weaker P Q so (Refuses e) all = tt
 weaker P Q so (IsDir i next) all = λ o. weaker P Q so (next o) (all o)
 weaker P Q so (Look i next) all = λ o. weaker P Q so (next o) (all o)
+weaker P Q so (Range i at count next) all = λ bytes. weaker P Q so (next bytes) (all bytes)
 
 with_one : (n : ℕ) (dir : ℕ) → n ≤ 1 → Always IsFew (entry_rise dir >>= (λ rise. Gives (n + rise)))
 with_one n dir small = then_always IsOne IsFew (entry_rise dir) (λ rise. Gives (n + rise)) (entry_few dir) (λ rise one. omega (arith, one, small))
@@ -217,8 +222,8 @@ growth_few (NewDir at) small = with_one (directory_units 0) at.parent (omega ari
 growth_few (NewFile at number reads writes) small = with_one (file_units 0) at.parent (omega arith)
 growth_few (OpenFile i empties number reads writes) small = omega arith
 growth_few (CloseFile i number) small = omega arith
-growth_few (Write i at bytes) small = λ o. greater_few (length (bytes_seen o)) (at + length bytes) small
-growth_few (Resize i len) small = λ o. file_few (length (bytes_seen o)) len small
+growth_few (Write i at bytes) small = λ o. greater_few (size_seen o) (at + length bytes) small
+growth_few (Resize i len) small = λ o. file_few (size_seen o) len small
 growth_few (RemoveDir at i) small = omega arith
 growth_few (AddName at i) small = weaker IsOne IsFew one_few (entry_rise at.parent) (entry_few at.parent)
 growth_few (DropName at i) small = omega arith

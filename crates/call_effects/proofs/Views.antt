@@ -2,12 +2,13 @@
 use Rattle.std.proofs.Common.{◌≡◌, ◌⊎◌, inl, inr, ℕ, refl, Some, None, Option, cond, ap, sym, ◌∙◌, true, false, Bool, arith, ◌==◌, if◌then◌else◌}
 use Rattle.std.specs.Prelude.{option_map, ◌&&◌, not}
 use Rattle.std.proofs.lemmas.Bool.Decides.{eqb_tells}
-use Rattle.posix_calls.specs.Tree.{Descriptors, is_open, names_of, names_in, sum_up_to}
+use Rattle.posix_calls.specs.Content.{range}
+use Rattle.posix_calls.specs.Tree.{Descriptors, bytes_of, is_open, names_of, names_in, sum_up_to}
 use Rattle.file_graph.specs.Graph.{Graph, Node, FileBody, DirBody}
 use Rattle.file_graph.specs.declared.effect.Kind.TheVariants as kind
 use Rattle.posix_calls.specs.Query.{view_of, seen, dir_test}
 use Rattle.call_effects.specs.Effects.{stored}
-use Rattle.call_effects.specs.Wholes.{tree_of, tree_node, keep, kept, kind_of, body_kind, one_if, graph_view, node_is_dir, node_seen}
+use Rattle.call_effects.specs.Wholes.{tree_of, tree_node, keep, kept, kind_of, body_kind, one_if, graph_view, node_is_dir, node_seen, node_bytes}
 use Rattle.call_effects.proofs.Changes.{file, named, IsFair}
 
 same_terms : (n : ℕ) (f h : ℕ → ℕ) → ((j : ℕ) → f j ≡ h j) → sum_up_to n f ≡ sum_up_to n h
@@ -55,6 +56,10 @@ pub kind_alike : (o : Option Node) → option_map dir_test (option_map tree_node
 kind_alike None = refl
 kind_alike (Some n) = elim (n.body) as (λ y. Some (dir_test (tree_node (record { names = n.names; body = y }))) ≡ Some (node_is_dir (record { names = n.names; body = y }))) [ FileBody bytes ↦ refl | DirBody es ↦ refl ]
 
+pub bytes_alike : (o : Option Node) → bytes_of (option_map tree_node o) ≡ node_bytes o
+bytes_alike None = refl
+bytes_alike (Some n) = elim (n.body) as (λ y. bytes_of (Some (tree_node (record { names = n.names; body = y }))) ≡ node_bytes (Some (record { names = n.names; body = y }))) [ FileBody bytes ↦ refl | DirBody es ↦ refl ]
+
 -- a file is not the root
 pub file_count : (g : Graph) (d : Descriptors) (i : ℕ) → IsFair g d → kind_of (g i) ≡ Some kind.File → stored (g i) ≡ names_of (tree_of (kept g d)) i
 file_count g d i sound is =
@@ -70,4 +75,5 @@ pub views_same : (g : Graph) (d : Descriptors) → IsFair g d → view_of (tree_
 views_same g d sound = λ t. record {
   is_dir = λ i. kind_alike (kept g d i) t;
   node = λ i. seen_alike (is_open d i) (names_of (tree_of (kept g d)) i) (g i) (file_count g d i sound) t;
+  bytes = λ i at count. ap (range at count) (bytes_alike (kept g d i)) t;
 }

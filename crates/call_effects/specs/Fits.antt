@@ -44,6 +44,12 @@ pub record IsUsedFile (g : Graph) (held : Descriptors) (i : ℕ) : Type 0 where
   pub is : g i ≡ Some (record { names = names; body = FileBody bytes })
   pub used : (names == 0 && not (is_open held i)) ≡ false
 
+-- a file that has no name, and that nobody has open
+pub record IsUnusedFile (g : Graph) (held : Descriptors) (i : ℕ) : Type 0 where
+  pub bytes : List ℕ
+  pub is : g i ≡ Some (record { names = 0; body = FileBody bytes })
+  pub closed : is_open held i ≡ false
+
 -- a directory without entries
 pub record IsEmptyDir (g : Graph) (i : ℕ) : Type 0 where
   pub names : ℕ

@@ -1,8 +1,10 @@
+pub mod Blocks
 pub mod Calls
 pub mod Changed
 pub mod Effects
 pub mod Fits
 pub mod Known
+pub mod NodeView
 pub mod Recorded
 pub mod Records
 pub mod Rises

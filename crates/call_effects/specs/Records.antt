@@ -1,9 +1,9 @@
 -- The record of an operation, as questions: the effects that it has, and by how many units they may raise the graph.
-use Rattle.std.specs.Prelude.{ℕ, ◌+◌, ◌-◌, ◌==◌, max, List, length, Option, Some, None, if◌then◌else◌}
+use Rattle.std.specs.Prelude.{ℕ, ◌+◌, ◌-◌, ◌==◌, max, min, List, length, Option, Some, None, if◌then◌else◌}
 use Rattle.std.specs.FinMap as fin
 use Rattle.posix_calls.specs.Content.{file_units, directory_units}
 use Rattle.posix_calls.specs.Query.{Query, Gives, ◌>>=◌}
-use Rattle.posix_calls.specs.Walk.{entries_at, bytes_at, names_at}
+use Rattle.posix_calls.specs.Walk.{entries_at, size_at, names_at}
 use Rattle.posix_calls.specs.declared.operation.Location.{Location}
 use Rattle.posix_calls.specs.declared.operation.Operation.{Operation}
 use Rattle.posix_calls.specs.declared.operation.Operation.TheVariants.{NewDir, NewFile, Write, Resize, AddName, Move}
@@ -39,8 +39,12 @@ move_rise from to (OldDir j) = Gives 0
 abbrev pub growth_asked : Operation → Query ℕ
 growth_asked (NewDir at) = entry_rise at.parent >>= (λ rise. Gives (directory_units 0 + rise))
 growth_asked (NewFile at number reads writes) = entry_rise at.parent >>= (λ rise. Gives (file_units 0 + rise))
-growth_asked (Write i at bytes) = bytes_at i >>= (λ old. Gives (file_rise (length old) (max (length old) (at + length bytes))))
-growth_asked (Resize i len) = bytes_at i >>= (λ old. Gives (file_rise (length old) len))
+growth_asked (Write i at bytes) = size_at i >>= (λ old. Gives (file_rise old (max old (at + length bytes))))
+growth_asked (Resize i len) = size_at i >>= (λ old. Gives (file_rise old len))
 growth_asked (AddName at i) = entry_rise at.parent
 growth_asked (Move from to i is_dir replaced) = move_rise from to replaced
 growth_asked _ = Gives 0
+
+-- the same as a record has it, in 32 bits; a growth past them counts as the greatest, but no call's operation has one
+abbrev pub units_asked : Operation → Query ℕ
+units_asked operation = growth_asked operation >>= (λ units. Gives (min units 4294967295))

@@ -1,7 +1,7 @@
 -- The state that a graph and descriptors stand for, what a call sees of it, and when the two are sound.
-use Rattle.std.specs.Prelude.{◌≡◌, ℕ, ◌+◌, ◌<◌, ◌≤◌, List, map, Bool, true, false, ◌&&◌, not, ◌==◌, Option, Some, None, Ok, option_map, if◌then◌else◌}
+use Rattle.std.specs.Prelude.{◌≡◌, ℕ, ◌+◌, ◌<◌, ◌≤◌, List, [], map, length, Bool, true, false, ◌&&◌, not, ◌==◌, Option, Some, None, Ok, option_map, if◌then◌else◌}
 use Rattle.std.specs.FinMap as fin
-use Rattle.posix_calls.specs.Content.{Entries}
+use Rattle.posix_calls.specs.Content.{Entries, range}
 use Rattle.posix_calls.specs.Tree.{Tree, Descriptors, State, names_of, is_open}
 use Rattle.posix_calls.specs.declared.descriptor.Descriptor.{Descriptor}
 use Rattle.posix_calls.specs.Tree as tree
@@ -56,11 +56,16 @@ node_is_dir n = elim (n.body) [ FileBody bytes ↦ false | DirBody es ↦ true ]
 
 -- a node as a call sees it, with the count of names that it has stored
 abbrev pub node_seen : Node → Seen
-node_seen n = elim (n.body) [ FileBody bytes ↦ File n.names bytes | DirBody es ↦ Dir (without_kinds es) ]
+node_seen n = elim (n.body) [ FileBody bytes ↦ File n.names (length bytes) | DirBody es ↦ Dir (without_kinds es) ]
+
+-- the bytes of a file; what is none has none
+abbrev pub node_bytes : Option Node → List ℕ
+node_bytes None = []
+node_bytes (Some n) = elim (n.body) [ FileBody bytes ↦ bytes | DirBody es ↦ [] ]
 
 -- the answers of a graph with descriptors, by stored counts
 abbrev pub graph_view : Graph → Descriptors → View
-graph_view g held = record { is_dir = λ i. option_map node_is_dir (kept g held i); node = λ i. option_map node_seen (kept g held i) }
+graph_view g held = record { is_dir = λ i. option_map node_is_dir (kept g held i); node = λ i. option_map node_seen (kept g held i); bytes = λ i at count. range at count (node_bytes (kept g held i)) }
 
 -- ---- soundness
 

@@ -1,18 +1,31 @@
-ghost use Rattle.std.specs.Prelude.{◌≡◌, ◌+◌, ◌^◌, ◌<◌, IfOk, max};
+ghost use Rattle.std.specs.Prelude.{◌≡◌, ◌+◌, ◌^◌, ◌<◌, IfOk, IfErr, max};
 ghost use Rattle.posix_calls.specs.Answers.{Tells};
 ghost use Rattle.posix_calls.specs.Content.{file_units, directory_units};
-ghost use Rattle.call_effects.specs.Records.{file_rise, entry_rise, move_rise, growth_asked};
-ghost use Rattle.call_effects.specs.Rises.{new_rise, size_rise};
+ghost use Rattle.call_effects.specs.Records.{file_rise, entry_rise, move_rise, growth_asked, units_asked};
+ghost use Rattle.call_effects.specs.Rises.{IsOfNode, new_rise, size_rise};
 
-use posix_calls::{Operation, DecideError, Replaced, Location, TreeAnswers, UNIT_BYTES, UNIT_ENTRIES, known};
+use posix_calls::{
+    DecideError, Location, Missing, Operation, Replaced, TreeAnswers, UNIT_BYTES, UNIT_ENTRIES,
+    known,
+};
 
 /// By how many units an operation raises the graph at most: the rises of the inodes that its effects touch, each by itself. No fall
 /// is set against a rise.
 ///
-/// Of the tree, the directory that gets an entry or the file that gets another length has to be known; `Missing` names it. No
-/// other error comes. An operation that a call came to grows by a few hundred units at most.
-pub fn growth_of<T: TreeAnswers>(tree: &T, operation: &Operation) -> Result<u64, DecideError>
-    ensures { Tells (T.part tree.now) (growth_asked operation.now) result }
+/// Of the tree, the directory that gets an entry or the file that gets another length has to be known, without its bytes; `Missing`
+/// names it. No other error comes. An operation that a call came to grows by a few hundred units at most; for one that would grow
+/// by more than 32 bits count, the answer is the greatest that they do.
+pub fn growth_of<T: TreeAnswers>(tree: &T, operation: &Operation) -> Result<u32, DecideError>
+    ensures tells { Tells (T.part tree.now) (units_asked operation.now) result }
+    ensures errors { IfErr result IsOfNode }
+{
+    let units = growth_in_full(tree, operation)?;
+    Ok(units.min(u32::MAX as u64) as u32)
+}
+
+fn growth_in_full<T: TreeAnswers>(tree: &T, operation: &Operation) -> Result<u64, DecideError>
+    ensures tells { Tells (T.part tree.now) (growth_asked operation.now) result }
+    ensures errors { IfErr result IsOfNode }
 {
     match operation {
         Operation::NewDir { at } => new_rise(tree, at.parent, directory_units(0)),
@@ -54,16 +67,18 @@ fn file_units(len: u128) -> u64
 // The rise of a directory that gets one more entry.
 fn entry_rise<T: TreeAnswers>(tree: &T, dir: u32) -> Result<u64, DecideError>
     ensures tells { Tells (T.part tree.now) (entry_rise dir) result }
+    ensures errors { IfErr result IsOfNode }
     ensures small { IfOk result (λ rise. rise < 2 ^ 33) }
 {
-    let entries = known(tree.entry_count(dir), dir)? as u64;
+    let entries = known(tree.entry_count(dir), Missing::Node { inode: dir })? as u64;
     Ok(directory_units(entries + 1).saturating_sub(directory_units(entries)))
 }
 
 // The units of a new node, and the rise of its directory.
 fn new_rise<T: TreeAnswers>(tree: &T, dir: u32, units: u64) -> Result<u64, DecideError>
     requires { units < 2 ^ 54 }
-    ensures { Tells (T.part tree.now) (new_rise units dir) result }
+    ensures tells { Tells (T.part tree.now) (new_rise units dir) result }
+    ensures errors { IfErr result IsOfNode }
 {
     let rise = entry_rise(tree, dir)?;
     Ok(units + rise)
@@ -76,7 +91,8 @@ fn move_rise<T: TreeAnswers>(
     to: &Location,
     replaced: Replaced,
 ) -> Result<u64, DecideError>
-    ensures { Tells (T.part tree.now) (move_rise from.now to.now replaced) result }
+    ensures tells { Tells (T.part tree.now) (move_rise from.now to.now replaced) result }
+    ensures errors { IfErr result IsOfNode }
 {
     match replaced {
         Replaced::Nothing if from.parent == to.parent => Ok(0),
@@ -96,18 +112,25 @@ fn file_rise(old: u128, new: u128) -> u64
 }
 
 // The rise of a file that so many bytes are put into at an offset.
-fn write_rise<T: TreeAnswers>(tree: &T, inode: u32, at: u64, count: usize) -> Result<u64, DecideError>
-    ensures { Tells (T.part tree.now) (size_rise (λ old. max old (at + count)) inode) result }
+fn write_rise<T: TreeAnswers>(
+    tree: &T,
+    inode: u32,
+    at: u64,
+    count: usize,
+) -> Result<u64, DecideError>
+    ensures tells { Tells (T.part tree.now) (size_rise (λ old. max old (at + count)) inode) result }
+    ensures errors { IfErr result IsOfNode }
 {
-    let old = known(tree.file_size(inode), inode)? as u128;
+    let old = known(tree.file_size(inode), Missing::Node { inode })? as u128;
     let end = at as u128 + count as u128;
     Ok(file_rise(old, old.max(end)))
 }
 
 // The rise of a file that is cut or grown to a length.
 fn resize_rise<T: TreeAnswers>(tree: &T, inode: u32, len: u64) -> Result<u64, DecideError>
-    ensures { Tells (T.part tree.now) (size_rise (λ old. len) inode) result }
+    ensures tells { Tells (T.part tree.now) (size_rise (λ old. len) inode) result }
+    ensures errors { IfErr result IsOfNode }
 {
-    let old = known(tree.file_size(inode), inode)?;
+    let old = known(tree.file_size(inode), Missing::Node { inode })?;
     Ok(file_rise(old as u128, len as u128))
 }

@@ -11,7 +11,7 @@ ghost use Rattle.call_effects.specs.Recorded.{effects_told, leaving_first, putti
 use crate::changed::has_effects;
 use file_graph::{Effect, Effects, Kind};
 use log_record::Record;
-use posix_calls::{DecideError, Location, Operation, Replaced, TreeAnswers, known};
+use posix_calls::{DecideError, Location, Missing, Operation, Replaced, TreeAnswers, known};
 use std::alloc::{AllocError, Global};
 
 // No operation has more effects.
@@ -75,7 +75,7 @@ fn names_if<T: TreeAnswers>(tree: &T, inode: Option<u32>) -> Result<u32, DecideE
     let Some(inode) = inode else {
         return Ok(0);
     };
-    let names = known(tree.file_names(inode), inode)?;
+    let names = known(tree.file_names(inode), Missing::Node { inode })?;
     if names == u32::MAX {
         return Err(DecideError::Memory);
     }

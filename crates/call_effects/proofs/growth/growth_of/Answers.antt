@@ -1,29 +1,13 @@
-use Rattle.posix_calls.proofs.Chain.{gives}
+use Rattle.std.proofs.Common.{sym}
+use Rattle.posix_calls.proofs.Chain.{exits, gives_as, bind_gives, bind_stops}
+use Rattle.call_effects.proofs.Rise.{exits_of_node}
 use Rattle.call_effects.proofs.growth.growth_of.Goals as goal
 
-pub returns-in-NewDir : goal.returns-in-NewDir
-returns-in-NewDir g c = rw c.in-NewDir.is (rw c.directory_units.ensures.units at c.new_rise.ensures)
+pub returns-in_err-units-clause-tells : goal.returns-in_err-units-clause-tells
+returns-in_err-units-clause-tells g c = exits c.from_residual.ensures.1 (bind_stops _ c.in_err-units.ensures.tells)
 
-pub returns-in-NewFile : goal.returns-in-NewFile
-returns-in-NewFile g c = rw c.in-NewFile.is (rw c.file_units.ensures.units at c.new_rise-in-NewFile.ensures)
+pub returns-in_err-units-clause-errors : goal.returns-in_err-units-clause-errors
+returns-in_err-units-clause-errors g c = exits_of_node _ c.from_residual.ensures.1 c.in_err-units.ensures.errors
 
-pub returns-in-Write : goal.returns-in-Write
-returns-in-Write g c = rw c.in-Write.is (rw c.len.ensures at c.write_rise.ensures)
-
-pub returns-in-Resize : goal.returns-in-Resize
-returns-in-Resize g c = rw c.in-Resize.is c.resize_rise.ensures
-
-pub returns-in-Tell : goal.returns-in-Tell
-returns-in-Tell g c = rw c.in-Tell.is gives
-
-pub returns-in-OpenFile : goal.returns-in-OpenFile
-returns-in-OpenFile g c = rw c.in-OpenFile.is gives
-
-pub returns-in-CloseFile : goal.returns-in-CloseFile
-returns-in-CloseFile g c = rw c.in-CloseFile.is gives
-
-pub returns-in-RemoveDir : goal.returns-in-RemoveDir
-returns-in-RemoveDir g c = rw c.in-RemoveDir.is gives
-
-pub returns-in-DropName : goal.returns-in-DropName
-returns-in-DropName g c = rw c.in-DropName.is gives
+pub returns-clause-tells : goal.returns-clause-tells
+returns-clause-tells g c = bind_gives _ c.in_ok-units.ensures.tells (gives_as (sym c.min.ensures))

@@ -1,5 +1,5 @@
 use Rattle.call_effects.proofs.KnownSteps.{planned_step, planned_sound, refused_step}
-use Rattle.call_effects.proofs.KnownUnits.{planned_growth}
+use Rattle.call_effects.proofs.KnownUnits.{planned_growth, planned_units}
 use Rattle.call_effects.proofs.known_laws.known_call_is_a_step.Goals as goal
 
 pub returns-clause-done : goal.returns-clause-done
@@ -13,3 +13,6 @@ returns-clause-refused c = λ k g held call errno sound agrees known. refused_st
 
 pub returns-clause-growth : goal.returns-clause-growth
 returns-clause-growth c = planned_growth
+
+pub returns-clause-units : goal.returns-clause-units
+returns-clause-units c = planned_units

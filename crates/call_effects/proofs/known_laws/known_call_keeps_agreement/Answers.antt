@@ -5,4 +5,4 @@ pub returns-clause-own : goal.returns-clause-own
 returns-clause-own c = λ k g held call new operation es sound agrees plan. agrees_after k g held call new operation es sound agrees plan
 
 pub returns-clause-others : goal.returns-clause-others
-returns-clause-others c = λ k other g held call new operation es sound agrees plan known apart copies numbers. other_agrees k g held call new operation es sound agrees plan other known apart copies numbers
+returns-clause-others c = λ k other g held call new operation es sound agrees plan known apart copies blocks numbers. other_agrees k g held call new operation es sound agrees plan other known apart copies blocks numbers
