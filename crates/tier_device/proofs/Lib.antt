@@ -1,3 +1,4 @@
 pub mod Grow
 pub mod CallLogs
 pub mod HeldLaws
+pub mod Rows

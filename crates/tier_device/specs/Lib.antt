@@ -13,3 +13,4 @@ pub mod Turn
 pub mod Count
 pub mod Stop
 pub mod Fault
+pub mod Row

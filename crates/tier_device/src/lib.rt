@@ -13,6 +13,7 @@ mod held;
 mod media;
 mod memory;
 mod record;
+mod row;
 mod stop;
 mod tiers;
 mod trip;

@@ -88,12 +88,12 @@ impl MemMedia {
         ensures held { IfOk result (λ bytes. bytes.items ≡ memory_held fill self.now tier) }
         ensures allowed { IfOk result (λ bytes. memory_left self.now (memory_moment self.now) tier bytes.items) }
     {
-        let (entries, written) = self.calls.parts();
+        let (entries, written) = self.calls.parts()?;
         held_after(
             self.alloc,
             self.first.bytes(tier),
             entries,
-            written,
+            &written,
             tier,
             fill,
         )

@@ -1,8 +1,9 @@
 // The record that a medium in memory keeps of its calls.
-ghost use Rattle.std.specs.Prelude.{◌≡◌, ◌++◌, ◌∷◌, [], List, ℕ, length, OnOk, OnErr};
+ghost use Rattle.std.specs.Prelude.{◌≡◌, ◌++◌, ◌∷◌, [], List, ℕ, length, IfOk, OnOk, OnErr};
 ghost use Rattle.tier_device.specs.DeviceCall.{Write, Fence};
 
 use crate::Tier;
+use crate::row::Row;
 use std::alloc::{AllocError, Global};
 use std::marker::Model;
 
@@ -13,12 +14,12 @@ pub(crate) enum Entry {
     Fence { tier: Tier },
 }
 
-/// The calls that moved the clock, in their order. The bytes of all writes stand in one vector, so a call takes no block of
-/// memory of its own. Contracts see the list of the calls.
+/// The calls that moved the clock, in their order. The bytes of all writes stand in one row, so a call takes no block of memory
+/// of its own. Contracts see the list of the calls.
 #[derive(Debug, Drop)]
 pub(crate) struct CallLog {
     entries: Vec<Entry>,
-    bytes: Vec<u8>,
+    bytes: Row,
 }
 
 impl Model for CallLog {
@@ -29,9 +30,9 @@ impl Model for CallLog {
 
     ghost use Rattle.tier_device.specs.CallLog.{calls_of, total_len};
 
-    ghost view = { λ l. calls_of l.entries.items l.bytes.items };
+    ghost view = { λ l. calls_of l.entries.items l.bytes };
 
-    ghost invariant = { λ l. total_len l.entries.items ≡ length l.bytes.items };
+    ghost invariant = { λ l. total_len l.entries.items ≡ length l.bytes };
 }
 
 impl CallLog {
@@ -43,7 +44,7 @@ impl CallLog {
     {
         CallLog {
             entries: Vec::new(alloc),
-            bytes: Vec::new(alloc),
+            bytes: Row::new(alloc),
         }
     }
 
@@ -52,14 +53,12 @@ impl CallLog {
         ensures grown { OnOk result (self.new ≡ self.old ++ Write tier at bytes.now ∷ []) }
         ensures same { OnErr result (self.new ≡ self.old) }
     {
-        self.bytes.extend_from_slice(bytes)?;
+        self.entries.reserve(1)?;
+        self.bytes.push(bytes)?;
         let len = bytes.len();
         match self.entries.push(Entry::Write { tier, at, len }) {
             Ok(()) => Ok(()),
-            Err(_) => {
-                self.bytes.truncate(self.bytes.len() - len);
-                Err(AllocError)
-            }
+            Err(_) => unreachable!(),
         }
     }
 
@@ -73,10 +72,11 @@ impl CallLog {
     }
 
     /// What it is made of: an entry for each call, and the bytes of all writes.
-    pub fn parts(&self) -> (&[Entry], &[u8])
-        ensures calls { calls_of result.0.now result.1.now ≡ self.now }
-        ensures bytes { total_len result.0.now ≡ length result.1.now }
+    pub fn parts(&self) -> Result<(&[Entry], Vec<u8>), AllocError>
+        ensures calls { IfOk result (λ p. calls_of p.0.now p.1.items ≡ self.now) }
+        ensures bytes { IfOk result (λ p. total_len p.0.now ≡ length p.1.items) }
     {
-        (&self.entries, &self.bytes)
+        let written = self.bytes.to_vec()?;
+        Ok((&self.entries, written))
     }
 }

@@ -1,4 +1,4 @@
-use Rattle.std.proofs.Common.{◌≡◌, List, ℕ, length, refl, sym, ◌∙◌, subst, arith, rules}
+use Rattle.std.proofs.Common.{◌≡◌, List, ℕ, length, refl, sym, ◌∙◌, ap, subst, arith, rules}
 use Rattle.std.proofs.lemmas.List.{take_all}
 use Rattle.std.proofs.lemmas.Result.{IfOk-weaker}
 use Rattle.tier_device.specs.Rows.{row}
@@ -21,5 +21,6 @@ returns-clause-allowed c =
     let at_moment : memory_left m (memory_moment m) t (memory_held c.args.fill m t) =
     subst (λ (xs : List DeviceCall). LeftAfter t first Before xs (held c.args.fill t first first calls)) (sym (take_all (length calls) calls (omega arith))) now in
     let shown : c.bytes.result.now ≡ first = search rules in
-    let is_log : calls_of c.parts.result.0.now c.parts.result.1.now ≡ calls = c.parts.ensures.calls in
+    let entries = c.in_ok-entries.entries.now in
+    let is_log : calls_of entries c.deref.result.now ≡ calls = ap (calls_of entries) c.deref.ensures.value ∙ c.in_ok-entries.ensures.calls in
     IfOk-weaker c.held_after.result _ _ (λ bytes same. subst (memory_left m (memory_moment m) t) (sym (same ∙ (λ k. held c.args.fill t (shown k) (shown k) (is_log k)))) at_moment) c.held_after.ensures
