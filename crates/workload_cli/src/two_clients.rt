@@ -121,14 +121,13 @@ fn decided(
     }
 }
 
+// By how many units an operation may raise the graph. The greatest number that a record has room for may stand for more.
 fn units_of(graph: &PlainGraph, operation: &Operation) -> Result<u32, RunError>
     ensures { IfOk result (λ units. run (stored_view (graph_of graph.now)) (growth_asked operation.now) ≡ Ok units) }
 {
     match growth_of(&GraphAnswers { graph }, operation) {
-        Ok(units) => match u32::try_from(units) {
-            Ok(units) => Ok(units),
-            Err(_) => Err(RunError::Damaged),
-        },
+        Ok(u32::MAX) => Err(RunError::Damaged),
+        Ok(units) => Ok(units),
         Err(why) => Err(RunError::from(why)),
     }
 }

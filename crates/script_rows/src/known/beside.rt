@@ -26,7 +26,7 @@ pub struct Beside {
     owns: Vec<OwnDescriptors>,
     /// How many inodes the last call was decided by, and by how many units it might raise the graph.
     pub decided: usize,
-    pub growth: u64,
+    pub growth: u32,
 }
 
 /// That the graph and the tree differ, or that what they promise is not so.
@@ -124,7 +124,7 @@ impl Beside {
     }
 
     // By how many units an operation raises the graph.
-    fn growth_of(&mut self, operation: &Operation) -> io::Result<u64> {
+    fn growth_of(&mut self, operation: &Operation) -> io::Result<u32> {
         for _ in 0..MOST_LACKED {
             match growth_of(&self.part, operation) {
                 Ok(growth) => return Ok(growth),
@@ -165,7 +165,7 @@ impl Beside {
         if record.units != UNITS || record.effects.is_empty() {
             return Err(differs());
         }
-        let most = self.part.graph.charge().saturating_add(self.growth);
+        let most = self.part.graph.charge().saturating_add(u64::from(self.growth));
         for effect in record.effects.as_slice() {
             self.part.graph.apply(effect)?;
         }
