@@ -262,6 +262,15 @@ impl CallText<'_> {
                 let path = path.to_bytes(alloc)?;
                 Ok(Call::Truncate { path, len })
             }
+            other => other.to_name_call(alloc),
+        }
+    }
+
+    // The same of a call that makes or takes away a name, or tells of a node.
+    fn to_name_call(&self, alloc: Global) -> Result<Call, AllocError>
+        ensures { IfOk result (λ call. call ≡ asked self.now) }
+    {
+        match *self {
             CallText::Link { old, new } => {
                 let old = old.to_bytes(alloc)?;
                 let new = new.to_bytes(alloc)?;
@@ -287,6 +296,7 @@ impl CallText<'_> {
             CallText::Stat { path } => Ok(Call::Stat {
                 path: path.to_bytes(alloc)?,
             }),
+            _ => Err(AllocError),
         }
     }
 }
