@@ -44,6 +44,12 @@ same_either h h' rs rs' o o' c hs rss os was = record {
   records_are = elim (was.records_are) [ inl same ↦ inl (same ∙ rss) | inr more ↦ inr (more ∙ (λ i. joined (rss i) (os i))) ];
 }
 
+-- the same for what an append promises
+pub goes_on : (first before now : ℕ) (old new : ℕ → Tier → List ℕ → Type 0) (h h' : List ℕ) (rs rs' : List Record) (o o' : Option Record) → Keeps before now old new → h ≡ h' → rs ≡ rs' → o ≡ o'
+    → ((c : List ℕ) → LeftSince old before first Fast c → WithOrWithout h' rs' o' c) → ((c : List ℕ) → LeftSince new now before Fast c → WithOrWithout h rs o c) → (c : List ℕ) → LeftSince new now first Fast c → WithOrWithout h' rs' o' c
+goes_on first before now old new h h' rs rs' o o' keeps hs rss os earlier last =
+    since_more first before now old new (WithOrWithout h' rs' o') keeps earlier (λ d since. same_either h h' rs rs' o o' d hs rss os (last d since))
+
 pub begun_appending : (stage : Stage) (payload : List ℕ) → IsAppending stage → begun_in stage payload ≡ record_of payload
 begun_appending stages.Resting payload h = absurd h
 begun_appending stages.Foreign payload h = absurd h
