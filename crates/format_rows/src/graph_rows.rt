@@ -68,7 +68,12 @@ fn put_node(graph: &PlainGraph, inode: u32, out: &mut String) -> Result<(), Allo
 
 fn put_entries(entries: &[PlainEntry], out: &mut String) -> Result<(), AllocError> {
     for entry in entries {
-        put_entry(out, entry.name.as_slice(), entry.value.0, entry.value.1)?;
+        put_entry(
+            out,
+            entry.name.as_slice(),
+            entry.value.inode(),
+            entry.value.kind(),
+        )?;
     }
     Ok(())
 }

@@ -5,8 +5,8 @@ use file_graph::{Effect, PlainGraph};
 use log_record::Record;
 use plain_tree::PlainTree;
 use posix_calls::{
-    Call, Operation, Descriptor, Errno, MAX_CLIENTS, MAX_INODE, DecideError, OwnDescriptors, ROOT, Reply,
-    decide,
+    Call, DecideError, Descriptor, Errno, MAX_CLIENTS, MAX_INODE, Operation, OwnDescriptors, ROOT,
+    Reply, decide,
 };
 use std::alloc::Global;
 use std::io::{self, ErrorKind};
@@ -86,7 +86,11 @@ impl Beside {
         Err(differs())
     }
 
-    fn decided_by_part(&self, client: u32, call: &Call) -> io::Result<Result<Operation, DecideError>> {
+    fn decided_by_part(
+        &self,
+        client: u32,
+        call: &Call,
+    ) -> io::Result<Result<Operation, DecideError>> {
         let Some(own) = self.owns.get((client as usize).saturating_sub(1)) else {
             return Err(differs());
         };
