@@ -10,6 +10,51 @@ pub enum Kind {
     Directory,
 }
 
+/// What a name of a directory names: an inode, and what is there. Contracts see it as the pair of both.
+#[derive(Clone, Copy, Debug)]
+pub struct Child {
+    inode: u32,
+    kind: Kind,
+}
+
+impl Model for Child {
+    ghost use Rattle.std.specs.Prelude.{ℕ};
+    ghost use Rattle.std.specs.Coded.{coded×, coded_ℕ};
+    ghost use Rattle.file_graph.specs.declared.effect.Kind.{Kind};
+    ghost use Rattle.file_graph.specs.Codes.{kind_code};
+
+    ghost Value = { ℕ × Kind };
+
+    ghost coded = { coded× coded_ℕ kind_code };
+
+    ghost view = { λ c. (c.inode, c.kind) };
+
+    ghost inverse = { λ c. record { inode = c.0; kind = c.1 } };
+}
+
+impl Child {
+    /// An inode that is of this kind.
+    pub fn new(inode: u32, kind: Kind) -> Self
+        ensures { result ≡ (inode, kind) }
+    {
+        Child { inode, kind }
+    }
+
+    /// The inode.
+    pub fn inode(&self) -> u32
+        ensures { result ≡ self.now.0 }
+    {
+        self.inode
+    }
+
+    /// What is there.
+    pub fn kind(&self) -> Kind
+        ensures { result ≡ self.now.1 }
+    {
+        self.kind
+    }
+}
+
 /// One change of one node. On an inode that is no node, or of another kind, all but a Make and a Drop do nothing.
 #[derive(Debug, Drop)]
 pub enum Effect {

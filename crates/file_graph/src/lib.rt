@@ -10,7 +10,7 @@ mod laws;
 mod node;
 mod plain;
 
-pub use effect::{Effect, Effects, Kind};
+pub use effect::{Child, Effect, Effects, Kind};
 pub use laws::{
     apart_effects_commute, charge_rises_by_growth_at_most, effects_change_what_they_touch,
 };

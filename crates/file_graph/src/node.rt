@@ -5,14 +5,14 @@ ghost use Rattle.file_graph.specs.Graph.{acted, empty_body, in_file, in_director
 ghost use Rattle.file_graph.specs.Plain.{pairs, is_drop};
 ghost use Rattle.file_graph.specs.Bodies.{body_of};
 
-use crate::effect::{Effect, Kind};
+use crate::effect::{Child, Effect, Kind};
 use node_bodies::{FileBytes, NameMap, NamedEntry};
 use posix_calls::{Name, UNIT_BYTES, UNIT_ENTRIES};
 use std::alloc::{AllocError, Global};
 use std::marker::Model;
 
-/// An entry of a directory: at its name the inode there, and its kind.
-pub type PlainEntry = NamedEntry<(u32, Kind)>;
+/// An entry of a directory: at its name what is there.
+pub type PlainEntry = NamedEntry<Child>;
 
 /// A node with its bytes or its entries. Contracts see it as a node of a graph.
 #[derive(Debug, Drop)]
@@ -25,7 +25,7 @@ pub struct PlainNode {
 #[derive(Debug, Drop)]
 pub enum PlainBody {
     File(FileBytes),
-    Directory(NameMap<(u32, Kind)>),
+    Directory(NameMap<Child>),
 }
 
 impl Model for PlainNode {
@@ -137,7 +137,7 @@ fn put_entry(
 {
     match body {
         PlainBody::File(_) => Ok(()),
-        PlainBody::Directory(entries) => entries.put(name.copy(alloc)?, (inode, kind)),
+        PlainBody::Directory(entries) => entries.put(name.copy(alloc)?, Child::new(inode, kind)),
     }
 }
 

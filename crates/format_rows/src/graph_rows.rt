@@ -79,6 +79,10 @@ fn put_node(graph: &PlainGraph, inode: u32, names: u32, out: &mut Text) {
 fn put_entries(entries: &[PlainEntry], out: &mut Text) {
     out.put(":");
     for entry in entries {
-        out.entry(entry.name.as_slice(), entry.value.0, entry.value.1);
+        out.entry(
+            entry.name.as_slice(),
+            entry.value.inode(),
+            entry.value.kind(),
+        );
     }
 }

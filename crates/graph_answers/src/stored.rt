@@ -72,7 +72,7 @@ fn find(entries: &[PlainEntry], name: &[u8]) -> Option<u32>
 {
     for entry in entries {
         match name.cmp(&entry.name.as_slice()) {
-            Ordering::Equal => return Some(entry.value.0),
+            Ordering::Equal => return Some(entry.value.inode()),
             _ => {}
         }
     }

@@ -169,7 +169,7 @@ fn tell_node(text: &mut Vec<u8>, graph: &PlainGraph, inode: u32) -> io::Result<(
     for entry in graph.entries(inode).unwrap_or(&[]) {
         text.push(b' ')?;
         text.extend_from_slice(entry.name.as_slice())?;
-        write!(text, ":{}", entry.value.0)?;
+        write!(text, ":{}", entry.value.inode())?;
     }
     text.extend_from_slice(b"; ")?;
     Ok(())

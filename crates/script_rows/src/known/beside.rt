@@ -86,7 +86,11 @@ impl Beside {
         Err(differs())
     }
 
-    fn decided_by_part(&self, client: u32, call: &Call) -> io::Result<Result<Operation, DecideError>> {
+    fn decided_by_part(
+        &self,
+        client: u32,
+        call: &Call,
+    ) -> io::Result<Result<Operation, DecideError>> {
         let Some(own) = self.owns.get((client as usize).saturating_sub(1)) else {
             return Err(differs());
         };

@@ -133,7 +133,7 @@ fn look_at_kinds(graph: &PlainGraph, inode: u32) -> io::Result<()> {
         return Ok(());
     };
     for entry in entries {
-        if graph.entries(entry.value.0).is_some() != (entry.value.1 == Kind::Directory) {
+        if graph.entries(entry.value.inode()).is_some() != (entry.value.kind() == Kind::Directory) {
             return Err(differs());
         }
     }

@@ -39,7 +39,7 @@ impl KnownPart {
         self.kinds.push(inode)?;
         if let Some(entries) = self.graph.entries(inode) {
             for entry in entries {
-                self.kinds.push(entry.value.0)?;
+                self.kinds.push(entry.value.inode())?;
             }
         }
         Ok(())
