@@ -4,12 +4,14 @@ ghost use Rattle.lease_manager.specs.declared.view.LeaseMode.TheVariants.{Free};
 ghost use Rattle.lease_manager.specs.Words.{IsInode};
 ghost use Rattle.lease_manager.specs.Passes.{lease_of, records_of};
 
+use crate::report::{Report, Watch};
 use lease_manager::{LeaseMode, Leases, Opened, Pass};
+use std::alloc::AllocError;
 use std::sync::atomic::AtomicU64;
 use std::sync::atomic::Ordering::SeqCst;
+use std::thread;
 use std::thread::Threads;
-use std::time::{Clock, Duration, Instant};
-use std::{io, thread};
+use std::time::Clock;
 
 /// The inodes of one client, so that eight clients go over inodes apart.
 const OWN: u32 = 128;
@@ -20,7 +22,7 @@ const TURNS: u32 = 10_000;
 /// How often each measurement is made.
 const TRIES: u32 = 10;
 
-#[derive(Clone, Copy, PartialEq, Eq)]
+#[derive(Clone, Copy)]
 enum Kind {
     Read,
     Write,
@@ -81,40 +83,39 @@ fn set_bits(word: &AtomicU64) -> u64 {
     bits
 }
 
-// Nanoseconds for one turn of all that one client takes.
-fn nanos(time: Duration) -> f64 {
-    time.as_secs_f64() * 1e9 / f64::from(OWN * TURNS)
-}
-
-// The time of one `fetch_or` of a bare word.
-fn bare_word<R: Clock>(rt: &R) -> io::Result<f64> {
-    let word = AtomicU64::new(0);
-    let start = Instant::now(rt)?;
-    let bits = set_bits(&word);
-    let time = start.elapsed(rt)?;
+// The time of the steps of a bare word.
+fn bare_word<R: Clock>(rt: &R, watch: &Watch) -> u64 {
+    let begun = watch.nanos(rt);
+    let bits = set_bits(&AtomicU64::new(0));
+    let took = watch.since(rt, begun);
     // The bits are looked at so that no compiler leaves the steps out.
-    Ok(if bits == 0 { f64::MAX } else { nanos(time) })
+    if bits == 0 { u64::MAX } else { took }
 }
 
-// The time in which one client takes a lease and gives it.
-fn one_client<R: Clock + AllocGlobal>(rt: &R, kind: Kind) -> Result<f64, anyhow::Error> {
+// The time in which one client takes and gives all leases of its own.
+fn one_client<R: Clock + AllocGlobal>(
+    rt: &R,
+    watch: &Watch,
+    kind: Kind,
+) -> Result<u64, AllocError> {
     let Opened {
         leases,
         mut passes,
         ..
     } = Leases::open(rt.alloc())?;
-    let start = Instant::now(rt)?;
+    let begun = watch.nanos(rt);
     if let [first, ..] = passes.as_mut_slice() {
         own_turns(&leases, first, kind);
     }
-    Ok(nanos(start.elapsed(rt)?))
+    Ok(watch.since(rt, begun))
 }
 
-// The time in which each of eight clients takes a lease and gives it, on inodes apart and in a thread each.
+// The time in which each of eight clients does, on inodes apart and in a thread each.
 fn eight_clients<R: Threads + Sync + Clock + AllocGlobal>(
     rt: &R,
+    watch: &Watch,
     kind: Kind,
-) -> Result<f64, anyhow::Error> {
+) -> Result<u64, AllocError> {
     let Opened {
         leases,
         mut passes,
@@ -124,54 +125,48 @@ fn eight_clients<R: Threads + Sync + Clock + AllocGlobal>(
     let go = move |_: usize, pass: &mut Pass|
         requires { pass.now.table ≡ all.now }
     { own_turns(all, pass, kind) };
-    let start = Instant::now(rt)?;
+    let begun = watch.nanos(rt);
     thread::for_each_mut(rt, passes.as_mut_slice(), 8, &go);
-    Ok(nanos(start.elapsed(rt)?))
+    Ok(watch.since(rt, begun))
 }
 
 // Nanoseconds, each the best of some tries.
 #[derive(Clone, Copy)]
 struct Times {
-    bare: f64,
-    read: f64,
-    write: f64,
-    eight: f64,
+    bare: u64,
+    read: u64,
+    write: u64,
+    eight: u64,
 }
 
-fn best_of<R: Threads + Sync + Clock + AllocGlobal>(rt: &R) -> Result<Times, anyhow::Error> {
+fn best_of<R: Threads + Sync + Clock + AllocGlobal>(rt: &R, watch: &Watch) -> Times {
     let mut best = Times {
-        bare: f64::MAX,
-        read: f64::MAX,
-        write: f64::MAX,
-        eight: f64::MAX,
+        bare: u64::MAX,
+        read: u64::MAX,
+        write: u64::MAX,
+        eight: u64::MAX,
     };
     for _ in 0..TRIES {
-        best.bare = best.bare.min(bare_word(rt)?);
-        best.read = best.read.min(one_client(rt, Kind::Read)?);
-        best.write = best.write.min(one_client(rt, Kind::Write)?);
-        best.eight = best.eight.min(eight_clients(rt, Kind::Write)?);
+        best.bare = best.bare.min(bare_word(rt, watch));
+        best.read = shorter(best.read, one_client(rt, watch, Kind::Read));
+        best.write = shorter(best.write, one_client(rt, watch, Kind::Write));
+        best.eight = shorter(best.eight, eight_clients(rt, watch, Kind::Write));
     }
-    Ok(best)
+    best
+}
+
+fn shorter(best: u64, time: Result<u64, AllocError>) -> u64 {
+    best.min(time.unwrap_or(u64::MAX))
 }
 
 /// Prints the time in which a lease is taken and given, beside one `fetch_or` of a bare word, and how many leases
 /// eight threads on inodes apart take in the time in which one thread takes one. Each is the best of some tries.
-pub fn run<R: Threads + Sync + Clock + Print + AllocGlobal>(rt: &R) -> Result<(), anyhow::Error> {
-    let times = best_of(rt)?;
-    println!(rt; "fetch_or of a bare word: {:.1} ns", times.bare)?;
-    report(rt, "read", times.read, times.bare)?;
-    report(rt, "write", times.write, times.bare)?;
-    println!(rt;
-        "eight threads on inodes apart: {:.1} leases in the time of one",
-        8.0 * times.write / times.eight
-    )?;
-    Ok(())
-}
-
-fn report<R: Print>(rt: &R, kind: &str, time: f64, bare: f64) -> Result<(), anyhow::Error> {
-    println!(rt;
-        "take a {kind} lease and give it: {time:.1} ns, {:.1} times as long",
-        time / bare
-    )?;
-    Ok(())
+pub fn run<R: Threads + Sync + Clock + AllocGlobal>(rt: &R, watch: &Watch, out: &mut Report) {
+    let times = best_of(rt, watch);
+    let count = u64::from(OWN * TURNS);
+    out.ratio("fetch_or of a bare word", times.bare, count, " ns");
+    out.ratio("take a read lease and give it", times.read, count, " ns");
+    out.ratio("take a write lease and give it", times.write, count, " ns");
+    let eight = times.write.saturating_mul(8);
+    out.ratio("eight threads on inodes apart", eight, times.eight, " leases in the time of one");
 }
