@@ -48,7 +48,7 @@ fn open(alloc: Global, media: MemMedia) -> Result<Journal<MemMedia>, JournalErro
 fn put_home(alloc: Global, journal: &mut Journal<MemMedia>, out: &mut Text) {
     let mut block = filled(alloc, 0, BLOCK);
     if read_home(journal, 0, &mut block) {
-        put_reading(alloc, &Super::decode(&block), &block, out);
+        put_reading(&Super::decode(&block), out);
     }
     for number in 1..journal.geometry().tier_blocks(Tier::Fast) {
         if read_home(journal, number, &mut block) {

@@ -42,19 +42,17 @@ pub fn tell_structure(kind: &str, input: &mut Input<'_>, out: &mut Text) {
 }
 
 fn tell_super(input: &mut Input<'_>, out: &mut Text) {
-    let bytes = input.padded(BLOCK);
-    put_reading(input.alloc(), &Super::decode(&bytes), &bytes, out);
+    put_reading(&Super::decode(&input.padded(BLOCK)), out);
 }
 
 fn tell_marks(input: &mut Input<'_>, out: &mut Text) {
-    let bytes = input.padded(BLOCK);
-    put_reading(input.alloc(), &Marks::decode(&bytes), &bytes, out);
+    put_reading(&Marks::decode(&input.padded(BLOCK)), out);
 }
 
 fn tell_entries(input: &mut Input<'_>, out: &mut Text) {
     let bytes = input.padded(BLOCK);
     let found = DirBlock::decode(input.alloc(), NUMBER, &bytes);
-    put_reading(input.alloc(), &found, &bytes, out);
+    put_reading(&found, out);
 }
 
 fn tell_slot(input: &mut Input<'_>, out: &mut Text) {
@@ -73,7 +71,7 @@ fn put_slot(geometry: &Geometry, inode: u32, input: &mut Input<'_>, out: &mut Te
     out.field("+", &slot_byte(inode));
     out.put(": ");
     let bytes = input.padded(SLOT_SIZE);
-    put_reading(input.alloc(), &Slot::decode(geometry, inode, &bytes), &bytes, out);
+    put_reading(&Slot::decode(geometry, inode, &bytes), out);
 }
 
 fn tell_extents(input: &mut Input<'_>, out: &mut Text) {
@@ -86,7 +84,7 @@ fn tell_extents(input: &mut Input<'_>, out: &mut Text) {
 fn put_extents(geometry: &Geometry, space: Space, input: &mut Input<'_>, out: &mut Text) {
     let bytes = input.padded(BLOCK);
     let found = ExtentBlock::decode(input.alloc(), geometry, space, NUMBER, &bytes);
-    put_reading(input.alloc(), &found, &bytes, out);
+    put_reading(&found, out);
 }
 
 // The space whose blocks the extents name.

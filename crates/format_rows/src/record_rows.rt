@@ -2,15 +2,14 @@
 use crate::data_words::Input;
 use crate::words::Text;
 use file_graph::Effect;
-use log_record::{Record, is_payload, read_payload, read_record, write_record};
-use std::alloc::Global;
+use log_record::{Record, is_payload, read_payload, read_record};
 use std::fmt::Display;
 
 /// `payload DATA`: the record that the bytes spell from their first to their last.
 pub fn tell_payload(input: &mut Input<'_>, out: &mut Text) {
     let bytes = input.data();
     match read_payload(input.alloc(), &bytes) {
-        Ok(found) => put_written(input.alloc(), &found, &bytes, out),
+        Ok(found) => put_record(&found, out),
         Err(error) => out.field("", &error),
     }
     if !is_payload(&bytes) {
@@ -25,27 +24,9 @@ pub fn tell_record(input: &mut Input<'_>, out: &mut Text) {
         Ok((found, count)) => {
             out.field("", &count);
             out.put(" bytes, ");
-            put_written(input.alloc(), &found, bytes.get(..count).unwrap_or(&[]), out);
+            put_record(&found, out);
         }
         Err(error) => out.field("", &error),
-    }
-}
-
-// The record, and that it is written otherwise than it was read, where it is.
-fn put_written(alloc: Global, found: &Record, bytes: &[u8], out: &mut Text) {
-    put_record(found, out);
-    if !is_written(alloc, found, bytes) {
-        out.put(", but is written otherwise");
-    }
-}
-
-fn is_written(alloc: Global, found: &Record, bytes: &[u8]) -> bool {
-    if !found.has_spelling() {
-        return false;
-    }
-    match write_record(alloc, found) {
-        Ok(again) => again.as_slice() == bytes,
-        Err(_) => false,
     }
 }
 

@@ -1,53 +1,23 @@
-// The structures of the shared media in words, and spelled again.
-use crate::data_words::filled;
+// The structures of the shared media in words.
 use crate::words::Text;
-use layout::{
-    BLOCK, DirBlock, ExtentBlock, MAX_EXTENTS, MAX_IN_BLOCK, Marks, SLOT_SIZE, Slot, Super,
-};
-use std::alloc::Global;
+use layout::{DirBlock, ExtentBlock, Marks, Slot, Super};
 use std::fmt::Display;
 use tier_device::Tier;
 
 /// What stands on the shared media.
 pub trait Structure {
-    /// Writes it over bytes, where these are as many as it has.
-    fn spell(&self, bytes: &mut [u8]);
-
     fn tell(&self, out: &mut Text);
 }
 
-/// What bytes were read as: in words, and whether it is spelled otherwise, or the refusal.
-pub fn put_reading<S: Structure, E: Display>(
-    alloc: Global,
-    found: &Result<S, E>,
-    bytes: &[u8],
-    out: &mut Text,
-) {
+/// What bytes were read as, in words, or the refusal. That the same bytes are spelled again is proved in `layout`.
+pub fn put_reading<S: Structure, E: Display>(found: &Result<S, E>, out: &mut Text) {
     match found {
-        Ok(found) => {
-            found.tell(out);
-            if !is_spelled(alloc, found, bytes) {
-                out.put(", but is spelled otherwise");
-            }
-        }
+        Ok(found) => found.tell(out),
         Err(error) => out.field("", error),
     }
 }
 
-// Whether these are the bytes of a structure.
-fn is_spelled<S: Structure>(alloc: Global, found: &S, bytes: &[u8]) -> bool {
-    let mut again = filled(alloc, 7, bytes.len());
-    found.spell(&mut again);
-    again.as_slice() == bytes
-}
-
 impl Structure for Super {
-    fn spell(&self, bytes: &mut [u8]) {
-        if bytes.len() == BLOCK {
-            self.encode(bytes);
-        }
-    }
-
     fn tell(&self, out: &mut Text) {
         let sizes = self.geometry;
         out.field("units ", &sizes.units());
@@ -58,12 +28,6 @@ impl Structure for Super {
 }
 
 impl Structure for Slot {
-    fn spell(&self, bytes: &mut [u8]) {
-        if bytes.len() == SLOT_SIZE {
-            self.encode(bytes);
-        }
-    }
-
     fn tell(&self, out: &mut Text) {
         match self {
             Slot::Free => out.put("no node"),
@@ -98,12 +62,6 @@ impl Structure for Slot {
 }
 
 impl Structure for Marks {
-    fn spell(&self, bytes: &mut [u8]) {
-        if bytes.len() == BLOCK {
-            self.encode(bytes);
-        }
-    }
-
     fn tell(&self, out: &mut Text) {
         out.put("marks");
         for mark in &self.clients {
@@ -115,12 +73,6 @@ impl Structure for Marks {
 }
 
 impl Structure for ExtentBlock {
-    fn spell(&self, bytes: &mut [u8]) {
-        if bytes.len() == BLOCK && self.extents().len() <= MAX_EXTENTS {
-            self.encode(bytes);
-        }
-    }
-
     fn tell(&self, out: &mut Text) {
         out.field("extents of ", &self.owner());
         out.put(":");
@@ -133,12 +85,6 @@ impl Structure for ExtentBlock {
 }
 
 impl Structure for DirBlock {
-    fn spell(&self, bytes: &mut [u8]) {
-        if bytes.len() == BLOCK && self.entries().len() <= MAX_IN_BLOCK {
-            self.encode(bytes);
-        }
-    }
-
     fn tell(&self, out: &mut Text) {
         out.field("entries of ", &self.owner());
         out.put(":");

@@ -90,10 +90,10 @@ impl Walk {
     // The superblock and the marks.
     fn put_fixed(&mut self, out: &mut Text) {
         self.read(0);
-        put_reading(self.alloc, &Super::decode(&self.block), &self.block, out);
+        put_reading(&Super::decode(&self.block), out);
         out.put("; ");
         self.read(MARKS_BLOCK);
-        put_reading(self.alloc, &Marks::decode(&self.block), &self.block, out);
+        put_reading(&Marks::decode(&self.block), out);
     }
 
     // Reads a block, or zeros where it is none that a batch may write.
@@ -122,7 +122,7 @@ impl Walk {
         if found != Ok(Slot::Free) {
             out.field("; ", &inode);
             out.put(" ");
-            put_reading(self.alloc, &found, bytes, out);
+            put_reading(&found, out);
             self.put_roots(found.unwrap_or(Slot::Free), out);
         }
     }
@@ -151,7 +151,7 @@ impl Walk {
         }
         self.put_number(root, out);
         let found = ExtentBlock::decode(self.alloc, &self.geometry, space, root, &self.block);
-        put_reading(self.alloc, &found, &self.block, out);
+        put_reading(&found, out);
         if space == Space::Nodes {
             if let Ok(found) = &found {
                 self.put_runs(found.extents(), out);
@@ -170,6 +170,6 @@ impl Walk {
     fn put_entries(&mut self, number: u32, out: &mut Text) {
         self.put_number(number, out);
         let found = DirBlock::decode(self.alloc, number, &self.block);
-        put_reading(self.alloc, &found, &self.block, out);
+        put_reading(&found, out);
     }
 }

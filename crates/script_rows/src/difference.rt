@@ -1,6 +1,5 @@
 // Where two texts differ.
-use std::alloc::Global;
-use std::io::{self, Write};
+use crate::report::Report;
 
 /// The first line that differs: its number from 1 on, and what stands there in both texts, if anything does.
 #[derive(Clone, Copy)]
@@ -31,27 +30,13 @@ pub fn first_difference<'a>(found: &'a [u8], wanted: &'a [u8]) -> Option<Differe
 }
 
 impl Difference<'_> {
-    /// Tells it of a text of a row.
-    pub fn tell<O: Write>(
-        &self,
-        alloc: Global,
-        out: &mut O,
-        row: &str,
-        text: &str,
-    ) -> io::Result<()> {
-        writeln!(out, "{row}: line {} of the {text} is", self.line)?;
-        tell_line(alloc, out, self.found)?;
-        writeln!(out, "  and was to be")?;
-        tell_line(alloc, out, self.wanted)
-    }
-}
-
-fn tell_line<O: Write>(alloc: Global, out: &mut O, line: Option<&[u8]>) -> io::Result<()> {
-    match line {
-        Some(line) => {
-            let line = String::from_utf8_lossy(alloc, line)?;
-            writeln!(out, "    {line}")
-        }
-        None => writeln!(out, "  not there"),
+    /// Tells it of a row.
+    pub fn tell(&self, row: &str, report: &mut Report) {
+        report.say(row, &": line ");
+        report.say("", &self.line);
+        report.say(" of the output is\n", &"");
+        report.line(self.found);
+        report.say("  and was to be\n", &"");
+        report.line(self.wanted);
     }
 }

@@ -5,11 +5,13 @@
 
 mod difference;
 mod known;
+mod report;
 mod row;
 mod run;
 mod spelled;
 mod table;
 
+use crate::report::Report;
 use crate::table::run_table;
 use std::io::{self, Read};
 use std::process::ExitCode;
@@ -18,10 +20,12 @@ fn main(rt: HostRuntime) -> io::Result<ExitCode> {
     let alloc = rt.alloc();
     let mut table = String::new(alloc);
     rt.stdin().read_to_string(&mut table)?;
-    let mut out = rt.stdout();
-    if run_table(alloc, &table, &mut out)? {
-        Ok(ExitCode::SUCCESS)
+    let mut report = Report::new(alloc);
+    let hold = run_table(alloc, &table, &mut report);
+    print!(rt; "{}", report.as_str())?;
+    Ok(if hold {
+        ExitCode::SUCCESS
     } else {
-        Ok(ExitCode::FAILURE)
-    }
+        ExitCode::FAILURE
+    })
 }

@@ -1,8 +1,7 @@
 // The runs of the programs.
 use crate::known::run_known;
 use crate::row::Row;
-use std::alloc::Global;
-use std::io::{self, BufReader};
+use std::io::BufReader;
 use workload_cli::{run_first, run_sh};
 
 // The script comes by so few bytes at a time, so that lines are cut everywhere.
@@ -17,30 +16,31 @@ pub struct Ran {
 }
 
 /// Runs the program that a row's words name.
-pub fn run(alloc: Global, row: &Row<'_>) -> io::Result<Ran> {
+pub fn run(row: &Row<'_>) -> Ran {
     let mut ran = Ran {
         status: 0,
-        out: Vec::new(alloc),
-        err: Vec::new(alloc),
+        out: Vec::new(row.alloc),
+        err: Vec::new(row.alloc),
     };
-    match row.words.first() {
-        Some(word) if *word == "strata_first" => first(alloc, row, &mut ran),
-        Some(word) if *word == "known" => known(alloc, row, &mut ran),
-        _ => shell(alloc, row, &mut ran)?,
+    match row.words.first().copied().unwrap_or("") {
+        "strata_first" => first(row, &mut ran),
+        "known" => known(row, &mut ran),
+        _ => shell(row, &mut ran),
     }
-    Ok(ran)
+    ran
 }
 
-fn first(alloc: Global, row: &Row<'_>, ran: &mut Ran) {
-    ran.status = run_first(alloc, &row.words, &mut ran.out, &mut ran.err);
+fn first(row: &Row<'_>, ran: &mut Ran) {
+    ran.status = run_first(row.alloc, &row.words, &mut ran.out, &mut ran.err);
 }
 
-fn known(alloc: Global, row: &Row<'_>, ran: &mut Ran) {
-    ran.status = run_known(alloc, &row.script, &mut ran.out);
+fn known(row: &Row<'_>, ran: &mut Ran) {
+    ran.status = run_known(row.alloc, &row.script, &mut ran.out);
 }
 
-fn shell(alloc: Global, row: &Row<'_>, ran: &mut Ran) -> io::Result<()> {
-    let reader = BufReader::with_capacity(alloc, AT_A_TIME, row.script.as_slice())?;
-    ran.status = run_sh(alloc, &row.words, reader, &mut ran.out, &mut ran.err);
-    Ok(())
+fn shell(row: &Row<'_>, ran: &mut Ran) {
+    ran.status = match BufReader::with_capacity(row.alloc, AT_A_TIME, row.script.as_slice()) {
+        Ok(reader) => run_sh(row.alloc, &row.words, reader, &mut ran.out, &mut ran.err),
+        Err(_) => 3,
+    };
 }

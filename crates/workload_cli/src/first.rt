@@ -49,11 +49,21 @@ struct Regions {
 
 fn run<O: Write>(alloc: Global, stop: Option<Stop>, out: &mut O) -> Result<(), RunError> {
     let mut graph = first_graph(alloc)?;
-    let mut regions = open_regions(alloc, stop)?;
-    let done = ask_both(alloc, &mut regions, &mut graph, out)?;
-    recover_both(alloc, regions, &mut graph, done)?;
+    let regions = open_regions(alloc, stop)?;
+    run_over(alloc, regions, &mut graph, out)?;
     write_tree(out, &graph)?;
     Ok(())
+}
+
+fn run_over<O: Write>(
+    alloc: Global,
+    regions: Regions,
+    graph: &mut PlainGraph,
+    out: &mut O,
+) -> Result<(), RunError> {
+    let mut regions = regions;
+    let done = ask_both(alloc, &mut regions, graph, out)?;
+    recover_both(alloc, regions, graph, done)
 }
 
 fn open_regions(alloc: Global, stop: Option<Stop>) -> Result<Regions, RunError> {

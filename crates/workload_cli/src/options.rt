@@ -9,7 +9,7 @@ use script_lines::hex_byte;
 use std::alloc::{AllocError, Global};
 
 /// Where each region stops, and what its bytes then hold.
-#[derive(Clone, Copy, Debug, PartialEq, Eq)]
+#[derive(Clone, Copy)]
 pub struct Stop {
     /// The write or fence that is stopped in, from 1 on.
     pub call: u64,

@@ -71,12 +71,15 @@ pub fn run_sh<'a, R: BufRead + Drop, O: Write, E: Write>(
 }
 
 fn read_words<'a>(alloc: Global, words: &'a [&'a str]) -> Result<(), WordsError> {
-    let command = Command::new(alloc, "strata_sh")
+    let _matches = command(alloc).try_get_matches_from(words)?;
+    Ok(())
+}
+
+fn command<'a>(alloc: Global) -> Command<'a> {
+    Command::new(alloc, "strata_sh")
         .about("Answers a script of file system calls, read from standard input line by line")
         .override_usage("strata_sh < SCRIPT")
-        .after_help(LANGUAGE);
-    let _matches = command.try_get_matches_from(words)?;
-    Ok(())
+        .after_help(LANGUAGE)
 }
 
 // Flushes what was printed. A fault of the run comes before one of the flush.

@@ -6,7 +6,7 @@ use std::alloc::AllocError;
 use std::io::Write;
 
 /// Why words can't be read.
-#[derive(Debug, Drop)]
+#[derive(Drop)]
 pub enum WordsError {
     /// What `clap` has to say of them: its help, too.
     Usage(Error),

@@ -5,11 +5,10 @@ use file_graph::{Effect, PlainGraph};
 use log_record::Record;
 use plain_tree::PlainTree;
 use posix_calls::{
-    Call, DecideError, Descriptor, Errno, MAX_CLIENTS, MAX_INODE, Missing, Operation, OwnDescriptors, ROOT,
-    Reply, decide,
+    Call, DecideError, Descriptor, MAX_CLIENTS, MAX_INODE, Missing, Operation, OwnDescriptors, ROOT, Reply,
+    decide,
 };
-use std::alloc::Global;
-use std::io::{self, ErrorKind};
+use std::alloc::{AllocError, Global};
 
 // No call lacks more inodes than that, one after the other.
 const MOST_LACKED: u32 = 16;
@@ -20,23 +19,20 @@ const UNITS: u32 = 7;
 /// A graph with the descriptors of all clients, and a tree that is asked the same.
 #[derive(Drop)]
 pub struct Beside {
-    alloc: Global,
+    pub alloc: Global,
     tree: PlainTree,
     pub part: KnownPart,
     owns: Vec<OwnDescriptors>,
     /// How many inodes the last call was decided by, and by how many units it might raise the graph.
     pub decided: usize,
     pub growth: u32,
-}
-
-/// That the graph and the tree differ, or that what they promise is not so.
-pub fn differs() -> io::Error {
-    ErrorKind::Other.into()
+    /// Whether the graph and the tree differed, or what they promise was not so, or a line could not be asked.
+    pub is_wrong: bool,
 }
 
 impl Beside {
     /// An empty graph beside an empty tree.
-    pub fn new(alloc: Global) -> io::Result<Self> {
+    pub fn new(alloc: Global) -> Result<Self, AllocError> {
         let mut owns = Vec::new(alloc);
         for _ in 0..MAX_CLIENTS {
             owns.push(OwnDescriptors::new())?;
@@ -49,134 +45,146 @@ impl Beside {
             owns,
             decided: 0,
             growth: 0,
+            is_wrong: false,
         })
     }
 
+    /// Notes that something is wrong.
+    pub fn fail(&mut self) -> Option<Reply> {
+        self.is_wrong = true;
+        None
+    }
+
+    fn expect(&mut self, holds: bool) {
+        self.is_wrong = self.is_wrong || !holds;
+    }
+
     /// What a client's call is answered by the graph, and also by the tree.
-    pub fn ask(&mut self, client: u32, call: &Call) -> io::Result<Reply> {
+    pub fn ask(&mut self, client: u32, call: &Call) -> Option<Reply> {
         self.growth = 0;
-        let operation = self.operation_of(client, call)?;
-        self.decided = self.part.known().len();
-        let reply = match operation {
-            Ok(operation) => self.carry_out(client, operation)?,
-            Err(errno) => Reply::Failed { errno },
-        };
-        self.compare(client, call, &reply)?;
-        Ok(reply)
-    }
-
-    fn compare(&mut self, client: u32, call: &Call, reply: &Reply) -> io::Result<()> {
-        let wanted = self.tree.ask(client, call);
-        if are_same(self.alloc, reply, &wanted)? {
-            return Ok(());
-        }
-        Err(differs())
-    }
-
-    // The operation that a call comes to, or its error: nothing is known at first, and what is lacked becomes known.
-    fn operation_of(&mut self, client: u32, call: &Call) -> io::Result<Result<Operation, Errno>> {
         self.part.forget();
+        let reply = self.answer(client, call);
+        self.compare(client, call, &reply);
+        reply
+    }
+
+    fn compare(&mut self, client: u32, call: &Call, reply: &Option<Reply>) {
+        let wanted = self.tree.ask(client, call);
+        let are_same = are_same(self.alloc, reply, &wanted);
+        self.expect(are_same);
+    }
+
+    // What the graph answers: nothing is known at first, and what is lacked becomes known.
+    fn answer(&mut self, client: u32, call: &Call) -> Option<Reply> {
         for _ in 0..MOST_LACKED {
-            match self.decided_by_part(client, call)? {
-                Ok(operation) => return Ok(Ok(operation)),
-                Err(DecideError::Refused { errno }) => return Ok(Err(errno)),
-                Err(why) => self.learn(why)?,
+            match self.decided_by_part(client, call) {
+                Ok(operation) => return self.answer_by(client, operation),
+                Err(DecideError::Refused { errno }) => {
+                    self.decided = self.part.known().len();
+                    return Some(Reply::Failed { errno });
+                }
+                Err(why) => self.learn(why),
             }
         }
-        Err(differs())
+        self.fail()
     }
 
-    fn decided_by_part(
-        &self,
-        client: u32,
-        call: &Call,
-    ) -> io::Result<Result<Operation, DecideError>> {
-        let Some(own) = self.owns.get((client as usize).saturating_sub(1)) else {
-            return Err(differs());
-        };
-        Ok(decide(self.alloc, &self.part, own, call))
+    fn decided_by_part(&self, client: u32, call: &Call) -> Result<Operation, DecideError> {
+        match self.owns.get((client as usize).saturating_sub(1)) {
+            Some(own) => decide(self.alloc, &self.part, own, call),
+            None => Err(DecideError::Memory),
+        }
     }
 
     // What is lacked becomes known.
-    fn learn(&mut self, why: DecideError) -> io::Result<()> {
-        let DecideError::Missing {
-            what: Missing::Node { inode },
-        } = why
-        else {
-            return Err(differs());
+    fn learn(&mut self, why: DecideError) {
+        let is_learned = match why {
+            DecideError::Missing {
+                what: Missing::Node { inode },
+            } => self.part.learn(inode).is_ok(),
+            _ => false,
         };
-        self.part.learn(inode)?;
-        Ok(())
+        self.expect(is_learned);
+    }
+
+    fn answer_by(&mut self, client: u32, operation: Operation) -> Option<Reply> {
+        self.decided = self.part.known().len();
+        match operation {
+            Operation::Tell { answer } => Some(answer),
+            operation => self.carry_out(client, operation),
+        }
     }
 
     // Carries an operation out by its record, and answers it.
-    fn carry_out(&mut self, client: u32, operation: Operation) -> io::Result<Reply> {
-        let operation = match operation {
-            Operation::Tell { answer } => return Ok(answer),
-            operation => operation,
-        };
-        let new = self.next_free()?;
+    fn carry_out(&mut self, client: u32, operation: Operation) -> Option<Reply> {
+        let new = self.next_free();
         let reply = reply_to(&operation);
         let opens = opened_by(&operation, new);
-        self.growth = self.growth_of(&operation)?;
-        if let Some(record) = self.record_of(operation, new)? {
-            self.apply(record)?;
-        }
+        self.growth = self.growth_of(&operation);
+        self.record(operation, new);
         self.set_descriptor(client, opens);
-        self.drop_unused()?;
-        Ok(reply)
+        self.drop_unused();
+        Some(reply)
     }
 
     // By how many units an operation raises the graph.
-    fn growth_of(&mut self, operation: &Operation) -> io::Result<u32> {
+    fn growth_of(&mut self, operation: &Operation) -> u32 {
         for _ in 0..MOST_LACKED {
             match growth_of(&self.part, operation) {
-                Ok(growth) => return Ok(growth),
-                Err(why) => self.learn(why)?,
+                Ok(growth) => return growth,
+                Err(why) => self.learn(why),
             }
         }
-        Err(differs())
+        self.is_wrong = true;
+        0
     }
 
-    // The record of an operation, if it changes anything.
-    fn record_of(&mut self, operation: Operation, new: u32) -> io::Result<Option<Record>> {
+    // Applies the record of an operation, if it changes anything.
+    fn record(&mut self, operation: Operation, new: u32) {
         let mut operation = operation;
         for _ in 0..MOST_LACKED {
             operation = match record_of(self.alloc, &self.part, operation, new, UNITS) {
-                Ok(record) => return Ok(record),
+                Ok(Some(record)) => return self.apply_record(&record),
+                Ok(None) => return,
                 Err((why, back)) => {
-                    self.learn(why)?;
+                    self.learn(why);
                     back
                 }
             };
         }
-        Err(differs())
+        self.is_wrong = true;
+    }
+
+    // A record has some effects, and the units that were given.
+    fn apply_record(&mut self, record: &Record) {
+        self.expect(record.units == UNITS && !record.effects.is_empty());
+        self.apply(record.effects.as_slice());
     }
 
     // The lowest inode number that is free.
-    fn next_free(&self) -> io::Result<u32> {
+    fn next_free(&mut self) -> u32 {
         for inode in ROOT + 1..MAX_INODE + 1 {
             if self.part.graph.names(inode).is_none() {
-                return Ok(inode);
+                return inode;
             }
         }
-        Err(differs())
+        self.is_wrong = true;
+        0
     }
 
-    // Applies the effects of a record, which has some and the units that it was given; they raise the graph by no more than they
-    // were to.
-    fn apply(&mut self, record: Record) -> io::Result<()> {
-        if record.units != UNITS || record.effects.is_empty() {
-            return Err(differs());
-        }
+    // Applies effects, which raise the graph by no more than they were to.
+    fn apply(&mut self, effects: &[Effect]) {
         let most = self.part.graph.charge().saturating_add(u64::from(self.growth));
-        for effect in record.effects.as_slice() {
-            self.part.graph.apply(effect)?;
+        for effect in effects {
+            self.apply_one(effect);
         }
-        if most < self.part.graph.charge() {
-            return Err(differs());
-        }
-        Ok(())
+        let charge = self.part.graph.charge();
+        self.expect(charge <= most);
+    }
+
+    fn apply_one(&mut self, effect: &Effect) {
+        let is_applied = self.part.graph.apply(effect).is_ok();
+        self.expect(is_applied);
     }
 
     fn set_descriptor(&mut self, client: u32, opens: Option<(u32, Option<Descriptor>)>) {
@@ -192,13 +200,12 @@ impl Beside {
     }
 
     // A file that has no name goes, unless it is open.
-    fn drop_unused(&mut self) -> io::Result<()> {
+    fn drop_unused(&mut self) {
         for inode in ROOT + 1..MAX_INODE + 1 {
             if self.part.graph.names(inode) == Some(0) && !self.is_open(inode) {
-                self.part.graph.apply(&Effect::Drop { inode })?;
+                self.apply_one(&Effect::Drop { inode });
             }
         }
-        Ok(())
     }
 
     fn is_open(&self, inode: u32) -> bool {
@@ -206,15 +213,25 @@ impl Beside {
     }
 }
 
-fn are_same(alloc: Global, reply: &Reply, wanted: &Reply) -> io::Result<bool> {
-    if let Reply::Read { bytes } = reply {
-        if let Reply::Read { bytes: other } = wanted {
-            return Ok(bytes.as_slice() == other.as_slice());
-        }
+fn are_same(alloc: Global, reply: &Option<Reply>, wanted: &Reply) -> bool {
+    match reply {
+        Some(Reply::Read { bytes }) => match wanted {
+            Reply::Read { bytes: other } => bytes.as_slice() == other.as_slice(),
+            _ => false,
+        },
+        Some(reply) => match format!(in alloc; "{wanted:?}") {
+            Ok(text) => is_told(alloc, reply, &text),
+            Err(_) => false,
+        },
+        None => false,
     }
-    let reply = format!(in alloc; "{reply:?}")?;
-    let wanted = format!(in alloc; "{wanted:?}")?;
-    Ok(reply == wanted)
+}
+
+fn is_told(alloc: Global, reply: &Reply, text: &str) -> bool {
+    match format!(in alloc; "{reply:?}") {
+        Ok(told) => told.as_str() == text,
+        Err(_) => false,
+    }
 }
 
 fn has_open(own: &OwnDescriptors, inode: u32) -> bool {

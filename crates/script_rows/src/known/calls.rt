@@ -1,92 +1,84 @@
 // The lines of a script, by what their clients know.
-use crate::known::beside::{Beside, differs};
+use crate::known::beside::Beside;
 use crate::known::draws::{Draws, PATHS};
-use file_graph::{Kind, PlainGraph};
+use file_graph::{Kind, PlainEntry, PlainGraph};
 use posix_calls::{MAX_INODE, ROOT, Reply};
-use script_lines::{Line, read_line};
+use script_lines::{CallText, Line, read_line};
 use std::alloc::Global;
-use std::io::{self, Write};
+use std::io::Write;
 
 /// Answers each line of a script from just the nodes that its client asks for, and compares graph and tree after it. Prints the
 /// reply, the inodes by which the call was decided, those that were known once it was recorded, and the units by which it might
 /// raise the graph. The line `draw N` asks N calls that are drawn, and prints how many of them were not refused.
 ///
 /// Answers the status: 0 at the end, 1 where something differs or a line can't be read.
-pub fn run_known<O: Write>(alloc: Global, script: &[u8], out: &mut O) -> u8 {
-    match answer_all(alloc, script, out) {
-        Ok(()) => 0,
+pub fn run_known(alloc: Global, script: &[u8], out: &mut Vec<u8>) -> u8 {
+    match Beside::new(alloc) {
+        Ok(mut beside) => {
+            answer_all(&mut beside, str::from_utf8(script).unwrap_or("no text"), out);
+            u8::from(beside.is_wrong)
+        }
         Err(_) => 1,
     }
 }
 
-fn answer_all<O: Write>(alloc: Global, script: &[u8], out: &mut O) -> io::Result<()> {
-    let mut beside = Beside::new(alloc)?;
-    for line in script.split(|byte| *byte == b'\n') {
-        match drawn(line) {
-            Some(count) => draw_calls(alloc, &mut beside, count, out)?,
-            None => answer(alloc, &mut beside, line, out)?,
+fn answer_all(beside: &mut Beside, script: &str, out: &mut Vec<u8>) {
+    for line in script.lines() {
+        match line.strip_prefix("draw ") {
+            Some(count) => draw_calls(beside, count.parse::<u64>().unwrap_or(0), out),
+            None => answer(beside, line, out),
         }
     }
-    Ok(())
 }
 
-// How many calls a line asks to be drawn.
-fn drawn(line: &[u8]) -> Option<u64> {
-    let line = str::from_utf8(line).ok()?;
-    line.strip_prefix("draw ")?.parse::<u64>().ok()
+fn answer(beside: &mut Beside, line: &str, out: &mut Vec<u8>) {
+    if let Some(reply) = ask(beside, line) {
+        print(beside, &reply, out);
+        look_at_all(beside);
+    }
 }
 
-fn answer<O: Write>(
-    alloc: Global,
-    beside: &mut Beside,
-    line: &[u8],
-    out: &mut O,
-) -> io::Result<()> {
-    let Some(reply) = ask(alloc, beside, line)? else {
-        return Ok(());
-    };
+fn print(beside: &Beside, reply: &Reply, out: &mut Vec<u8>) {
     let known = beside.part.known();
     let decided = known.get(..beside.decided).unwrap_or(&[]);
     let growth = beside.growth;
-    writeln!(
+    let _ = writeln!(
         out,
         "{reply:?}; by {decided:?}; recorded by {known:?}; grows {growth}"
-    )?;
-    look_at_all(alloc, beside)
+    );
 }
 
 // What a line is answered, if it is a call.
-fn ask(alloc: Global, beside: &mut Beside, line: &[u8]) -> io::Result<Option<Reply>> {
-    match read_line(line) {
-        Some(Line::Silent) => Ok(None),
-        Some(Line::Asks { client, call }) => {
-            let call = call.to_call(alloc)?;
-            Ok(Some(beside.ask(client, &call)?))
-        }
-        None => Err(differs()),
+fn ask(beside: &mut Beside, line: &str) -> Option<Reply> {
+    match read_line(line.as_bytes()) {
+        Some(Line::Silent) => None,
+        Some(Line::Asks { client, call }) => ask_call(beside, client, &call),
+        None => beside.fail(),
     }
 }
 
-fn draw_calls<O: Write>(
-    alloc: Global,
-    beside: &mut Beside,
-    count: u64,
-    out: &mut O,
-) -> io::Result<()> {
+fn ask_call(beside: &mut Beside, client: u32, call: &CallText<'_>) -> Option<Reply> {
+    match call.to_call(beside.alloc) {
+        Ok(call) => beside.ask(client, &call),
+        Err(_) => beside.fail(),
+    }
+}
+
+fn draw_calls(beside: &mut Beside, count: u64, out: &mut Vec<u8>) {
     let mut draws = Draws::new();
-    let mut line = Vec::new(alloc);
+    let mut line = String::new(beside.alloc);
     let mut done = 0u64;
     for _ in 0..count {
-        draws.line(&mut line)?;
-        if is_done(ask(alloc, beside, &line)?) {
+        draws.line(&mut line);
+        if is_done(&ask(beside, &line)) {
             done = done.saturating_add(1);
         }
-        look_at_all(alloc, beside)?;
+        look_at_all(beside);
     }
-    writeln!(out, "{done} of {count} were done")
+    let _ = writeln!(out, "{done} of {count} were done");
 }
 
-fn is_done(reply: Option<Reply>) -> bool {
+fn is_done(reply: &Option<Reply>) -> bool {
     match reply {
         None => false,
         Some(Reply::Failed { .. }) => false,
@@ -95,47 +87,44 @@ fn is_done(reply: Option<Reply>) -> bool {
 }
 
 // The graph and the tree tell the same of each path and of each file that is open, and each entry tells what its node is.
-fn look_at_all(alloc: Global, beside: &mut Beside) -> io::Result<()> {
-    let mut line = Vec::new(alloc);
+fn look_at_all(beside: &mut Beside) {
     for path in PATHS {
-        look(alloc, beside, &mut line, "1 stat", path)?;
-        look(alloc, beside, &mut line, "1 list", path)?;
+        look(beside, "1 stat ", path, "");
+        look(beside, "1 list ", path, "");
     }
     for number in ["0", "1", "2", "3"] {
-        look(alloc, beside, &mut line, "1 pread", number)?;
-        look(alloc, beside, &mut line, "2 pread", number)?;
+        look(beside, "1 pread ", number, " 0 8192");
+        look(beside, "2 pread ", number, " 0 8192");
     }
     for inode in ROOT..MAX_INODE + 1 {
-        look_at_kinds(&beside.part.graph, inode)?;
-    }
-    Ok(())
-}
-
-fn look(
-    alloc: Global,
-    beside: &mut Beside,
-    line: &mut Vec<u8>,
-    call: &str,
-    what: &str,
-) -> io::Result<()> {
-    line.clear();
-    write!(line, "{call} {what}")?;
-    if call.ends_with("pread") {
-        line.extend_from_slice(b" 0 8192")?;
-    }
-    ask(alloc, beside, line)?;
-    Ok(())
-}
-
-// Each entry of a directory tells what its node is.
-fn look_at_kinds(graph: &PlainGraph, inode: u32) -> io::Result<()> {
-    let Some(entries) = graph.entries(inode) else {
-        return Ok(());
-    };
-    for entry in entries {
-        if graph.entries(entry.value.inode()).is_some() != (entry.value.kind() == Kind::Directory) {
-            return Err(differs());
+        if !has_kinds(&beside.part.graph, inode) {
+            beside.is_wrong = true;
         }
     }
-    Ok(())
+}
+
+fn look(beside: &mut Beside, call: &str, what: &str, behind: &str) {
+    match format!(in beside.alloc; "{call}{what}{behind}") {
+        Ok(line) => {
+            ask(beside, &line);
+        }
+        Err(_) => beside.is_wrong = true,
+    }
+}
+
+// Whether each entry of a directory tells what its node is.
+fn has_kinds(graph: &PlainGraph, inode: u32) -> bool {
+    match graph.entries(inode) {
+        Some(entries) => are_kinds(graph, entries),
+        None => true,
+    }
+}
+
+fn are_kinds(graph: &PlainGraph, entries: &[PlainEntry]) -> bool {
+    let mut are = true;
+    for entry in entries {
+        let is_directory = graph.entries(entry.value.inode()).is_some();
+        are = are && is_directory == (entry.value.kind() == Kind::Directory);
+    }
+    are
 }

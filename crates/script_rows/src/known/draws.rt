@@ -1,5 +1,4 @@
 // Calls that are drawn.
-use std::io::{self, Write};
 
 // The calls: P and Q are paths, and D is a descriptor.
 const CALLS: [&str; 13] = [
@@ -45,23 +44,30 @@ impl Draws {
         texts.get(at).copied().unwrap_or("")
     }
 
-    /// A line with a call of client 1 or 2, in place of what is there.
-    pub fn line(&mut self, line: &mut Vec<u8>) -> io::Result<()> {
+    /// A line with a call of client 1 or 2, in place of what is there. What there is no memory for is left out, so that the line
+    /// can't be read.
+    pub fn line(&mut self, line: &mut String) {
         line.clear();
-        write!(line, "{}", self.next() % 2 + 1)?;
+        put_number(line, self.next() % 2 + 1);
         for word in self.next_of(&CALLS).split(' ') {
-            line.push(b' ')?;
-            self.word(line, word)?;
+            let _ = line.push(' ');
+            self.word(line, word);
         }
-        Ok(())
     }
 
-    fn word(&mut self, line: &mut Vec<u8>, word: &str) -> io::Result<()> {
+    fn word(&mut self, line: &mut String, word: &str) {
         match word {
-            "P" | "Q" => line.extend_from_slice(self.next_of(&PATHS).as_bytes())?,
-            "D" => write!(line, "{}", self.next() % 4)?,
-            word => line.extend_from_slice(word.as_bytes())?,
+            "P" | "Q" => put(line, self.next_of(&PATHS)),
+            "D" => put_number(line, self.next() % 4),
+            word => put(line, word),
         }
-        Ok(())
     }
+}
+
+fn put(line: &mut String, word: &str) {
+    let _ = line.push_str(word);
+}
+
+fn put_number(line: &mut String, number: usize) {
+    let _ = write!(line, "{number}");
 }

@@ -10,7 +10,7 @@ use std::alloc::Global;
 use std::io::{BufRead, Write};
 
 /// Why a script is not read and answered to its end.
-#[derive(Clone, Copy, Debug, PartialEq, Eq)]
+#[derive(Clone, Copy)]
 pub enum ScriptError {
     /// The line of this number, from 1 on, can't be read.
     Unreadable(u64),
