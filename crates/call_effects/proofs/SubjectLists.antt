@@ -43,14 +43,12 @@ among_rising k (i ∷ is) = among_put k i (rising is) ∙ ap (λ b. (i == k) || 
 
 -- ---- rising
 
+-- inodes that rise, from low on
 abbrev From : ℕ → List ℕ → Type 0
 From low [] = Unit {0}
 From low (i ∷ is) = (low ≤ i) × From (i + 1) is
 
-from_lower : (low high : ℕ) (is : List ℕ) → low ≤ high → From high is → From low is
-from_lower low high [] le r = tt
-from_lower low high (i ∷ is) le r = (let le' = r.0 in omega (arith, le, le'), r.1)
-
+-- what is put in keeps the order
 from_put : (low i : ℕ) (js : List ℕ) → low ≤ i → From low js → From low (put_in i js)
 from_put low i [] le r = (le, tt)
 from_put low i (j ∷ js) le r = elim (which (nat_lt j i)) [

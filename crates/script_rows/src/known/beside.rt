@@ -5,8 +5,8 @@ use file_graph::{Effect, PlainGraph};
 use log_record::Record;
 use plain_tree::PlainTree;
 use posix_calls::{
-    Call, DecideError, Descriptor, MAX_CLIENTS, MAX_INODE, Missing, Operation, OwnDescriptors, ROOT, Reply,
-    decide,
+    Call, DecideError, Descriptor, MAX_CLIENTS, MAX_DESCRIPTORS, MAX_INODE, Missing, Operation,
+    OwnDescriptors, ROOT, Reply, decide,
 };
 use std::alloc::{AllocError, Global};
 
@@ -194,7 +194,7 @@ impl Beside {
         let Some(own) = self.owns.get_mut((client as usize).saturating_sub(1)) else {
             return;
         };
-        if number < 32 {
+        if number < MAX_DESCRIPTORS {
             own.set(number, what);
         }
     }
@@ -235,7 +235,7 @@ fn is_told(alloc: Global, reply: &Reply, text: &str) -> bool {
 }
 
 fn has_open(own: &OwnDescriptors, inode: u32) -> bool {
-    for number in 0..32 {
+    for number in 0..MAX_DESCRIPTORS {
         if own.get(number).map_or(false, |what| what.inode == inode) {
             return true;
         }
