@@ -129,7 +129,7 @@ impl Beside {
     fn growth_of(&mut self, operation: &Operation) -> io::Result<u64> {
         for _ in 0..MOST_LACKED {
             match growth_of(&self.part, operation) {
-                Ok(growth) => return Ok(growth),
+                Ok(growth) => return Ok(growth as u64),
                 Err(why) => self.learn(why)?,
             }
         }
