@@ -1,14 +1,14 @@
 -- What a client gets of the whole agrees with it, and what it forgets does no harm.
-use Rattle.std.proofs.Common.{◌≡◌, ◌≢◌, inl, inr, ℕ, List, refl, Some, None, Option, cond, ap, sym, ◌∙◌, true, false, Bool, ◌==◌}
+use Rattle.std.proofs.Common.{◌≡◌, inl, inr, ℕ, List, refl, Some, None, cond, ap, sym, ◌∙◌, true, false, Bool, ◌==◌}
 use Rattle.std.specs.Prelude.{option_map, ◌&&◌}
 use Rattle.std.proofs.lemmas.Bool.{eqb-true}
 use Rattle.std.proofs.lemmas.Bool.Decides.{eqb_tells}
 use Rattle.posix_calls.specs.Operations.{is_client}
 use Rattle.posix_calls.specs.Tree.{Descriptors}
-use Rattle.file_graph.specs.Graph.{Graph, Node, FileBody, file_bytes}
+use Rattle.file_graph.specs.Graph.{Graph, FileBody, file_bytes}
 use Rattle.call_effects.specs.Blocks.{block_of, block_at}
-use Rattle.call_effects.specs.NodeView.{NodeView, view_of_node, view_at}
-use Rattle.call_effects.specs.Known.{Knowledge, Agrees, HasCopies, IsForgetful, IsPutBack, is_within, with_copy, with_blocks}
+use Rattle.call_effects.specs.NodeView.{view_of_node, view_at}
+use Rattle.call_effects.specs.Known.{Knowledge, Agrees, IsForgetful, is_within, with_copy, with_blocks}
 use Rattle.call_effects.proofs.Changes.{file}
 use Rattle.call_effects.proofs.KnownTold.{both_hold}
 use Rattle.call_effects.proofs.PutBack.{stands_back}
