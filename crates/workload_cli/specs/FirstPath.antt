@@ -20,7 +20,7 @@ use Rattle.log_record.specs.declared.format.Record.{Record}
 use Rattle.update_log.specs.Frames.{records, joined}
 use Rattle.call_effects.specs.Effects.{making}
 use Rattle.call_effects.specs.Known.{stored_view}
-use Rattle.call_effects.specs.Records.{effects_asked, units_asked}
+use Rattle.call_effects.specs.Records.{effects_asked, growth_asked}
 use Rattle.workload_cli.specs.declared.two_clients.TheConstants.{FILE, NEW}
 
 -- ---- the calls
@@ -50,7 +50,7 @@ pub record IsLogged (g : Graph) (own : Own) (asked : Call) (new : ℕ) (entry : 
   pub operation : Operation
   pub comes : run (stored_view g) (decide own asked) ≡ Ok operation
   pub changes : run (stored_view g) (effects_asked new operation) ≡ Ok entry.effects
-  pub grows : run (stored_view g) (units_asked operation) ≡ Ok entry.units
+  pub grows : run (stored_view g) (growth_asked operation) ≡ Ok entry.units
   pub answers : told ≡ reply_of operation
 
 -- ---- what is done and what is recovered

@@ -6,7 +6,7 @@ ghost use Rattle.posix_calls.specs.Operations.{IsInRange};
 ghost use Rattle.posix_calls.specs.Own.{own_of};
 ghost use Rattle.file_graph.specs.Graph.{graph_of};
 ghost use Rattle.call_effects.specs.Known.{stored_view};
-ghost use Rattle.call_effects.specs.Records.{effects_asked, units_asked};
+ghost use Rattle.call_effects.specs.Records.{effects_asked, growth_asked};
 ghost use Rattle.workload_cli.specs.FirstPath.{opening, file_open, first_call, second_call, IsLogged};
 
 use crate::run_error::RunError;
@@ -121,10 +121,12 @@ fn decided(
     }
 }
 
+// By how many units an operation may raise the graph. The greatest number that a record has room for may stand for more.
 fn units_of(graph: &PlainGraph, operation: &Operation) -> Result<u32, RunError>
-    ensures { IfOk result (λ units. run (stored_view (graph_of graph.now)) (units_asked operation.now) ≡ Ok units) }
+    ensures { IfOk result (λ units. run (stored_view (graph_of graph.now)) (growth_asked operation.now) ≡ Ok units) }
 {
     match growth_of(&GraphAnswers { graph }, operation) {
+        Ok(u32::MAX) => Err(RunError::Damaged),
         Ok(units) => Ok(units),
         Err(why) => Err(RunError::from(why)),
     }

@@ -25,7 +25,7 @@ pub struct Beside {
     owns: Vec<OwnDescriptors>,
     /// How many inodes the last call was decided by, and by how many units it might raise the graph.
     pub decided: usize,
-    pub growth: u64,
+    pub growth: u32,
 }
 
 /// That the graph and the tree differ, or that what they promise is not so.
@@ -126,10 +126,10 @@ impl Beside {
     }
 
     // By how many units an operation raises the graph.
-    fn growth_of(&mut self, operation: &Operation) -> io::Result<u64> {
+    fn growth_of(&mut self, operation: &Operation) -> io::Result<u32> {
         for _ in 0..MOST_LACKED {
             match growth_of(&self.part, operation) {
-                Ok(growth) => return Ok(growth as u64),
+                Ok(growth) => return Ok(growth),
                 Err(why) => self.learn(why)?,
             }
         }
@@ -163,7 +163,7 @@ impl Beside {
 
     // Applies effects, which raise the graph by no more than they were to.
     fn apply(&mut self, effects: &[Effect]) -> io::Result<()> {
-        let most = self.part.graph.charge().saturating_add(self.growth);
+        let most = self.part.graph.charge().saturating_add(u64::from(self.growth));
         for effect in effects {
             self.part.graph.apply(effect)?;
         }
