@@ -18,7 +18,7 @@ use Rattle.file_graph.specs.declared.effect.Effect.TheVariants as effect
 use Rattle.file_graph.proofs.Touches.{untouched}
 use Rattle.call_effects.specs.Effects.{effects_by, effects_of, stored_at, recounted}
 use Rattle.call_effects.specs.Wholes.{IsSound}
-use Rattle.call_effects.specs.Blocks.{block_of, block_after}
+use Rattle.call_effects.specs.Blocks.{block_of}
 use Rattle.call_effects.specs.NodeView.{NodeView, view_of_node, view_after}
 use Rattle.call_effects.specs.Fits.{Fits, IsNew, IsRoom, IsEntry, IsUsedFile}
 use Rattle.call_effects.specs.Known.{Knowledge, Agrees, IsGone, IsPutBack, IsPlanned, knows_after}

@@ -1,5 +1,5 @@
 -- An operation's effects and growth as they are asked for, and over the whole.
-use Rattle.std.proofs.Common.{◌≡◌, ℕ, ◌+◌, List, length, refl, Some, None, Option, Ok, cond, ap, sym, ◌∙◌, subst, true, false, ◌==◌}
+use Rattle.std.proofs.Common.{◌≡◌, ℕ, ◌+◌, length, refl, Some, None, Option, Ok, cond, ap, sym, ◌∙◌, subst, true, false, ◌==◌}
 use Rattle.std.specs.Prelude.{max}
 use Rattle.posix_calls.specs.Tree.{Descriptors, Own}
 use Rattle.posix_calls.specs.declared.operation.Location.{Location}

@@ -1,5 +1,5 @@
 -- A copy of a directory tells the kinds of all that its entries name, so that no call lacks a kind alone.
-use Rattle.std.proofs.Common.{◌≡◌, inl, inr, ℕ, List, [], ◌∷◌, refl, Some, None, Option, cond, ap, sym, ◌∙◌, subst, true, false, Bool, ◌==◌}
+use Rattle.std.proofs.Common.{◌≡◌, inl, inr, ℕ, List, [], ◌∷◌, refl, Some, None, cond, ap, sym, ◌∙◌, subst, true, false, Bool, ◌==◌}
 use Rattle.std.specs.Prelude.{unwrap_or, option_map, ◌&&◌, ◌||◌}
 use Rattle.std.specs.List.{list_any}
 use Rattle.std.specs.Ordering.{eq_by_cmp}

@@ -1,23 +1,20 @@
 -- No call misses a kind alone: where a node is missing, the call looks at it.
-use Rattle.std.proofs.Common.{◌≡◌, ◌≢◌, ℕ, suc, ◌+◌, ◌-◌, ◌*◌, ◌<◌, ◌≤◌, arith, List, refl, Some, None, Option, Ok, ap, sym, ◌∙◌, subst, true}
-use Rattle.std.specs.Prelude.{option_map, ◌/◌}
+use Rattle.std.proofs.Common.{◌≡◌, ℕ, List, refl, Some, None, Option, Ok, ap, sym, ◌∙◌, subst, true}
+use Rattle.std.specs.Prelude.{option_map}
 use Rattle.std.specs.FinMap as fin
 use Rattle.posix_calls.specs.Content.{Entries}
 use Rattle.posix_calls.specs.Tree.{Own, Descriptors}
 use Rattle.posix_calls.specs.declared.call.Call.{Call}
-use Rattle.posix_calls.specs.declared.descriptor.Descriptor.{Descriptor}
-use Rattle.posix_calls.specs.declared.operation.Missing.{Missing}
 use Rattle.posix_calls.specs.declared.operation.Missing.TheVariants as missing
 use Rattle.posix_calls.specs.declared.operation.Operation.{Operation}
-use Rattle.posix_calls.specs.Query.{Seen, File, Dir, Query, Gives, Refuses, IsDir, Look, Range, Part, Found, Known, Unknown, blocks_of, blocks_touched, run, run_part}
-use Rattle.posix_calls.specs.Walk.{entries_seen, entries_at, size_seen, size_at}
+use Rattle.posix_calls.specs.Query.{Seen, File, Dir, Query, Gives, Refuses, IsDir, Look, Range, Part, Found, Known, Unknown, blocks_of, run, run_part}
+use Rattle.posix_calls.specs.Walk.{entries_seen, entries_at}
 use Rattle.posix_calls.specs.Decide.{decide}
 use Rattle.posix_calls.proofs.Counts.{order}
 use Rattle.file_graph.specs.Graph.{Graph}
-use Rattle.call_effects.specs.Blocks.{followed, joined, range_by}
 use Rattle.call_effects.specs.NodeView.{NodeView, FileView, DirView, view_seen}
 use Rattle.call_effects.specs.Wholes.{without_kinds}
-use Rattle.call_effects.specs.Known.{Knowledge, Agrees, IsLookedAtNext, IsReadNext, AreBlocksMissing, part_of}
+use Rattle.call_effects.specs.Known.{Knowledge, Agrees, IsLookedAtNext, part_of}
 use Rattle.call_effects.proofs.Inodes.{get_inodes}
 use Rattle.call_effects.proofs.Changes.{IsFair}
 use Rattle.call_effects.proofs.Facts.{some_first}

@@ -1,11 +1,10 @@
 -- What a client misses it has no copy of, and what it knows it still knows with more copies.
-use Rattle.std.proofs.Common.{◌≡◌, inl, inr, ℕ, ◌+◌, ◌≤◌, ◌<◌, List, refl, Some, None, Option, Result, cond, ap, sym, ◌∙◌, subst, true, false, Bool, ◌==◌, arith}
-use Rattle.std.specs.Prelude.{unwrap_or, option_map, ◌&&◌, nat_le, nat_lt}
+use Rattle.std.proofs.Common.{◌≡◌, inl, inr, ℕ, ◌+◌, ◌≤◌, ◌<◌, List, refl, Some, None, Option, Result, cond, ap, sym, ◌∙◌, subst, true, false, Bool, ◌==◌}
+use Rattle.std.specs.Prelude.{unwrap_or, option_map, ◌&&◌, nat_lt}
 use Rattle.std.proofs.lemmas.Bool.{eq-eqb, le-leb, lt-ltb}
 use Rattle.std.proofs.lemmas.Bool.Decides.{eqb_tells}
 use Rattle.posix_calls.specs.Tree.{Descriptors}
 use Rattle.posix_calls.specs.declared.errno.Errno.{Errno}
-use Rattle.posix_calls.specs.declared.operation.Missing.{Missing}
 use Rattle.posix_calls.specs.declared.operation.Missing.TheVariants as missing
 use Rattle.posix_calls.specs.Query.{Seen, Query, Gives, Refuses, IsDir, Look, Range, Part, Found, Known, Unknown, IsBeyond, blocks_of, run_part}
 use Rattle.posix_calls.proofs.Parts.{missing_is_left}
@@ -14,7 +13,7 @@ use Rattle.file_graph.specs.Graph.{Graph}
 use Rattle.file_graph.specs.declared.effect.Kind.{Kind}
 use Rattle.file_graph.specs.declared.effect.Kind.TheVariants as kind
 use Rattle.call_effects.specs.Blocks.{joined}
-use Rattle.call_effects.specs.NodeView.{NodeView, view_seen, view_is_dir}
+use Rattle.call_effects.specs.NodeView.{NodeView, view_seen}
 use Rattle.call_effects.specs.Wholes.{node_is_dir}
 use Rattle.call_effects.specs.Known.{Knowledge, Agrees, HasCopies, with_copy, with_blocks, is_within, copied, tells, is_told, is_dir_by, part_of}
 use Rattle.call_effects.proofs.Changes.{IsFair}

@@ -1,8 +1,6 @@
 -- An operation's effects and its growth miss nothing but nodes: they ask for no bytes.
-use Rattle.std.proofs.Common.{◌≡◌, ℕ, ◌+◌, List, length, Some, None, Option, cond, true, false, ◌==◌, refl, ap, ◌∙◌}
-use Rattle.std.specs.Prelude.{max}
-use Rattle.posix_calls.specs.Query.{Seen, Query, Gives, Refuses, IsDir, Look, Range, ◌>>=◌, Part, Found, Unknown, blocks_of, run_part}
-use Rattle.posix_calls.specs.Walk.{size_at}
+use Rattle.std.proofs.Common.{◌≡◌, ℕ, Some, None, Option, cond, true, false, ◌==◌, refl, ap, ◌∙◌}
+use Rattle.posix_calls.specs.Query.{Seen, Query, Gives, Refuses, IsDir, Look, Range, ◌>>=◌, Part, Found, Unknown, run_part}
 use Rattle.posix_calls.specs.declared.operation.Location.{Location}
 use Rattle.posix_calls.specs.declared.operation.Missing.{Missing}
 use Rattle.posix_calls.specs.declared.operation.Missing.TheVariants as missing
@@ -11,9 +9,9 @@ use Rattle.posix_calls.specs.declared.operation.Operation.TheVariants.{Tell, New
 use Rattle.posix_calls.specs.declared.operation.Replaced.{Replaced}
 use Rattle.posix_calls.specs.declared.operation.Replaced.TheVariants.{Nothing, OldFile, OldDir}
 use Rattle.call_effects.specs.Effects.{recounted}
-use Rattle.call_effects.specs.Records.{names_if, effects_asked, file_rise, entry_rise, move_rise, growth_asked}
+use Rattle.call_effects.specs.Records.{names_if, effects_asked, entry_rise, move_rise, growth_asked}
 use Rattle.call_effects.specs.Known.{Knowledge, IsNodeMissing, part_of}
-use Rattle.call_effects.proofs.KnownAsking.{QueryAll, query_then, query_gives, query_look, query_entries}
+use Rattle.call_effects.proofs.KnownAsking.{QueryAll, query_then, query_gives, query_look}
 use Rattle.call_effects.proofs.KnownMissing.{missing_no_copy}
 
 abbrev Any : ℕ → Type 0

@@ -1,5 +1,5 @@
 -- Where bytes are missing, a call reads a range of a file of which its client has a copy, and not all blocks.
-use Rattle.std.proofs.Common.{◌≡◌, ℕ, zero, suc, ◌+◌, ◌-◌, ◌*◌, ◌<◌, ◌≤◌, arith, List, refl, Some, None, Option, Ok, ap, sym, ◌∙◌, subst}
+use Rattle.std.proofs.Common.{◌≡◌, ℕ, zero, suc, ◌+◌, ◌*◌, ◌<◌, ◌≤◌, arith, refl, Some, None, Option, Ok, ap, sym, ◌∙◌, subst}
 use Rattle.std.specs.Prelude.{option_map, ◌/◌}
 use Rattle.posix_calls.specs.declared.call.Call.{Call}
 use Rattle.posix_calls.specs.declared.descriptor.Descriptor.{Descriptor}

@@ -16,7 +16,7 @@ use Rattle.posix_calls.specs.Query.{Seen, IsPart}
 use Rattle.posix_calls.proofs.Counts.{order}
 use Rattle.posix_calls.proofs.Directory.{names_same}
 use Rattle.posix_calls.proofs.Sums.{any_is}
-use Rattle.file_graph.specs.Graph.{Graph, Node, FileBody, DirBody}
+use Rattle.file_graph.specs.Graph.{Graph, FileBody, DirBody}
 use Rattle.file_graph.specs.declared.effect.Kind.{Kind}
 use Rattle.file_graph.specs.declared.effect.Kind.TheVariants as kind
 use Rattle.call_effects.specs.Blocks.{range_by}

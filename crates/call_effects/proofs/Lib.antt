@@ -32,6 +32,7 @@ pub mod Puts
 pub mod Reached
 pub mod Rise
 pub mod Rises
+pub mod Served
 pub mod Settled
 pub mod Spelled
 pub mod SpelledQuery

@@ -1,11 +1,11 @@
 -- What a view tells of its node, and that effects make of it what they make of the node; the same of blocks.
-use Rattle.std.proofs.Common.{◌≡◌, ℕ, ◌+◌, ◌*◌, List, [], ◌∷◌, length, take, refl, Some, None, Option, cond, ap, sym, ◌∙◌, true, false, Bool}
-use Rattle.std.specs.Prelude.{option_map, max}
+use Rattle.std.proofs.Common.{◌≡◌, ℕ, ◌*◌, List, [], ◌∷◌, take, refl, Some, None, Option, cond, ap, sym, ◌∙◌, true, false, Bool}
+use Rattle.std.specs.Prelude.{option_map}
 use Rattle.std.specs.FinMap as fin
 use Rattle.std.proofs.Math.Seq.{drop-nil}
 use Rattle.posix_calls.specs.Content.{Entries, resized, written}
 use Rattle.posix_calls.proofs.Within.{resized_length}
-use Rattle.file_graph.specs.Graph.{Graph, Node, Body, FileBody, DirBody, subjects, is_among, acted, after_effect, after_effects, file_bytes, with_body, in_file, in_directory}
+use Rattle.file_graph.specs.Graph.{Graph, Node, FileBody, DirBody, subjects, is_among, acted, after_effect, after_effects, file_bytes, with_body, in_file, in_directory}
 use Rattle.file_graph.specs.declared.effect.Kind.{Kind}
 use Rattle.file_graph.specs.declared.effect.Kind.TheVariants as kind
 use Rattle.file_graph.specs.declared.effect.Effect.{Effect}
@@ -14,7 +14,7 @@ use Rattle.call_effects.specs.Blocks.{block_of, block_at, block_acted, block_aft
 use Rattle.call_effects.specs.NodeView.{NodeView, FileView, DirView, view_of_node, view_of_body, view_at, view_seen, view_is_dir, view_acted, view_after}
 use Rattle.call_effects.specs.Wholes.{node_is_dir, node_seen, node_bytes}
 use Rattle.call_effects.proofs.Blocks.{mapped, resized_block, written_block}
-use Rattle.call_effects.proofs.Changes.{file, dir}
+use Rattle.call_effects.proofs.Changes.{dir}
 use Rattle.call_effects.proofs.GrowthAsked.{written_length}
 
 -- ---- what a view tells

@@ -1,14 +1,12 @@
 -- A whole with files put back that are gone from it.
-use Rattle.std.proofs.Common.{◌≡◌, ◌≢◌, ◌⊎◌, inl, inr, ℕ, List, refl, Some, None, Option, cond, ap, sym, ◌∙◌, subst, true, false, Bool, ◌==◌}
-use Rattle.std.specs.Prelude.{option_map, ◌&&◌, not}
-use Rattle.std.proofs.lemmas.Bool.Decides.{eqb_tells}
+use Rattle.std.proofs.Common.{◌≡◌, inl, inr, ℕ, Some, None, ap, sym, ◌∙◌}
 use Rattle.posix_calls.specs.Content.{Entries}
 use Rattle.file_graph.specs.Graph.{Graph, Node}
 use Rattle.file_graph.specs.declared.effect.Kind.{Kind}
 use Rattle.file_graph.specs.declared.effect.Kind.TheVariants as kind
 use Rattle.call_effects.specs.Wholes.{kind_of}
-use Rattle.call_effects.specs.Known.{IsGone, IsPutBack}
-use Rattle.call_effects.proofs.Changes.{file, dir}
+use Rattle.call_effects.specs.Known.{IsPutBack}
+use Rattle.call_effects.proofs.Changes.{dir}
 
 -- what stands in the whole stands there
 pub stands_back : (g back : Graph) → IsPutBack g back → (i : ℕ) (n : Node) → g i ≡ Some n → back i ≡ Some n

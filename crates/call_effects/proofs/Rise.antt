@@ -1,6 +1,6 @@
 -- What was told of a rise by who knows a part, with the errors that it may end in.
-use Rattle.std.proofs.Common.{◌≡◌, ℕ, Option, None, Some, Ok, Err, Result, ap, sym, ◌∙◌, subst}
-use Rattle.std.specs.Prelude.{IfOk, IfErr}
+use Rattle.std.proofs.Common.{◌≡◌, Err, Result, ap, sym, ◌∙◌, subst}
+use Rattle.std.specs.Prelude.{IfErr}
 use Rattle.std.specs.Result.{IsErrAnd}
 use Rattle.std.proofs.lemmas.Result.{err_from_is_err_and}
 use Rattle.posix_calls.specs.declared.operation.DecideError.{DecideError}

@@ -1,20 +1,18 @@
 -- A file that has no name and that nobody has open may be dropped.
-use Rattle.std.proofs.Common.{◌≡◌, ◌≢◌, inl, inr, ℕ, ◌+◌, ◌≤◌, List, refl, Some, None, Option, Ok, cond, ap, sym, ◌∙◌, subst, true, false, Bool, arith, ◌==◌}
+use Rattle.std.proofs.Common.{◌≡◌, ◌≢◌, inl, inr, ℕ, ◌+◌, refl, Some, None, cond, ap, sym, ◌∙◌, subst, true, false, arith, ◌==◌}
 use Rattle.std.specs.Prelude.{option_map, ◌&&◌, not}
 use Rattle.std.proofs.lemmas.Bool.{eq-eqb}
 use Rattle.std.proofs.lemmas.Bool.Decides.{eqb_tells}
-use Rattle.posix_calls.specs.Content.{Entries}
-use Rattle.posix_calls.specs.Tree.{Descriptors, is_open, names_of, names_in}
+use Rattle.posix_calls.specs.Tree.{Descriptors, is_open, names_in}
 use Rattle.posix_calls.proofs.Open as opens
 use Rattle.posix_calls.proofs.Reached as way
 use Rattle.posix_calls.specs.declared.descriptor.Descriptor.{Descriptor}
-use Rattle.file_graph.specs.Graph.{Graph, Node, FileBody, DirBody, set_node}
-use Rattle.file_graph.specs.declared.effect.Kind.{Kind}
+use Rattle.file_graph.specs.Graph.{Graph, FileBody, set_node}
 use Rattle.file_graph.specs.declared.effect.Kind.TheVariants as kind
 use Rattle.call_effects.specs.Effects.{stored}
-use Rattle.call_effects.specs.Wholes.{IsSound, IsTyped, IsCounted, state_of, tree_of, tree_node, keep, kept, kind_of, one_if}
-use Rattle.call_effects.specs.Fits.{IsUnusedFile, IsNew}
-use Rattle.call_effects.specs.Known.{Knowledge, Agrees, IsGone, IsPutBack}
+use Rattle.call_effects.specs.Wholes.{IsSound, IsTyped, state_of, tree_of, tree_node, keep, kept, kind_of, one_if}
+use Rattle.call_effects.specs.Fits.{IsUnusedFile}
+use Rattle.call_effects.specs.Known.{Knowledge, Agrees}
 use Rattle.call_effects.proofs.Changes.{IsFair, fair_of, sound_fair, file, named, names_stay, typed_drop, sound_of}
 use Rattle.call_effects.proofs.PutBack.{stands_back}
 use Rattle.call_effects.proofs.Puts.{put_other}

@@ -66,6 +66,13 @@ pub record HasCopies (more k : Knowledge) : Type 0 where
   pub nodes : (i : ℕ) (copy : Option NodeView) → k.copies i ≡ Some copy → more.copies i ≡ Some copy
   pub blocks : (i b : ℕ) (bytes : List ℕ) → k.blocks i b ≡ Some bytes → more.blocks i b ≡ Some bytes
 
+-- the same client with no more copies and granted numbers
+pub record IsForgetful (k less : Knowledge) : Type 0 where
+  pub client : less.client ≡ k.client
+  pub own : (number : ℕ) → less.own number ≡ k.own number
+  pub copies : HasCopies k less
+  pub granted : (i : ℕ) → less.granted i ≡ true → k.granted i ≡ true
+
 -- what a client knows with one more copy
 abbrev pub with_copy : Knowledge → ℕ → Option NodeView → Knowledge
 with_copy k i copy = record k { copies = λ j. if j == i then Some copy else k.copies j }

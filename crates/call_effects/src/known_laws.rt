@@ -17,16 +17,17 @@ ghost use Rattle.posix_calls.specs.declared.call.Reply.TheVariants.{Failed};
 ghost use Rattle.posix_calls.specs.declared.limits.TheConstants.{MAX_DESCRIPTORS};
 ghost use Rattle.posix_calls.specs.declared.errno.Errno.TheVariants.{Exists, IsDirectory, Busy, NotPermitted};
 ghost use Rattle.posix_calls.specs.declared.errno.Errno.{Errno};
-ghost use Rattle.file_graph.specs.Graph.{Graph, set_node, is_among, after_effects, touches};
+ghost use Rattle.file_graph.specs.Graph.{Graph, FileBody, set_node, is_among, after_effects, touches};
 ghost use Rattle.file_graph.specs.Units.{growth};
 ghost use Rattle.file_graph.specs.declared.effect.Effect.{Effect};
 ghost use Rattle.call_effects.specs.Calls.{answer_over};
 ghost use Rattle.call_effects.specs.Effects.{effects_of, kind_if};
-ghost use Rattle.call_effects.specs.NodeView.{NodeView};
+ghost use Rattle.call_effects.specs.NodeView.{NodeView, view_at};
+ghost use Rattle.call_effects.specs.Blocks.{block_of};
 ghost use Rattle.call_effects.specs.Records.{effects_asked, growth_asked, units_asked};
 ghost use Rattle.call_effects.specs.Wholes.{IsSound, state_of, graph_view, kept};
 ghost use Rattle.call_effects.specs.Fits.{Fits, IsUnusedFile};
-ghost use Rattle.call_effects.specs.Known.{Knowledge, Agrees, IsPutBack, HasCopies, IsLookedAtNext, IsReadNext, IsNodeMissing, AreBlocksMissing, IsPlanned, IsCopiedEntry, knows_after, part_of, stored_view, with_blocks, with_copy};
+ghost use Rattle.call_effects.specs.Known.{Knowledge, Agrees, IsPutBack, HasCopies, IsForgetful, IsLookedAtNext, IsReadNext, IsNodeMissing, AreBlocksMissing, IsPlanned, IsCopiedEntry, knows_after, part_of, stored_view, with_blocks, with_copy};
 
 /// No call meets a file that is gone, which is one that has no name and that nobody has open: it comes to the same over the
 /// graph as it stands stored, with such files still in it, and also where such files are put back that were dropped.
@@ -110,6 +111,14 @@ pub fn served_copy_is_missing_no_longer()
     ensures call_known { (k more : Knowledge) (g : Graph) (held : Descriptors) (call : Call) (result : Result Operation Errno) → IsSound g held → Agrees k g held → Agrees more g held → HasCopies more k → run_part (part_of k) (decide k.own call) ≡ Known result → run_part (part_of more) (decide k.own call) ≡ Known result }
     ensures effects_known { (k more : Knowledge) (g : Graph) (held : Descriptors) (new : ℕ) (operation : Operation) (es : List Effect) → IsSound g held → Agrees k g held → Agrees more g held → HasCopies more k → run_part (part_of k) (effects_asked new operation) ≡ Known (Ok es) → run_part (part_of more) (effects_asked new operation) ≡ Known (Ok es) }
     ensures growth_known { (k more : Knowledge) (g : Graph) (held : Descriptors) (operation : Operation) (units : ℕ) → IsSound g held → Agrees k g held → Agrees more g held → HasCopies more k → run_part (part_of k) (growth_asked operation) ≡ Known (Ok units) → run_part (part_of more) (growth_asked operation) ≡ Known (Ok units) }
+{}
+
+/// What a client gets of a whole that agrees with what it knows agrees with it too: the node that stands at an inode, where nothing
+/// stands there if it knows no block of what once did, and blocks of a file. So does what is left where it forgets some of it.
+pub fn served_copy_agrees()
+    ensures node { (k : Knowledge) (g : Graph) (held : Descriptors) (i : ℕ) → Agrees k g held → (g i ≡ None → (b : ℕ) → k.blocks i b ≡ None) → Agrees (with_copy k i (view_at g i)) g held }
+    ensures blocks { (k : Knowledge) (g : Graph) (held : Descriptors) (i first count names : ℕ) (bytes : List ℕ) → Agrees k g held → g i ≡ Some (record { names = names; body = FileBody bytes }) → Agrees (with_blocks k i first count (λ b. block_of b bytes)) g held }
+    ensures less { (k less : Knowledge) (g : Graph) (held : Descriptors) → Agrees k g held → IsForgetful k less → Agrees less g held }
 {}
 
 /// A call on the root that every tree refuses is refused by what any client knows, with no copy at all: the root is known to be

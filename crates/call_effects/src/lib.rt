@@ -22,7 +22,7 @@ pub use known_laws::{
     copied_entries_tell_kinds, dropping_a_gone_file_keeps_all, known_answer_is_of_the_whole,
     known_call_is_a_step, known_call_keeps_agreement, missing_is_asked_next,
     no_call_meets_a_file_that_is_gone, part_is_of_the_whole, root_is_refused_without_a_copy,
-    served_copy_is_missing_no_longer,
+    served_copy_agrees, served_copy_is_missing_no_longer,
 };
 pub use laws::{
     answered_operation_fits, call_is_a_step, fresh_graph_stands_for_the_opening,
