@@ -24,11 +24,14 @@ pub fn append(rt: &HostRuntime, path: &str, count: u64) -> Result<()> {
     } else {
         created(rt, path)?
     };
-    let mut region = region(rt.alloc(), media)?;
-    let first = numbers(rt.alloc(), &mut region)?.len() as u64;
+    append_all(rt, &mut region(rt.alloc(), media)?, count)
+}
+
+fn append_all(rt: &HostRuntime, region: &mut Region<FileMedia>, count: u64) -> Result<()> {
+    let first = numbers(rt.alloc(), region)?.len() as u64;
     for k in 0..count {
         let number = first.saturating_add(k);
-        append_one(rt.alloc(), &mut region, number)?;
+        append_one(rt.alloc(), region, number)?;
         println!(rt; "{number}")?;
     }
     Ok(())
@@ -36,8 +39,13 @@ pub fn append(rt: &HostRuntime, path: &str, count: u64) -> Result<()> {
 
 /// Prints the numbers of the records that the file holds.
 pub fn read(rt: &HostRuntime, path: &str) -> Result<()> {
-    let mut region = region(rt.alloc(), opened(rt, path)?)?;
-    for number in &numbers(rt.alloc(), &mut region)? {
+    let media = opened(rt, path)?;
+    let found = numbers(rt.alloc(), &mut region(rt.alloc(), media)?)?;
+    print_all(rt, &found)
+}
+
+fn print_all(rt: &HostRuntime, numbers: &[u64]) -> Result<()> {
+    for number in numbers {
         println!(rt; "{number}")?;
     }
     Ok(())

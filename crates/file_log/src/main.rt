@@ -3,28 +3,41 @@
 
 mod log;
 
-use anyhow::{Context, Result, bail};
+use anyhow::{Result, bail};
 use std::env;
-use std::process::ExitCode;
 
-fn main(rt: HostRuntime) -> Result<ExitCode> {
-    let alloc = rt.alloc();
-    let args = env::args(&rt).context("reading the command line")?;
-    let mut words = Vec::new(alloc);
-    for arg in args {
-        words.push(arg)?;
+fn main(rt: HostRuntime) -> Result<()> {
+    let mut words = Vec::new(rt.alloc());
+    for word in env::args(&rt)? {
+        words.push(word)?;
     }
-    let mut texts = Vec::new(alloc);
-    for word in &words {
-        texts.push(word.as_str())?;
+    run(&rt, &words)
+}
+
+fn run(rt: &HostRuntime, words: &[String]) -> Result<()> {
+    match word(words, 1) {
+        "append" => append(rt, word(words, 2), word(words, 3)),
+        "read" => log::read(rt, word(words, 2)),
+        _ => usage(rt),
     }
-    match texts.as_slice() {
-        [_, "append", count, path] => match count.parse::<u64>() {
-            Ok(count) => log::append(&rt, path, count)?,
-            Err(_) => bail!("{count} is no count"),
-        },
-        [_, "read", path] => log::read(&rt, path)?,
-        _ => println!(rt; "usage: file_log append COUNT PATH | file_log read PATH")?,
+}
+
+fn append(rt: &HostRuntime, count: &str, path: &str) -> Result<()> {
+    match count.parse::<u64>() {
+        Ok(count) => log::append(rt, path, count),
+        Err(_) => bail!("{count} is no count"),
     }
-    Ok(ExitCode::SUCCESS)
+}
+
+fn usage(rt: &HostRuntime) -> Result<()> {
+    println!(rt; "usage: file_log append COUNT PATH | file_log read PATH")?;
+    Ok(())
+}
+
+// The word of this number, or none.
+fn word(words: &[String], at: usize) -> &str {
+    match words.get(at) {
+        Some(word) => word.as_str(),
+        None => "",
+    }
 }
