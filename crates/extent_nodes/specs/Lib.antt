@@ -1,0 +1,4 @@
+pub mod Places
+pub mod Normal
+pub mod Parts
+pub mod Nodes
