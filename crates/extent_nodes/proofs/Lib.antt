@@ -3,5 +3,7 @@ pub mod Rising
 pub mod Joined
 pub mod Summaries
 pub mod Cuts
+pub mod Parts
+pub mod Splices
 pub mod Unique
 pub mod Packs

@@ -5,11 +5,13 @@
 //! of the level below, whose number is its place.
 #![tactic(auto)]
 
+mod changing;
 mod joining;
 mod laws;
 mod node;
 mod packing;
 
+pub use changing::change;
 pub use joining::{push, push_part};
 pub use laws::normal_form_is_one;
 pub use node::{Found, Node};
