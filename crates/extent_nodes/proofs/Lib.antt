@@ -7,3 +7,4 @@ pub mod Parts
 pub mod Splices
 pub mod Unique
 pub mod Packs
+pub mod Levels

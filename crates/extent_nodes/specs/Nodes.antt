@@ -8,6 +8,11 @@ abbrev pub flat : List (List Extent) → List Extent
 flat [] = []
 flat (n ∷ ns) = n ++ flat ns
 
+-- where the first of some entries begins, or 0
+abbrev pub begin_of : List Extent → ℕ
+begin_of [] = 0
+begin_of (e ∷ es) = e.logical
+
 -- where the last of some entries ends, or a number where there is none
 abbrev pub last_end : ℕ → List Extent → ℕ
 last_end low [] = low

@@ -10,9 +10,11 @@ mod joining;
 mod laws;
 mod node;
 mod packing;
+mod searching;
 
 pub use changing::change;
 pub use joining::{push, push_part};
 pub use laws::normal_form_is_one;
 pub use node::{Found, Node};
 pub use packing::{pack, push_entries, push_summaries};
+pub use searching::{nodes_before, nodes_up_to};

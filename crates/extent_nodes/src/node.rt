@@ -1,5 +1,5 @@
 ghost use Rattle.std.specs.Prelude.{◌≡◌, ◌≤◌, ◌<◌, ◌^◌, length, IfOk};
-ghost use Rattle.extent_nodes.specs.Nodes.{summary};
+ghost use Rattle.extent_nodes.specs.Nodes.{begin_of, last_end, summary};
 ghost use Rattle.extent_nodes.specs.Normal.{IsRising};
 ghost use Rattle.extent_nodes.specs.Places.{extent_at};
 
@@ -46,6 +46,20 @@ impl Node {
         &self.entries
     }
 
+    /// Where the first entry begins; 0 where there is none.
+    pub fn start(&self) -> u32
+        ensures { result ≡ begin_of self.now }
+    {
+        start_of(&self.entries)
+    }
+
+    /// Where the last entry ends; 0 where there is none.
+    pub fn end(&self) -> u64
+        ensures { result ≡ last_end 0 self.now }
+    {
+        end_of(&self.entries)
+    }
+
     /// The entry that has a block, by bisection.
     pub fn find(&self, block: u32) -> Found
         requires { IsRising 0 4294967295 self.now }
@@ -54,6 +68,25 @@ impl Node {
     {
         find(&self.entries, block)
     }
+}
+
+fn start_of(entries: &[Extent]) -> u32
+    ensures { result ≡ begin_of entries.now }
+{
+    if entries.is_empty() {
+        return 0;
+    }
+    entries[0].logical
+}
+
+fn end_of(entries: &[Extent]) -> u64
+    ensures { result ≡ last_end 0 entries.now }
+{
+    if entries.is_empty() {
+        return 0;
+    }
+    let last = entries[entries.len() - 1];
+    last.logical as u64 + last.length as u64
 }
 
 fn find(entries: &[Extent], block: u32) -> Found
