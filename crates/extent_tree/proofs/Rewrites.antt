@@ -3,17 +3,20 @@ use Rattle.std.proofs.Common.{◌≡◌, ◌≤◌, ◌<◌, ◌⊎◌, inl, inr
 use Rattle.std.specs.Prelude.{slice_range}
 use Rattle.std.specs.List.{AllByRecursion}
 use Rattle.std.proofs.lemmas.Bool.{cases_lt}
-use Rattle.std.proofs.lemmas.List.{append-nil, take-append-drop, drop_all}
+use Rattle.std.proofs.lemmas.List.{append-nil, take-append-drop, drop_all, drop_at, take_at, take-take, take_rest, length-drop}
+use Rattle.std.proofs.Math.Seq.{take-append-add}
 use Rattle.std.proofs.lemmas.List.Folds.{drop_split}
 use Rattle.layout.specs.declared.extents.Extent.{Extent}
 use Rattle.extent_nodes.specs.Places.{place_of}
 use Rattle.extent_nodes.specs.Normal.{IsRising, PlacesFit, IsNormal, Joins}
 use Rattle.extent_nodes.specs.Changes.{after, changed}
-use Rattle.extent_nodes.specs.Nodes.{flat, AreFilled, HaveFrom}
+use Rattle.extent_nodes.specs.Nodes.{flat, last_end, summaries, AreFilled, HaveFrom}
 use Rattle.extent_nodes.proofs.Joined.{all-left, all-right, all-append}
 use Rattle.extent_nodes.proofs.Rising.{rising-wider, rising-left, rising-right}
-use Rattle.extent_nodes.proofs.Summaries.{flat-append}
+use Rattle.extent_nodes.proofs.Summaries.{flat-append, summaries-append}
 use Rattle.extent_nodes.proofs.Splices.{Spliced, spliced-normal, spliced-at}
+use Rattle.extent_nodes.proofs.Levels.{before-less, behind-less}
+use Rattle.extent_tree.proofs.Trees.{nodes-few}
 use Rattle.extent_tree.specs.Tree.{IsLevel, IsNeeded, IsTree, IsWidth}
 use Rattle.extent_tree.specs.Chosen.{Touched, Remade, IsEnough}
 
@@ -125,3 +128,82 @@ rewritten-needed width first count place from to old packed entries r single =
       | inl more ↦ omega (arith, more, ap length r.flat_is)
       | inr few ↦ absurd (omega (arith, r.one few, several))
     ])
+
+-- ---- more leaves are taken
+
+pub touched-wider : (first count from to from' to' : ℕ) (ns : List (List Extent)) → Touched first count from to ns → from' ≤ from → to ≤ to' → to' ≤ length ns → Touched first count from' to' ns
+touched-wider first count from to from' to' ns t less more within = record {
+  order = omega (arith, t.order, less, more);
+  within = within;
+  before = before-less first from from' ns less t.before;
+  behind = behind-less (first + count) to to' ns more t.behind;
+  single = λ single. let all = t.single single in (omega (arith, all.0, less), omega (arith, all.1, more, within));
+}
+
+pub wider-within : (from to from' to' n : ℕ) → ((from ≡ 0) × (to ≡ n) → ⊥) → to ≤ n → from' ≤ from → to' + from ≡ to + from' + 1 → (0 < from → to' ≡ to) → to' ≤ n
+wider-within from to from' to' n not_all within less one end = elim (cases_lt 0 from) [
+  | inl some ↦ omega (arith, end some, within)
+  | inr none ↦ elim (cases_lt to n) [
+    | inl room ↦ omega (arith, one, none, less, room)
+    | inr full ↦ absurd (not_all (omega (arith, none), omega (arith, full, within)))
+  ]
+]
+
+-- ---- three slices of nodes
+
+pub three-filled : (xs ys zs : List (List Extent)) → AreFilled xs → AreFilled ys → AreFilled zs → AreFilled (xs ++ (ys ++ zs))
+three-filled xs ys zs a b c = let P : List Extent → Type 0 = λ n. 0 < length n in all-append P xs (ys ++ zs) a (all-append P ys zs b c)
+
+pub three-few : (xs ys zs : List (List Extent)) → IsRising 0 4294967295 (flat xs ++ (flat ys ++ flat zs)) → AreFilled xs → AreFilled ys → AreFilled zs → length xs + length ys + length zs ≤ 4294967295
+three-few xs ys zs rising a b c =
+    omega (arith, nodes-few (xs ++ (ys ++ zs)) (subst (IsRising 0 4294967295) (sym (flat-three xs ys zs)) rising) (three-filled xs ys zs a b c), length-append xs (ys ++ zs), length-append ys zs)
+
+pub middle-rises : (xs ys zs : List Extent) → IsRising 0 4294967295 (xs ++ (ys ++ zs)) → IsRising 0 4294967295 ys
+middle-rises xs ys zs is = rising-wider (last_end 0 xs) 4294967295 0 4294967295 ys (rising-left (last_end 0 xs) 4294967295 ys zs (rising-right 0 4294967295 xs (ys ++ zs) is)) (omega arith) (omega arith)
+
+pub back-rises : (xs ys zs : List Extent) → IsRising 0 4294967295 (xs ++ (ys ++ zs)) → IsRising 0 4294967295 zs
+back-rises xs ys zs is =
+    let low = last_end 0 xs in
+    rising-wider (last_end low ys) 4294967295 0 4294967295 zs (rising-right low 4294967295 ys zs (rising-right 0 4294967295 xs (ys ++ zs) is)) (omega arith) (omega arith)
+
+pub three-covers : (xs ys zs : List (List Extent)) → ([] ++ summaries 0 xs ++ summaries (length xs) ys) ++ summaries (length xs + length ys) zs ≡ summaries 0 (xs ++ (ys ++ zs))
+three-covers xs ys zs =
+    let a : 0 + length xs ≡ length xs = omega arith in
+    append_assoc (summaries 0 xs) (summaries (length xs) ys) (summaries (length xs + length ys) zs)
+    ∙ sym (summaries-append 0 xs (ys ++ zs) ∙ ap (λ l. summaries 0 xs ++ l) (summaries-append (0 + length xs) ys zs) ∙ ap (λ k. summaries 0 xs ++ (summaries k ys ++ summaries (k + length ys) zs)) a)
+
+-- ---- leaves put in the place of others
+
+pub turned : {X : Type 0} (xs more : List X) (from to back : ℕ) → from ≤ to → to ≤ length xs → back ≡ length xs - to
+    → drop back (take (back + from) (drop to xs ++ take to xs) ++ more) ++ take back (take (back + from) (drop to xs ++ take to xs) ++ more) ≡ take from xs ++ (more ++ drop to xs)
+turned xs more from to back order within is =
+    let d = drop to xs in
+    let long : length d ≡ back = length-drop to xs ∙ sym is in
+    let cut : take (back + from) (d ++ take to xs) ≡ d ++ take from xs = ap (λ k. take (k + from) (d ++ take to xs)) (sym long) ∙ take-append-add d (take to xs) from ∙ ap (λ l. d ++ l) (take-take from to xs order) in
+    let whole : take (back + from) (d ++ take to xs) ++ more ≡ d ++ (take from xs ++ more) = ap (λ l. l ++ more) cut ∙ append_assoc d (take from xs) more in
+    (λ i. drop back (whole i) ++ take back (whole i))
+    ∙ (λ i. drop_at d (take from xs ++ more) back long i ++ take_at d (take from xs ++ more) back long i)
+    ∙ append_assoc (take from xs) more d
+
+-- ---- what the calls of a change tell, put together
+
+pub told : (width first count : ℕ) (place : Option ℕ) (from to : ℕ) (old seen packed : List (List Extent)) (entries given : List Extent) → seen ≡ old → given ≡ entries → first + count < 2 ^ 32
+    → Touched first count from to seen → Remade first count place from to seen entries → IsEnough width from to seen entries
+    → flat packed ≡ given → (length given ≤ width → length packed ≤ 1) → AreFilled packed → HaveFrom 0 width packed → (width / 4 ≤ length given → HaveFrom (width / 4) width packed)
+    → Rewritten width first count place from to old packed entries
+told width first count place from to old seen packed entries given is_old is_entries fits touched made enough flat_is one filled most quarter = record {
+  fits = fits;
+  touched = subst (Touched first count from to) is_old touched;
+  made = subst (λ l. Remade first count place from to l entries) is_old made;
+  enough = subst (λ l. IsEnough width from to l entries) is_old enough;
+  flat_is = flat_is ∙ is_entries;
+  one = subst (λ l. length l ≤ width → length packed ≤ 1) is_entries one;
+  filled = filled;
+  most = most;
+  quarter = subst (λ l. width / 4 ≤ length l → HaveFrom (width / 4) width packed) is_entries quarter;
+}
+
+-- the three slices are the new leaves
+pub slices : (from to : ℕ) (old packed a b c : List (List Extent)) → a ≡ old → b ≡ packed → c ≡ old → take from a ++ (b ++ take (length c - to) (drop to c)) ≡ take from old ++ (packed ++ drop to old)
+slices from to old packed a b c is_a is_b is_c =
+    (λ i. take from (is_a i) ++ (is_b i ++ take (length (is_c i) - to) (drop to (is_c i)))) ∙ ap (λ l. take from old ++ (packed ++ l)) (take_rest old to)

@@ -1,5 +1,5 @@
 -- The tree of nodes.
-use Rattle.std.specs.Prelude.{◌≡◌, ◌<◌, ◌≤◌, ◌/◌, ◌^◌, ℕ, List, [], ◌∷◌, length, map}
+use Rattle.std.specs.Prelude.{◌≡◌, ◌<◌, ◌≤◌, ◌/◌, ◌^◌, ℕ, zero, suc, List, [], ◌∷◌, length, map}
 use Rattle.layout.specs.declared.extents.Extent.{Extent}
 use Rattle.extent_nodes.specs.Normal.{IsNormal}
 use Rattle.extent_nodes.specs.Nodes.{flat, summaries, AreFilled, HaveFrom}
@@ -18,6 +18,12 @@ IsNeeded width ns = 1 < length ns → width < length (flat ns)
 abbrev pub IsTree : ℕ → List (List Extent) → List (List (List Extent)) → Type 0
 IsTree width ns [] = length ns ≤ 1
 IsTree width ns (level ∷ higher) = (1 < length ns) × (flat level ≡ summaries 0 ns) × IsLevel width level × IsNeeded width level × IsTree width level higher
+
+-- the nodes of the level of a number, the lowest one's number being 0
+abbrev pub level_at : ℕ → List (List Extent) → List (List (List Extent)) → List (List Extent)
+level_at zero ns inner = ns
+level_at (suc k) ns [] = []
+level_at (suc k) ns (level ∷ higher) = level_at k level higher
 
 -- how many entries each level has
 abbrev pub counts : List (List Extent) → List (List (List Extent)) → List ℕ

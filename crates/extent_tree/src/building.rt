@@ -92,5 +92,6 @@ pub fn levels_above(
     push_summaries(&mut covers, front, 0)?;
     push_summaries(&mut covers, middle, front.len() as u32)?;
     push_summaries(&mut covers, back, (front.len() + middle.len()) as u32)?;
-    levels_over(alloc, width, covers)
+    let inner = levels_over(alloc, width, covers)?;
+    Ok(inner)
 }
