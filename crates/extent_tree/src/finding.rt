@@ -43,7 +43,8 @@ fn find_below<const N: usize>(nodes: &[Node], above: Found, block: u32) -> Found
     ensures extent { result.extent ≡ extent_at block (flat nodes.now) }
     ensures compared { result.compared ≤ above.compared + N }
 {
-    match above.extent {
+    let covering = above.extent;
+    match covering {
         None => above,
         Some(entry) => {
             let below = nodes[entry.place as usize].find(block);

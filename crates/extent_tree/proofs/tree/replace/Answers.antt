@@ -1,4 +1,4 @@
-use Rattle.std.proofs.Common.{◌≡◌, ◌++◌, ◌∙◌, arith, sym, ap, subst, take, drop}
+use Rattle.std.proofs.Common.{◌≡◌, ◌-◌, ◌++◌, ◌∙◌, length, arith, sym, ap, subst, take, drop}
 use Rattle.extent_nodes.specs.Places.{place_of}
 use Rattle.extent_nodes.specs.Normal.{IsRising, IsNormal}
 use Rattle.extent_nodes.specs.Changes.{after}
@@ -16,7 +16,10 @@ levels_above-requires-clause-rising g c =
     let r = told g.row.N c.args.run.first c.args.run.count c.args.place chosen.span.from chosen.span.to old c.deref.result.now packed chosen.entries.items c.deref-2.result.now c.deref.ensures.value c.deref-2.ensures.value c.requires.fits c.in_ok-chosen.ensures.touched c.in_ok-chosen.ensures.made c.in_ok-chosen.ensures.enough c.in_ok-packed.ensures.entries c.in_ok-packed.ensures.one c.in_ok-packed.ensures.some c.in_ok-packed.ensures.most c.in_ok-packed.ensures.quarter in
     let normal = rewritten-normal g.row.N c.args.run.first c.args.run.count c.args.place chosen.span.from chosen.span.to old packed chosen.entries.items c.requires.sound.normal r in
     let same = slices chosen.span.from chosen.span.to old packed c.deref-3.result.now c.deref-4.result.now c.deref-5.result.now c.deref-3.ensures.value c.deref-4.ensures.value c.deref-5.ensures.value in
-    subst (IsRising 0 4294967295) (ap flat (sym same) ∙ flat-three _ _ _) normal.rising
+    let from = chosen.span.from in
+    let to = chosen.span.to in
+    let seen = c.deref-5.result.now in
+    subst (IsRising 0 4294967295) (ap flat (sym same) ∙ flat-three (take from c.deref-3.result.now) c.deref-4.result.now (take (length seen - to) (drop to seen))) normal.rising
 
 pub returns-clause-sound : goal.returns-clause-sound
 returns-clause-sound g c =
