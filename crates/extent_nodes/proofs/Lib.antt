@@ -1,0 +1,10 @@
+pub mod Maps
+pub mod Rising
+pub mod Joined
+pub mod Summaries
+pub mod Cuts
+pub mod Parts
+pub mod Splices
+pub mod Unique
+pub mod Packs
+pub mod Levels

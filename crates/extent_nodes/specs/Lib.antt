@@ -1,0 +1,5 @@
+pub mod Places
+pub mod Normal
+pub mod Parts
+pub mod Changes
+pub mod Nodes

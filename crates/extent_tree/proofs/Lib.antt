@@ -1,0 +1,3 @@
+pub mod Trees
+pub mod Rewrites
+pub mod Searches

@@ -1,0 +1,122 @@
+// The leaves that a change rewrites: those that the run touches, and others beside them where too few entries are left.
+ghost use Rattle.std.specs.Prelude.{◌≡◌, ◌≤◌, ◌<◌, ◌+◌, ◌-◌, ◌/◌, ◌^◌, ◌↔◌, ◌⊎◌, length, IsTrue, IfSome, IfOk};
+ghost use Rattle.extent_nodes.specs.Changes.{changed};
+ghost use Rattle.extent_nodes.specs.Nodes.{flat, AreFilled};
+ghost use Rattle.extent_nodes.specs.Normal.{IsRising, PlacesFit, Joins};
+ghost use Rattle.extent_tree.specs.Chosen.{Touched, Remade, IsEnough};
+
+use block_alloc::Run;
+use extent_nodes::{Node, change, nodes_before, nodes_up_to, push_entries};
+use layout::Extent;
+use std::alloc::{AllocError, Global};
+
+/// Leaves by their numbers: from one on to another.
+#[derive(Clone, Copy)]
+pub struct Span {
+    pub from: usize,
+    pub to: usize,
+}
+
+/// The leaves that are to go, and the entries that come in their place.
+#[derive(Drop)]
+pub struct Chosen {
+    pub span: Span,
+    pub entries: Vec<Extent>,
+}
+
+// The leaves that a run touches or borders on.
+fn touched(leaves: &[Node], run: Run) -> Span
+    requires fits { run.first + run.count < 2 ^ 32 }
+    requires rising { IsRising 0 4294967295 (flat leaves.now) }
+    requires filled { AreFilled leaves.now }
+    ensures { Touched run.first run.count result.from result.to leaves.now }
+{
+    if leaves.len() <= 1 {
+        return Span {
+            from: 0,
+            to: leaves.len(),
+        };
+    }
+    let from = nodes_before(leaves, run.first);
+    let to = nodes_up_to(leaves, run.first + run.count);
+    Span {
+        from,
+        to: to.max(from),
+    }
+}
+
+// One leaf more.
+fn wider(span: Span) -> Span
+    requires room { span.to < 2 ^ 63 }
+    ensures from { result.from ≤ span.from }
+    ensures to { span.to ≤ result.to }
+    ensures one { result.to + span.from ≡ span.to + result.from + 1 }
+    ensures end { 0 < span.from → result.to ≡ span.to }
+{
+    if 0 < span.from {
+        Span {
+            from: span.from - 1,
+            to: span.to,
+        }
+    } else {
+        Span {
+            from: 0,
+            to: span.to + 1,
+        }
+    }
+}
+
+// The entries of some leaves once a run is changed.
+fn remade(
+    alloc: Global,
+    leaves: &[Node],
+    run: Run,
+    place: Option<u32>,
+) -> Result<Vec<Extent>, AllocError>
+    requires some { 0 < run.count }
+    requires fits { run.first + run.count < 2 ^ 32 }
+    requires places { IfSome place (λ p. p + run.count < 2 ^ 32) }
+    requires rising { IsRising 0 4294967295 (flat leaves.now) }
+    requires fit { PlacesFit (flat leaves.now) }
+    ensures { IfOk result (λ v. Joins 4294967295 (changed run.first run.count place (flat leaves.now)) v.items) }
+{
+    let mut entries = Vec::new(alloc);
+    push_entries(&mut entries, leaves)?;
+    change(alloc, &entries, run.first, run.count, place)
+}
+
+// Whether some of the leaves make nodes that are full enough with so many entries, or are all that there are.
+fn is_enough(width: usize, span: Span, leaves: usize, entries: usize) -> bool
+    requires order { span.from ≤ span.to }
+    requires within { span.to ≤ leaves }
+    ensures { IsTrue result ↔ ((width / 4 ≤ entries) ⊎ ((span.from ≡ 0) × (span.to ≡ leaves))) }
+{
+    width / 4 <= entries || (span.from == 0 && span.to == leaves)
+}
+
+/// The leaves to be rewritten where a run is mapped or unmapped, and their entries then.
+pub fn choose(
+    alloc: Global,
+    width: usize,
+    leaves: &[Node],
+    run: Run,
+    place: Option<u32>,
+) -> Result<Chosen, AllocError>
+    requires some { 0 < run.count }
+    requires fits { run.first + run.count < 2 ^ 32 }
+    requires places { IfSome place (λ p. p + run.count < 2 ^ 32) }
+    requires rising { IsRising 0 4294967295 (flat leaves.now) }
+    requires fit { PlacesFit (flat leaves.now) }
+    requires filled { AreFilled leaves.now }
+    ensures touched { IfOk result (λ c. Touched run.first run.count c.span.from c.span.to leaves.now) }
+    ensures made { IfOk result (λ c. Remade run.first run.count place c.span.from c.span.to leaves.now c.entries.items) }
+    ensures enough { IfOk result (λ c. IsEnough width c.span.from c.span.to leaves.now c.entries.items) }
+{
+    let mut span = touched(leaves, run);
+    let mut entries = remade(alloc, &leaves[span.from..span.to], run, place)?;
+    'wider: while !is_enough(width, span, leaves.len(), entries.len()) {
+        span = wider(span);
+        entries = remade(alloc, &leaves[span.from..span.to], run, place)?;
+    }
+    Ok(Chosen { span, entries })
+}
