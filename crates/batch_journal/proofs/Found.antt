@@ -17,7 +17,7 @@ gate_of_block c b is = ap (λ (l : List ℕ). get_or l 0 0) is ∙ get_or-take 4
 pub rest_of_block : (c b : List ℕ) → b ≡ slice 139264 4096 c → drop 1 b ≡ rest_of_gate c
 rest_of_block c b is = ap (drop 1) is ∙ drop-take 1 4095 (drop 139264 c) ∙ ap (take 4095) (drop-drop 1 139264 c)
 
-front_count : (area bytes : List ℕ) (m : ℕ) → take m area ≡ bytes → 4 ≤ length bytes → count_of area ≡ count_of bytes
+pub front_count : (area bytes : List ℕ) (m : ℕ) → take m area ≡ bytes → 4 ≤ length bytes → count_of area ≡ count_of bytes
 front_count area bytes m front le =
     ap count_of (sym (take-append-drop m area) ∙ ap (λ l. l ++ drop m area) front) ∙ count_front bytes (drop m area) le
 

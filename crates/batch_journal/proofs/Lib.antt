@@ -1,9 +1,10 @@
+mod Opens
 pub mod Bytes
-pub mod Images
 pub mod Courses
-pub mod Meaning
-pub mod Stages
 pub mod Found
+pub mod Images
+pub mod Meaning
 pub mod Openings
-pub mod Views
 pub mod Pushing
+pub mod Stages
+pub mod Views

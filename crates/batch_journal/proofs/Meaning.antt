@@ -281,7 +281,7 @@ pub home_over : (images : List (ℕ × List ℕ)) (c : List ℕ) (k : ℕ) → i
 home_over images c k at_home opened staged = at_home_open images c k at_home opened staged
 
 -- a slice of a slice
-slice_slice : (i n at l : ℕ) (c : List ℕ) → i + n ≤ l → slice i n (slice at l c) ≡ slice (at + i) n c
+pub slice_slice : (i n at l : ℕ) (c : List ℕ) → i + n ≤ l → slice i n (slice at l c) ≡ slice (at + i) n c
 slice_slice i n at l c le =
     let moved : drop i (drop at c) ≡ drop (at + i) c = drop-drop i at c in
     let rest : l ≡ i + (l - i) = omega (arith, le) in

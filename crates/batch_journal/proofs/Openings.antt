@@ -14,7 +14,7 @@ use Rattle.batch_journal.specs.Reading.{IsRead, first_block}
 use Rattle.batch_journal.proofs.Images.{rising_rises, rising_fit, none_below}
 use Rattle.batch_journal.proofs.Meaning.{head_alike, home_over, home_shut}
 
-first_image : (n : ℕ) (bytes : List ℕ) (x : List ℕ) → 1 ≤ n → Rises 0 (images_from bytes 0 n) → or_else (image_for 0 (images_from bytes 0 n)) x ≡ cond (number_at bytes 0 == 0) (image_at bytes 0) x
+pub first_image : (n : ℕ) (bytes : List ℕ) (x : List ℕ) → 1 ≤ n → Rises 0 (images_from bytes 0 n) → or_else (image_for 0 (images_from bytes 0 n)) x ≡ cond (number_at bytes 0 == 0) (image_at bytes 0) x
 first_image zero bytes x some rises = absurd (omega (arith, some))
 first_image (suc n) bytes x some rises =
     let t = number_at bytes 0 in

@@ -15,7 +15,7 @@ use Rattle.batch_journal.specs.View.{IsBatch}
 use Rattle.batch_journal.proofs.Bytes.{slice_behind, slice_apart, slice_written}
 use Rattle.batch_journal.proofs.Meaning.{number_front, image_front}
 
-number_slice : (b : List ℕ) (p : ℕ) → number_at b p ≡ little_number 4 (slice (4 + 4 * p) 4 b)
+pub number_slice : (b : List ℕ) (p : ℕ) → number_at b p ≡ little_number 4 (slice (4 + 4 * p) 4 b)
 unfolding number_at
 number_slice b p = sym (little_from-take 0 4 4 (drop (4 + 4 * p) b) (omega arith))
 

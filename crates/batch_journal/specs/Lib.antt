@@ -5,3 +5,4 @@ pub mod Course
 pub mod Reading
 pub mod View
 pub mod Damage
+pub mod Opening

@@ -20,6 +20,7 @@ pub fn fetch<M: Media>(media: &mut M, tier: Tier, at: usize, out: &mut [u8]) -> 
     ensures refused { OnErr result (out.new ≡ out.old) }
     ensures unmoved { Unmoved (M.moment media.old) (M.moment media.new) (M.seen media.old) (M.seen media.new) (M.left media.old) (M.left media.new) }
     ensures faults { M.faults media.old ≤ M.faults media.new }
+    ensures one_fault { M.faults media.new ≤ M.faults media.old + 1 }
     ensures quiet { OnOk result (M.faults media.new ≡ M.faults media.old) }
     ensures cause { OnErr result (Rose (M.faults media.old) (M.faults media.new)) }
 {
@@ -38,6 +39,7 @@ pub fn put<M: Media>(media: &mut M, tier: Tier, at: usize, bytes: &[u8]) -> Resu
     ensures lengths { SameLengths (M.seen media.old) (M.seen media.new) }
     ensures one_call { OnOk result (M.moment media.new ≡ M.moment media.old + 1) }
     ensures faults { M.faults media.old ≤ M.faults media.new }
+    ensures one_fault { M.faults media.new ≤ M.faults media.old + 1 }
     ensures at_most { M.moment media.new ≤ M.moment media.old + 1 }
     ensures quiet { OnOk result (M.faults media.new ≡ M.faults media.old) }
     ensures cause { OnErr result (Rose (M.faults media.old) (M.faults media.new)) }
@@ -56,6 +58,7 @@ pub fn settle<M: Media>(media: &mut M, tier: Tier) -> Result<(), Failed>
     ensures lengths { SameLengths (M.seen media.old) (M.seen media.new) }
     ensures one_call { OnOk result (M.moment media.new ≡ M.moment media.old + 1) }
     ensures faults { M.faults media.old ≤ M.faults media.new }
+    ensures one_fault { M.faults media.new ≤ M.faults media.old + 1 }
     ensures at_most { M.moment media.new ≤ M.moment media.old + 1 }
     ensures quiet { OnOk result (M.faults media.new ≡ M.faults media.old) }
     ensures cause { OnErr result (Rose (M.faults media.old) (M.faults media.new)) }
@@ -76,6 +79,7 @@ pub fn keep<M: Media>(media: &mut M, at: usize, bytes: &[u8]) -> Result<(), Fail
     ensures lengths { SameLengths (M.seen media.old) (M.seen media.new) }
     ensures two_calls { OnOk result (M.moment media.new ≡ M.moment media.old + 2) }
     ensures faults { M.faults media.old ≤ M.faults media.new }
+    ensures one_fault { M.faults media.new ≤ M.faults media.old + 1 }
     ensures at_most { M.moment media.new ≤ M.moment media.old + 2 }
     ensures quiet { OnOk result (M.faults media.new ≡ M.faults media.old) }
     ensures cause { OnErr result (Rose (M.faults media.old) (M.faults media.new)) }
@@ -96,6 +100,7 @@ pub fn put_image<M: Media>(media: &mut M, bytes: &[u8], place: usize) -> Result<
     ensures lengths { SameLengths (M.seen media.old) (M.seen media.new) }
     ensures one_call { OnOk result (M.moment media.new ≡ M.moment media.old + 1) }
     ensures faults { M.faults media.old ≤ M.faults media.new }
+    ensures one_fault { M.faults media.new ≤ M.faults media.old + 1 }
     ensures at_most { M.moment media.new ≤ M.moment media.old + 1 }
     ensures quiet { OnOk result (M.faults media.new ≡ M.faults media.old) }
     ensures cause { OnErr result (Rose (M.faults media.old) (M.faults media.new)) }

@@ -22,7 +22,7 @@ pub fn is_head(bytes: &[u8], count: usize, geometry: &Geometry) -> bool
     requires count { count ≡ count_of bytes.now }
     requires some { 1 ≤ count }
     requires few { count ≤ 256 }
-    requires long { 4096 * count + 4096 ≤ length bytes.now }
+    requires long { 4096 ≤ length bytes.now }
     ensures { IsTrue result ↔ IsHead geometry.now bytes.now }
 {
     is_rising(bytes, count, geometry) && ends_in_zeros(bytes, count)
@@ -41,7 +41,7 @@ fn ends_in_zeros(bytes: &[u8], count: usize) -> bool
 pub fn is_rising(bytes: &[u8], count: usize, geometry: &Geometry) -> bool
     requires count { count ≡ count_of bytes.now }
     requires few { count ≤ 1023 }
-    requires long { 4096 * count + 4096 ≤ length bytes.now }
+    requires long { 4096 ≤ length bytes.now }
     ensures { IsTrue result ↔ Rising geometry.now 0 (images_of bytes.now) }
 {
     let mut low: u64 = 0;

@@ -7,8 +7,8 @@ ghost use Rattle.batch_journal.specs.Images.{slice};
 ghost use Rattle.batch_journal.specs.Blocks.{home, after_batch, block_of, is_home, is_open, IsShutGate, AreJournaled, calls_of, ShowsHome};
 ghost use Rattle.batch_journal.specs.Volume.{IsJournal, IsVolume, KeepsGeometry, SameJournal};
 ghost use Rattle.batch_journal.specs.Course.{Since, Unmoved, SameLengths, TornFrom, BeforeOrAfter, OutsideRun, OutsideRunFrom};
-ghost use Rattle.batch_journal.specs.declared.error.JournalError.TheVariants.{DeviceFault, BatchTooLarge};
-ghost use Rattle.batch_journal.specs.Damage.{OnDamage, Names};
+ghost use Rattle.batch_journal.specs.declared.error.JournalError.TheVariants.{DeviceFault, BatchTooLarge, Memory};
+ghost use Rattle.batch_journal.specs.Damage.{OnDamage, Names, AwaitsReplay};
 
 use crate::Batch;
 use crate::calls::{fetch, put, settle};
@@ -28,8 +28,8 @@ pub const MAX_IMAGES: usize = 256;
 /// Contracts speak of `home`: block k of the fast tier as it stands once an open journal is replayed. Blocks of data, which no
 /// batch may name, are written in place by `write` and kept by `fence`; they may be pending while a batch is committed.
 ///
-/// A device fault of any call makes the journal answer `DeviceFault` to each later one, with nothing changed, until the medium
-/// is opened again.
+/// A call makes no device call behind one that failed, so it meets one fault at most. It makes the journal answer `DeviceFault` to
+/// each later call, with nothing changed, until the medium is opened again.
 #[derive(Debug, Drop)]
 pub struct Journal<M: Media> {
     media: M,
@@ -55,8 +55,9 @@ impl<M: Media> Journal<M> {
     /// the images on; home block 0 then tells the geometry.
     ///
     /// `Damaged`, with nothing written, where the medium is of no geometry that block 0 tells, or the gate's block or the head
-    /// behind an open gate is not as the format has it; it names which, and the block. The medium is handed back with each
-    /// refusal, untouched but where the device failed, and then it can be opened as before.
+    /// behind an open gate is not as the format has it; it names which, and the block. Memory is wanted only for the replay of a
+    /// journal that is sound. The medium is handed back with each refusal, untouched but where the device failed, and then it
+    /// can be opened as before.
     pub fn reopen(alloc: Global, media: M) -> Result<Self, (JournalError, M)>
         requires { AtRest (M.seen media) (M.left media (M.moment media)) Fast }
 
@@ -76,6 +77,7 @@ impl<M: Media> Journal<M> {
 
         ensures damaged { IfErr result (λ e. OnDamage e.0 (λ _ _. (g : Sizes) → IsVolume g (M.seen media) → ⊥)) }
         ensures named { IfErr result (λ e. OnDamage e.0 (Names (M.seen media))) }
+        ensures memory { IfErr result (λ e. e.0 ≡ Memory → AwaitsReplay (M.seen media)) }
         ensures untouched { IfErr result (λ e. e.0 ≢ DeviceFault → Unmoved (M.moment media) (M.moment e.1) (M.seen media) (M.seen e.1) (M.left media) (M.left e.1)) }
         ensures fault { IfErr result (λ e. e.0 ≡ DeviceFault → Rose (M.faults media) (M.faults e.1)) }
         ensures quiet_refused { IfErr result (λ e. e.0 ≢ DeviceFault → M.faults e.1 ≡ M.faults media) }
@@ -83,6 +85,7 @@ impl<M: Media> Journal<M> {
         ensures only { IfErr result (λ e. e.0 ≢ BatchTooLarge) }
         ensures lengths_refused { IfErr result (λ e. SameLengths (M.seen media) (M.seen e.1)) }
         ensures faults_refused { IfErr result (λ e. M.faults media ≤ M.faults e.1) }
+        ensures one_fault { IfErr result (λ e. M.faults e.1 ≤ M.faults media + 1) }
     {
         let mut media = media;
         match open_medium(alloc, &mut media) {
@@ -126,6 +129,7 @@ impl<M: Media> Journal<M> {
         ensures geometry { self.new.geometry ≡ self.old.geometry }
         ensures lengths { SameLengths (M.seen self.old.media) (M.seen self.new.media) }
         ensures faults { M.faults self.old.media ≤ M.faults self.new.media }
+        ensures one_fault { M.faults self.new.media ≤ M.faults self.old.media + 1 }
     {
         if self.failed {
             return Err(JournalError::DeviceFault);
@@ -162,6 +166,7 @@ impl<M: Media> Journal<M> {
         ensures stays_failed { self.old.failed ≡ true → (result ≡ Err DeviceFault) × (self.new ≡ self.old) }
         ensures geometry { self.new.geometry ≡ self.old.geometry }
         ensures faults { M.faults self.old.media ≤ M.faults self.new.media }
+        ensures one_fault { M.faults self.new.media ≤ M.faults self.old.media + 1 }
     {
         let _ = &self.failed;
         self.read(Tier::Fast, BLOCK * block as usize, out)
@@ -182,6 +187,7 @@ impl<M: Media> Journal<M> {
         ensures stays_failed { self.old.failed ≡ true → (result ≡ Err DeviceFault) × (self.new ≡ self.old) }
         ensures geometry { self.new.geometry ≡ self.old.geometry }
         ensures faults { M.faults self.old.media ≤ M.faults self.new.media }
+        ensures one_fault { M.faults self.new.media ≤ M.faults self.old.media + 1 }
     {
         if self.failed {
             return Err(JournalError::DeviceFault);
@@ -222,6 +228,7 @@ impl<M: Media> Journal<M> {
         ensures geometry { self.new.geometry ≡ self.old.geometry }
         ensures lengths { SameLengths (M.seen self.old.media) (M.seen self.new.media) }
         ensures faults { M.faults self.old.media ≤ M.faults self.new.media }
+        ensures one_fault { M.faults self.new.media ≤ M.faults self.old.media + 1 }
     {
         if self.failed {
             return Err(JournalError::DeviceFault);
@@ -252,6 +259,7 @@ impl<M: Media> Journal<M> {
         ensures geometry { self.new.geometry ≡ self.old.geometry }
         ensures lengths { SameLengths (M.seen self.old.media) (M.seen self.new.media) }
         ensures faults { M.faults self.old.media ≤ M.faults self.new.media }
+        ensures one_fault { M.faults self.new.media ≤ M.faults self.old.media + 1 }
     {
         if self.failed {
             return Err(JournalError::DeviceFault);

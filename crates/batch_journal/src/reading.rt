@@ -1,22 +1,24 @@
-// Reads of the fast tier, for an opening.
-ghost use Rattle.std.specs.Prelude.{◌≡◌, ◌≢◌, ◌<◌, ◌≤◌, ◌+◌, ◌*◌, ◌⊎◌, ◌^◌, ℕ, List, length, true, false, drop, get_or, ◌==◌, OnOk, OnErr, OnSome, IfSome, IfNone, IfOk, IfErr};
+// Reads of the fast tier, for an opening. They take no memory but for a run of any length.
+ghost use Rattle.std.specs.Prelude.{◌≡◌, ◌≢◌, ◌<◌, ◌≤◌, ◌+◌, ◌*◌, ◌⊎◌, ◌^◌, ℕ, List, length, true, false, drop, get_or, ◌==◌, OnSome, IfSome, IfNone, IfOk, IfErr, IsTrue, ◌↔◌, if◌then◌else◌};
 ghost use Rattle.tier_device.specs.declared.media.Tier.TheVariants.{Fast};
-ghost use Rattle.tier_device.specs.Media.{Rose};
-ghost use Rattle.batch_journal.specs.Images.{slice, count_of, images_of, rest_of_head};
+ghost use Rattle.layout.specs.Places.{tier_blocks};
 ghost use Rattle.layout.specs.Bytes.{are_zero};
-ghost use Rattle.batch_journal.specs.Blocks.{area_of, is_open, rest_of_gate};
-ghost use Rattle.batch_journal.specs.Course.{Unmoved};
-ghost use Rattle.batch_journal.specs.Reading.{IsRead};
-ghost use Rattle.batch_journal.specs.declared.error.JournalError.TheVariants.{DeviceFault, BatchTooLarge, Memory};
-ghost use Rattle.batch_journal.specs.Damage.{OnDamage, IsGateDamage};
-ghost use Rattle.layout.specs.declared.error.What.{What};
+ghost use Rattle.layout.specs.declared.places.TheConstants.{BLOCK};
 ghost use Rattle.layout.specs.declared.error.What.TheVariants as what;
+ghost use Rattle.batch_journal.specs.Images.{slice, count_of, number_at};
+ghost use Rattle.batch_journal.specs.Blocks.{area_of, is_open, rest_of_gate};
+ghost use Rattle.batch_journal.specs.Volume.{Spells, HasSizes};
+ghost use Rattle.batch_journal.specs.Course.{Unmoved};
+ghost use Rattle.batch_journal.specs.Reading.{TellsFaults, IsOfReading};
+ghost use Rattle.batch_journal.specs.declared.error.JournalError.TheVariants.{DeviceFault, Memory};
+ghost use Rattle.batch_journal.specs.Damage.{OnDamage, IsGateDamage, TellsNone};
 
 use crate::calls::fetch;
 use crate::error::JournalError;
+use crate::head::number_in;
 use crate::replay::{GATE, HEAD, OPEN};
 use byteorder::{ByteOrder, LittleEndian};
-use layout::{GATE_BLOCK, HEAD_BLOCK, What, are_zero};
+use layout::{BLOCK, GATE_BLOCK, Geometry, HEAD_BLOCK, SUPER_BLOCK, Super, What, are_zero};
 use std::alloc::Global;
 use tier_device::{Media, Tier};
 
@@ -30,11 +32,8 @@ pub fn read_run<M: Media>(
     requires { at + size ≤ length (M.seen media.old Fast) }
     ensures bytes { IfOk result (λ bytes. bytes.items ≡ slice at size (M.seen media.old Fast)) }
     ensures unmoved { Unmoved (M.moment media.old) (M.moment media.new) (M.seen media.old) (M.seen media.new) (M.left media.old) (M.left media.new) }
-    ensures faults { M.faults media.old ≤ M.faults media.new }
+    ensures faults { TellsFaults (M.faults media.old) (M.faults media.new) result }
     ensures only { IfErr result (λ e. (e ≡ DeviceFault) ⊎ (e ≡ Memory)) }
-    ensures quiet { OnOk result (M.faults media.new ≡ M.faults media.old) }
-    ensures quiet_refused { IfErr result (λ e. e ≢ DeviceFault → M.faults media.new ≡ M.faults media.old) }
-    ensures cause { IfErr result (λ e. e ≡ DeviceFault → Rose (M.faults media.old) (M.faults media.new)) }
 {
     match vec![in alloc; 0u8; size] {
         Ok(mut bytes) => match fetch(media, Tier::Fast, at, &mut bytes) {
@@ -45,29 +44,31 @@ pub fn read_run<M: Media>(
     }
 }
 
+/// A block's worth of bytes, to read into.
+pub fn blank() -> [u8; BLOCK] {
+    [0; BLOCK]
+}
+
 /// Whether the gate is open. `Damaged` where the rest of its block is not zero.
-pub fn read_gate<M: Media>(alloc: Global, media: &mut M) -> Result<bool, JournalError>
+pub fn read_gate<M: Media>(media: &mut M) -> Result<bool, JournalError>
     requires { 1196032 ≤ length (M.seen media.old Fast) }
     ensures gate { IfOk result (λ gate. gate ≡ is_open (M.seen media.old Fast)) }
     ensures rest { IfOk result (λ gate. are_zero (rest_of_gate (M.seen media.old Fast)) ≡ true) }
     ensures unmoved { Unmoved (M.moment media.old) (M.moment media.new) (M.seen media.old) (M.seen media.new) (M.left media.old) (M.left media.new) }
-    ensures faults { M.faults media.old ≤ M.faults media.new }
-    ensures only { IfErr result (λ e. e ≢ BatchTooLarge) }
+    ensures faults { TellsFaults (M.faults media.old) (M.faults media.new) result }
+    ensures only { IfErr result IsOfReading }
     ensures damaged { IfErr result (λ e. OnDamage e (IsGateDamage (M.seen media.old Fast))) }
-    ensures quiet { OnOk result (M.faults media.new ≡ M.faults media.old) }
-    ensures quiet_refused { IfErr result (λ e. e ≢ DeviceFault → M.faults media.new ≡ M.faults media.old) }
-    ensures cause { IfErr result (λ e. e ≡ DeviceFault → Rose (M.faults media.old) (M.faults media.new)) }
 {
-    let size = 4096;
-    match read_run(alloc, media, GATE, size) {
-        Ok(block) => match gate_in(&block) {
+    let mut block = blank();
+    match fetch(media, Tier::Fast, GATE, &mut block) {
+        Ok(()) => match gate_in(&block) {
             Some(is_open) => Ok(is_open),
             None => Err(JournalError::Damaged {
                 what: What::JournalGate,
                 block: GATE_BLOCK,
             }),
         },
-        Err(error) => Err(error),
+        Err(_) => Err(JournalError::DeviceFault),
     }
 }
 
@@ -84,45 +85,97 @@ fn gate_in(block: &[u8]) -> Option<bool>
     Some(block[0] == OPEN)
 }
 
-fn read_count<M: Media>(alloc: Global, media: &mut M) -> Result<usize, JournalError>
-    requires { 1196032 ≤ length (M.seen media.old Fast) }
-    ensures count { IfOk result (λ count. count ≡ count_of (area_of (M.seen media.old Fast))) }
+/// The superblock at a place of the fast tier: the geometry that it tells, if the tiers have these sizes, else `Damaged`.
+pub fn read_geometry<M: Media>(media: &mut M, at: usize) -> Result<Geometry, JournalError>
+    requires { at + BLOCK ≤ length (M.seen media.old Fast) }
+    ensures spells { IfOk result (λ g. Spells g (slice at 4096 (M.seen media.old Fast))) }
+    ensures sizes { IfOk result (λ g. HasSizes g (M.seen media.old)) }
+    ensures damaged { IfErr result (λ e. OnDamage e (λ w block. (w ≡ what.Super) × (block ≡ 0) × TellsNone (slice at 4096 (M.seen media.old Fast)) (M.seen media.old))) }
     ensures unmoved { Unmoved (M.moment media.old) (M.moment media.new) (M.seen media.old) (M.seen media.new) (M.left media.old) (M.left media.new) }
-    ensures faults { M.faults media.old ≤ M.faults media.new }
-    ensures only { IfErr result (λ e. (e ≡ DeviceFault) ⊎ (e ≡ Memory)) }
-    ensures quiet { OnOk result (M.faults media.new ≡ M.faults media.old) }
-    ensures quiet_refused { IfErr result (λ e. e ≢ DeviceFault → M.faults media.new ≡ M.faults media.old) }
-    ensures cause { IfErr result (λ e. e ≡ DeviceFault → Rose (M.faults media.old) (M.faults media.new)) }
+    ensures faults { TellsFaults (M.faults media.old) (M.faults media.new) result }
+    ensures only { IfErr result IsOfReading }
 {
-    match read_run(alloc, media, HEAD, 4) {
-        Ok(bytes) => Ok(LittleEndian::read_u32(&bytes) as usize),
-        Err(error) => Err(error),
+    let mut block = blank();
+    match fetch(media, Tier::Fast, at, &mut block) {
+        Ok(()) => match geometry_in(media, &block) {
+            Some(geometry) => Ok(geometry),
+            None => Err(JournalError::Damaged {
+                what: What::Super,
+                block: SUPER_BLOCK,
+            }),
+        },
+        Err(_) => Err(JournalError::DeviceFault),
     }
 }
 
-/// Head and images of an open journal. `Damaged` where the count is not of 1 to 256.
-pub fn read_batch<M: Media>(alloc: Global, media: &mut M) -> Result<Vec<u8>, JournalError>
-    requires { 1196032 ≤ length (M.seen media.old Fast) }
-    ensures read { IfOk result (λ bytes. IsRead (M.seen media.old Fast) bytes.items) }
-    ensures unmoved { Unmoved (M.moment media.old) (M.moment media.new) (M.seen media.old) (M.seen media.new) (M.left media.old) (M.left media.new) }
-    ensures faults { M.faults media.old ≤ M.faults media.new }
-    ensures only { IfErr result (λ e. e ≢ BatchTooLarge) }
-    ensures named { IfErr result (λ e. OnDamage e (λ w block. (w ≡ what.JournalHead) × (block ≡ 35))) }
-    ensures damaged { IfErr result (λ e. OnDamage e (λ _ _. (count_of (area_of (M.seen media.old Fast)) < 1) ⊎ (256 < count_of (area_of (M.seen media.old Fast))))) }
-    ensures quiet { OnOk result (M.faults media.new ≡ M.faults media.old) }
-    ensures quiet_refused { IfErr result (λ e. e ≢ DeviceFault → M.faults media.new ≡ M.faults media.old) }
-    ensures cause { IfErr result (λ e. e ≡ DeviceFault → Rose (M.faults media.old) (M.faults media.new)) }
+// The geometry that a superblock tells, if the tiers have its sizes.
+fn geometry_in<M: Media>(media: &M, block: &[u8]) -> Option<Geometry>
+    ensures spells { IfSome result (λ g. Spells g block.now) }
+    ensures sizes { IfSome result (λ g. HasSizes g (M.seen media.now)) }
+    ensures damaged { IfNone result (TellsNone block.now (M.seen media.now)) }
 {
-    match read_count(alloc, media) {
-        Ok(count) => {
+    match Super::decode(block) {
+        Ok(found) => {
+            if !has_sizes(media, &found.geometry) {
+                return None;
+            }
+            Some(found.geometry)
+        }
+        Err(_) => None,
+    }
+}
+
+fn has_sizes<M: Media>(media: &M, geometry: &Geometry) -> bool
+    ensures yes { result ≡ true → HasSizes geometry.now (M.seen media.now) }
+    ensures no { result ≡ false → HasSizes geometry.now (M.seen media.now) → ⊥ }
+{
+    has_size(media, geometry, Tier::Fast)
+        && has_size(media, geometry, Tier::Block)
+        && has_size(media, geometry, Tier::Slow)
+}
+
+fn has_size<M: Media>(media: &M, geometry: &Geometry, tier: Tier) -> bool
+    ensures { IsTrue result ↔ (length (M.seen media.now tier) ≡ 4096 * tier_blocks geometry.now tier) }
+{
+    media.size(tier) == 4096 * geometry.tier_blocks(tier) as usize
+}
+
+/// The head behind an open gate, and how many images it counts. `Damaged` where these are not 1 to 256.
+pub fn read_head<M: Media>(media: &mut M, head: &mut [u8]) -> Result<usize, JournalError>
+    requires size { 1196032 ≤ length (M.seen media.old Fast) }
+    requires long { length head.old ≡ BLOCK }
+    ensures head { IfOk result (λ count. head.new ≡ slice 143360 4096 (M.seen media.old Fast)) }
+    ensures count { IfOk result (λ count. count ≡ count_of (area_of (M.seen media.old Fast))) }
+    ensures some { IfOk result (λ count. 1 ≤ count) }
+    ensures few { IfOk result (λ count. count ≤ 256) }
+    ensures damaged { IfErr result (λ e. OnDamage e (λ w block. (w ≡ what.JournalHead) × (block ≡ 35) × ((count_of (area_of (M.seen media.old Fast)) < 1) ⊎ (256 < count_of (area_of (M.seen media.old Fast)))))) }
+    ensures unmoved { Unmoved (M.moment media.old) (M.moment media.new) (M.seen media.old) (M.seen media.new) (M.left media.old) (M.left media.new) }
+    ensures faults { TellsFaults (M.faults media.old) (M.faults media.new) result }
+    ensures only { IfErr result IsOfReading }
+{
+    match fetch(media, Tier::Fast, HEAD, head) {
+        Ok(()) => {
+            let count = LittleEndian::read_u32(head) as usize;
             if count < 1 || 256 < count {
                 return Err(JournalError::Damaged {
                     what: What::JournalHead,
                     block: HEAD_BLOCK,
                 });
             }
-            read_run(alloc, media, HEAD, 4096 * count + 4096)
+            Ok(count)
         }
-        Err(error) => Err(error),
+        Err(_) => Err(JournalError::DeviceFault),
+    }
+}
+
+/// Where the superblock stands behind an open gate: the first image, if that is for block 0, else block 0.
+pub fn superblock_in(head: &[u8]) -> usize
+    requires { 8 ≤ length head.now }
+    ensures { result ≡ (if number_at head.now 0 == 0 then 147456 else 0) }
+{
+    if number_in(head, 0) == 0 {
+        HEAD + BLOCK
+    } else {
+        0
     }
 }

@@ -40,6 +40,7 @@ fn put_images<M: Media>(media: &mut M, bytes: &[u8], count: usize) -> Result<(),
     ensures at_most { M.moment media.new ≤ M.moment media.old + count }
     ensures quiet { OnOk result (M.faults media.new ≡ M.faults media.old) }
     ensures faults { M.faults media.old ≤ M.faults media.new }
+    ensures one_fault { M.faults media.new ≤ M.faults media.old + 1 }
     ensures cause { OnErr result (Rose (M.faults media.old) (M.faults media.new)) }
 {
     let mut place = 0;
@@ -66,6 +67,7 @@ fn put_images_kept<M: Media>(media: &mut M, bytes: &[u8], count: usize) -> Resul
     ensures at_most { M.moment media.new ≤ M.moment media.old + count + 1 }
     ensures quiet { OnOk result (M.faults media.new ≡ M.faults media.old) }
     ensures faults { M.faults media.old ≤ M.faults media.new }
+    ensures one_fault { M.faults media.new ≤ M.faults media.old + 1 }
     ensures cause { OnErr result (Rose (M.faults media.old) (M.faults media.new)) }
 {
     match put_images(media, bytes, count) {
@@ -94,6 +96,7 @@ pub fn replay<M: Media>(media: &mut M, bytes: &[u8], count: usize) -> Result<(),
     ensures quiet { OnOk result (M.faults media.new ≡ M.faults media.old) }
     ensures gate_byte { OnOk result (IsShutGate (M.seen media.new Fast)) }
     ensures faults { M.faults media.old ≤ M.faults media.new }
+    ensures one_fault { M.faults media.new ≤ M.faults media.old + 1 }
     ensures cause { OnErr result (Rose (M.faults media.old) (M.faults media.new)) }
 {
     match put_images_kept(media, bytes, count) {
@@ -119,6 +122,7 @@ fn open_batch<M: Media>(media: &mut M, bytes: &[u8]) -> Result<(), Failed>
     ensures at_most { M.moment media.new ≤ M.moment media.old + 4 }
     ensures quiet { OnOk result (M.faults media.new ≡ M.faults media.old) }
     ensures faults { M.faults media.old ≤ M.faults media.new }
+    ensures one_fault { M.faults media.new ≤ M.faults media.old + 1 }
     ensures cause { OnErr result (Rose (M.faults media.old) (M.faults media.new)) }
 {
     match keep(media, HEAD, bytes) {
@@ -146,6 +150,7 @@ pub fn write_batch<M: Media>(media: &mut M, bytes: &[u8], count: usize) -> Resul
     ensures quiet { OnOk result (M.faults media.new ≡ M.faults media.old) }
     ensures gate_byte { OnOk result (IsShutGate (M.seen media.new Fast)) }
     ensures faults { M.faults media.old ≤ M.faults media.new }
+    ensures one_fault { M.faults media.new ≤ M.faults media.old + 1 }
     ensures cause { OnErr result (Rose (M.faults media.old) (M.faults media.new)) }
 {
     match open_batch(media, bytes) {

@@ -1,22 +1,25 @@
-use Rattle.std.proofs.Common.{◌≡◌, ◌+◌, ℕ, List, length, cond, true, false, inl, inr, refl, sym, ◌∙◌, ap, subst, arith}
-use Rattle.std.proofs.lemmas.Bool.{false≢true}
+use Rattle.std.proofs.Common.{◌≡◌, ◌∙◌, ℕ, List, true, false, inl, inr, length, sym, ap, subst, refl, arith}
 use Rattle.tier_device.specs.declared.media.Tier.{Tier}
 use Rattle.tier_device.specs.declared.media.Tier.TheVariants.{Fast}
-use Rattle.batch_journal.specs.Images.{count_of}
 use Rattle.layout.specs.Bytes.{are_zero}
-use Rattle.batch_journal.specs.Blocks.{area_of, block_of, is_open, rest_of_gate, calls_of}
-use Rattle.batch_journal.specs.Volume.{Spells, IsVolume, SameJournal}
-use Rattle.batch_journal.proofs.Courses.{still, unmoved_on, then_calls, weaker, left_before, rose_later, on_ok, if_ok, if_ok_2, if_err, each_err, any_ok, tiers_same, on_damage}
-use Rattle.batch_journal.specs.Damage.{Names}
-use Rattle.batch_journal.proofs.Meaning.{same_refl, same_on, home_shut}
-use Rattle.batch_journal.proofs.Openings.{shut_volume}
+use Rattle.layout.specs.declared.error.What.TheVariants as what
+use Rattle.batch_journal.specs.declared.error.JournalError.{JournalError}
+use Rattle.batch_journal.specs.declared.error.JournalError.TheVariants as errors
+use Rattle.batch_journal.specs.Images.{slice}
+use Rattle.batch_journal.specs.Blocks.{is_open, rest_of_gate}
+use Rattle.batch_journal.specs.Volume.{Spells}
+use Rattle.batch_journal.specs.Damage.{TellsNone}
+use Rattle.batch_journal.proofs.Courses.{unmoved_on, left_before, tiers_same, if_ok, if_err, on_damage}
+use Rattle.batch_journal.proofs.Opens.{tells_other, tells_as, tells_on, unmoved_same, opens_err, opens_after, opens_geometry}
 use Rattle.batch_journal.proofs.opening.open_medium.Goals as goal
 
-calls_open : (c : List ℕ) → is_open c ≡ true → calls_of c ≡ count_of (area_of c) + 3
-calls_open c opened = ap (λ b. cond b (count_of (area_of c) + 3) 0) opened
-
-calls_shut : (c : List ℕ) → is_open c ≡ false → calls_of c ≡ 0
-calls_shut c closed = ap (λ b. cond b (count_of (area_of c) + 3) 0) closed
+pub returns-then-size-lt-END : goal.returns-then-size-lt-END
+returns-then-size-lt-END g c =
+    let m = g.M.Media in
+    let old = c.args.media.now in
+    let f = m.faults old in
+    let e : JournalError = errors.Damaged what.Super 0 in
+    opens_err f f (unmoved_same (m.moment old) (m.seen old) (m.left old)) c.requires e (tells_other f f e (λ is. absurd cc) refl) (inr (inr (record { structure = refl; place = refl; none = inl (omega (arith, c.size.ensures, c.if-size-lt-END.true)) }))) (λ is. absurd cc) (λ is. absurd cc)
 
 pub open_replayed-requires-clause-size : goal.open_replayed-requires-clause-size
 open_replayed-requires-clause-size g c =
@@ -29,223 +32,44 @@ open_replayed-requires-clause-rest g c x l =
 
 pub open_replayed-requires-clause-opened : goal.open_replayed-requires-clause-opened
 open_replayed-requires-clause-opened g c =
-    let m = g.M.Media in
-    let old = c.args.media.now in
-    let seen = m.seen old Fast in
-    let un = c.read_gate.ensures.unmoved in
-    let opened : is_open seen ≡ true = sym c.in-Ok.ensures.gate ∙ c.if-is_open.true in
-    let is = un.reads Fast in
-    subst (λ (s : List ℕ). is_open s ≡ true) (sym is) opened
+    let opened : is_open (g.M.Media.seen c.args.media.now Fast) ≡ true = sym c.in-Ok.ensures.gate ∙ c.if-is_open.true in
+    subst (λ (s : List ℕ). is_open s ≡ true) (sym (c.read_gate.ensures.unmoved.reads Fast)) opened
 
 pub open_replayed-requires-clause-gate : goal.open_replayed-requires-clause-gate
 open_replayed-requires-clause-gate g c =
+    subst (λ (s : List ℕ). are_zero (rest_of_gate s) ≡ true) (sym (c.read_gate.ensures.unmoved.reads Fast)) c.in-Ok.ensures.rest
+
+pub returns-then-is_open : goal.returns-then-is_open
+returns-then-is_open g c =
     let m = g.M.Media in
-    let old = c.args.media.now in
-    let seen = m.seen old Fast in
-    let un = c.read_gate.ensures.unmoved in
-    let is = un.reads Fast in
-    let rest = c.in-Ok.ensures.rest in
-    subst (λ (s : List ℕ). are_zero (rest_of_gate s) ≡ true) (sym is) rest
+    opens_after (m.faults c.args.media.now) (m.faults c.read_gate.new.media) (m.faults c.open_replayed.new.media) c.open_replayed.result c.read_gate.ensures.unmoved c.requires c.in-Ok.ensures.faults.quiet c.open_replayed.ensures
 
-pub returns-then-is_open-clause-course : goal.returns-then-is_open-clause-course
-returns-then-is_open-clause-course g c =
-    let m = g.M.Media in
-    let old = c.args.media.now in
-    let seen = m.seen old Fast in
-    let same : (x : List ℕ) → m.left old (m.moment old) Fast x → SameJournal seen x = λ x l. same_refl seen x (c.requires x l) in
-    let un = c.read_gate.ensures.unmoved in
-    let now = m.seen c.read_gate.new.media Fast in
-    then_calls Fast un (weaker c.open_replayed.ensures.course (λ x s. same_on seen now x (same_refl seen now (un.reads Fast)) s)) same
-
-pub returns-then-is_open-clause-is : goal.returns-then-is_open-clause-is
-returns-then-is_open-clause-is g c =
-    let m = g.M.Media in
-    let old = c.args.media.now in
-    let seen = m.seen old Fast in
-    let un = c.read_gate.ensures.unmoved in
-    let tiers : m.seen c.read_gate.new.media ≡ m.seen old = tiers_same (m.seen old) (m.seen c.read_gate.new.media) un.reads in
-    if_ok c.open_replayed.result (λ h is. subst (λ (s : Tier → List ℕ). IsVolume h s) tiers is) c.open_replayed.ensures.is
-
-pub returns-then-is_open-clause-damaged : goal.returns-then-is_open-clause-damaged
-returns-then-is_open-clause-damaged g c =
-    let m = g.M.Media in
-    let old = c.args.media.now in
-    let seen = m.seen old Fast in
-    let un = c.read_gate.ensures.unmoved in
-    let tiers : m.seen c.read_gate.new.media ≡ m.seen old = tiers_same (m.seen old) (m.seen c.read_gate.new.media) un.reads in
-    if_err c.open_replayed.result (λ e f. on_damage e (λ w block none h volume. none h (subst (λ (s : Tier → List ℕ). IsVolume h s) (sym tiers) volume)) f) c.open_replayed.ensures.damaged
-
-pub returns-then-is_open-clause-named : goal.returns-then-is_open-clause-named
-returns-then-is_open-clause-named g c =
-    let m = g.M.Media in
-    let tiers : m.seen c.read_gate.new.media ≡ m.seen c.args.media.now = tiers_same (m.seen c.args.media.now) (m.seen c.read_gate.new.media) c.read_gate.ensures.unmoved.reads in
-    if_err c.open_replayed.result (λ e f. on_damage e (λ w block is. subst (λ (s : Tier → List ℕ). Names s w block) tiers is) f) c.open_replayed.ensures.named
-
-pub returns-then-is_open-clause-at_most : goal.returns-then-is_open-clause-at_most
-returns-then-is_open-clause-at_most g c =
-    let m = g.M.Media in
-    let seen = m.seen c.args.media.now Fast in
-    let un = c.read_gate.ensures.unmoved in
-    let opened : is_open seen ≡ true = sym c.in-Ok.ensures.gate ∙ c.if-is_open.true in
-    let same : count_of (area_of (m.seen c.read_gate.new.media Fast)) ≡ count_of (area_of seen) = ap (λ (s : List ℕ). count_of (area_of s)) (un.reads Fast) in
-    omega (arith, c.open_replayed.ensures.at_most, same, un.clock, calls_open seen opened)
-
-pub returns-then-is_open-clause-gate_byte : goal.returns-then-is_open-clause-gate_byte
-returns-then-is_open-clause-gate_byte g c = on_ok c.open_replayed.result (λ more opened. more) c.open_replayed.ensures.gate_byte
-
-pub returns-then-is_open-clause-quiet : goal.returns-then-is_open-clause-quiet
-returns-then-is_open-clause-quiet g c = on_ok c.open_replayed.result (λ more. more ∙ c.in-Ok.ensures.quiet) c.open_replayed.ensures.quiet
-
-pub returns-then-is_open-clause-quiet_refused : goal.returns-then-is_open-clause-quiet_refused
-returns-then-is_open-clause-quiet_refused g c = if_err c.open_replayed.result (λ e f other. f other ∙ c.in-Ok.ensures.quiet) c.open_replayed.ensures.quiet_refused
-
-pub returns-then-is_open-clause-untouched : goal.returns-then-is_open-clause-untouched
-returns-then-is_open-clause-untouched g c =
-    let un = c.read_gate.ensures.unmoved in
-    if_err c.open_replayed.result (λ e f is. unmoved_on un (f is)) c.open_replayed.ensures.untouched
-
-pub returns-then-is_open-clause-others : goal.returns-then-is_open-clause-others
-returns-then-is_open-clause-others g c =
-    let un = c.read_gate.ensures.unmoved in
-    on_ok c.open_replayed.result (λ more t other. more t other ∙ un.reads t) c.open_replayed.ensures.others
-
-pub returns-then-is_open-clause-calls : goal.returns-then-is_open-clause-calls
-returns-then-is_open-clause-calls g c =
-    let m = g.M.Media in
-    let old = c.args.media.now in
-    let seen = m.seen old Fast in
-    let un = c.read_gate.ensures.unmoved in
-    let opened : is_open seen ≡ true = sym c.in-Ok.ensures.gate ∙ c.if-is_open.true in
-    let same : count_of (area_of (m.seen c.read_gate.new.media Fast)) ≡ count_of (area_of seen) = ap (λ (s : List ℕ). count_of (area_of s)) (un.reads Fast) in
-    on_ok c.open_replayed.result (λ more. omega (arith, more, same, un.clock, calls_open seen opened)) c.open_replayed.ensures.calls
-
-pub returns-then-is_open-clause-lengths : goal.returns-then-is_open-clause-lengths
-returns-then-is_open-clause-lengths g c t =
-    let un = c.read_gate.ensures.unmoved in
-    c.open_replayed.ensures.lengths t ∙ ap length (un.reads t)
-
-pub returns-then-is_open-clause-cause : goal.returns-then-is_open-clause-cause
-returns-then-is_open-clause-cause g c =
-    let m = g.M.Media in
-    if_err c.open_replayed.result (λ e f is. rose_later (m.faults c.args.media.now) (m.faults c.read_gate.new.media) (m.faults c.open_replayed.new.media) c.read_gate.ensures.faults c.open_replayed.ensures.faults (f is)) c.open_replayed.ensures.cause
-
-pub geometry_at_rest-requires : goal.geometry_at_rest-requires
-geometry_at_rest-requires g c =
+pub read_geometry-requires : goal.read_geometry-requires
+read_geometry-requires g c =
     omega (arith, c.size.ensures, c.if-size-lt-END.false, ap length (c.read_gate.ensures.unmoved.reads Fast))
 
-pub returns-else-is_open-clause-course : goal.returns-else-is_open-clause-course
-returns-else-is_open-clause-course g c =
+pub returns-else-is_open : goal.returns-else-is_open
+returns-else-is_open g c =
     let m = g.M.Media in
-    let old = c.args.media.now in
-    let seen = m.seen old Fast in
-    let same : (x : List ℕ) → m.left old (m.moment old) Fast x → SameJournal seen x = λ x l. same_refl seen x (c.requires x l) in
-    let un = unmoved_on c.read_gate.ensures.unmoved c.geometry_at_rest.ensures.unmoved in
-    still Fast un same
+    let s = m.seen c.args.media.now in
+    let t = m.seen c.read_gate.new.media in
+    let f = m.faults c.args.media.now in
+    let k = m.faults c.read_gate.new.media in
+    let f' = m.faults c.read_geometry.new.media in
+    let r = c.read_geometry.result in
+    let reads = c.read_gate.ensures.unmoved.reads in
+    let tiers : t ≡ s = tiers_same s t reads in
+    let un = unmoved_on c.read_gate.ensures.unmoved c.read_geometry.ensures.unmoved in
+    let closed : is_open (s Fast) ≡ false = sym c.in-Ok.ensures.gate ∙ c.if-is_open.false in
+    let spells = if_ok r (λ h x. subst (λ (y : Tier → List ℕ). Spells h (slice 0 4096 (y Fast))) tiers x) c.read_geometry.ensures.spells in
+    let sizes = if_ok r (λ h z x. sym (ap length (reads x)) ∙ z x) c.read_geometry.ensures.sizes in
+    let damaged = if_err r (λ e x. on_damage e (λ w block is. (is.0, is.1, subst (λ (y : Tier → List ℕ). TellsNone (slice 0 4096 (y Fast)) y) tiers is.2)) x) c.read_geometry.ensures.damaged in
+    opens_geometry f f' r un c.requires closed c.in-Ok.ensures.rest (tells_on f k f' r c.in-Ok.ensures.faults.quiet c.read_geometry.ensures.faults) spells sizes damaged c.read_geometry.ensures.only
 
-pub returns-else-is_open-clause-is : goal.returns-else-is_open-clause-is
-returns-else-is_open-clause-is g c =
+pub returns-in-Err : goal.returns-in-Err
+returns-in-Err g c =
     let m = g.M.Media in
-    let old = c.args.media.now in
-    let seen = m.seen old Fast in
-    let un = c.read_gate.ensures.unmoved in
-    let closed : is_open seen ≡ false = sym c.in-Ok.ensures.gate ∙ c.if-is_open.false in
-    let block : block_of (m.seen c.read_gate.new.media Fast) 0 ≡ block_of seen 0 = ap (λ (s : List ℕ). block_of s 0) (un.reads Fast) in
-    if_ok_2 c.geometry_at_rest.result
-    (λ h spells sizes. shut_volume h (m.seen old) closed c.in-Ok.ensures.rest (λ t. sym (ap length (un.reads t)) ∙ sizes t) (subst (λ (b : List ℕ). Spells h b) block spells))
-    c.geometry_at_rest.ensures.spells c.geometry_at_rest.ensures.sizes
-
-pub returns-else-is_open-clause-damaged : goal.returns-else-is_open-clause-damaged
-returns-else-is_open-clause-damaged g c =
-    let m = g.M.Media in
-    let old = c.args.media.now in
-    let seen = m.seen old Fast in
-    let un = c.read_gate.ensures.unmoved in
-    let closed : is_open seen ≡ false = sym c.in-Ok.ensures.gate ∙ c.if-is_open.false in
-    let block : block_of (m.seen c.read_gate.new.media Fast) 0 ≡ block_of seen 0 = ap (λ (s : List ℕ). block_of s 0) (un.reads Fast) in
-    if_err c.geometry_at_rest.result
-    (λ e f. on_damage e (λ w at none h volume. none h (subst (λ (b : List ℕ). Spells h b) (home_shut seen 0 refl closed ∙ sym block) volume.journal.superblock) (λ t. ap length (un.reads t) ∙ volume.sizes t)) f)
-    c.geometry_at_rest.ensures.damaged
-
-pub returns-else-is_open-clause-named : goal.returns-else-is_open-clause-named
-returns-else-is_open-clause-named g c =
-    if_err c.geometry_at_rest.result (λ e f. on_damage e (λ w block is. inr (inr (record { structure = is.0; place = is.1; rest = inr c.in-Ok.ensures.rest }))) f) c.geometry_at_rest.ensures.named
-
-pub returns-else-is_open-clause-at_most : goal.returns-else-is_open-clause-at_most
-returns-else-is_open-clause-at_most g c =
-    let un = unmoved_on c.read_gate.ensures.unmoved c.geometry_at_rest.ensures.unmoved in
-    omega (arith, un.clock)
-
-pub returns-else-is_open-clause-gate_byte : goal.returns-else-is_open-clause-gate_byte
-returns-else-is_open-clause-gate_byte g c =
-    let closed : is_open (g.M.Media.seen c.args.media.now Fast) ≡ false = sym c.in-Ok.ensures.gate ∙ c.if-is_open.false in
-    any_ok c.geometry_at_rest.result (λ opened. absurd (false≢true (sym closed ∙ opened)))
-
-pub returns-else-is_open-clause-quiet : goal.returns-else-is_open-clause-quiet
-returns-else-is_open-clause-quiet g c = on_ok c.geometry_at_rest.result (λ more. more ∙ c.in-Ok.ensures.quiet) c.geometry_at_rest.ensures.quiet
-
-pub returns-else-is_open-clause-quiet_refused : goal.returns-else-is_open-clause-quiet_refused
-returns-else-is_open-clause-quiet_refused g c = if_err c.geometry_at_rest.result (λ e f other. f other ∙ c.in-Ok.ensures.quiet) c.geometry_at_rest.ensures.quiet_refused
-
-pub returns-else-is_open-clause-untouched : goal.returns-else-is_open-clause-untouched
-returns-else-is_open-clause-untouched g c =
-    let un = unmoved_on c.read_gate.ensures.unmoved c.geometry_at_rest.ensures.unmoved in
-    each_err c.geometry_at_rest.result (λ e is. un)
-
-pub returns-else-is_open-clause-rests : goal.returns-else-is_open-clause-rests
-returns-else-is_open-clause-rests g c =
-    let un = unmoved_on c.read_gate.ensures.unmoved c.geometry_at_rest.ensures.unmoved in
-    any_ok c.geometry_at_rest.result (λ x l. c.requires x (left_before un Fast x l) ∙ sym (un.reads Fast))
-
-pub returns-else-is_open-clause-closed : goal.returns-else-is_open-clause-closed
-returns-else-is_open-clause-closed g c =
-    let m = g.M.Media in
-    let old = c.args.media.now in
-    let seen = m.seen old Fast in
-    let un = unmoved_on c.read_gate.ensures.unmoved c.geometry_at_rest.ensures.unmoved in
-    let closed : is_open seen ≡ false = sym c.in-Ok.ensures.gate ∙ c.if-is_open.false in
-    let is = un.reads Fast in
-    any_ok c.geometry_at_rest.result (subst (λ (s : List ℕ). is_open s ≡ false) (sym is) closed)
-
-pub returns-else-is_open-clause-others : goal.returns-else-is_open-clause-others
-returns-else-is_open-clause-others g c =
-    let un = unmoved_on c.read_gate.ensures.unmoved c.geometry_at_rest.ensures.unmoved in
-    any_ok c.geometry_at_rest.result (λ t other. un.reads t)
-
-pub returns-else-is_open-clause-calls : goal.returns-else-is_open-clause-calls
-returns-else-is_open-clause-calls g c =
-    let m = g.M.Media in
-    let old = c.args.media.now in
-    let seen = m.seen old Fast in
-    let un = unmoved_on c.read_gate.ensures.unmoved c.geometry_at_rest.ensures.unmoved in
-    let closed : is_open seen ≡ false = sym c.in-Ok.ensures.gate ∙ c.if-is_open.false in
-    any_ok c.geometry_at_rest.result (omega (arith, un.clock, calls_shut seen closed))
-
-pub returns-else-is_open-clause-lengths : goal.returns-else-is_open-clause-lengths
-returns-else-is_open-clause-lengths g c t =
-    let un = unmoved_on c.read_gate.ensures.unmoved c.geometry_at_rest.ensures.unmoved in
-    ap length (un.reads t)
-
-pub returns-else-is_open-clause-cause : goal.returns-else-is_open-clause-cause
-returns-else-is_open-clause-cause g c =
-    let m = g.M.Media in
-    if_err c.geometry_at_rest.result (λ e f is. rose_later (m.faults c.args.media.now) (m.faults c.read_gate.new.media) (m.faults c.geometry_at_rest.new.media) c.read_gate.ensures.faults c.geometry_at_rest.ensures.faults (f is)) c.geometry_at_rest.ensures.cause
-
-pub returns-in-Err-clause-course : goal.returns-in-Err-clause-course
-returns-in-Err-clause-course g c =
-    let m = g.M.Media in
-    let old = c.args.media.now in
-    let seen = m.seen old Fast in
-    let same : (x : List ℕ) → m.left old (m.moment old) Fast x → SameJournal seen x = λ x l. same_refl seen x (c.requires x l) in
-    let un = c.read_gate.ensures.unmoved in
-    still Fast un same
-
-pub returns-in-Err-clause-damaged : goal.returns-in-Err-clause-damaged
-returns-in-Err-clause-damaged g c =
-    on_damage c.in-Err.error (λ w block is h volume. false≢true (sym is.rest ∙ volume.journal.rest)) c.in-Err.ensures.damaged
-
-pub returns-in-Err-clause-named : goal.returns-in-Err-clause-named
-returns-in-Err-clause-named g c = on_damage c.in-Err.error (λ w block is. inl is) c.in-Err.ensures.damaged
-
-pub returns-then-size-lt-END-clause-named : goal.returns-then-size-lt-END-clause-named
-returns-then-size-lt-END-clause-named g c =
-    inr (inr (record { structure = refl; place = refl; rest = inl (omega (arith, c.size.ensures, c.if-size-lt-END.true)) }))
+    let f = m.faults c.args.media.now in
+    let f' = m.faults c.read_gate.new.media in
+    let e = c.in-Err.error in
+    opens_err f f' c.read_gate.ensures.unmoved c.requires e (tells_as f f' e c.in-Err.ensures.faults) (on_damage e (λ w block is. inl is) c.in-Err.ensures.damaged) (λ is. absurd (c.in-Err.ensures.only.1 is)) c.in-Err.ensures.only.0

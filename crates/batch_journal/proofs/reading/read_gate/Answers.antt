@@ -1,31 +1,32 @@
-use Rattle.std.proofs.Common.{◌≡◌, ◌==◌, ℕ, length, refl, sym, ◌∙◌, ap, arith}
+use Rattle.std.proofs.Common.{◌≡◌, ◌==◌, ℕ, length, sym, ◌∙◌, ap, refl, rules}
 use Rattle.tier_device.specs.declared.media.Tier.TheVariants.{Fast}
-use Rattle.batch_journal.specs.Images.{slice}
 use Rattle.layout.specs.Bytes.{are_zero}
-use Rattle.batch_journal.proofs.Found.{slice_long, gate_of_block, rest_of_block}
+use Rattle.batch_journal.specs.Images.{slice}
+use Rattle.batch_journal.proofs.Found.{gate_of_block, rest_of_block}
 use Rattle.batch_journal.proofs.reading.read_gate.Goals as goal
-
-pub gate_in-requires : goal.gate_in-requires
-gate_in-requires g c =
-    let seen = g.M.Media.seen c.args.media.now Fast in
-    let is : c.deref.result.now ≡ slice 139264 4096 seen = c.deref.ensures.value ∙ c.in-Ok.ensures.bytes in
-    omega (arith, ap length is, slice_long 139264 4096 seen (omega (arith, c.requires)))
 
 pub returns-in-Some-clause-gate : goal.returns-in-Some-clause-gate
 returns-in-Some-clause-gate g c =
     let seen = g.M.Media.seen c.args.media.now Fast in
-    c.in-Some.ensures.gate ∙ ap (λ (b : ℕ). b == 165) (gate_of_block seen c.deref.result.now (c.deref.ensures.value ∙ c.in-Ok.ensures.bytes))
+    let long : length c.blank-block.result ≡ 4096 = search rules in
+    let is : c.fetch.new.out ≡ slice 139264 4096 seen = c.in-Ok.ensures.bytes ∙ ap (λ (k : ℕ). slice 139264 k seen) long in
+    c.in-Some.ensures.gate ∙ ap (λ (b : ℕ). b == 165) (gate_of_block seen c.fetch.new.out is)
 
 pub returns-in-Some-clause-rest : goal.returns-in-Some-clause-rest
 returns-in-Some-clause-rest g c =
     let seen = g.M.Media.seen c.args.media.now Fast in
-    ap are_zero (sym (rest_of_block seen c.deref.result.now (c.deref.ensures.value ∙ c.in-Ok.ensures.bytes))) ∙ c.in-Some.ensures.rest
+    let long : length c.blank-block.result ≡ 4096 = search rules in
+    let is : c.fetch.new.out ≡ slice 139264 4096 seen = c.in-Ok.ensures.bytes ∙ ap (λ (k : ℕ). slice 139264 k seen) long in
+    ap are_zero (sym (rest_of_block seen c.fetch.new.out is)) ∙ c.in-Some.ensures.rest
 
-pub returns-in-Ok-clause-damaged : goal.returns-in-Ok-clause-damaged
-returns-in-Ok-clause-damaged g c =
+pub returns-in-None-clause-damaged : goal.returns-in-None-clause-damaged
+returns-in-None-clause-damaged g c =
     let seen = g.M.Media.seen c.args.media.now Fast in
+    let long : length c.blank-block.result ≡ 4096 = search rules in
+    let is : c.fetch.new.out ≡ slice 139264 4096 seen = c.in-Ok.ensures.bytes ∙ ap (λ (k : ℕ). slice 139264 k seen) long in
     record {
       structure = refl;
       place = refl;
-      rest = ap are_zero (sym (rest_of_block seen c.deref.result.now (c.deref.ensures.value ∙ c.in-Ok.ensures.bytes))) ∙ c.in-None.ensures.damaged;
+      size = c.requires;
+      rest = ap are_zero (sym (rest_of_block seen c.fetch.new.out is)) ∙ c.in-None.ensures.damaged;
     }
