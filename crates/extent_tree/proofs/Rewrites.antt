@@ -93,15 +93,19 @@ whole : (from to : ℕ) (old packed : List (List Extent)) → from ≡ 0 → to 
 whole from to old packed none all =
     (λ i. take (none i) old ++ (packed ++ drop (all i) old)) ∙ ap (λ l. packed ++ l) (drop_all (length old) old (omega arith)) ∙ append-nil packed
 
-whole-level : (width first count : ℕ) (place : Option ℕ) (from to : ℕ) (old packed : List (List Extent)) (entries : List Extent) → Rewritten width first count place from to old packed entries → IsLevel width packed
-whole-level width first count place from to old packed entries r = record {
-  filled = r.filled;
-  most = r.most;
-  quarter = λ several. r.quarter (elim (cases_lt width (length entries)) [
+-- nodes that some entries were packed into
+packed-level : (width : ℕ) (packed : List (List Extent)) (entries : List Extent) → (length entries ≤ width → length packed ≤ 1) → AreFilled packed → HaveFrom 0 width packed → (width / 4 ≤ length entries → HaveFrom (width / 4) width packed) → IsLevel width packed
+packed-level width packed entries one filled most quarter = record {
+  filled = filled;
+  most = most;
+  quarter = λ several. quarter (elim (cases_lt width (length entries)) [
     | inl more ↦ omega (arith, more)
-    | inr few ↦ absurd (omega (arith, r.one few, several))
+    | inr few ↦ absurd (omega (arith, one few, several))
   ]);
 }
+
+whole-level : (width first count : ℕ) (place : Option ℕ) (from to : ℕ) (old packed : List (List Extent)) (entries : List Extent) → Rewritten width first count place from to old packed entries → IsLevel width packed
+whole-level width first count place from to old packed entries r = packed-level width packed entries r.one r.filled r.most r.quarter
 
 pub rewritten-level : (width first count : ℕ) (place : Option ℕ) (from to : ℕ) (old packed : List (List Extent)) (entries : List Extent) → IsLevel width old → Rewritten width first count place from to old packed entries → IsLevel width (take from old ++ (packed ++ drop to old))
 rewritten-level width first count place from to old packed entries level r = elim (cases_lt 1 (length old)) [

@@ -58,6 +58,26 @@ impl<const N: usize> Extents<N> {
         }
     }
 
+    /// The map that some extents spell. They rise, no two have a block in common, and all their numbers fit into 32 bits, as those of an extent block do.
+    pub fn from_extents(alloc: Global, extents: &[Extent]) -> Result<Self, AllocError>
+        requires least { 8 ≤ N }
+        requires most { N < 2 ^ 31 }
+        requires rising { IsRising 0 4294967295 extents.now }
+        requires fit { PlacesFit extents.now }
+        ensures places { IfOk result (λ t. SamePlaces t.runs extents.now) }
+        ensures normal { IfOk result (λ t. IsNormal t.runs) }
+    {
+        let mut runs = Vec::new(alloc);
+        push_part(&mut runs, extents, 0, u32::MAX)?;
+        let leaves = pack(alloc, N, &runs)?;
+        let inner = levels_above(alloc, N, &[], &leaves, &[])?;
+        Ok(Extents {
+            alloc,
+            leaves,
+            inner,
+        })
+    }
+
     /// Where a block lies, where it is mapped, found on the way from the root to a leaf.
     pub fn at(&self, block: u32) -> Option<u32>
         ensures { result ≡ place_of self.now.runs block }

@@ -1,0 +1,13 @@
+use Rattle.std.proofs.Common.{◌++◌, ◌∙◌, arith, ap}
+use Rattle.extent_nodes.specs.Places.{place_of}
+use Rattle.extent_nodes.specs.Nodes.{flat}
+use Rattle.extent_nodes.specs.Parts.{part}
+use Rattle.extent_nodes.proofs.Parts.{part-all}
+use Rattle.extent_tree.proofs.tree.Extents.from_extents.Goals as goal
+
+pub returns-clause-places : goal.returns-clause-places
+returns-clause-places g c b =
+    let extents = c.args.extents.now in
+    ap (λ l. place_of l b) (c.in_ok-leaves.ensures.entries ∙ c.deref.ensures.value) ∙ c.in_ok-push_part.ensures.same b
+    ∙ ap (λ l. place_of (l ++ part 0 4294967295 extents) b) c.new-runs.ensures.items
+    ∙ ap (λ l. place_of l b) (part-all 0 4294967295 0 4294967295 extents c.requires.rising (omega arith) (omega arith))
