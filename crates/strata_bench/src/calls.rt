@@ -186,13 +186,12 @@ impl Client {
         let Ok(operation) = decide(alloc, &tree, &self.own, call) else {
             bail!("a call was refused");
         };
-        let Ok(growth) = growth_of(&tree, &operation) else {
+        let Ok(units) = growth_of(&tree, &operation) else {
             bail!("a call's growth is not known");
         };
-        let units = u32::try_from(growth).unwrap_or(u32::MAX);
         match record_of(alloc, &tree, operation, NEW, units) {
-            Ok(entry) => Ok(entry),
-            Err(_) => bail!("a call has no record"),
+            Ok(Some(entry)) => Ok(entry),
+            _ => bail!("a call has no record"),
         }
     }
 }
