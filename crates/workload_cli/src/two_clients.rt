@@ -15,7 +15,7 @@ use file_graph::{Effect, Kind, PlainGraph};
 use graph_answers::GraphAnswers;
 use log_record::Record;
 use posix_calls::{
-    Bytes, Call, Operation, Descriptor, Name, DecideError, OwnDescriptors, ROOT, Reply, decide,
+    Bytes, Call, DecideError, Descriptor, Name, Operation, OwnDescriptors, ROOT, Reply, decide,
 };
 use std::alloc::Global;
 

@@ -8,4 +8,4 @@ use Rattle.workload_cli.proofs.two_clients.units_of.Goals as goal
 pub returns-in-Ok : goal.returns-in-Ok
 returns-in-Ok c =
     let g = graph_of c.args.graph.now in
-    units_in_full (stored_view g) c.args.operation.now c.in-Ok.units (told_is_run g (units_asked c.args.operation.now) c.in-Ok.units (c.growth_of.ensures.tells.gives c.in-Ok.units c.in-Ok.is)) c.in-Ok.apart
+    units_in_full (stored_view g) c.args.operation.now c.in-Ok.units (told_is_run g (units_asked c.args.operation.now) c.in-Ok.units (c.growth_of.ensures.tells.gives c.in-Ok.units c.in-Ok.is)) c.in-Ok.units-test.1
