@@ -9,7 +9,7 @@ use Rattle.extent_nodes.specs.Nodes.{flat, summaries, AreFilled, HaveFrom}
 use Rattle.extent_nodes.proofs.Summaries.{length-summaries}
 use Rattle.extent_nodes.proofs.Levels.{rising-count, filled-count, least-count, most-count, summaries-rising}
 use Rattle.std.proofs.lemmas.List.{length-map}
-use Rattle.extent_tree.specs.Value.{GrownByNeed}
+use Rattle.extent_tree.specs.Value.{GrownByNeed, StaysOne}
 use Rattle.extent_tree.specs.Tree.{IsLevel, IsNeeded, IsTree, IsWidth, counts}
 
 -- ---- how many nodes
@@ -91,3 +91,16 @@ grown-by-need width ns ms inner outer old new need more =
     subst (λ k. width < slice_index (counts ms outer) k) (sym at)
     (needed-at width (length inner) ms outer new (λ none. need (no-levels width ns inner old none)) (omega (arith, more, a, b)))
 
+
+pub stays-one : (width : ℕ) (ns ms : List (List Extent)) (inner outer : List (List (List Extent))) → GrownByNeed width (record { runs = flat ns; levels = counts ns inner }) (record { runs = flat ms; levels = counts ms outer }) → StaysOne width (record { runs = flat ns; levels = counts ns inner }) (record { runs = flat ms; levels = counts ms outer })
+stays-one width ns ms inner outer grown one few = elim (cases_lt 1 (length (counts ms outer))) [
+  | inl more ↦
+    let first : length (counts ns inner) - 1 ≡ 0 = omega (arith, one) in
+    let need : width < slice_index (counts ms outer) 0 = subst (λ k. width < slice_index (counts ms outer) k) first (grown (omega (arith, one, more))) in
+    absurd (omega (arith, need, few))
+  | inr none ↦ omega (arith, none)
+]
+
+pub one-level : (width : ℕ) (ns : List (List Extent)) (inner : List (List (List Extent))) → IsTree width ns inner → length ns ≤ 1 → length (counts ns inner) ≡ 1
+one-level width ns [] is one = refl
+one-level width ns (level ∷ higher) is one = absurd (omega (arith, is.0, one))

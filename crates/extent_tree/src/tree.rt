@@ -1,10 +1,10 @@
-ghost use Rattle.std.specs.Prelude.{◌≡◌, ◌≤◌, ◌<◌, ◌+◌, ◌-◌, ◌*◌, ◌/◌, ◌^◌, ◌++◌, ◌∷◌, [], ℕ, Some, None, length, take, drop, IfSome, IfOk, OnOk, OnErr};
+ghost use Rattle.std.specs.Prelude.{◌≡◌, ◌≤◌, ◌<◌, ◌+◌, ◌-◌, ◌*◌, ◌/◌, ◌^◌, ◌++◌, ◌∷◌, [], ℕ, Some, None, length, slice_index, take, drop, IfSome, IfOk, OnOk, OnErr};
 ghost use Rattle.extent_nodes.specs.Changes.{after};
 ghost use Rattle.extent_nodes.specs.Nodes.{flat};
 ghost use Rattle.extent_nodes.specs.Normal.{IsRising, PlacesFit, IsNormal};
 ghost use Rattle.extent_nodes.specs.Places.{place_of, SamePlaces};
 ghost use Rattle.extent_tree.specs.Tree.{IsSound, counts};
-ghost use Rattle.extent_tree.specs.Value.{GrownByNeed};
+ghost use Rattle.extent_tree.specs.Value.{GrownByNeed, StaysOne};
 
 use crate::building::{Level, levels_above};
 use crate::choosing::{Span, choose};
@@ -66,6 +66,7 @@ impl<const N: usize> Extents<N> {
         requires fit { PlacesFit extents.now }
         ensures places { IfOk result (λ t. SamePlaces t.runs extents.now) }
         ensures normal { IfOk result (λ t. IsNormal t.runs) }
+        ensures one { IfOk result (λ t. length t.runs ≤ N → length t.levels ≡ 1) }
     {
         let mut runs = Vec::new(alloc);
         push_part(&mut runs, extents, 0, u32::MAX)?;
@@ -97,6 +98,7 @@ impl<const N: usize> Extents<N> {
     /// and, above a height of 1, twice as many as the power of a quarter of `N` at least.
     pub fn height(&self) -> u32
         ensures levels { result ≡ length self.now.levels }
+        ensures lowest { slice_index self.now.levels 0 ≡ length self.now.runs }
         ensures some { 0 < result }
         ensures most { length self.now.runs ≤ N ^ result }
         ensures least { 1 < result → 2 * (N / 4) ^ (result - 1) ≤ length self.now.runs }
@@ -128,6 +130,7 @@ impl<const N: usize> Extents<N> {
         ensures mapped { OnOk result ((b : ℕ) → place_of self.new.runs b ≡ after run.first run.count (Some place) self.old.runs b) }
         ensures normal { IsNormal self.new.runs }
         ensures grown { GrownByNeed N self.old self.new }
+        ensures one { StaysOne N self.old self.new }
         ensures err { OnErr result (self.new ≡ self.old) }
     {
         replace::<N>(
@@ -145,6 +148,7 @@ impl<const N: usize> Extents<N> {
         ensures unmapped { OnOk result ((b : ℕ) → place_of self.new.runs b ≡ after run.first run.count None self.old.runs b) }
         ensures normal { IsNormal self.new.runs }
         ensures grown { GrownByNeed N self.old self.new }
+        ensures one { StaysOne N self.old self.new }
         ensures err { OnErr result (self.new ≡ self.old) }
     {
         replace::<N>(self.alloc, &mut self.leaves, &mut self.inner, run, None)
@@ -199,6 +203,7 @@ fn replace<const N: usize>(
     ensures sound { IsSound N leaves.new.items inner.new.items }
     ensures mapped { OnOk result ((b : ℕ) → place_of (flat leaves.new.items) b ≡ after run.first run.count place (flat leaves.old.items) b) }
     ensures grown { GrownByNeed N (record { runs = flat leaves.old.items; levels = counts leaves.old.items inner.old.items }) (record { runs = flat leaves.new.items; levels = counts leaves.new.items inner.new.items }) }
+    ensures one { StaysOne N (record { runs = flat leaves.old.items; levels = counts leaves.old.items inner.old.items }) (record { runs = flat leaves.new.items; levels = counts leaves.new.items inner.new.items }) }
     ensures leaves_kept { OnErr result (leaves.new.items ≡ leaves.old.items) }
     ensures inner_kept { OnErr result (inner.new.items ≡ inner.old.items) }
 {

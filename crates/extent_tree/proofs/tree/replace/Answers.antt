@@ -4,7 +4,7 @@ use Rattle.extent_nodes.specs.Normal.{IsRising, IsNormal}
 use Rattle.extent_nodes.specs.Changes.{after}
 use Rattle.extent_nodes.specs.Nodes.{flat}
 use Rattle.extent_tree.specs.Tree.{IsLevel, IsNeeded, IsTree}
-use Rattle.extent_tree.proofs.Trees.{grown-by-need}
+use Rattle.extent_tree.proofs.Trees.{grown-by-need, stays-one}
 use Rattle.extent_tree.proofs.Rewrites.{told, slices, flat-three, rewritten-normal, rewritten-at, rewritten-level, rewritten-needed}
 use Rattle.extent_tree.proofs.tree.replace.Goals as goal
 
@@ -56,3 +56,16 @@ returns-clause-grown g c =
     let tree = subst (λ l. IsTree g.row.N l c.in_ok-above.above.items) (same ∙ new) c.in_ok-above.ensures in
     grown-by-need g.row.N old c.splice.new.leaves.items c.args.inner.now.items c.in_ok-above.above.items c.requires.sound.tree tree
     (λ single. subst (IsNeeded g.row.N) new (rewritten-needed g.row.N c.args.run.first c.args.run.count c.args.place chosen.span.from chosen.span.to old packed chosen.entries.items r single))
+
+pub returns-clause-one : goal.returns-clause-one
+returns-clause-one g c =
+    let chosen = c.in_ok-chosen.chosen in
+    let packed = c.in_ok-packed.packed.items in
+    let old = c.args.leaves.now.items in
+    let r = told g.row.N c.args.run.first c.args.run.count c.args.place chosen.span.from chosen.span.to old c.deref.result.now packed chosen.entries.items c.deref-2.result.now c.deref.ensures.value c.deref-2.ensures.value c.requires.fits c.in_ok-chosen.ensures.touched c.in_ok-chosen.ensures.made c.in_ok-chosen.ensures.enough c.in_ok-packed.ensures.entries c.in_ok-packed.ensures.one c.in_ok-packed.ensures.some c.in_ok-packed.ensures.most c.in_ok-packed.ensures.quarter in
+    let same = slices chosen.span.from chosen.span.to old packed c.deref-3.result.now c.deref-4.result.now c.deref-5.result.now c.deref-3.ensures.value c.deref-4.ensures.value c.deref-5.ensures.value in
+    let new = sym c.in_ok-splice.ensures.ok in
+    let tree = subst (λ l. IsTree g.row.N l c.in_ok-above.above.items) (same ∙ new) c.in_ok-above.ensures in
+    let grown = grown-by-need g.row.N old c.splice.new.leaves.items c.args.inner.now.items c.in_ok-above.above.items c.requires.sound.tree tree
+    (λ single. subst (IsNeeded g.row.N) new (rewritten-needed g.row.N c.args.run.first c.args.run.count c.args.place chosen.span.from chosen.span.to old packed chosen.entries.items r single)) in
+    stays-one g.row.N old c.splice.new.leaves.items c.args.inner.now.items c.in_ok-above.above.items grown

@@ -1,8 +1,11 @@
-use Rattle.std.proofs.Common.{◌++◌, ◌∙◌, arith, ap}
+use Rattle.std.proofs.Common.{◌++◌, ◌∙◌, arith, ap, subst, length}
+use Rattle.std.proofs.lemmas.List.{append-nil}
 use Rattle.extent_nodes.specs.Places.{place_of}
 use Rattle.extent_nodes.specs.Nodes.{flat}
 use Rattle.extent_nodes.specs.Parts.{part}
 use Rattle.extent_nodes.proofs.Parts.{part-all}
+use Rattle.extent_tree.specs.Tree.{IsTree}
+use Rattle.extent_tree.proofs.Trees.{one-level}
 use Rattle.extent_tree.proofs.tree.Extents.from_extents.Goals as goal
 
 pub returns-clause-places : goal.returns-clause-places
@@ -11,3 +14,10 @@ returns-clause-places g c b =
     ap (λ l. place_of l b) (c.in_ok-leaves.ensures.entries ∙ c.deref.ensures.value) ∙ c.in_ok-push_part.ensures.same b
     ∙ ap (λ l. place_of (l ++ part 0 4294967295 extents) b) c.new-runs.ensures.items
     ∙ ap (λ l. place_of l b) (part-all 0 4294967295 0 4294967295 extents c.requires.rising (omega arith) (omega arith))
+
+pub returns-clause-one : goal.returns-clause-one
+returns-clause-one g c few =
+    let leaves = c.in_ok-leaves.leaves.items in
+    let given = c.deref.result.now in
+    let tree = subst (λ l. IsTree g.row.N l c.in_ok-inner.inner.items) (append-nil c.deref-2.result.now ∙ c.deref-2.ensures.value) c.in_ok-inner.ensures in
+    one-level g.row.N leaves c.in_ok-inner.inner.items tree (c.in_ok-leaves.ensures.one (omega (arith, few, ap length c.in_ok-leaves.ensures.entries)))
