@@ -1,5 +1,5 @@
 -- Lists in normal form, put together.
-use Rattle.std.proofs.Common.{◌≡◌, ◌≤◌, ◌<◌, ◌⊎◌, inl, inr, ℕ, zero, suc, ◌+◌, ◌-◌, ◌^◌, List, [], ◌∷◌, ◌++◌, length, get_or, take, drop, set, sym, ap, ◌∙◌, refl, arith, subst, Option, Some, None, append_assoc}
+use Rattle.std.proofs.Common.{◌≡◌, ◌≤◌, ◌<◌, ℕ, suc, ◌+◌, ◌-◌, ◌^◌, List, [], ◌∷◌, ◌++◌, length, get_or, take, set, sym, ap, ◌∙◌, refl, arith, subst, Option, Some, None, append_assoc}
 use Rattle.std.specs.List.{AllByRecursion}
 use Rattle.std.specs.Option.{option_or}
 use Rattle.std.proofs.lemmas.Option.{none-some, same_Some}
@@ -128,9 +128,9 @@ joins-longer front last next some fits rising apart fit goes_on place_on =
     let whole : (front ++ last ∷ []) ++ next ∷ [] ≡ front ++ last ∷ next ∷ [] = append_assoc front (last ∷ []) (next ∷ []) in
     let same : SamePlaces (front ++ long ∷ []) (front ++ last ∷ next ∷ []) = same-append front (long ∷ []) front (last ∷ next ∷ []) (λ k. refl) (same-longer last next long refl refl refl goes_on place_on) in
     let ends : stop_of (long ∷ []) ≡ stop_of (last ∷ next ∷ []) =
-      let block : last.logical + (last.length + next.length) ≡ next.logical + next.length = omega (arith, goes_on) in
-      let place : last.place + (last.length + next.length) ≡ next.place + next.length = omega (arith, place_on) in
-      λ i. Some (record { block = block i; place = place i }) in
+    let block : last.logical + (last.length + next.length) ≡ next.logical + next.length = omega (arith, goes_on) in
+    let place : last.place + (last.length + next.length) ≡ next.place + next.length = omega (arith, place_on) in
+    λ i. Some (record { block = block i; place = place i }) in
     record {
       same = λ b. same b ∙ ap (λ l. place_of l b) (sym whole);
       rising = rising-longer 0 next.logical (next.logical + next.length) front last long rising refl (omega (arith, some)) (omega (arith, goes_on)) (omega arith);

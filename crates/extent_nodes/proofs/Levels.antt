@@ -1,20 +1,18 @@
 -- The nodes of one level, and what covers them.
-use Rattle.std.proofs.Common.{◌≡◌, ◌≤◌, ◌<◌, ◌⊎◌, inl, inr, ℕ, zero, suc, ◌+◌, ◌-◌, ◌*◌, ◌^◌, List, [], ◌∷◌, ◌++◌, length, get_or, take, drop, Bool, true, false, sym, ap, ◌∙◌, refl, arith, subst, append_assoc, length-append, Option, Some, None}
-use Rattle.std.specs.List.{AllByRecursion}
+use Rattle.std.proofs.Common.{◌≡◌, ◌≤◌, ◌<◌, inl, inr, ℕ, zero, suc, ◌+◌, ◌-◌, ◌*◌, List, [], ◌∷◌, ◌++◌, length, get_or, take, drop, false, sym, ap, ◌∙◌, refl, arith, subst, length-append, Some, None}
 use Rattle.std.specs.List.Sorted.{IsNonDecreasingBy}
 use Rattle.std.specs.Option.{option_or}
 use Rattle.std.proofs.lemmas.Bool.{cases_lt, cases_eq, cases_Bool}
 use Rattle.std.proofs.lemmas.Option.{none-some, same_Some}
-use Rattle.std.proofs.lemmas.List.{append-nil, drop_more, drop_all, get_or_default}
+use Rattle.std.proofs.lemmas.List.{drop_more, drop_all}
 use Rattle.layout.specs.declared.extents.Extent.{Extent}
 use Rattle.extent_nodes.specs.Places.{has, extent_at}
 use Rattle.extent_nodes.specs.Normal.{IsRising}
 use Rattle.extent_nodes.specs.Changes.{EndBefore, BeginBehind}
 use Rattle.extent_nodes.specs.Nodes.{flat, begin_of, last_end, summary, summaries, AreFilled, HaveFrom}
-use Rattle.extent_nodes.proofs.Maps.{has-parts, has-in, has-out, not-has, at-here, at-later, extent_at-append, or-none}
-use Rattle.extent_nodes.proofs.Rising.{rising-wider, rising-left, rising-right, rising-tight, last-bound, none-before, none-behind}
+use Rattle.extent_nodes.proofs.Maps.{has-parts, has-out, at-here, at-later, extent_at-append, or-none}
+use Rattle.extent_nodes.proofs.Rising.{rising-left, rising-right, rising-tight, last-bound, none-before, none-behind}
 use Rattle.extent_nodes.proofs.Joined.{all-append, all-left, all-right}
-use Rattle.extent_nodes.proofs.Summaries.{flat-append}
 
 -- ---- where nodes begin and end
 
@@ -90,10 +88,10 @@ filled-at (suc i) (n ∷ ns) d are lt = filled-at i ns d are.1 (omega (arith, lt
 pub all-begin-behind : (block low end r : ℕ) (ns : List (List Extent)) → IsRising low end (flat ns) → AreFilled ns → r ≤ length ns → ((d : List Extent) → r < length ns → block < begin_of (get_or ns r d)) → BeginBehind block (flat (drop r ns))
 all-begin-behind block low end r ns is filled le h = elim (cases_lt r (length ns)) [
   | inl lt ↦
-    let rest = rising-dropped low end r ns is in
-    let parts = drop_more ns r [] lt in
-    subst (λ l. BeginBehind block (flat l)) (sym parts)
-    (first-behind block rest.0 end (get_or ns r []) (drop (r + 1) ns) (subst (λ l. IsRising rest.0 end (flat l)) parts rest.1) (filled-at r ns [] filled lt) (h [] lt))
+      let rest = rising-dropped low end r ns is in
+      let parts = drop_more ns r [] lt in
+      subst (λ l. BeginBehind block (flat l)) (sym parts)
+      (first-behind block rest.0 end (get_or ns r []) (drop (r + 1) ns) (subst (λ l. IsRising rest.0 end (flat l)) parts rest.1) (filled-at r ns [] filled lt) (h [] lt))
   | inr past ↦ subst (λ l. BeginBehind block (flat l)) (sym (drop_all r ns past)) tt
 ]
 
@@ -133,8 +131,8 @@ none-below b number low end ((e ∷ es) ∷ ns) is filled none =
     elim (cases_Bool (has b (summary number (e ∷ es)))) [
       | inl it ↦ absurd (none-some (summary number (e ∷ es)) (sym none ∙ at-here b (summary number (e ∷ es)) (summaries (number + 1) ns) it))
       | inr out ↦
-        let below = none-below b (number + 1) (last_end (e.logical + e.length) es) end ns rest filled.1 (sym (at-later b (summary number (e ∷ es)) (summaries (number + 1) ns) out) ∙ none) in
-        extent_at-append b (e ∷ es) (flat ns) ∙ (λ i. option_or (outside b number end e es ns is.1 node is.2 out i) (below i))
+          let below = none-below b (number + 1) (last_end (e.logical + e.length) es) end ns rest filled.1 (sym (at-later b (summary number (e ∷ es)) (summaries (number + 1) ns) out) ∙ none) in
+          extent_at-append b (e ∷ es) (flat ns) ∙ (λ i. option_or (outside b number end e es ns is.1 node is.2 out i) (below i))
     ]
 
 -- what a cover has is to be looked for in its node
@@ -148,18 +146,22 @@ one-below b number low end ((e ∷ es) ∷ ns) x d is filled some =
     let cover = summary number (e ∷ es) in
     elim (cases_Bool (has b cover)) [
       | inl it ↦
-        let same : cover ≡ x = same_Some cover x (sym (at-here b cover (summaries (number + 1) ns) it) ∙ some) in
-        let place : number ≡ x.place = ap (λ y. y.place) same in
-        let here : x.place - number ≡ 0 = omega (arith, place) in
-        let p = has-parts b cover it in
-        let none = none-before b (last_end (e.logical + e.length) es) end (flat ns) rest (omega (arith, p.1, at)) in
-        (omega (arith, place), omega (arith, place),
-          extent_at-append b (e ∷ es) (flat ns) ∙ ap (λ o. option_or (extent_at b (e ∷ es)) o) none ∙ or-none (extent_at b (e ∷ es)) ∙ ap (λ k. extent_at b (get_or ((e ∷ es) ∷ ns) k d)) (sym here))
+          let same : cover ≡ x = same_Some cover x (sym (at-here b cover (summaries (number + 1) ns) it) ∙ some) in
+          let place : number ≡ x.place = ap (λ y. y.place) same in
+          let here : x.place - number ≡ 0 = omega (arith, place) in
+          let p = has-parts b cover it in
+          let none = none-before b (last_end (e.logical + e.length) es) end (flat ns) rest (omega (arith, p.1, at)) in (
+            omega (arith, place),
+            omega (arith, place),
+            extent_at-append b (e ∷ es) (flat ns) ∙ ap (λ o. option_or (extent_at b (e ∷ es)) o) none ∙ or-none (extent_at b (e ∷ es)) ∙ ap (λ k. extent_at b (get_or ((e ∷ es) ∷ ns) k d)) (sym here),
+          )
       | inr out ↦
-        let below = one-below b (number + 1) (last_end (e.logical + e.length) es) end ns x d rest filled.1 (sym (at-later b cover (summaries (number + 1) ns) out) ∙ some) in
-        let there : x.place - number ≡ suc (x.place - (number + 1)) = omega (arith, below.0) in
-        (omega (arith, below.0), omega (arith, below.1),
-          extent_at-append b (e ∷ es) (flat ns) ∙ ap (λ o. option_or o (extent_at b (flat ns))) (outside b number end e es ns is.1 node is.2 out) ∙ below.2 ∙ ap (λ k. extent_at b (get_or ((e ∷ es) ∷ ns) k d)) (sym there))
+          let below = one-below b (number + 1) (last_end (e.logical + e.length) es) end ns x d rest filled.1 (sym (at-later b cover (summaries (number + 1) ns) out) ∙ some) in
+          let there : x.place - number ≡ suc (x.place - (number + 1)) = omega (arith, below.0) in (
+            omega (arith, below.0),
+            omega (arith, below.1),
+            extent_at-append b (e ∷ es) (flat ns) ∙ ap (λ o. option_or o (extent_at b (flat ns))) (outside b number end e es ns is.1 node is.2 out) ∙ below.2 ∙ ap (λ k. extent_at b (get_or ((e ∷ es) ∷ ns) k d)) (sym there),
+          )
     ]
 
 -- ---- how many

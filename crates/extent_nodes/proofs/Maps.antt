@@ -1,8 +1,8 @@
 -- The map that a list of extents spells.
-use Rattle.std.proofs.Common.{◌≡◌, ◌≤◌, ◌<◌, ◌⊎◌, inl, inr, ℕ, ◌+◌, ◌-◌, List, [], ◌∷◌, ◌++◌, Bool, true, false, cond, sym, ap, ◌∙◌, refl, arith, subst, Option, Some, None}
-use Rattle.std.specs.Prelude.{◌&&◌, nat_le, nat_lt}
+use Rattle.std.proofs.Common.{◌≡◌, ◌≤◌, ◌<◌, ◌⊎◌, inl, inr, ℕ, ◌+◌, ◌-◌, List, [], ◌∷◌, ◌++◌, true, false, sym, ap, ◌∙◌, refl, arith, subst, Option, Some, None}
+use Rattle.std.specs.Prelude.{nat_le, nat_lt}
 use Rattle.std.specs.Option.{option_map, option_or}
-use Rattle.std.proofs.lemmas.Bool.{cases_lt, cases_Bool, and_parts, and_from, and_cases, leb-true, ltb-true, leb-false, ltb-false, le-leb, lt-ltb, cond-true, cond-false, both_ways}
+use Rattle.std.proofs.lemmas.Bool.{cases_Bool, and_parts, and_from, and_cases, leb-true, ltb-true, leb-false, ltb-false, le-leb, lt-ltb, cond-true, cond-false}
 use Rattle.layout.specs.declared.extents.Extent.{Extent}
 use Rattle.extent_nodes.specs.Places.{has, place_in, extent_at, place_of, SamePlaces}
 
@@ -76,19 +76,19 @@ same-longer a b c starts long place goes_on place_on k = elim (cases_Bool (has k
     | inr out_a ↦ elim (has-out k a out_a) [
       | inl before ↦ absurd (omega (arith, before, p.0, starts))
       | inr after ↦
-        let in_b : has k b ≡ true = has-in k b (omega (arith, after, goes_on)) (omega (arith, p.1, starts, long, goes_on)) in
-        let same : c.place + (k - c.logical) ≡ b.place + (k - b.logical) = omega (arith, starts, place, goes_on, place_on, after) in
-        place-here k c [] h ∙ ap Some same ∙ sym (place-later k a (b ∷ []) out_a ∙ place-here k b [] in_b)
+          let in_b : has k b ≡ true = has-in k b (omega (arith, after, goes_on)) (omega (arith, p.1, starts, long, goes_on)) in
+          let same : c.place + (k - c.logical) ≡ b.place + (k - b.logical) = omega (arith, starts, place, goes_on, place_on, after) in
+          place-here k c [] h ∙ ap Some same ∙ sym (place-later k a (b ∷ []) out_a ∙ place-here k b [] in_b)
     ]
   ]
   | inr out ↦ elim (has-out k c out) [
     | inl before ↦
-      let out_a : has k a ≡ false = not-has k a (λ low high. omega (arith, low, before, starts)) in
-      let out_b : has k b ≡ false = not-has k b (λ low high. omega (arith, low, before, starts, goes_on)) in
-      place-later k c [] out ∙ sym (place-later k a (b ∷ []) out_a ∙ place-later k b [] out_b)
+        let out_a : has k a ≡ false = not-has k a (λ low high. omega (arith, low, before, starts)) in
+        let out_b : has k b ≡ false = not-has k b (λ low high. omega (arith, low, before, starts, goes_on)) in
+        place-later k c [] out ∙ sym (place-later k a (b ∷ []) out_a ∙ place-later k b [] out_b)
     | inr after ↦
-      let out_a : has k a ≡ false = not-has k a (λ low high. omega (arith, high, after, starts, long)) in
-      let out_b : has k b ≡ false = not-has k b (λ low high. omega (arith, high, after, starts, long, goes_on)) in
-      place-later k c [] out ∙ sym (place-later k a (b ∷ []) out_a ∙ place-later k b [] out_b)
+        let out_a : has k a ≡ false = not-has k a (λ low high. omega (arith, high, after, starts, long)) in
+        let out_b : has k b ≡ false = not-has k b (λ low high. omega (arith, high, after, starts, long, goes_on)) in
+        place-later k c [] out ∙ sym (place-later k a (b ∷ []) out_a ∙ place-later k b [] out_b)
   ]
 ]

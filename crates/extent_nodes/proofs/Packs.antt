@@ -1,7 +1,6 @@
 -- Nodes of some entries.
-use Rattle.std.proofs.Common.{◌≡◌, ◌≤◌, ◌<◌, ◌⊎◌, inl, inr, ℕ, zero, suc, ◌+◌, ◌-◌, ◌/◌, List, [], ◌∷◌, ◌++◌, length, get_or, take, drop, sym, ap, ◌∙◌, refl, arith, subst, append_assoc, length-append}
+use Rattle.std.proofs.Common.{◌≡◌, ◌≤◌, ◌<◌, ℕ, zero, suc, ◌+◌, List, [], ◌∷◌, ◌++◌, length, get_or, take, sym, ap, ◌∙◌, arith, append_assoc}
 use Rattle.std.specs.Prelude.{◌==◌, Bool, true, false}
-use Rattle.std.specs.List.{AllByRecursion}
 use Rattle.std.proofs.lemmas.Bool.{both_ways, eqb-true}
 use Rattle.std.proofs.lemmas.List.{append-nil, take_more, length-take-le, nil_from_length}
 use Rattle.layout.specs.declared.extents.Extent.{Extent}
@@ -9,7 +8,7 @@ use Rattle.extent_nodes.specs.Normal.{IsRising}
 use Rattle.extent_nodes.specs.Nodes.{flat, last_end, summary, summaries, AreFilled, HaveFrom}
 use Rattle.extent_nodes.proofs.Joined.{all-append}
 use Rattle.extent_nodes.proofs.Rising.{rising-left, rising-right, rising-wider, last-bound}
-use Rattle.extent_nodes.proofs.Summaries.{flat-append, flat-more, summaries-append}
+use Rattle.extent_nodes.proofs.Summaries.{flat-append, summaries-append}
 
 pub filled-from : (least most : ℕ) (ns : List (List Extent)) → 0 < least → HaveFrom least most ns → AreFilled ns
 filled-from least most [] some have = tt

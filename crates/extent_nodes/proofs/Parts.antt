@@ -1,9 +1,8 @@
 -- What a part of a list of extents spells, and where it begins and ends.
-use Rattle.std.proofs.Common.{◌≡◌, ◌≤◌, ◌<◌, ◌⊎◌, inl, inr, ℕ, zero, suc, ◌+◌, ◌-◌, max, min, List, [], ◌∷◌, ◌++◌, length, Bool, true, false, sym, ap, ◌∙◌, refl, arith, subst, append_assoc, Option, Some, None}
+use Rattle.std.proofs.Common.{◌≡◌, ◌≤◌, ◌<◌, ◌⊎◌, inl, inr, ℕ, ◌+◌, ◌-◌, max, min, List, [], ◌∷◌, ◌++◌, true, false, sym, ap, ◌∙◌, refl, arith, Option, Some, None}
 use Rattle.std.specs.Option.{option_or}
 use Rattle.std.proofs.lemmas.Bool.{cases_lt, cases_Bool}
 use Rattle.std.proofs.lemmas.Option.{none-some, same_Some}
-use Rattle.std.proofs.lemmas.List.{append-nil}
 use Rattle.layout.specs.declared.extents.Extent.{Extent}
 use Rattle.extent_nodes.specs.Places.{has, place_of}
 use Rattle.extent_nodes.specs.Normal.{IsRising, Point, start_of, stop_of}
@@ -27,9 +26,9 @@ cut-place from to b e it low high =
 cut-none : (from to b : ℕ) (e : Extent) → (e.logical ≤ b → b < e.logical + e.length → from ≤ b → b < to → ⊥) → place_of (within from to e) b ≡ None
 cut-none from to b e out = elim (cases_lt (max e.logical from) (min (e.logical + e.length) to)) [
   | inl some ↦
-    let c = cut (max e.logical from) (min (e.logical + e.length) to) e in
-    let out_c : has b c ≡ false = not-has b c (λ l h. out (omega (arith, l)) (omega (arith, h, some)) (omega (arith, l)) (omega (arith, h, some))) in
-    ap (λ l. place_of l b) (within-some from to e some) ∙ place-later b c [] out_c
+      let c = cut (max e.logical from) (min (e.logical + e.length) to) e in
+      let out_c : has b c ≡ false = not-has b c (λ l h. out (omega (arith, l)) (omega (arith, h, some)) (omega (arith, l)) (omega (arith, h, some))) in
+      ap (λ l. place_of l b) (within-some from to e some) ∙ place-later b c [] out_c
   | inr nothing ↦ ap (λ l. place_of l b) (within-none from to e nothing)
 ]
 
@@ -79,9 +78,9 @@ pub part-start : (from to : ℕ) (es : List Extent) (p : Point) → start_of (pa
 part-start from to [] p is = absurd (none-some p is)
 part-start from to (e ∷ es) p is = elim (cases_lt (max e.logical from) (min (e.logical + e.length) to)) [
   | inl some ↦
-    let begin : Some (record { block = max e.logical from; place = e.place + (max e.logical from - e.logical) }) ≡ Some p = sym (ap (λ l. start_of (l ++ part from to es)) (within-some from to e some)) ∙ is in
-    let at : max e.logical from ≡ p.block = ap (λ q. q.block) (same_Some _ _ begin) in
-    omega (arith, at)
+      let begin : Some (record { block = max e.logical from; place = e.place + (max e.logical from - e.logical) }) ≡ Some p = sym (ap (λ l. start_of (l ++ part from to es)) (within-some from to e some)) ∙ is in
+      let at : max e.logical from ≡ p.block = ap (λ q. q.block) (same_Some _ _ begin) in
+      omega (arith, at)
   | inr nothing ↦ part-start from to es p (sym (ap (λ l. start_of (l ++ part from to es)) (within-none from to e nothing)) ∙ is)
 ]
 
@@ -90,11 +89,11 @@ pub part-front : (to low end : ℕ) (es : List Extent) (p : Point) → IsRising 
 part-front to low end [] p rising is = is
 part-front to low end (e ∷ es) p rising is = elim (cases_lt e.logical to) [
   | inl some ↦
-    let any : max e.logical 0 < min (e.logical + e.length) to = omega (arith, some, rising.1) in
-    let logical : max e.logical 0 ≡ e.logical = omega arith in
-    let place : e.place + (max e.logical 0 - e.logical) ≡ e.place = omega arith in
-    let begin : start_of (within 0 to e ++ part 0 to es) ≡ Some (record { block = e.logical; place = e.place }) = ap (λ l. start_of (l ++ part 0 to es)) (within-some 0 to e any) ∙ (λ i. Some (record { block = logical i; place = place i })) in
-    sym begin ∙ is
+      let any : max e.logical 0 < min (e.logical + e.length) to = omega (arith, some, rising.1) in
+      let logical : max e.logical 0 ≡ e.logical = omega arith in
+      let place : e.place + (max e.logical 0 - e.logical) ≡ e.place = omega arith in
+      let begin : start_of (within 0 to e ++ part 0 to es) ≡ Some (record { block = e.logical; place = e.place }) = ap (λ l. start_of (l ++ part 0 to es)) (within-some 0 to e any) ∙ (λ i. Some (record { block = logical i; place = place i })) in
+      sym begin ∙ is
   | inr nothing ↦ absurd (none-some p (sym (ap start_of (part-none 0 to e.logical end (e ∷ es) (omega arith, rising.1, rising.2, rising.3) nothing)) ∙ is))
 ]
 
@@ -103,10 +102,10 @@ part-front to low end (e ∷ es) p rising is = elim (cases_lt e.logical to) [
 stop-within : (from to : ℕ) (e : Extent) (p : Point) → stop_of (within from to e) ≡ Some p → p.block ≤ to
 stop-within from to e p is = elim (cases_lt (max e.logical from) (min (e.logical + e.length) to)) [
   | inl some ↦
-    let c = cut (max e.logical from) (min (e.logical + e.length) to) e in
-    let end : Some (record { block = c.logical + c.length; place = c.place + c.length }) ≡ Some p = sym (ap stop_of (within-some from to e some)) ∙ is in
-    let at : c.logical + c.length ≡ p.block = ap (λ q. q.block) (same_Some _ _ end) in
-    omega (arith, at, some)
+      let c = cut (max e.logical from) (min (e.logical + e.length) to) e in
+      let end : Some (record { block = c.logical + c.length; place = c.place + c.length }) ≡ Some p = sym (ap stop_of (within-some from to e some)) ∙ is in
+      let at : c.logical + c.length ≡ p.block = ap (λ q. q.block) (same_Some _ _ end) in
+      omega (arith, at, some)
   | inr nothing ↦ absurd (none-some p (sym (ap stop_of (within-none from to e nothing)) ∙ is))
 ]
 
@@ -136,12 +135,12 @@ pub part-back : (from low end : ℕ) (es : List Extent) (p : Point) → IsRising
 part-back from low end [] p rising is = is
 part-back from low end (e ∷ es) p rising is = elim (cases_lt from (e.logical + e.length)) [
   | inl some ↦
-    let any : max e.logical from < min (e.logical + e.length) end = omega (arith, some, rising.1, rising.2) in
-    let c = cut (max e.logical from) (min (e.logical + e.length) end) e in
-    let block : c.logical + c.length ≡ e.logical + e.length = omega (arith, any, rising.2) in
-    let place : c.place + c.length ≡ e.place + e.length = omega (arith, any, rising.2) in
-    let one : stop_of (within from end e) ≡ stop_of (e ∷ []) = ap stop_of (within-some from end e any) ∙ (λ i. Some (record { block = block i; place = place i })) in
-    let rest : part from end es ≡ es = part-all from end (e.logical + e.length) end es rising.3 (omega (arith, some)) (omega arith) in
-    stop-append (e ∷ []) es ∙ sym (λ i. option_or (stop_of (rest i)) (one i)) ∙ sym (stop-append (within from end e) (part from end es)) ∙ is
+      let any : max e.logical from < min (e.logical + e.length) end = omega (arith, some, rising.1, rising.2) in
+      let c = cut (max e.logical from) (min (e.logical + e.length) end) e in
+      let block : c.logical + c.length ≡ e.logical + e.length = omega (arith, any, rising.2) in
+      let place : c.place + c.length ≡ e.place + e.length = omega (arith, any, rising.2) in
+      let one : stop_of (within from end e) ≡ stop_of (e ∷ []) = ap stop_of (within-some from end e any) ∙ (λ i. Some (record { block = block i; place = place i })) in
+      let rest : part from end es ≡ es = part-all from end (e.logical + e.length) end es rising.3 (omega (arith, some)) (omega arith) in
+      stop-append (e ∷ []) es ∙ sym (λ i. option_or (stop_of (rest i)) (one i)) ∙ sym (stop-append (within from end e) (part from end es)) ∙ is
   | inr nothing ↦ stop-more e es p (part-back from (e.logical + e.length) end es p rising.3 (sym (ap (λ l. stop_of (l ++ part from end es)) (within-none from end e (omega (arith, nothing)))) ∙ is))
 ]

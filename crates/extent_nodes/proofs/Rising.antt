@@ -1,12 +1,12 @@
 -- Lists of extents that rise.
-use Rattle.std.proofs.Common.{◌≡◌, ◌≤◌, ◌<◌, ◌⊎◌, inl, inr, ℕ, zero, suc, ◌+◌, ◌-◌, List, [], ◌∷◌, ◌++◌, length, get_or, Bool, true, false, sym, ap, ◌∙◌, refl, arith, subst, Option, Some, None}
+use Rattle.std.proofs.Common.{◌≡◌, ◌≤◌, ◌<◌, inl, inr, ℕ, zero, suc, ◌+◌, ◌-◌, List, [], ◌∷◌, ◌++◌, length, get_or, true, sym, ap, ◌∙◌, refl, arith, subst, Some, None}
 use Rattle.std.proofs.lemmas.Bool.{cases_eq}
 use Rattle.std.proofs.lemmas.List.{get_or_default}
 use Rattle.layout.specs.declared.extents.Extent.{Extent}
 use Rattle.extent_nodes.specs.Places.{has, extent_at}
 use Rattle.extent_nodes.specs.Normal.{IsRising}
-use Rattle.extent_nodes.specs.Nodes.{last_end, flat}
-use Rattle.extent_nodes.proofs.Maps.{has-in, not-has, at-here, at-later}
+use Rattle.extent_nodes.specs.Nodes.{last_end}
+use Rattle.extent_nodes.proofs.Maps.{not-has, at-here, at-later}
 
 pub rising-wider : (low end low' end' : ℕ) (es : List Extent) → IsRising low end es → low' ≤ low → end ≤ end' → IsRising low' end' es
 rising-wider low end low' end' [] is below above = tt

@@ -1,21 +1,20 @@
 -- A list of extents in normal form in which the middle is changed.
-use Rattle.std.proofs.Common.{◌≡◌, ◌≤◌, ◌<◌, ◌⊎◌, inl, inr, ℕ, zero, suc, ◌+◌, ◌-◌, ◌^◌, List, [], ◌∷◌, ◌++◌, length, Bool, true, false, sym, ap, ◌∙◌, refl, arith, subst, append_assoc, Option, Some, None}
+use Rattle.std.proofs.Common.{◌≡◌, ◌≤◌, ◌<◌, ◌⊎◌, inl, inr, ℕ, ◌+◌, ◌-◌, ◌^◌, List, [], ◌∷◌, ◌++◌, true, false, sym, ap, ◌∙◌, refl, arith, subst, Option, Some, None}
 use Rattle.std.specs.Option.{option_map, option_or}
-use Rattle.std.specs.List.{AllByRecursion}
-use Rattle.std.specs.Prelude.{◌&&◌, nat_le, nat_lt}
-use Rattle.std.proofs.lemmas.Bool.{cases_lt, cases_Bool, and_from, and_left, and_right, le-leb, lt-ltb, lt-leb, le-ltb, cond-true, cond-false}
+use Rattle.std.specs.Prelude.{nat_le, nat_lt}
+use Rattle.std.proofs.lemmas.Bool.{cases_lt, and_from, and_left, and_right, le-leb, lt-ltb, lt-leb, le-ltb, cond-true, cond-false}
 use Rattle.std.proofs.lemmas.Option.{none-some, same_Some}
 use Rattle.std.proofs.lemmas.List.{append-nil}
 use Rattle.layout.specs.declared.extents.Extent.{Extent}
-use Rattle.extent_nodes.specs.Places.{has, place_in, place_of}
-use Rattle.extent_nodes.specs.Normal.{IsRising, Point, start_of, stop_of, Meet, AreApart, PlacesFit, IsNormal, Joins}
+use Rattle.extent_nodes.specs.Places.{place_in, place_of}
+use Rattle.extent_nodes.specs.Normal.{IsRising, Point, start_of, stop_of, Meet, AreApart, IsNormal, Joins}
 use Rattle.extent_nodes.specs.Parts.{part}
 use Rattle.extent_nodes.specs.Changes.{in_run, after, piece, changed, EndBefore, BeginBehind}
 use Rattle.extent_nodes.specs.Nodes.{last_end}
 use Rattle.extent_nodes.proofs.Maps.{has-in, not-has, place-here, place-later, place_of-append, or-none}
-use Rattle.extent_nodes.proofs.Rising.{rising-wider, rising-append, rising-left, rising-right, rising-tight, last-bound, none-before, none-behind}
-use Rattle.extent_nodes.proofs.Joined.{all-left, all-right, all-append, start-append, stop-append, apart-append, apart-left, apart-right, apart-seam}
-use Rattle.extent_nodes.proofs.Parts.{part-in, part-out, part-start, part-front, part-stop, part-back, stop-either, start-either, stop-more}
+use Rattle.extent_nodes.proofs.Rising.{rising-append, rising-left, rising-right, rising-tight, last-bound, none-before, none-behind}
+use Rattle.extent_nodes.proofs.Joined.{all-left, all-right, all-append, start-append, apart-append, apart-left, apart-right, apart-seam}
+use Rattle.extent_nodes.proofs.Parts.{part-in, part-out, part-start, part-front, part-stop, part-back, stop-either, start-either}
 
 -- ---- the map after a change
 
@@ -68,7 +67,7 @@ changed-behind : (low first count : ℕ) (place : Option ℕ) (es : List Extent)
 changed-behind low first count place es b is le =
     changed-parts first count place es b
     ∙ (λ i. option_or (part-out 0 first es b (λ l h. omega (arith, h, le)) i) (option_or (piece-out first count place b (λ l h. omega (arith, h, le)) i) (rest i)))
-    where
+  where
     rest : place_of (part (first + count) 4294967295 es) b ≡ place_of es b
     rest = elim (cases_lt b 4294967295) [
       | inl lt ↦ part-in (first + count) 4294967295 es b le lt
@@ -187,7 +186,7 @@ spliced-rising first count place front middle back new s =
       | inl old ↦ inl (omega (arith, stop-end low 4294967295 middle p middle_rises old))
       | inr le ↦ inr le
     ]) s.fits bound.1)
-    where
+  where
     joined : (low : ℕ) (back : List Extent) → low ≤ last_end low middle → IsRising (last_end low middle) 4294967295 back → BeginBehind (first + count) back → IsRising low 4294967295 new → ((p : Point) → stop_of new ≡ Some p → (p.block ≤ last_end low middle) ⊎ (p.block ≤ first + count)) → first + count < 2 ^ 32 → low ≤ 4294967295 → IsRising low 4294967295 (new ++ back)
     joined low [] least back_rises behind rises ends fits le = subst (IsRising low 4294967295) (sym (append-nil new)) rises
     joined low (e ∷ es) least back_rises behind rises ends fits le =
@@ -200,22 +199,23 @@ spliced-apart first count place front middle back new s =
     let old = apart-right front (middle ++ back) s.normal.apart in
     apart-append front (new ++ back) (apart-left front (middle ++ back) s.normal.apart)
     (apart-append new back s.made.apart (apart-right middle back old) behind) before
-    where
+  where
     behind : Meet new back → ⊥
     behind meet = elim (new-ends first count place front middle back new s meet.0 meet.1) [
       | inl old ↦ apart-seam middle back (apart-right front (middle ++ back) s.normal.apart) (meet.0, old, meet.2)
       | inr run ↦ omega (arith, run, start-behind (first + count) back meet.0 s.behind meet.2)
     ]
+
     before : Meet front (new ++ back) → ⊥
     before meet =
-      let ends = stop-before first front meet.0 s.before meet.1 in
-      elim (start-either new back meet.0 meet.2) [
-        | inl new_start ↦ elim (new-begins first count place front middle back new s meet.0 new_start) [
-          | inl old ↦ apart-seam front (middle ++ back) s.normal.apart (meet.0, meet.1, start-append middle back ∙ ap (λ o. option_or o (start_of back)) old)
-          | inr run ↦ omega (arith, run, ends)
+        let ends = stop-before first front meet.0 s.before meet.1 in
+        elim (start-either new back meet.0 meet.2) [
+          | inl new_start ↦ elim (new-begins first count place front middle back new s meet.0 new_start) [
+            | inl old ↦ apart-seam front (middle ++ back) s.normal.apart (meet.0, meet.1, start-append middle back ∙ ap (λ o. option_or o (start_of back)) old)
+            | inr run ↦ omega (arith, run, ends)
+          ]
+          | inr back_start ↦ omega (arith, ends, start-behind (first + count) back meet.0 s.behind back_start)
         ]
-        | inr back_start ↦ omega (arith, ends, start-behind (first + count) back meet.0 s.behind back_start)
-      ]
 
 pub spliced-normal : (first count : ℕ) (place : Option ℕ) (front middle back new : List Extent) → Spliced first count place front middle back new → IsNormal (front ++ (new ++ back))
 spliced-normal first count place front middle back new s =
@@ -224,7 +224,7 @@ spliced-normal first count place front middle back new s =
       rising = spliced-rising first count place front middle back new s;
       apart = spliced-apart first count place front middle back new s;
       places = all-append P front (new ++ back) (all-left P front (middle ++ back) s.normal.places)
-        (all-append P new back s.made.places (all-right P middle back (all-right P front (middle ++ back) s.normal.places)));
+          (all-append P new back s.made.places (all-right P middle back (all-right P front (middle ++ back) s.normal.places)));
     }
 
 -- ---- its map
@@ -248,16 +248,16 @@ spliced-at first count place front middle back new s b = elim (cases_lt b first)
   | inl lt ↦ same (s.made.same b ∙ changed-before first count place middle b lt) ∙ sym (after-out first count place (front ++ (middle ++ back)) b (before_run first count b lt))
   | inr ge ↦ elim (cases_lt b (first + count)) [
     | inl lt ↦
-      three front new back b
-      ∙ (λ i. option_or (none-of-front first b front s.before ge i) (option_or ((s.made.same b ∙ changed-in first count place middle b ge lt) i) (none-of-back (first + count) b back s.behind (omega (arith, lt)) i)))
-      ∙ or-none (option_map (λ p. p + (b - first)) place)
-      ∙ sym (cond-true (in_run first count b) _ _ (inside first count b ge lt))
+        three front new back b
+        ∙ (λ i. option_or (none-of-front first b front s.before ge i) (option_or ((s.made.same b ∙ changed-in first count place middle b ge lt) i) (none-of-back (first + count) b back s.behind (omega (arith, lt)) i)))
+        ∙ or-none (option_map (λ p. p + (b - first)) place)
+        ∙ sym (cond-true (in_run first count b) _ _ (inside first count b ge lt))
     | inr past ↦
-      let low = last_end 0 front in
-      let middle_rises = rising-left low 4294967295 middle back (middle-rising first count place front middle back new s) in
-      same (s.made.same b ∙ changed-behind low first count place middle b middle_rises past) ∙ sym (after-out first count place (front ++ (middle ++ back)) b (behind_run first count b past))
+        let low = last_end 0 front in
+        let middle_rises = rising-left low 4294967295 middle back (middle-rising first count place front middle back new s) in
+        same (s.made.same b ∙ changed-behind low first count place middle b middle_rises past) ∙ sym (after-out first count place (front ++ (middle ++ back)) b (behind_run first count b past))
   ]
 ]
-    where
+  where
     same : place_of new b ≡ place_of middle b → place_of (front ++ (new ++ back)) b ≡ place_of (front ++ (middle ++ back)) b
     same e = three front new back b ∙ ap (λ o. option_or (place_of front b) (option_or o (place_of back b))) e ∙ sym (three front middle back b)

@@ -1,13 +1,10 @@
 -- Nodes and the entries that cover them.
-use Rattle.std.proofs.Common.{◌≡◌, ◌≤◌, ◌<◌, ◌⊎◌, inl, inr, ℕ, zero, suc, ◌+◌, ◌-◌, ◌^◌, List, [], ◌∷◌, ◌++◌, length, get_or, take, drop, Bool, true, false, sym, ap, ◌∙◌, refl, arith, subst, append_assoc, length-append, Option, Some, None}
-use Rattle.std.specs.List.{AllByRecursion}
-use Rattle.std.specs.Option.{option_or}
-use Rattle.std.proofs.lemmas.List.{append-nil, take_more, drop_more, take-append-drop}
+use Rattle.std.proofs.Common.{◌≡◌, ◌≤◌, ◌<◌, ℕ, suc, ◌+◌, ◌-◌, List, [], ◌∷◌, ◌++◌, length, get_or, take, sym, ap, ◌∙◌, refl, arith, append_assoc}
+use Rattle.std.proofs.lemmas.List.{append-nil, take_more}
 use Rattle.layout.specs.declared.extents.Extent.{Extent}
-use Rattle.extent_nodes.specs.Places.{extent_at}
 use Rattle.extent_nodes.specs.Normal.{IsRising}
-use Rattle.extent_nodes.specs.Nodes.{flat, last_end, summary, summaries, AreFilled, HaveFrom}
-use Rattle.extent_nodes.proofs.Rising.{rising-at, rising-order, rising-left, rising-right, last-at, last-bound}
+use Rattle.extent_nodes.specs.Nodes.{flat, summary, summaries}
+use Rattle.extent_nodes.proofs.Rising.{rising-order, last-at}
 
 -- ---- one node
 

@@ -1,5 +1,5 @@
 -- One list in normal form for each map.
-use Rattle.std.proofs.Common.{◌≡◌, ◌≤◌, ◌<◌, ◌⊎◌, inl, inr, ℕ, ◌+◌, ◌-◌, List, [], ◌∷◌, sym, ap, ◌∙◌, refl, arith, subst, Option, Some, None}
+use Rattle.std.proofs.Common.{◌≡◌, ◌<◌, inl, inr, ℕ, ◌+◌, ◌-◌, List, [], ◌∷◌, sym, ap, ◌∙◌, refl, arith, subst, Some, None}
 use Rattle.std.specs.Option.{option_map}
 use Rattle.std.proofs.lemmas.Bool.{cases_lt}
 use Rattle.std.proofs.lemmas.Option.{none-some, same_Some}
@@ -31,11 +31,11 @@ goes-on end x (z ∷ zs) place is on mapped =
     elim (cases_lt (x.logical + x.length) z.logical) [
       | inl gap ↦ absurd (none-some place (sym (unmapped-before (x.logical + x.length) z.logical end (z ∷ zs) (from-itself (x.logical + x.length) end z zs is) gap) ∙ mapped))
       | inr near ↦
-        let at : z.logical ≡ x.logical + x.length = omega (arith, near, is.0) in
-        let here : z.place ≡ place = same_Some _ _ (sym (begins-mapped z zs is.1) ∙ ap (place_of (z ∷ zs)) at ∙ mapped) in
-        let block : x.logical + x.length ≡ z.logical = sym at in
-        let spot : x.place + x.length ≡ z.place = sym (here ∙ on) in
-        (record { block = z.logical; place = z.place }, (λ i. Some (record { block = block i; place = spot i })), refl)
+          let at : z.logical ≡ x.logical + x.length = omega (arith, near, is.0) in
+          let here : z.place ≡ place = same_Some _ _ (sym (begins-mapped z zs is.1) ∙ ap (place_of (z ∷ zs)) at ∙ mapped) in
+          let block : x.logical + x.length ≡ z.logical = sym at in
+          let spot : x.place + x.length ≡ z.place = sym (here ∙ on) in
+          (record { block = z.logical; place = z.place }, (λ i. Some (record { block = block i; place = spot i })), refl)
     ]
 
 not-shorter : (low end : ℕ) (x y : Extent) (xs ys : List Extent) → IsRising low end (x ∷ xs) → AreApart (x ∷ xs) → SamePlaces (x ∷ xs) (y ∷ ys) → x.logical ≡ y.logical → x.place ≡ y.place → x.length < y.length → ⊥

@@ -4,31 +4,33 @@ use layout::Extent;
 use std::alloc::{AllocError, Global};
 use std::test::Fail;
 
-const fn block(first: u32) -> Run {
-    Run { first, count: 1 }
-}
-
 // Every second block of 33 is mapped, the last one first.
 fn every_second(alloc: Global) -> Result<Extents<8>, AllocError> {
     let mut extents = Extents::<8>::new(alloc);
     for left in 0..17 {
         let index = 16 - left;
-        extents.map(block(2 * index), 100 + index)?;
+        let run = Run {
+            first: 2 * index,
+            count: 1,
+        };
+        extents.map(run, 100 + index)?;
     }
     Ok(extents)
 }
 
 // Whether the runs are those of the blocks, rising.
 fn rise(runs: &[Extent]) -> bool {
-    let mut right = runs.len() == 17;
-    for index in 0..runs.len() {
-        let run = runs[index];
+    if runs.len() != 17 {
+        return false;
+    }
+    let mut right = true;
+    for index in 0..17 {
         let is = Extent {
-            logical: 2 * (index as u32 & 0xff),
+            logical: 2 * index,
             length: 1,
-            place: 100 + (index as u32 & 0xff),
+            place: 100 + index,
         };
-        right = right && run == is;
+        right = right && runs[index as usize] == is;
     }
     right
 }

@@ -1,5 +1,5 @@
 -- A level of which some nodes are rewritten.
-use Rattle.std.proofs.Common.{◌≡◌, ◌≤◌, ◌<◌, ◌⊎◌, inl, inr, ℕ, zero, suc, ◌+◌, ◌-◌, ◌/◌, ◌^◌, List, [], ◌∷◌, ◌++◌, length, take, drop, sym, ap, ◌∙◌, refl, arith, subst, append_assoc, length-append, Option}
+use Rattle.std.proofs.Common.{◌≡◌, ◌≤◌, ◌<◌, inl, inr, ℕ, ◌+◌, ◌-◌, ◌/◌, ◌^◌, List, [], ◌++◌, length, take, drop, sym, ap, ◌∙◌, arith, subst, append_assoc, length-append, Option}
 use Rattle.std.specs.Prelude.{slice_range}
 use Rattle.std.specs.List.{AllByRecursion}
 use Rattle.std.proofs.lemmas.Bool.{cases_lt}
@@ -8,8 +8,8 @@ use Rattle.std.proofs.Math.Seq.{take-append-add}
 use Rattle.std.proofs.lemmas.List.Folds.{drop_split}
 use Rattle.layout.specs.declared.extents.Extent.{Extent}
 use Rattle.extent_nodes.specs.Places.{place_of}
-use Rattle.extent_nodes.specs.Normal.{IsRising, PlacesFit, IsNormal, Joins}
-use Rattle.extent_nodes.specs.Changes.{after, changed}
+use Rattle.extent_nodes.specs.Normal.{IsRising, PlacesFit, IsNormal}
+use Rattle.extent_nodes.specs.Changes.{after}
 use Rattle.extent_nodes.specs.Nodes.{flat, last_end, summaries, AreFilled, HaveFrom}
 use Rattle.extent_nodes.proofs.Joined.{all-left, all-right, all-append}
 use Rattle.extent_nodes.proofs.Rising.{rising-wider, rising-left, rising-right}
@@ -17,7 +17,7 @@ use Rattle.extent_nodes.proofs.Summaries.{flat-append, summaries-append}
 use Rattle.extent_nodes.proofs.Splices.{Spliced, spliced-normal, spliced-at}
 use Rattle.extent_nodes.proofs.Levels.{before-less, behind-less}
 use Rattle.extent_tree.proofs.Trees.{nodes-few}
-use Rattle.extent_tree.specs.Tree.{IsLevel, IsNeeded, IsTree, IsWidth}
+use Rattle.extent_tree.specs.Tree.{IsLevel, IsNeeded}
 use Rattle.extent_tree.specs.Chosen.{Touched, Remade, IsEnough}
 
 -- ---- three pieces of a level
@@ -63,7 +63,6 @@ pub record Rewritten (width first count : ℕ) (place : Option ℕ) (from to : �
   pub filled : AreFilled packed
   pub most : HaveFrom 0 width packed
   pub quarter : width / 4 ≤ length entries → HaveFrom (width / 4) width packed
-
 
 spliced : (width first count : ℕ) (place : Option ℕ) (from to : ℕ) (old packed : List (List Extent)) (entries : List Extent) → IsNormal (flat old) → Rewritten width first count place from to old packed entries → Spliced first count place (flat (take from old)) (flat (slice_range old from to)) (flat (drop to old)) entries
 spliced width first count place from to old packed entries normal r = record {
@@ -119,7 +118,7 @@ rewritten-level width first count place from to old packed entries level r = eli
   ]
   | inr single ↦ let all = r.touched.single single in subst (IsLevel width) (sym (whole from to old packed all.0 all.1)) (whole-level width first count place from to old packed entries r)
 ]
-    where
+  where
     three : (P : List Extent → Type 0) → AllByRecursion P old → AllByRecursion P packed → AllByRecursion P (take from old ++ (packed ++ drop to old))
     three P all new = all-append P (take from old) (packed ++ drop to old) (all-take P from old all) (all-append P packed (drop to old) new (all-drop P to old all))
 

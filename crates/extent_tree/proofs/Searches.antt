@@ -1,5 +1,5 @@
 -- The way from the root to a leaf.
-use Rattle.std.proofs.Common.{◌≡◌, ◌≤◌, ◌<◌, ℕ, zero, suc, ◌+◌, ◌-◌, ◌*◌, ◌^◌, List, [], ◌∷◌, ◌++◌, length, get_or, drop, sym, ap, ◌∙◌, refl, arith, subst, Option, Some, None}
+use Rattle.std.proofs.Common.{◌≡◌, ◌≤◌, ◌<◌, ℕ, zero, suc, ◌+◌, ◌-◌, ◌*◌, ◌^◌, List, [], ◌∷◌, length, get_or, sym, ap, ◌∙◌, refl, arith, subst, Some}
 use Rattle.std.proofs.Common.{inl, inr}
 use Rattle.std.proofs.lemmas.Bool.{cases_Bool}
 use Rattle.std.proofs.lemmas.Option.{none-some, same_Some}
@@ -10,8 +10,8 @@ use Rattle.extent_nodes.specs.Places.{has, extent_at}
 use Rattle.extent_nodes.specs.Normal.{IsRising, PlacesFit}
 use Rattle.extent_nodes.specs.Nodes.{flat, summaries}
 use Rattle.extent_nodes.proofs.Maps.{at-here, at-later}
-use Rattle.extent_nodes.proofs.Levels.{most-count, summaries-rising, none-below, one-below}
-use Rattle.extent_tree.specs.Tree.{IsLevel, IsTree, IsWidth, level_at}
+use Rattle.extent_nodes.proofs.Levels.{most-count, summaries-rising}
+use Rattle.extent_tree.specs.Tree.{IsLevel, IsTree, level_at}
 
 -- a root alone is all that there is
 pub root-alone : (ns : List (List Extent)) (d : List Extent) → length ns ≤ 1 → 0 < length ns → flat ns ≡ get_or ns 0 d

@@ -1,13 +1,13 @@
 -- The tree of nodes: how many levels, nodes and entries it has.
-use Rattle.std.proofs.Common.{◌≡◌, ◌≤◌, ◌<◌, ◌⊎◌, inl, inr, ℕ, zero, suc, ◌+◌, ◌-◌, ◌*◌, ◌/◌, ◌^◌, List, [], ◌∷◌, ◌++◌, length, map, get_or, sym, ap, ◌∙◌, refl, arith, subst, append_assoc}
+use Rattle.std.proofs.Common.{◌≡◌, ◌≤◌, ◌<◌, inl, inr, ℕ, zero, suc, ◌-◌, ◌*◌, ◌/◌, ◌^◌, List, [], ◌∷◌, length, map, sym, ap, ◌∙◌, refl, arith, subst}
 use Rattle.std.specs.Prelude.{slice_index}
 use Rattle.std.proofs.lemmas.Bool.{cases_lt}
 use Rattle.std.proofs.Math.Nat.{mul-le-mul_left, mul-le-mul_right, pow-zero, pow-succ'}
 use Rattle.layout.specs.declared.extents.Extent.{Extent}
 use Rattle.extent_nodes.specs.Normal.{IsRising}
-use Rattle.extent_nodes.specs.Nodes.{flat, summaries, AreFilled, HaveFrom}
+use Rattle.extent_nodes.specs.Nodes.{flat, summaries, AreFilled}
 use Rattle.extent_nodes.proofs.Summaries.{length-summaries}
-use Rattle.extent_nodes.proofs.Levels.{rising-count, filled-count, least-count, most-count, summaries-rising}
+use Rattle.extent_nodes.proofs.Levels.{rising-count, filled-count, least-count, most-count}
 use Rattle.std.proofs.lemmas.List.{length-map}
 use Rattle.extent_tree.specs.Value.{GrownByNeed, StaysOne}
 use Rattle.extent_tree.specs.Tree.{IsLevel, IsNeeded, IsTree, IsWidth, counts}
@@ -23,8 +23,8 @@ covered-count ns level covers = ap length covers ∙ length-summaries 0 ns
 pub level-fewer : (width n : ℕ) (level : List (List Extent)) → IsWidth width → IsLevel width level → 1 < n → length (flat level) ≡ n → length level < n
 level-fewer width n level w is many same = elim (cases_lt 1 (length level)) [
   | inl several ↦
-    let two : 2 ≤ width / 4 = omega (arith, w.least) in
-    omega (arith, several, same, least-count (width / 4) width level (is.quarter several), mul-le-mul_right (length level) two)
+      let two : 2 ≤ width / 4 = omega (arith, w.least) in
+      omega (arith, several, same, least-count (width / 4) width level (is.quarter several), mul-le-mul_right (length level) two)
   | inr one ↦ omega (arith, one, many)
 ]
 
@@ -91,13 +91,12 @@ grown-by-need width ns ms inner outer old new need more =
     subst (λ k. width < slice_index (counts ms outer) k) (sym at)
     (needed-at width (length inner) ms outer new (λ none. need (no-levels width ns inner old none)) (omega (arith, more, a, b)))
 
-
 pub stays-one : (width : ℕ) (ns ms : List (List Extent)) (inner outer : List (List (List Extent))) → GrownByNeed width (record { runs = flat ns; levels = counts ns inner }) (record { runs = flat ms; levels = counts ms outer }) → StaysOne width (record { runs = flat ns; levels = counts ns inner }) (record { runs = flat ms; levels = counts ms outer })
 stays-one width ns ms inner outer grown one few = elim (cases_lt 1 (length (counts ms outer))) [
   | inl more ↦
-    let first : length (counts ns inner) - 1 ≡ 0 = omega (arith, one) in
-    let need : width < slice_index (counts ms outer) 0 = subst (λ k. width < slice_index (counts ms outer) k) first (grown (omega (arith, one, more))) in
-    absurd (omega (arith, need, few))
+      let first : length (counts ns inner) - 1 ≡ 0 = omega (arith, one) in
+      let need : width < slice_index (counts ms outer) 0 = subst (λ k. width < slice_index (counts ms outer) k) first (grown (omega (arith, one, more))) in
+      absurd (omega (arith, need, few))
   | inr none ↦ omega (arith, none)
 ]
 

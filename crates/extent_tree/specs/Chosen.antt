@@ -1,5 +1,5 @@
 -- The leaves that a change rewrites.
-use Rattle.std.specs.Prelude.{◌≡◌, ◌<◌, ◌≤◌, ◌⊎◌, ◌+◌, ◌/◌, ℕ, List, Option, length, take, drop, slice_range}
+use Rattle.std.specs.Prelude.{◌≡◌, ◌≤◌, ◌⊎◌, ◌+◌, ◌/◌, ℕ, List, Option, length, take, drop, slice_range}
 use Rattle.layout.specs.declared.extents.Extent.{Extent}
 use Rattle.extent_nodes.specs.Normal.{Joins}
 use Rattle.extent_nodes.specs.Changes.{changed, EndBefore, BeginBehind}

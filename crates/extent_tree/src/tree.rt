@@ -1,6 +1,6 @@
 ghost use Rattle.std.specs.Prelude.{◌≡◌, ◌≤◌, ◌<◌, ◌+◌, ◌-◌, ◌*◌, ◌/◌, ◌^◌, ◌++◌, ◌∷◌, [], ℕ, Some, None, length, slice_index, take, drop, IfSome, IfOk, OnOk, OnErr};
 ghost use Rattle.extent_nodes.specs.Changes.{after};
-ghost use Rattle.extent_nodes.specs.Nodes.{flat};
+ghost use Rattle.extent_nodes.specs.Nodes.{flat, HaveFrom};
 ghost use Rattle.extent_nodes.specs.Normal.{IsRising, PlacesFit, IsNormal};
 ghost use Rattle.extent_nodes.specs.Places.{place_of, SamePlaces};
 ghost use Rattle.extent_tree.specs.Tree.{IsSound, counts};
@@ -116,9 +116,11 @@ impl<const N: usize> Extents<N> {
         Ok(runs)
     }
 
-    /// The leaves, which have the runs one after the other.
+    /// The leaves, which have the runs one after the other: at most `N` each and, where there are several, a quarter of that at least.
     pub fn leaves(&self) -> &[Node]
-        ensures { flat result.now ≡ self.now.runs }
+        ensures runs { flat result.now ≡ self.now.runs }
+        ensures most { HaveFrom 0 N result.now }
+        ensures quarter { 1 < length result.now → HaveFrom (N / 4) N result.now }
     {
         &self.leaves
     }

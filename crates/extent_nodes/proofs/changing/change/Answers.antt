@@ -1,4 +1,4 @@
-use Rattle.std.proofs.Common.{◌++◌, ◌+◌, ap, sym, subst, append_assoc}
+use Rattle.std.proofs.Common.{◌++◌, ◌+◌, subst, append_assoc}
 use Rattle.extent_nodes.specs.Normal.{Joins}
 use Rattle.extent_nodes.specs.Parts.{part}
 use Rattle.extent_nodes.specs.Changes.{piece}

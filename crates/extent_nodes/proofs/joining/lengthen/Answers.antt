@@ -1,4 +1,4 @@
-use Rattle.std.proofs.Common.{◌≡◌, ◌<◌, ◌-◌, arith, length, get_or}
+use Rattle.std.proofs.Common.{arith}
 use Rattle.extent_nodes.proofs.Joined.{lengthened-at}
 use Rattle.extent_nodes.proofs.joining.lengthen.Goals as goal
 

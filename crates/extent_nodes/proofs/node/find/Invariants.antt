@@ -9,7 +9,7 @@ invariant-bisect l = record {
   within : l.high ≤ length l.entries;
   count : l.compared + l.high ≤ length l.entries + l.low;
   before : (k : ℕ) (d : Extent) → k < l.low → k < length l.entries → (get_or l.entries k d).logical + (get_or l.entries k d).length ≤ l.block;
-  behind : (k : ℕ) (d : Extent) → l.high ≤ k → k < length l.entries → l.block < (get_or l.entries k d).logical
+  behind : (k : ℕ) (d : Extent) → l.high ≤ k → k < length l.entries → l.block < (get_or l.entries k d).logical;
 }
 
 abbrev pub decreases-bisect : goal.decreases-bisect

@@ -1,5 +1,4 @@
-use Rattle.std.proofs.Common.{◌≡◌, ◌≤◌, ◌<◌, ◌+◌, ◌-◌, arith, length, get_or, sym}
-use Rattle.layout.specs.declared.extents.Extent.{Extent}
+use Rattle.std.proofs.Common.{◌<◌, ◌-◌, arith, length, sym}
 use Rattle.extent_nodes.proofs.Rising.{rising-at}
 use Rattle.extent_nodes.proofs.Summaries.{first-to-last, summary-at}
 use Rattle.extent_nodes.proofs.node.summary_of.Goals as goal

@@ -1,5 +1,4 @@
-use Rattle.std.proofs.Common.{◌≡◌, ◌≤◌, ◌<◌, ◌⊎◌, inl, inr, ◌++◌, ◌∷◌, [], ◌+◌, ◌-◌, ◌/◌, ap, sym, ◌∙◌, subst, arith, length, length-append, take-append-drop}
-use Rattle.std.specs.List.{AllByRecursion}
+use Rattle.std.proofs.Common.{◌≡◌, ◌<◌, inr, ◌++◌, ◌∷◌, [], ◌-◌, ◌/◌, ap, sym, ◌∙◌, subst, arith, length, length-append, take-append-drop}
 use Rattle.extent_nodes.specs.Nodes.{flat, AreFilled, HaveFrom}
 use Rattle.extent_nodes.proofs.Joined.{all-append}
 use Rattle.extent_nodes.proofs.Packs.{filled-from, from-less, have-more, flat-pushed, packed-last, packed-all, some-from, none-from}
@@ -23,8 +22,8 @@ full-preserved c =
 pub returns-clause-entries : goal.returns-clause-entries
 returns-clause-entries c = elim c.if-not-is_empty.branch [
   | then-not-is_empty+in_ok-from_slice-2+in_ok-push-2 w ↦
-    ap (λ v. flat v.items) w.nodes-is ∙ ap flat (w.in_ok-push-2.ensures.items ∙ ap (λ n. c.full.nodes.items ++ n ∷ []) w.in_ok-from_slice-2.ensures)
-    ∙ packed-last c.full.nodes.items c.full.rest.now c.args.entries.now c.full.invariant.parts
+      ap (λ v. flat v.items) w.nodes-is ∙ ap flat (w.in_ok-push-2.ensures.items ∙ ap (λ n. c.full.nodes.items ++ n ∷ []) w.in_ok-from_slice-2.ensures)
+      ∙ packed-last c.full.nodes.items c.full.rest.now c.args.entries.now c.full.invariant.parts
   | else-not-is_empty w ↦ ap (λ v. flat v.items) w.nodes-is ∙ packed-all c.full.nodes.items c.full.rest.now c.args.entries.now (none-from (length c.full.rest.now) c.is_empty.result c.is_empty.ensures w.if-not-is_empty.false) c.full.invariant.parts
 ]
 
@@ -34,8 +33,8 @@ returns-clause-some c =
     let filled = filled-from quarter c.args.width c.full.nodes.items (omega (arith, c.requires)) c.full.invariant.quarters in
     elim c.if-not-is_empty.branch [
       | then-not-is_empty+in_ok-from_slice-2+in_ok-push-2 w ↦
-        subst (λ v. AreFilled v.items) (sym w.nodes-is) (subst AreFilled (sym (w.in_ok-push-2.ensures.items ∙ ap (λ n. c.full.nodes.items ++ n ∷ []) w.in_ok-from_slice-2.ensures))
-        (all-append (λ n. 0 < length n) c.full.nodes.items (c.full.rest.now ∷ []) filled (some-from (length c.full.rest.now) c.is_empty.result c.is_empty.ensures w.if-not-is_empty.true, tt)))
+          subst (λ v. AreFilled v.items) (sym w.nodes-is) (subst AreFilled (sym (w.in_ok-push-2.ensures.items ∙ ap (λ n. c.full.nodes.items ++ n ∷ []) w.in_ok-from_slice-2.ensures))
+          (all-append (λ n. 0 < length n) c.full.nodes.items (c.full.rest.now ∷ []) filled (some-from (length c.full.rest.now) c.is_empty.result c.is_empty.ensures w.if-not-is_empty.true, tt)))
       | else-not-is_empty w ↦ subst (λ v. AreFilled v.items) (sym w.nodes-is) filled
     ]
 
@@ -45,7 +44,7 @@ returns-clause-most c =
     let within = from-less quarter 0 c.args.width c.full.nodes.items (omega arith) c.full.invariant.quarters in
     elim c.if-not-is_empty.branch [
       | then-not-is_empty+in_ok-from_slice-2+in_ok-push-2 w ↦
-        subst (λ v. HaveFrom 0 c.args.width v.items) (sym w.nodes-is) (subst (HaveFrom 0 c.args.width) (sym (w.in_ok-push-2.ensures.items ∙ ap (λ n. c.full.nodes.items ++ n ∷ []) w.in_ok-from_slice-2.ensures))
-        (have-more 0 c.args.width c.full.nodes.items c.full.rest.now within (omega arith) (omega (arith, c.full-test.false))))
+          subst (λ v. HaveFrom 0 c.args.width v.items) (sym w.nodes-is) (subst (HaveFrom 0 c.args.width) (sym (w.in_ok-push-2.ensures.items ∙ ap (λ n. c.full.nodes.items ++ n ∷ []) w.in_ok-from_slice-2.ensures))
+          (have-more 0 c.args.width c.full.nodes.items c.full.rest.now within (omega arith) (omega (arith, c.full-test.false))))
       | else-not-is_empty w ↦ subst (λ v. HaveFrom 0 c.args.width v.items) (sym w.nodes-is) within
     ]

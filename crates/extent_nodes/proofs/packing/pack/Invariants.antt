@@ -6,7 +6,7 @@ abbrev pub invariant-full : goal.invariant-full
 invariant-full l = record {
   parts : flat l.nodes.items ++ l.rest ≡ l.entries;
   quarters : HaveFrom (l.width / 4) l.width l.nodes.items;
-  begun : (l.nodes.items ≡ []) ⊎ ((l.width < length l.entries) × (l.width / 4 ≤ length l.rest))
+  begun : (l.nodes.items ≡ []) ⊎ ((l.width < length l.entries) × (l.width / 4 ≤ length l.rest));
 }
 
 abbrev pub decreases-full : goal.decreases-full

@@ -1,4 +1,4 @@
-use Rattle.std.proofs.Common.{◌≡◌, ◌++◌, [], ◌+◌, ◌∙◌, arith, sym, ap, subst, length}
+use Rattle.std.proofs.Common.{◌++◌, ◌+◌, ◌∙◌, arith, sym, ap, subst, length}
 use Rattle.extent_nodes.specs.Normal.{IsRising}
 use Rattle.extent_nodes.specs.Nodes.{flat, summaries}
 use Rattle.extent_nodes.proofs.Rising.{rising-left}

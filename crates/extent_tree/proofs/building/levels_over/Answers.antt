@@ -1,7 +1,6 @@
-use Rattle.std.proofs.Common.{◌≡◌, ◌≤◌, ◌<◌, ◌∷◌, [], ◌++◌, ◌∙◌, arith, sym, ap, subst, length, append_assoc}
+use Rattle.std.proofs.Common.{◌≤◌, ◌<◌, ◌∷◌, [], ◌++◌, ◌∙◌, arith, sym, ap, subst, length, append_assoc}
 use Rattle.std.proofs.lemmas.List.{append-nil}
 use Rattle.extent_nodes.specs.Normal.{IsRising}
-use Rattle.extent_nodes.specs.Nodes.{flat}
 use Rattle.extent_nodes.proofs.Summaries.{length-summaries}
 use Rattle.extent_nodes.proofs.Levels.{summaries-rising}
 use Rattle.extent_tree.specs.Tree.{IsTree}
@@ -23,11 +22,14 @@ levels-preserved c =
     record {
       rising = subst (IsRising 0 4294967295) (sym c.in_ok-covers.ensures) (summaries-rising 0 0 4294967295 level (subst (IsRising 0 4294967295) (sym entries) c.levels.invariant.rising) c.in_ok-level.ensures.level.filled);
       climbs = λ nodes is.
-        let up = c.levels.invariant.climbs nodes is in
-        let many : 1 < length up.0 = omega (arith, c.levels-test.true, c.len.ensures, ap length up.1, length-summaries 0 up.0) in
-        (level, sym c.in_ok-covers.ensures, λ higher tree.
-          subst (IsTree c.args.width nodes) (sym (ap (λ l. l ++ higher) c.in_ok-push.ensures.items ∙ append_assoc c.levels.inner.items (level ∷ []) higher))
-          (up.2 (level ∷ higher) (many, entries ∙ sym up.1, c.in_ok-level.ensures.level, c.in_ok-level.ensures.needed, tree)));
+          let up = c.levels.invariant.climbs nodes is in
+          let many : 1 < length up.0 = omega (arith, c.levels-test.true, c.len.ensures, ap length up.1, length-summaries 0 up.0) in (
+            level,
+            sym c.in_ok-covers.ensures,
+            λ higher tree.
+                subst (IsTree c.args.width nodes) (sym (ap (λ l. l ++ higher) c.in_ok-push.ensures.items ∙ append_assoc c.levels.inner.items (level ∷ []) higher))
+                (up.2 (level ∷ higher) (many, entries ∙ sym up.1, c.in_ok-level.ensures.level, c.in_ok-level.ensures.needed, tree)),
+          );
     }
 
 pub returns : goal.returns

@@ -9,7 +9,7 @@ use Rattle.extent_tree.proofs.building.levels_over.Given as goal
 abbrev pub invariant-levels : goal.invariant-levels
 invariant-levels l = record {
   rising : IsRising 0 4294967295 l.covers.items;
-  climbs : (nodes : List (List Extent)) → summaries 0 nodes ≡ l.fn.covers.items → (top : List (List Extent)) × (summaries 0 top ≡ l.covers.items) × ((higher : List (List (List Extent))) → IsTree l.width top higher → IsTree l.width nodes (l.inner.items ++ higher))
+  climbs : (nodes : List (List Extent)) → summaries 0 nodes ≡ l.fn.covers.items → (top : List (List Extent)) × (summaries 0 top ≡ l.covers.items) × ((higher : List (List (List Extent))) → IsTree l.width top higher → IsTree l.width nodes (l.inner.items ++ higher));
 }
 
 abbrev pub decreases-levels : goal.decreases-levels

@@ -1,4 +1,4 @@
-use Rattle.std.proofs.Common.{◌≤◌, ◌+◌, arith}
+use Rattle.std.proofs.Common.{◌+◌, arith}
 use Rattle.extent_nodes.proofs.Levels.{behind-less}
 use Rattle.extent_tree.proofs.choosing.touched.Goals as goal
 

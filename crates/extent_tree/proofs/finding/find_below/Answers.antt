@@ -1,7 +1,6 @@
-use Rattle.std.proofs.Common.{◌≡◌, ◌≤◌, ◌<◌, ◌-◌, ◌∙◌, arith, sym, ap, subst, length, get_or, Some, []}
+use Rattle.std.proofs.Common.{◌≡◌, ◌-◌, ◌∙◌, arith, sym, ap, subst, length, get_or, []}
 use Rattle.extent_nodes.specs.Places.{extent_at}
 use Rattle.extent_nodes.specs.Normal.{IsRising}
-use Rattle.extent_nodes.specs.Nodes.{flat, summaries}
 use Rattle.extent_nodes.proofs.Packs.{node-rising, have-at}
 use Rattle.extent_nodes.proofs.Levels.{none-below, one-below}
 use Rattle.extent_tree.proofs.finding.find_below.Goals as goal

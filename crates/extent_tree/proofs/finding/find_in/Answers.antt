@@ -1,10 +1,10 @@
-use Rattle.std.proofs.Common.{◌≡◌, ◌≤◌, ◌<◌, ◌+◌, ◌-◌, ◌*◌, ◌^◌, suc, ◌∙◌, arith, sym, ap, subst, length}
+use Rattle.std.proofs.Common.{◌≡◌, ◌≤◌, ◌+◌, ◌-◌, ◌*◌, ◌^◌, suc, ◌∙◌, arith, sym, ap, subst, length}
 use Rattle.extent_nodes.specs.Places.{extent_at}
 use Rattle.extent_nodes.specs.Normal.{IsRising}
 use Rattle.extent_nodes.specs.Nodes.{flat, summaries}
 use Rattle.extent_tree.specs.Tree.{IsLevel, level_at}
 use Rattle.extent_tree.proofs.Trees.{nodes-few, levels-few}
-use Rattle.extent_tree.proofs.Searches.{IsAt, tree-at, covers-at, top-one, root-few, small-product}
+use Rattle.extent_tree.proofs.Searches.{tree-at, covers-at, top-one, root-few, small-product}
 use Rattle.extent_tree.proofs.finding.find_in.Goals as goal
 
 pub find_in_root-found-requires-clause-one : goal.find_in_root-found-requires-clause-one

@@ -8,5 +8,5 @@ use Rattle.extent_tree.proofs.finding.find_in.Given as goal
 abbrev pub invariant-down : goal.invariant-down
 invariant-down g l = record {
   extent : l.found.extent ≡ extent_at l.block (flat (level_at (length l.inner - l.done) l.nodes l.inner));
-  compared : l.found.compared ≤ g.row.N * (1 + l.done)
+  compared : l.found.compared ≤ g.row.N * (1 + l.done);
 }

@@ -1,7 +1,6 @@
-use Rattle.std.proofs.Common.{◌≡◌, ◌-◌, ◌++◌, ◌∙◌, length, arith, sym, ap, subst, take, drop}
+use Rattle.std.proofs.Common.{◌-◌, ◌∙◌, length, sym, ap, subst, take, drop}
 use Rattle.extent_nodes.specs.Places.{place_of}
 use Rattle.extent_nodes.specs.Normal.{IsRising, IsNormal}
-use Rattle.extent_nodes.specs.Changes.{after}
 use Rattle.extent_nodes.specs.Nodes.{flat}
 use Rattle.extent_tree.specs.Tree.{IsLevel, IsNeeded, IsTree}
 use Rattle.extent_tree.proofs.Trees.{grown-by-need, stays-one}

@@ -1,4 +1,4 @@
-use Rattle.std.proofs.Common.{◌≡◌, ◌≤◌, ◌+◌, ◌-◌, ◌++◌, ◌∙◌, arith, sym, ap, length, take, drop}
+use Rattle.std.proofs.Common.{◌+◌, ◌-◌, ◌++◌, ◌∙◌, arith, ap, take, drop}
 use Rattle.extent_tree.proofs.Rewrites.{turned}
 use Rattle.extent_tree.proofs.tree.splice.Goals as goal
 

@@ -1,7 +1,6 @@
 use Rattle.std.proofs.Common.{◌++◌, ◌∙◌, arith, ap, subst, length}
 use Rattle.std.proofs.lemmas.List.{append-nil}
 use Rattle.extent_nodes.specs.Places.{place_of}
-use Rattle.extent_nodes.specs.Nodes.{flat}
 use Rattle.extent_nodes.specs.Parts.{part}
 use Rattle.extent_nodes.proofs.Parts.{part-all}
 use Rattle.extent_tree.specs.Tree.{IsTree}
