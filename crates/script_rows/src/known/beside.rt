@@ -174,7 +174,11 @@ impl Beside {
 
     // Applies effects, which raise the graph by no more than they were to.
     fn apply(&mut self, effects: &[Effect]) {
-        let most = self.part.graph.charge().saturating_add(u64::from(self.growth));
+        let most = self
+            .part
+            .graph
+            .charge()
+            .saturating_add(u64::from(self.growth));
         for effect in effects {
             self.apply_one(effect);
         }

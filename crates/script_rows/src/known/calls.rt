@@ -15,7 +15,11 @@ use std::io::Write;
 pub fn run_known(alloc: Global, script: &[u8], out: &mut Vec<u8>) -> u8 {
     match Beside::new(alloc) {
         Ok(mut beside) => {
-            answer_all(&mut beside, str::from_utf8(script).unwrap_or("no text"), out);
+            answer_all(
+                &mut beside,
+                str::from_utf8(script).unwrap_or("no text"),
+                out,
+            );
             u8::from(beside.is_wrong)
         }
         Err(_) => 1,
