@@ -10,7 +10,7 @@ use Rattle.tier_device.specs.declared.media.Tier.TheVariants.{Fast}
 use Rattle.layout.specs.Places.{Sizes, is_journaled, tier_blocks}
 use Rattle.batch_journal.specs.Course.{Doing, IsPut, Beside}
 use Rattle.batch_journal.specs.Images.{slice, count_of, number_at, image_at, images_from, images_of, image_for, or_else, with_images, Rises}
-use Rattle.batch_journal.specs.Blocks.{Blocks, block_of, gate_of, area_of, is_home, Fit, Rising, AreJournaled, rest_of_gate}
+use Rattle.batch_journal.specs.Blocks.{Blocks, block_of, gate_of, area_of, is_home, Fit, RisesJournaled, AreJournaled, rest_of_gate}
 use Rattle.batch_journal.proofs.Bytes.{slice_apart, slice_written}
 
 pub home_either : (t : ℕ) → is_home t ≡ true → (t < 34) ⊎ (292 ≤ t)
@@ -151,19 +151,19 @@ journaled_home g k is = grind arith
 pub journaled_inside : (g : Sizes) (k : ℕ) → is_journaled g k ≡ true → 4096 * k + 4096 ≤ 4096 * tier_blocks g Fast
 journaled_inside g k is = grind arith
 
-pub rising_rises : (g : Sizes) (low : ℕ) (images : List (ℕ × List ℕ)) → Rising g low images → Rises low images
+pub rising_rises : (g : Sizes) (low : ℕ) (images : List (ℕ × List ℕ)) → RisesJournaled g low images → Rises low images
 rising_rises g low [] rising = rising
 rising_rises g low (image ∷ images) rising = (rising.0, rising_rises g (image.0 + 1) images rising.2)
 
-pub rises_rising : (g : Sizes) (low : ℕ) (images : List (ℕ × List ℕ)) → Rises low images → AreJournaled g images → Rising g low images
+pub rises_rising : (g : Sizes) (low : ℕ) (images : List (ℕ × List ℕ)) → Rises low images → AreJournaled g images → RisesJournaled g low images
 rises_rising g low [] rises are = rises
 rises_rising g low (image ∷ images) rises are = (rises.0, are.0, rises_rising g (image.0 + 1) images rises.1 are.1)
 
-pub rising_journaled : (g : Sizes) (low : ℕ) (images : List (ℕ × List ℕ)) → Rising g low images → AreJournaled g images
+pub rising_journaled : (g : Sizes) (low : ℕ) (images : List (ℕ × List ℕ)) → RisesJournaled g low images → AreJournaled g images
 rising_journaled g low [] rising = rising
 rising_journaled g low (image ∷ images) rising = (rising.1, rising_journaled g (image.0 + 1) images rising.2)
 
-pub rising_fit : (g : Sizes) (size low : ℕ) (images : List (ℕ × List ℕ)) → 4096 * tier_blocks g Fast ≤ size → Rising g low images → Fit size images
+pub rising_fit : (g : Sizes) (size low : ℕ) (images : List (ℕ × List ℕ)) → 4096 * tier_blocks g Fast ≤ size → RisesJournaled g low images → Fit size images
 rising_fit g size low [] le rising = rising
 rising_fit g size low (image ∷ images) le rising =
     let inside = journaled_inside g image.0 rising.1 in
@@ -172,22 +172,22 @@ rising_fit g size low (image ∷ images) le rising =
 abbrev MayFollow : Sizes → ℕ → ℕ → Type 0
 MayFollow g low x = (low ≤ x) × (is_journaled g x ≡ true)
 
-module _ (bytes : List ℕ) (g : Sizes) (low p n x : ℕ) (lt : p < n) (is : x ≡ number_at bytes p) (Whole : Type 0) (same : Rising g low (images_from bytes p (n - p)) ↔ Whole) where
+module _ (bytes : List ℕ) (g : Sizes) (low p n x : ℕ) (lt : p < n) (is : x ≡ number_at bytes p) (Whole : Type 0) (same : RisesJournaled g low (images_from bytes p (n - p)) ↔ Whole) where
   split : n - p ≡ suc (n - (p + 1))
   split = omega (arith, lt)
 
-  parts : Whole → Rising g low ((number_at bytes p, image_at bytes p) ∷ images_from bytes (p + 1) (n - (p + 1)))
-  parts w = subst (λ m. Rising g low (images_from bytes p m)) split (same.1 w)
+  parts : Whole → RisesJournaled g low ((number_at bytes p, image_at bytes p) ∷ images_from bytes (p + 1) (n - (p + 1)))
+  parts w = subst (λ m. RisesJournaled g low (images_from bytes p m)) split (same.1 w)
 
   pub rising_stops : (MayFollow g low x → ⊥) → Whole → ⊥
   rising_stops none w = let r = subst (λ y. MayFollow g low y) (sym is) ((parts w).0, (parts w).1) in none r
 
-  pub rising_goes : MayFollow g low x → (Rising g (x + 1) (images_from bytes (p + 1) (n - (p + 1))) → Whole) × (Whole → Rising g (x + 1) (images_from bytes (p + 1) (n - (p + 1))))
+  pub rising_goes : MayFollow g low x → (RisesJournaled g (x + 1) (images_from bytes (p + 1) (n - (p + 1))) → Whole) × (Whole → RisesJournaled g (x + 1) (images_from bytes (p + 1) (n - (p + 1))))
   rising_goes has =
       let rest = images_from bytes (p + 1) (n - (p + 1)) in
       let has' : MayFollow g low (number_at bytes p) = subst (λ y. MayFollow g low y) is has in (
-        λ r. same.0 (subst (λ m. Rising g low (images_from bytes p m)) (sym split) (has'.0, has'.1, subst (λ y. Rising g (y + 1) rest) is r)),
-        λ w. subst (λ y. Rising g (y + 1) rest) (sym is) (parts w).2,
+        λ r. same.0 (subst (λ m. RisesJournaled g low (images_from bytes p m)) (sym split) (has'.0, has'.1, subst (λ y. RisesJournaled g (y + 1) rest) is r)),
+        λ w. subst (λ y. RisesJournaled g (y + 1) rest) (sym is) (parts w).2,
       )
 
 pub is_home_by : (t : ℕ) → (t < 34) ⊎ (292 ≤ t) → is_home t ≡ true

@@ -7,7 +7,7 @@ use Rattle.byteorder.specs.Numbers.{little_from-append}
 use Rattle.tier_device.specs.Media.{overwritten, Torn}
 use Rattle.batch_journal.specs.Images.{slice, count_of, number_at, image_at, images_from, images_of, rest_of_head, image_for, or_else, with_images}
 use Rattle.layout.specs.Bytes.{are_zero}
-use Rattle.batch_journal.specs.Blocks.{Blocks, block_of, gate_of, rest_of_gate, is_open, area_of, is_home, home, Rising, after_batch, ShowsHome}
+use Rattle.batch_journal.specs.Blocks.{Blocks, block_of, gate_of, rest_of_gate, is_open, area_of, is_home, home, RisesJournaled, after_batch, ShowsHome}
 use Rattle.batch_journal.specs.Volume.{Spells, IsHead, IsJournal, SameJournal, IsAfter}
 use Rattle.layout.specs.Places.{Sizes}
 use Rattle.batch_journal.specs.Course.{IsPut, Beside, OutsideRun}
@@ -211,7 +211,7 @@ head_alike g a b staged head =
     record {
       some = omega (arith, count, head.some);
       few = omega (arith, count, head.few);
-      rising = subst (λ (is : List (ℕ × List ℕ)). Rising g 0 is) (sym staged.images) head.rising;
+      rising = subst (λ (is : List (ℕ × List ℕ)). RisesJournaled g 0 is) (sym staged.images) head.rising;
       rest = ap are_zero staged.rest ∙ head.rest;
     }
 

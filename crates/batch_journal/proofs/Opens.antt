@@ -12,7 +12,7 @@ use Rattle.layout.specs.declared.error.What.TheVariants as what
 use Rattle.batch_journal.specs.declared.error.JournalError.{JournalError}
 use Rattle.batch_journal.specs.declared.error.JournalError.TheVariants as errors
 use Rattle.batch_journal.specs.Images.{slice, count_of, number_at, image_at, images_of, images_from, rest_of_head, Rises}
-use Rattle.batch_journal.specs.Blocks.{home, area_of, block_of, is_open, IsShutGate, rest_of_gate, calls_of, Fit, Rising}
+use Rattle.batch_journal.specs.Blocks.{home, area_of, block_of, is_open, IsShutGate, rest_of_gate, calls_of, Fit, RisesJournaled}
 use Rattle.batch_journal.specs.Volume.{Spells, HasSizes, IsHead, IsVolume, SameJournal}
 use Rattle.batch_journal.specs.Course.{Since, Unmoved, SameLengths}
 use Rattle.batch_journal.specs.Reading.{IsRead, TellsFaults, IsOfReading, first_block}
@@ -110,12 +110,12 @@ opens_after {s = s} {t = t} {u = u} {a = a} {b = b} {c = c} {L = L} {M = M} {N =
 -- ---- the head's block alone
 
 -- numbers that rise, whatever the images
-rising_numbers : (g : Sizes) (low : ℕ) (x y : List ℕ) (p n : ℕ) → ((q : ℕ) → p ≤ q → q < p + n → number_at x q ≡ number_at y q) → Rising g low (images_from x p n) → Rising g low (images_from y p n)
+rising_numbers : (g : Sizes) (low : ℕ) (x y : List ℕ) (p n : ℕ) → ((q : ℕ) → p ≤ q → q < p + n → number_at x q ≡ number_at y q) → RisesJournaled g low (images_from x p n) → RisesJournaled g low (images_from y p n)
 rising_numbers g low x y p zero same rising = rising
 rising_numbers g low x y p (suc n) same rising =
     let here : number_at x p ≡ number_at y p = same p (omega arith) (omega arith) in
     let rest = rising_numbers g (number_at x p + 1) x y (p + 1) n (λ q lo hi. same q (omega (arith, lo)) (omega (arith, hi))) rising.2 in
-    subst (λ (k : ℕ). (low ≤ k) × (is_journaled g k ≡ true) × Rising g (k + 1) (images_from y (p + 1) n)) here (rising.0, rising.1, rest)
+    subst (λ (k : ℕ). (low ≤ k) × (is_journaled g k ≡ true) × RisesJournaled g (k + 1) (images_from y (p + 1) n)) here (rising.0, rising.1, rest)
 
 record SameHead (x y : List ℕ) : Type 0 where
   count : count_of x ≡ count_of y
@@ -126,7 +126,7 @@ heads_alike : (g : Sizes) (x y : List ℕ) → SameHead x y → IsHead g x → I
 heads_alike g x y same head = record {
   some = omega (arith, same.count, head.some);
   few = omega (arith, same.count, head.few);
-  rising = subst (λ (n : ℕ). Rising g 0 (images_from y 0 n)) same.count (rising_numbers g 0 x y 0 (count_of x) (λ q lo hi. same.numbers q (omega (arith, hi))) head.rising);
+  rising = subst (λ (n : ℕ). RisesJournaled g 0 (images_from y 0 n)) same.count (rising_numbers g 0 x y 0 (count_of x) (λ q lo hi. same.numbers q (omega (arith, hi))) head.rising);
   rest = ap are_zero (sym same.rest) ∙ head.rest;
 }
 

@@ -57,9 +57,9 @@ AreJournaled g [] = Unit {0}
 AreJournaled g (image ∷ images) = (is_journaled g image.0 ≡ true) × AreJournaled g images
 
 -- The numbers rise strictly, from low on, and a batch may write each block.
-abbrev pub Rising : Sizes → ℕ → List (ℕ × List ℕ) → Type 0
-Rising g low [] = Unit {0}
-Rising g low (image ∷ images) = (low ≤ image.0) × (is_journaled g image.0 ≡ true) × Rising g (image.0 + 1) images
+abbrev pub RisesJournaled : Sizes → ℕ → List (ℕ × List ℕ) → Type 0
+RisesJournaled g low [] = Unit {0}
+RisesJournaled g low (image ∷ images) = (low ≤ image.0) × (is_journaled g image.0 ≡ true) × RisesJournaled g (image.0 + 1) images
 
 -- Images that a tier of that size has a place for: each block is named once, and none is the journal's own.
 abbrev pub Fit : ℕ → List (ℕ × List ℕ) → Type 0

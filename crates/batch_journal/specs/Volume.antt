@@ -6,7 +6,7 @@ use Rattle.layout.specs.Places.{Sizes, tier_blocks}
 use Rattle.layout.specs.Super.{super_of}
 use Rattle.batch_journal.specs.Images.{count_of, images_of, image_for, rest_of_head}
 use Rattle.layout.specs.Bytes.{are_zero}
-use Rattle.batch_journal.specs.Blocks.{home, is_open, area_of, rest_of_gate, after_batch, Rising}
+use Rattle.batch_journal.specs.Blocks.{home, is_open, area_of, rest_of_gate, after_batch, RisesJournaled}
 
 -- The block spells the superblock of this geometry.
 abbrev pub Spells : Sizes → List ℕ → Type 0
@@ -20,7 +20,7 @@ HasSizes g seen = (t : Tier) → length (seen t) ≡ 4096 * tier_blocks g t
 pub record IsHead (g : Sizes) (bytes : List ℕ) : Type 0 where
   pub some : 1 ≤ count_of bytes
   pub few : count_of bytes ≤ 256
-  pub rising : Rising g 0 (images_of bytes)
+  pub rising : RisesJournaled g 0 (images_of bytes)
   pub rest : are_zero (rest_of_head bytes) ≡ true
 
 -- A fast tier of this geometry: block 0 spells it once the journal is replayed, and behind an open gate stands a head.

@@ -3,7 +3,7 @@ ghost use Rattle.std.specs.Prelude.{◌≡◌, ◌<◌, ◌≤◌, ◌+◌, ◌*
 ghost use Rattle.layout.specs.Places.{is_journaled};
 ghost use Rattle.batch_journal.specs.Images.{count_of, number_at, images_of, rest_of_head, Rises};
 ghost use Rattle.layout.specs.Bytes.{are_zero};
-ghost use Rattle.batch_journal.specs.Blocks.{Rising};
+ghost use Rattle.batch_journal.specs.Blocks.{RisesJournaled};
 ghost use Rattle.batch_journal.specs.Volume.{IsHead, Spells, KeepsGeometry};
 
 use byteorder::{ByteOrder, LittleEndian};
@@ -42,7 +42,7 @@ pub fn is_rising(bytes: &[u8], count: usize, geometry: &Geometry) -> bool
     requires count { count ≡ count_of bytes.now }
     requires few { count ≤ 1023 }
     requires long { 4096 ≤ length bytes.now }
-    ensures { IsTrue result ↔ Rising geometry.now 0 (images_of bytes.now) }
+    ensures { IsTrue result ↔ RisesJournaled geometry.now 0 (images_of bytes.now) }
 {
     let mut low: u64 = 0;
     let mut place = 0;

@@ -15,13 +15,10 @@ use crate::calls::{fetch, put, settle};
 use crate::error::JournalError;
 use crate::opening::open_medium;
 use crate::replay::write_batch;
-use layout::{BLOCK, Geometry};
+use layout::{BLOCK, Geometry, MAX_IMAGES};
 use std::alloc::Global;
 use std::marker::Model;
 use tier_device::{Media, Tier};
-
-/// The most images that a commit takes.
-pub const MAX_IMAGES: usize = 256;
 
 /// The shared medium behind its journal.
 ///

@@ -18,6 +18,7 @@ mod replay;
 
 pub use batch::Batch;
 pub use error::JournalError;
-pub use journal::{Journal, MAX_IMAGES};
+pub use journal::Journal;
 pub use laws::damage_has_one_name;
+pub use layout::MAX_IMAGES;
 pub use numbers::journal_has_its_numbers;

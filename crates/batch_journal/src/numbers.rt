@@ -4,8 +4,8 @@ ghost use Rattle.std.specs.Prelude.{◌≡◌, ◌∷◌, [], List, ℕ, true, f
 ghost use Rattle.batch_journal.specs.Images.{slice, count_of, number_at, image_at};
 ghost use Rattle.batch_journal.specs.Blocks.{gate_of, area_of, is_open, is_home};
 
-use crate::journal::MAX_IMAGES;
 use crate::replay::{CLOSED, END, GATE, HEAD, OPEN};
+use layout::MAX_IMAGES;
 
 /// Where gate, head and images stand, and what opens and closes the gate.
 pub fn journal_has_its_numbers()

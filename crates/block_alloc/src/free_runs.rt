@@ -4,7 +4,7 @@ ghost use Rattle.block_alloc.specs.Value.{IsUsed, InOrder, SamePool};
 ghost use Rattle.block_alloc.specs.declared.error.AllocatorError.TheVariants.{NoBlock, Memory};
 
 use crate::error::AllocatorError;
-use crate::runs::{Run, are_apart, count_of, drop_front, front_of, put_in, split_of, unused_runs};
+use crate::runs::{Run, count_of, drop_front, front_of, is_beside, put_in, split_of, unused_runs};
 use std::alloc::{AllocError, Global};
 use std::marker::Model;
 
@@ -71,6 +71,8 @@ impl FreeRuns {
         ensures rest { OnOk result (self.new.free ≡ drop count self.old.free) }
         ensures ordered { OnOk result (InOrder self.new) }
         ensures room { OnOk result (self.old.room ≤ self.new.room) }
+        // What was taken can be given back, run by run, without memory, where there was room for one run before.
+        ensures undone { IfOk result (λ runs. self.old.room + length runs.items ≤ self.new.room + 1) }
         ensures pool { SamePool self.old self.new }
         ensures few { IsErrOf result NoBlock ↔ (length self.old.free < count) }
         ensures err { OnErr result (self.new ≡ self.old) }
@@ -91,6 +93,7 @@ impl FreeRuns {
     /// Makes room for so many runs to be given without memory.
     pub fn reserve(&mut self, runs: usize) -> Result<(), AllocError>
         ensures room { OnOk result (runs ≤ self.new.room) }
+        ensures kept { self.old.room ≤ self.new.room }
         ensures free { self.new.free ≡ self.old.free }
         ensures pool { SamePool self.old self.new }
         ensures err { OnErr result (self.new ≡ self.old) }
@@ -107,7 +110,7 @@ impl FreeRuns {
             && self.first <= run.first
             && run.first <= self.end
             && run.count <= self.end - run.first
-            && are_apart(&self.runs, run)
+            && is_beside(&self.runs, run)
     }
 
     /// Gives back a run of blocks, none of which is free. Its place is found by bisection. It succeeds where there is room for a run; else memory may be refused,

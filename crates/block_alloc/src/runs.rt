@@ -48,6 +48,7 @@ pub fn front_of(alloc: Global, runs: &[Run], split: Split) -> Result<Vec<Run>, A
     requires few { length runs.now < 2 ^ 60 }
     ensures blocks { IfOk result (λ v. blocks_of v.items ≡ take (length (blocks_of (take split.whole runs.now)) + split.left) (blocks_of runs.now)) }
     ensures normal { IfOk result (λ v. (low end : ℕ) → IsNormal low end runs.now → IsNormal low end v.items) }
+    ensures len { IfOk result (λ v. length v.items ≤ split.whole + 1) }
 {
     let mut front = Vec::with_capacity(alloc, split.whole + 1)?;
     front.extend_from_slice(&runs[..split.whole])?;
@@ -82,7 +83,7 @@ pub fn drop_front(runs: &mut Vec<Run>, split: Split)
     requires fits { (i : ℕ) (r : Run) → i < vec_len runs.old → (slice_index_or runs.old.items i r).first + (slice_index_or runs.old.items i r).count < 2 ^ 32 }
     ensures blocks { blocks_of runs.new.items ≡ drop (length (blocks_of (take split.whole runs.old.items)) + split.left) (blocks_of runs.old.items) }
     ensures normal { (low end : ℕ) → IsNormal low end runs.old.items → IsNormal low end runs.new.items }
-    ensures len { vec_len runs.new ≤ vec_len runs.old }
+    ensures len { vec_len runs.new + split.whole ≡ vec_len runs.old }
     ensures capacity { vec_capacity runs.new ≡ vec_capacity runs.old }
 {
     if split.left == 0 {
@@ -254,7 +255,7 @@ pub fn put_in(runs: &mut Vec<Run>, run: Run) -> Result<(), AllocError>
 }
 
 /// Whether a run has no block in common with the runs.
-pub fn are_apart(runs: &[Run], run: Run) -> bool
+pub fn is_beside(runs: &[Run], run: Run) -> bool
     requires some { 0 < run.count }
     requires fits { run.first + run.count < 2 ^ 32 }
     requires normal { IsNormal 0 4294967295 runs.now }

@@ -4,6 +4,7 @@ pub mod Entries
 pub mod Law
 pub mod Maps
 pub mod Nodes
+pub mod Overs
 pub mod Patches
 pub mod Pieces
 pub mod Touched

@@ -37,6 +37,24 @@ has_put m i a j h =
       | inr off ↦ inr (sym (ap is_some (get_put m i a j ∙ ap (λ t. cond t (Some a) (fin.get m j)) off.0)) ∙ h)
     ]
 
+-- the keys of a map after one was put
+key_put : {A : Type 0} (m : fin.FinMap nat_cmp A) (i : ℕ) (a : A) (j : ℕ) → fin.contains_key (fin.insert m i a) j ≡ ((j == i) || fin.contains_key m j)
+key_put m i a j = ap is_some (get_put m i a j) ∙ some_either (j == i) a (fin.get m j)
+  where
+    some_either : {A : Type 0} (t : Bool) (a : A) (o : Option A) → is_some (cond t (Some a) o) ≡ (t || is_some o)
+    some_either true a o = refl
+    some_either false a o = refl
+
+or_turned : (a b c : Bool) → ((a || b) || c) ≡ (b || (a || c))
+or_turned true true c = refl
+or_turned true false c = refl
+or_turned false true c = refl
+or_turned false false c = refl
+
+or_nothing : (a : Bool) → a ≡ (a || false)
+or_nothing true = refl
+or_nothing false = refl
+
 -- ---- one effect, one block
 
 put_has : (at : ℕ) (bytes : List ℕ) (bs : List ℕ) (ps : Patches) (b : ℕ) → fin.contains_key (put_blocks at bytes bs ps) b ≡ true → (fin.contains_key ps b || list_any (nat_eq b) bs) ≡ true
@@ -112,16 +130,12 @@ one_effect (effect.Drop i) c b h = absurd (false≢true (sym (nothing_written Go
 
 -- ---- many effects
 
-with_has : (es : List Effect) (cs : Changes) (i : ℕ) → fin.contains_key (with_effects cs es) i ≡ true → (fin.contains_key cs i || change_inode es i) ≡ true
-with_has [] cs i h = or_left (fin.contains_key cs i) false h
-with_has (e ∷ es) cs i h =
-    elim (or_cases (fin.contains_key (with_effect e cs) i) (change_inode es i) (with_has es (with_effect e cs) i h)) [
-      | inl put ↦ elim (has_put cs (subject e) (change_after e (change_at cs (subject e))) i put) [
-        | inl here ↦ or_right (fin.contains_key cs i) ((i == subject e) || change_inode es i) (or_left (i == subject e) (change_inode es i) here)
-        | inr old ↦ or_left (fin.contains_key cs i) (change_inode (e ∷ es) i) old
-      ]
-      | inr rest ↦ or_right (fin.contains_key cs i) ((i == subject e) || change_inode es i) (or_right (i == subject e) (change_inode es i) rest)
-    ]
+with_has : (es : List Effect) (cs : Changes) (i : ℕ) → fin.contains_key (with_effects cs es) i ≡ (fin.contains_key cs i || change_inode es i)
+with_has [] cs i = or_nothing (fin.contains_key cs i)
+with_has (e ∷ es) cs i =
+    with_has es (with_effect e cs) i
+    ∙ ap (λ t. t || change_inode es i) (key_put cs (subject e) (change_after e (change_at cs (subject e))) i)
+    ∙ or_turned (i == subject e) (fin.contains_key cs i) (change_inode es i)
 
 and_right : (a b : Bool) → a ≡ true → b ≡ true → (a && b) ≡ true
 and_right a b h k = ap (λ x. x && b) h ∙ k
@@ -155,6 +169,6 @@ with_blocks (e ∷ es) cs i b h =
 pub coalesces : (es : List Effect) → Coalesces es (coalesced es)
 coalesces es = record {
   meaning = coalesced_law es;
-  inodes = λ i h. sym (ap (λ o. is_some o || change_inode es i) (fin.get-empty nat_cmp i)) ∙ with_has es fin.empty i h;
+  inodes = λ i. with_has es fin.empty i ∙ ap (λ o. is_some o || change_inode es i) (fin.get-empty nat_cmp i);
   blocks = λ i b h. sym (ap (λ t. t || change_block es i b) (ap (λ c. writes_block c b) (empty_at i) ∙ nothing_written Kept b)) ∙ with_blocks es fin.empty i b h;
 }

@@ -1,5 +1,5 @@
 -- A change of many inodes, with the new bytes of files by blocks, as it is kept and written.
-use Rattle.std.specs.Prelude.{◌≡◌, ℕ, ◌+◌, ◌-◌, ◌*◌, ◌/◌, ◌%◌, List, [], ◌∷◌, length, get_or, Bool, true, false, ◌&&◌, ◌||◌, not, Option, Some, None, ◌==◌, nat_eq, nat_lt, unwrap_or, if◌then◌else◌}
+use Rattle.std.specs.Prelude.{◌≡◌, ◌<◌, map, IsSome, ℕ, ◌+◌, ◌-◌, ◌*◌, ◌/◌, ◌%◌, List, [], ◌∷◌, length, get_or, Bool, true, false, ◌&&◌, ◌||◌, not, Option, Some, None, ◌==◌, nat_eq, nat_lt, unwrap_or, if◌then◌else◌}
 use Rattle.std.specs.List.{range_with_len, list_any}
 use Rattle.std.specs.Ordering.{nat_cmp}
 use Rattle.std.specs.FinMap as fin
@@ -93,6 +93,14 @@ change_after (effect.Size i size) c = record c { length = sized_to size c.length
 change_after (effect.Bytes i at bytes) c = record c { length = grown_to (at + length bytes) c.length; patches = put_blocks at bytes (span at (length bytes)) c.patches }
 change_after (effect.Drop i) c = new_change Gone
 
+-- the bytes of a block, with those that are put over them
+abbrev pub patched : Patch → List ℕ → List ℕ
+patched patch old = map (λ p. unwrap_or (patch p) (get_or old p 0)) (range_with_len 0 (length old))
+
+-- a byte is put at each place of the block
+abbrev pub IsWhole : Patch → Type 0
+IsWhole patch = (p : ℕ) → p < UNIT_BYTES → IsSome (patch p)
+
 -- whether a size ends within a block
 abbrev pub ends_within : ℕ → ℕ → Bool
 ends_within n b = not (n % UNIT_BYTES == 0) && n / UNIT_BYTES == b
@@ -159,9 +167,9 @@ change_inode es i = list_any (λ e. i == subject e) es
 abbrev pub change_block : List Effect → ℕ → ℕ → Bool
 change_block es i b = list_any (λ e. i == subject e && touches_block e b) es
 
--- a change makes of every graph what effects make of it, and no inode or block changes that the effects leave alone; each
--- stands in it once, since it is a map
+-- a change makes of every graph what effects make of it; the inodes in it are those that the effects are on, and no block changes that they leave
+-- alone; each stands in it once, since it is a map
 pub record Coalesces (es : List Effect) (cs : Changes) : Type 0 where
   pub meaning : (g : Graph) → changed cs g ≡ after_effects g es
-  pub inodes : (i : ℕ) → fin.contains_key cs i ≡ true → change_inode es i ≡ true
+  pub inodes : (i : ℕ) → fin.contains_key cs i ≡ change_inode es i
   pub blocks : (i b : ℕ) → writes_block (change_at cs i) b ≡ true → change_block es i b ≡ true

@@ -1,5 +1,5 @@
-ghost use Rattle.std.specs.Prelude.{◌≡◌, ◌≤◌, ◌+◌, ◌-◌, ℕ, ◌++◌, take, drop, replicate, true, false, None, length, get_or, Some, if◌then◌else◌, IfOk};
-ghost use Rattle.graph_change.specs.Change.{cut_patch, put_patch};
+ghost use Rattle.std.specs.Prelude.{◌≡◌, ◌≤◌, ◌+◌, ◌-◌, ℕ, ◌++◌, take, drop, replicate, true, false, None, length, get_or, Some, if◌then◌else◌, IfOk, IsTrue, ◌↔◌, ◌<◌};
+ghost use Rattle.graph_change.specs.Change.{cut_patch, put_patch, patched, IsWhole};
 ghost use Rattle.graph_change.specs.View.{patch_of};
 ghost use Rattle.posix_calls.specs.declared.limits.TheConstants.{UNIT_BYTES};
 
@@ -52,6 +52,46 @@ impl BlockChange {
     {
         self.is_put[place..].fill(false);
     }
+
+    /// Puts the bytes over those of a block.
+    pub fn put_over(&self, block: &mut [u8])
+        requires { length block.old ≡ UNIT_BYTES }
+        ensures { block.new ≡ patched (patch_of self.now) block.old }
+    {
+        put_marked(block, &self.bytes, &self.is_put);
+    }
+
+    /// Whether a byte is put at each place, so that the bytes that the block had make no difference.
+    pub fn is_whole(&self) -> bool
+        ensures { IsTrue result ↔ IsWhole (patch_of self.now) }
+    {
+        are_set(&self.is_put)
+    }
+}
+
+// Puts the bytes that are marked over others.
+fn put_marked(block: &mut [u8], bytes: &[u8], marks: &[bool])
+    requires bytes { length bytes.now ≡ length block.old }
+    requires marks { length marks.now ≡ length block.old }
+    ensures { block.new ≡ patched (patch_of (bytes.now, marks.now)) block.old }
+{
+    'places: for place in 0..block.len() {
+        if marks[place] {
+            block[place] = bytes[place];
+        }
+    }
+}
+
+// Whether all marks are set.
+fn are_set(marks: &[bool]) -> bool
+    ensures { IsTrue result ↔ ((p : ℕ) → p < length marks.now → get_or marks.now p false ≡ true) }
+{
+    'marks: for place in 0..marks.len() {
+        if !marks[place] {
+            return false;
+        }
+    }
+    true
 }
 
 fn zeros(alloc: Global) -> Result<Vec<u8>, AllocError>

@@ -17,6 +17,6 @@ mod parts;
 
 pub use block_change::BlockChange;
 pub use graph_change::GraphChange;
-pub use laws::changes_are_the_effects;
+pub use laws::{changes_are_the_effects, whole_block_needs_no_old_bytes};
 pub use node_change::NodeChange;
 pub use parts::{NodeBase, NodeLength};

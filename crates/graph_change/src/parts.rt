@@ -1,5 +1,5 @@
 ghost use Rattle.std.specs.Prelude.{◌≡◌};
-ghost use Rattle.graph_change.specs.Bytes.{grown_to, sized_to};
+ghost use Rattle.graph_change.specs.Bytes.{grown_to, sized_to, length_after};
 ghost use Rattle.graph_change.specs.View.{length_of};
 
 use file_graph::Kind;
@@ -25,6 +25,16 @@ pub enum NodeLength {
 }
 
 impl NodeLength {
+    /// How long a file of that length is after it.
+    pub fn after(self, old: u64) -> u64
+        ensures { result ≡ length_after (length_of self) old }
+    {
+        match self {
+            NodeLength::Grown { to } => old.max(to),
+            NodeLength::Cut { to, .. } => to,
+        }
+    }
+
     /// After a write that ends there.
     pub fn grown(self, end: u64) -> Self
         ensures { length_of result ≡ grown_to end (length_of self) }

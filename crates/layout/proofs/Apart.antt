@@ -6,7 +6,7 @@ use Rattle.std.proofs.lemmas.List.Sorted.{IsPermutation-sym}
 use Rattle.std.proofs.lemmas.Bool.{and_from, leb-true, le-leb, or_cases}
 use Rattle.layout.specs.declared.extents.Extent.{Extent}
 use Rattle.layout.specs.Bytes.{all_pairs}
-use Rattle.layout.specs.Extents.{are_stepping, is_apart, are_apart}
+use Rattle.layout.specs.Extents.{are_stepping, is_apart, places_apart}
 use Rattle.layout.proofs.Limits.{and_parts}
 use Rattle.layout.proofs.Pairs.{all_at, all_from, same_all, same_pairs}
 
@@ -37,14 +37,14 @@ above low (e ∷ es) h =
     let far : e.place + e.length ≤ (get_or es k d).place = leb-true _ _ (all_at (λ x. leb (e.place + e.length) x.place) es k d rest lt) in
     le-leb _ _ (omega (arith, far, le))))
 
-stepping_apart : (low : ℕ) (es : List Extent) → are_stepping low es ≡ true → are_apart es ≡ true
+stepping_apart : (low : ℕ) (es : List Extent) → are_stepping low es ≡ true → places_apart es ≡ true
 stepping_apart low [] h = refl
 stepping_apart low (e ∷ es) h =
     let p = and_parts (leb low e.place) (are_stepping (e.place + e.length) es) h in
     let far = above (e.place + e.length) es p.1 in
     and_from _ _ (all_from (is_apart e) es (λ k d lt. or_left _ _ (all_at (λ x. leb (e.place + e.length) x.place) es k d far lt))) (stepping_apart (e.place + e.length) es p.1)
 
-apart_stepping : (low : ℕ) (es : List Extent) → ((d : Extent) → 0 < length es → low ≤ (get_or es 0 d).place) → IsNonDecreasingBy (λ e. e.place) es → list_all has_blocks es ≡ true → are_apart es ≡ true → are_stepping low es ≡ true
+apart_stepping : (low : ℕ) (es : List Extent) → ((d : Extent) → 0 < length es → low ≤ (get_or es 0 d).place) → IsNonDecreasingBy (λ e. e.place) es → list_all has_blocks es ≡ true → places_apart es ≡ true → are_stepping low es ≡ true
 apart_stepping low [] head sorted long h = refl
 apart_stepping low (e ∷ es) head sorted long h =
     let p = and_parts (list_all (is_apart e) es) (all_pairs is_apart es) h in
@@ -66,7 +66,7 @@ same_bool false true f g = g refl
 same_bool false false f g = refl
 
 -- the sorted list steps exactly where no two of the list have a place in common
-pub stepping_is_apart : (old new : List Extent) → IsPermutation old new → IsNonDecreasingBy (λ e. e.place) new → list_all has_blocks old ≡ true → are_stepping 0 new ≡ are_apart old
+pub stepping_is_apart : (old new : List Extent) → IsPermutation old new → IsNonDecreasingBy (λ e. e.place) new → list_all has_blocks old ≡ true → are_stepping 0 new ≡ places_apart old
 stepping_is_apart old new perm sorted long =
     same_bool _ _ (λ h. same_pairs is_apart both old new perm (stepping_apart 0 new h))
     (λ h. apart_stepping 0 new (λ d lt. omega arith) sorted (same_all has_blocks old new perm long) (same_pairs is_apart both new old (IsPermutation-sym old new perm) h))

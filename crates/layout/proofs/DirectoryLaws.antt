@@ -56,9 +56,8 @@ pub record EntryFits (e : DirEntry) : Type 0 where
 
 pub entry_fits : (e : DirEntry) → fits_entry e ≡ true → EntryFits e
 entry_fits e fit =
-    let p = and_parts (is_inode e.inode && not (eqb e.inode 1)) (is_name e.name) fit in
-    let q = and_parts (is_inode e.inode) (not (eqb e.inode 1)) p.0 in
-    record { inode = q.0; name = p.1 }
+    let p = and_parts (is_inode e.inode) (is_name e.name) fit in
+    record { inode = p.0; name = p.1 }
 
 -- the entries of a block, whatever their names
 abbrev pub fits_list : EntryList → Bool

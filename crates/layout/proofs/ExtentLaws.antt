@@ -10,7 +10,7 @@ use Rattle.layout.specs.declared.geometry.Space.{Space}
 use Rattle.layout.specs.declared.geometry.Space.TheVariants as space
 use Rattle.layout.specs.Places.{Sizes, IsAllowed, is_inode, is_run, blocks_in, node_end, data_first, tier_blocks}
 use Rattle.layout.specs.Bytes.{AreBytes, u32, number_at, items_at, within}
-use Rattle.layout.specs.Extents.{ExtentList, ExtentHead, extent_text, extents_text, extents_spelling, is_extent, are_sorted, are_stepping, are_apart, is_sound, fits_extents, header_at, extent_at, extents_at, extents_of}
+use Rattle.layout.specs.Extents.{ExtentList, ExtentHead, extent_text, extents_text, extents_spelling, is_extent, are_sorted, are_stepping, places_apart, is_sound, fits_extents, header_at, extent_at, extents_at, extents_of}
 use Rattle.layout.proofs.Limits.{and_parts}
 use Rattle.layout.proofs.Fields.{Takes, Takes-then, bind_some, test_some, some_is, u32_takes, u32_again, u32_long}
 use Rattle.layout.proofs.Blocks.{within_parts, within_again, filled_from}
@@ -192,7 +192,7 @@ list_fits : (g : Sizes) (s : Space) (v : ExtentList) → fits_extents g s v ≡ 
 list_fits g s v fit =
     let p = and_parts _ (is_sound v) fit in
     let q = and_parts (leb (length v.extents) 340) (list_all (is_extent g s) v.extents) p.0 in
-    let r = and_parts _ (are_apart v.extents) p.1 in
+    let r = and_parts _ (places_apart v.extents) p.1 in
     let u = and_parts (is_inode v.owner && eqb v.level 0) (are_sorted 0 v.extents) r.0 in
     let w = and_parts (is_inode v.owner) (eqb v.level 0) u.0 in
     let t = and_parts (leb 1 v.owner) (leb v.owner 1024) w.0 in

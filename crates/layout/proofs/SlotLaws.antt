@@ -7,7 +7,7 @@ use Rattle.layout.specs.declared.slot.Slot.TheVariants as slot
 use Rattle.layout.specs.declared.slot_fields.SlotFields.{SlotFields}
 use Rattle.layout.specs.Places.{Sizes, IsAllowed, is_node, node_end}
 use Rattle.layout.specs.Bytes.{AreBytes, u32, u64, filled, number_at, within}
-use Rattle.layout.specs.Slot.{slot_fields, slot_text, slot_spelling, is_root, are_apart, fits_slot, slot_at, is_blank, slot_from, slot_of}
+use Rattle.layout.specs.Slot.{slot_fields, slot_text, slot_spelling, is_root, roots_apart, fits_slot, slot_at, is_blank, slot_from, slot_of}
 use Rattle.layout.proofs.Limits.{and_parts}
 use Rattle.layout.proofs.Fields.{Takes, Takes-then, bind_some, test_some, chosen, some_is, u32_takes, u64_takes, u32_again, u64_again, u32_long, u64_long}
 use Rattle.layout.proofs.Blocks.{within_parts, within_again, filled_from}
@@ -128,9 +128,9 @@ fields_fit : (g : Sizes) (s : Slot) → IsAllowed g → fits_slot g s ≡ true �
 fields_fit g slot.Free allowed e = record { kind = omega arith; names = omega arith; size = omega arith; touch = omega arith; fast = omega arith; block = omega arith; slow = omega arith }
 fields_fit g (slot.File names size touch fast block slow) allowed e =
     let p = and_parts (ltb touch (2 ^ 64)) _ e in
-    let a = and_parts _ (are_apart block slow) p.1 in
-    let b = and_parts _ (are_apart fast slow) a.0 in
-    let c = and_parts _ (are_apart fast block) b.0 in
+    let a = and_parts _ (roots_apart block slow) p.1 in
+    let b = and_parts _ (roots_apart fast slow) a.0 in
+    let c = and_parts _ (roots_apart fast block) b.0 in
     let d = and_parts _ (is_root g slow) c.0 in
     let f = and_parts _ (is_root g block) d.0 in
     let h = and_parts _ (is_root g fast) f.0 in

@@ -2,7 +2,7 @@
 use Rattle.std.specs.Prelude.{◌≡◌, ◌≤◌, ◌==◌, ◌&&◌, true, not, nat_le, unwrap_or, slice_set, slice_index_or, ◌-◌, Bool, List, [], ◌∷◌, ◌++◌, length, take, drop, ℕ, Option, Some, None, if◌then◌else◌}
 use Rattle.std.specs.List.{flat_map, list_all, swap_remove}
 use Rattle.std.specs.Str.{bytes_eq}
-use Rattle.posix_calls.specs.declared.limits.TheConstants.{MAX_NAME, ROOT}
+use Rattle.posix_calls.specs.declared.limits.TheConstants.{MAX_NAME}
 use Rattle.posix_calls.specs.Name.{is_name}
 use Rattle.layout.specs.declared.places.TheConstants.{BLOCK}
 use Rattle.layout.specs.declared.directory.TheConstants.{MAX_IN_BLOCK, FIRST_ENTRY_AT, HEAD_GAP}
@@ -35,9 +35,9 @@ entries_text v = filled FIRST_ENTRY_AT (u32 v.owner ++ u32 (length v.entries)) +
 abbrev pub entries_spelling : EntryList → List ℕ
 entries_spelling v = filled BLOCK (entries_text v)
 
--- whether an entry leads to an inode, by a name; none leads to the root
+-- whether an entry leads to an inode, by a name
 abbrev pub fits_entry : DirEntry → Bool
-fits_entry e = is_inode e.inode && not (e.inode == ROOT) && is_name e.name
+fits_entry e = is_inode e.inode && is_name e.name
 
 -- whether two entries have different names
 abbrev pub differ : DirEntry → DirEntry → Bool

@@ -46,12 +46,12 @@ abbrev pub is_apart : Extent → Extent → Bool
 is_apart a b = nat_le (a.place + a.length) b.place || nat_le (b.place + b.length) a.place
 
 -- whether no two extents have a place in common
-abbrev pub are_apart : List Extent → Bool
-are_apart es = all_pairs is_apart es
+abbrev pub places_apart : List Extent → Bool
+places_apart es = all_pairs is_apart es
 
 -- whether the owner is an inode, the tree has one level, and the extents are sorted and apart
 abbrev pub is_sound : ExtentList → Bool
-is_sound v = is_inode v.owner && (v.level == 0) && are_sorted 0 v.extents && are_apart v.extents
+is_sound v = is_inode v.owner && (v.level == 0) && are_sorted 0 v.extents && places_apart v.extents
 
 -- whether a list of extents keeps the limits of the format
 abbrev pub fits_extents : Sizes → Space → ExtentList → Bool

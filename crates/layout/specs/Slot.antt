@@ -28,13 +28,13 @@ abbrev pub is_root : Sizes → ℕ → Bool
 is_root g root = (root == 0) || is_node g root
 
 -- whether two roots are not the same block
-abbrev pub are_apart : ℕ → ℕ → Bool
-are_apart a b = (a == 0) || not (a == b)
+abbrev pub roots_apart : ℕ → ℕ → Bool
+roots_apart a b = (a == 0) || not (a == b)
 
 -- whether a slot keeps the limits of the format
 abbrev pub fits_slot : Sizes → Slot → Bool
 fits_slot g slot.Free = true
-fits_slot g (slot.File names size touch fast block slow) = nat_lt touch (2 ^ 64) && (nat_le names MAX_NAMES && nat_le size MAX_FILE && is_root g fast && is_root g block && is_root g slow && are_apart fast block && are_apart fast slow && are_apart block slow)
+fits_slot g (slot.File names size touch fast block slow) = nat_lt touch (2 ^ 64) && (nat_le names MAX_NAMES && nat_le size MAX_FILE && is_root g fast && is_root g block && is_root g slow && roots_apart fast block && roots_apart fast slow && roots_apart block slow)
 fits_slot g (slot.Directory names entries touch root) = nat_lt touch (2 ^ 64) && (nat_le names MAX_NAMES && nat_le entries MAX_ENTRIES && is_root g root)
 
 -- the numbers of a slot

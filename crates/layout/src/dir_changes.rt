@@ -14,7 +14,7 @@ use crate::places::BLOCK;
 use crate::writing::{put, put_u32};
 use file_graph::Kind;
 
-/// Adds an entry behind those of a block. It must lead to an inode other than the root, by a name that none of them has.
+/// Adds an entry behind those of a block. It must lead to an inode, by a name that none of them has.
 pub fn add_entry(block: &mut [u8], entry: EntryRef<'_>)
     requires entries { AreEntries block.old }
     requires room { length (listed block.old).entries < MAX_IN_BLOCK }

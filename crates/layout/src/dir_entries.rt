@@ -69,7 +69,7 @@ impl<'a> DirEntries<'a> {
         self.count
     }
 
-    /// The entry at a place; it leads to an inode other than the root, by a name.
+    /// The entry at a place; it leads to an inode, which may be the root, by a name.
     pub fn entry(&self, index: usize) -> EntryRef<'a>
         requires { index < length self.now.entries }
         ensures entry { slice_get self.now.entries index ≡ Some (owned result) }

@@ -11,7 +11,7 @@ use crate::places::is_inode;
 use crate::reading::{are_zero, text_of, u32_of};
 use crate::writing::{put, put_u32};
 use file_graph::Kind;
-use posix_calls::{MAX_NAME, Name, ROOT};
+use posix_calls::{MAX_NAME, Name};
 use std::alloc::{AllocError, Global};
 
 /// An entry whose name lies elsewhere.
@@ -150,7 +150,7 @@ pub fn behind_entry(bytes: &[u8]) -> Option<&[u8]>
     ensures { option_map (λ x. x.now) result ≡ option_map (λ x. x.1) (entry_at bytes.now) }
 {
     let (entry, rest) = fields_of(bytes)?;
-    if !is_inode(entry.inode) || entry.inode == ROOT || !Name::is_valid(entry.name) {
+    if !is_inode(entry.inode) || !Name::is_valid(entry.name) {
         return None;
     }
     Some(rest)

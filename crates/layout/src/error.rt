@@ -14,12 +14,14 @@ pub enum What {
     JournalHead,
     ExtentBlock,
     DirBlock,
+    /// The bytes of a file: behind its size, those of its last block are zero.
+    FileData,
 }
 
 /// Why a structure was not read.
 #[derive(Clone, Copy, Debug, PartialEq, Eq, Error)]
 pub enum LayoutError {
-    /// The bytes of that block of the fast tier are no spelling of the structure that should stand there.
+    /// The bytes of that block are no spelling of the structure that should stand there. Bytes of a file may be of any tier, all else stands in the fast one.
     #[error("block {block} is damaged")]
     Damaged { what: What, block: u32 },
     /// There was no memory for what the bytes spell.

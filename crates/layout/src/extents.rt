@@ -2,7 +2,7 @@ ghost use Rattle.std.specs.Prelude.{◌≡◌, ◌≤◌, ◌+◌, length, take,
 ghost use Rattle.std.specs.List.{list_all};
 ghost use Rattle.layout.specs.Answers.{Reads};
 ghost use Rattle.layout.specs.Bytes.{items_at, overwritten, within, are_zero};
-ghost use Rattle.layout.specs.Extents.{extent_text, extents_spelling, is_extent, are_sorted, are_stepping, are_apart, header_at, extent_at, extents_at, extents_of};
+ghost use Rattle.layout.specs.Extents.{extent_text, extents_spelling, is_extent, are_sorted, are_stepping, places_apart, header_at, extent_at, extents_at, extents_of};
 ghost use Rattle.layout.specs.declared.error.What.TheVariants as what;
 
 use crate::error::{LayoutError, What};
@@ -194,7 +194,7 @@ fn block_of(
         return None;
     }
     let mut places = *list;
-    if !are_apart(&mut places[..head.count]) {
+    if !places_apart(&mut places[..head.count]) {
         return None;
     }
     Some(head)
@@ -320,9 +320,9 @@ fn are_stepping(extents: &[Extent]) -> bool
 }
 
 // Whether no two extents have a place in common. It leaves them in the order of their places.
-fn are_apart(extents: &mut [Extent]) -> bool
+fn places_apart(extents: &mut [Extent]) -> bool
     requires { list_all (λ e. nat_le 1 e.length) extents.old ≡ true }
-    ensures { result ≡ are_apart extents.old }
+    ensures { result ≡ places_apart extents.old }
 {
     extents.sort_unstable_by_key(|extent| extent.place);
     are_stepping(extents)

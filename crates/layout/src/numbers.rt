@@ -78,8 +78,10 @@ pub fn format_has_its_limits()
     ensures no_more_names { fits_slot some_sizes (slot.File 1001 1048576 0 0 0 0) ≡ false }
     ensures largest_directory { fits_slot some_sizes (slot.Directory 1000 3584 0 0) ≡ true }
     ensures no_larger_directory { fits_slot some_sizes (slot.Directory 1000 3585 0 0) ≡ false }
-    ensures entry_of_the_root { fits_entry (record { inode = 1; kind = kind.Directory; name = 97 ∷ [] }) ≡ false }
-    ensures entry_of_2 { fits_entry (record { inode = 2; kind = kind.Directory; name = 97 ∷ [] }) ≡ true }
+    ensures entry_of_inode_0 { fits_entry (record { inode = 0; kind = kind.Directory; name = 97 ∷ [] }) ≡ false }
+    ensures entry_of_the_root { fits_entry (record { inode = 1; kind = kind.Directory; name = 97 ∷ [] }) ≡ true }
+    ensures entry_of_the_last_inode { fits_entry (record { inode = 1024; kind = kind.File; name = 97 ∷ [] }) ≡ true }
+    ensures entry_of_inode_1025 { fits_entry (record { inode = 1025; kind = kind.File; name = 97 ∷ [] }) ≡ false }
 {}
 
 /// The bytes of a value of each structure, so the tag, the place and the width of each field.

@@ -42,8 +42,8 @@ pub const HEAD_BLOCK: u32 = 35;
 /// The first block of the journal's images.
 pub const FIRST_IMAGE_BLOCK: u32 = 36;
 
-/// The most images that the journal has.
-pub const MAX_IMAGES: u32 = 256;
+/// The most images that the journal has, and that a commit takes.
+pub const MAX_IMAGES: usize = 256;
 
 /// The first block of the node pool, which extent blocks and directory blocks share.
 pub const FIRST_NODE_BLOCK: u32 = 292;

@@ -1,7 +1,7 @@
 ghost use Rattle.std.specs.Prelude.{◌≡◌, ◌≤◌, length};
 ghost use Rattle.layout.specs.Answers.{answer};
 ghost use Rattle.layout.specs.Places.{slot_block};
-ghost use Rattle.layout.specs.Slot.{slot_fields, slot_spelling, slot_from, slot_of, fits_slot, is_root, are_apart as roots_apart};
+ghost use Rattle.layout.specs.Slot.{slot_fields, slot_spelling, slot_from, slot_of, fits_slot, is_root, roots_apart};
 ghost use Rattle.layout.specs.declared.error.What.TheVariants as what;
 
 use crate::error::{LayoutError, What};
@@ -124,9 +124,9 @@ impl Slot {
                     && is_root(geometry, fast)
                     && is_root(geometry, block)
                     && is_root(geometry, slow)
-                    && are_apart(fast, block)
-                    && are_apart(fast, slow)
-                    && are_apart(block, slow)
+                    && roots_apart(fast, block)
+                    && roots_apart(fast, slow)
+                    && roots_apart(block, slow)
             }
             Slot::Directory {
                 names,
@@ -145,7 +145,7 @@ fn is_root(geometry: &Geometry, root: u32) -> bool
 }
 
 // Whether two roots are not the same block.
-fn are_apart(one: u32, other: u32) -> bool
+fn roots_apart(one: u32, other: u32) -> bool
     ensures { result ≡ roots_apart one other }
 {
     one == 0 || one != other

@@ -1,13 +1,13 @@
 -- Each device call of an append, over any medium.
-use Rattle.std.proofs.Common.{◌≡◌, ℕ, ◌+◌, ◌≤◌, List, [], ◌∷◌, length, take, sym, subst, arith}
+use Rattle.std.proofs.Common.{◌≡◌, ◌∙◌, ℕ, ◌+◌, ◌≤◌, List, [], ◌∷◌, length, take, sym, subst, arith}
 use Rattle.std.specs.Prelude.{Result, Ok, Err, OnOk, OnErr}
 use Rattle.tier_device.specs.declared.media.Tier.{Tier}
 use Rattle.tier_device.specs.declared.media.Tier.TheVariants.{Fast}
-use Rattle.tier_device.specs.Media.{overwritten, Tears}
+use Rattle.tier_device.specs.Media.{overwritten, Puts, Tears}
 use Rattle.update_log.specs.declared.stage.Stage.{Stage}
 use Rattle.update_log.specs.declared.stage.Stage.TheVariants as stages
-use Rattle.update_log.specs.Stage.{IsSound, BeforeOrAfter, payload_in}
-use Rattle.update_log.specs.Calls.{HasMoved, HasFailed}
+use Rattle.update_log.specs.Stage.{FitsItsStage, BeforeOrAfter, payload_in}
+use Rattle.update_log.specs.Calls.{HasMoved, HasFailed, seen_after}
 use Rattle.update_log.proofs.Moves.{either, fails, size1, either1, written, size2, kept, size3, either3, opened, size4, appended}
 
 pub on_err : {T E P : Type 0} (r : Result T E) → P → OnErr r P
@@ -46,11 +46,11 @@ module _ {M : Type 0} (seen : M → Tier → List ℕ) (moment : M → ℕ) (lef
     pub only : (c : List ℕ) → There c → c ≡ seen m Fast
     pub same : seen m' Fast ≡ seen m Fast
 
-  pub write_body : (stage : Stage) → stage ≡ stages.Begun → IsSound end stage body (seen m Fast) Here → Tears Fast (end + 1) (length body) (left m (moment m)) (left m' (moment m')) → Outcome stage (seen m' Fast ≡ overwritten (seen m Fast) (end + 1) body)
+  pub write_body : (stage : Stage) → stage ≡ stages.Begun → FitsItsStage end stage body (seen m Fast) Here → Tears Fast (end + 1) (length body) (left m (moment m)) (left m' (moment m')) → Outcome stage (seen m' Fast ≡ overwritten (seen m Fast) (end + 1) body)
   write_body stage is sound tears =
       let now = seen_now m Fast in
       let now' = seen_now m' Fast in
-      let s = subst (λ (st : Stage). IsSound end st body (seen m Fast) Here) is sound in
+      let s = subst (λ (st : Stage). FitsItsStage end st body (seen m Fast) Here) is sound in
       let after = either1 end body (seen m Fast) Here long now (seen m' Fast) There now' tears.here s in
       subst (λ (st : Stage). Outcome st (seen m' Fast ≡ overwritten (seen m Fast) (end + 1) body)) (sym is) (record {
         done = written end body (seen m Fast) Here long now (seen m' Fast) There now' tears.here s;
@@ -59,11 +59,11 @@ module _ {M : Type 0} (seen : M → Tier → List ℕ) (moment : M → ℕ) (lef
         after = after;
       })
 
-  pub fence_body : (stage : Stage) → stage ≡ stages.Written → IsSound end stage body (seen m Fast) Here → Fewer → Outcome stage Fenced
+  pub fence_body : (stage : Stage) → stage ≡ stages.Written → FitsItsStage end stage body (seen m Fast) Here → Fewer → Outcome stage Fenced
   fence_body stage is sound fewer =
       let now = seen_now m Fast in
       let now' = seen_now m' Fast in
-      let s = subst (λ (st : Stage). IsSound end st body (seen m Fast) Here) is sound in
+      let s = subst (λ (st : Stage). FitsItsStage end st body (seen m Fast) Here) is sound in
       let before = either end body (seen m Fast) Here stages.Written tt s in
       let after : Each There = λ c l. before c (fewer c l) in
       subst (λ (st : Stage). Outcome st Fenced) (sym is) (record {
@@ -73,11 +73,11 @@ module _ {M : Type 0} (seen : M → Tier → List ℕ) (moment : M → ℕ) (lef
         after = after;
       })
 
-  pub open_gate : (stage : Stage) → stage ≡ stages.Kept → IsSound end stage body (seen m Fast) Here → Tears Fast end 1 (left m (moment m)) (left m' (moment m')) → Outcome stage (seen m' Fast ≡ overwritten (seen m Fast) end (165 ∷ []))
+  pub open_gate : (stage : Stage) → stage ≡ stages.Kept → FitsItsStage end stage body (seen m Fast) Here → Tears Fast end 1 (left m (moment m)) (left m' (moment m')) → Outcome stage (seen m' Fast ≡ overwritten (seen m Fast) end (165 ∷ []))
   open_gate stage is sound tears =
       let now = seen_now m Fast in
       let now' = seen_now m' Fast in
-      let s = subst (λ (st : Stage). IsSound end st body (seen m Fast) Here) is sound in
+      let s = subst (λ (st : Stage). FitsItsStage end st body (seen m Fast) Here) is sound in
       let after = either3 end body (seen m Fast) Here long now (seen m' Fast) There now' tears.here s in
       subst (λ (st : Stage). Outcome st (seen m' Fast ≡ overwritten (seen m Fast) end (165 ∷ []))) (sym is) (record {
         done = opened end body (seen m Fast) Here long now (seen m' Fast) There now' tears.here s;
@@ -86,11 +86,11 @@ module _ {M : Type 0} (seen : M → Tier → List ℕ) (moment : M → ℕ) (lef
         after = after;
       })
 
-  pub fence_gate : (stage : Stage) → stage ≡ stages.Opened → IsSound end stage body (seen m Fast) Here → Fewer → Outcome stage Fenced
+  pub fence_gate : (stage : Stage) → stage ≡ stages.Opened → FitsItsStage end stage body (seen m Fast) Here → Fewer → Outcome stage Fenced
   fence_gate stage is sound fewer =
       let now = seen_now m Fast in
       let now' = seen_now m' Fast in
-      let s = subst (λ (st : Stage). IsSound end st body (seen m Fast) Here) is sound in
+      let s = subst (λ (st : Stage). FitsItsStage end st body (seen m Fast) Here) is sound in
       let before = either end body (seen m Fast) Here stages.Opened tt s in
       let after : Each There = λ c l. before c (fewer c l) in
       subst (λ (st : Stage). Outcome st Fenced) (sym is) (record {
@@ -99,3 +99,10 @@ module _ {M : Type 0} (seen : M → Tier → List ℕ) (moment : M → ℕ) (lef
         before = before;
         after = after;
       })
+
+-- what a read gives of the tiers after a call of a stage
+pub shown : {M : Type 0} (seen : M → Tier → List ℕ) (end : ℕ) (body : List ℕ) (m m' : M) (stage at : Stage) → stage ≡ at → Puts Fast (seen_after at end body (seen m Fast)) (seen m) (seen m') → Puts Fast (seen_after stage end body (seen m Fast)) (seen m) (seen m')
+shown seen end body m m' stage at is puts = subst (λ (st : Stage). Puts Fast (seen_after st end body (seen m Fast)) (seen m) (seen m')) (sym is) puts
+
+pub fenced : {M : Type 0} (seen : M → Tier → List ℕ) (end : ℕ) (body : List ℕ) (m m' : M) (stage at : Stage) → stage ≡ at → seen_after at end body (seen m Fast) ≡ seen m Fast → ((t : Tier) → seen m' t ≡ seen m t) → Puts Fast (seen_after stage end body (seen m Fast)) (seen m) (seen m')
+fenced seen end body m m' stage at is none same = shown seen end body m m' stage at is (record { here = same Fast ∙ sym none; others = λ t other. same t })

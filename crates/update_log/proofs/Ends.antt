@@ -8,7 +8,7 @@ use Rattle.log_record.specs.declared.format.Record.{Record}
 use Rattle.log_record.specs.Grammar.{record_of, spelling}
 use Rattle.update_log.specs.declared.stage.Stage.{Stage}
 use Rattle.update_log.specs.Frames.{payload_length, payload_of, is_payload, is_whole, payloads_from, payloads, records, before_gate, framed, taken, spelled, end_behind}
-use Rattle.update_log.specs.Stage.{IsFront, IsSound}
+use Rattle.update_log.specs.Stage.{IsFront, FitsItsStage}
 use Rattle.update_log.proofs.Moves.{stands_of}
 
 abbrev pub AreAsLong : Type 0
@@ -42,5 +42,5 @@ framed_taken as_long zero (gate ∷ behind) = elim (cases_Bool ((gate == 165) &&
 pub front_ends : ((content : List ℕ) → framed (payloads content) ≡ taken (records content)) → (end : ℕ) (content : List ℕ) → end < length content → IsFront (take end content) → end ≡ end_behind (spelled (before_gate (take end content)))
 front_ends law end content within stands = omega (arith, length-take-le end content (omega (arith, within)), stands.long, law (take end content ++ 0 ∷ []))
 
-pub sound_ends : ((content : List ℕ) → framed (payloads content) ≡ taken (records content)) → (end : ℕ) (stage : Stage) (body seen : List ℕ) (left : List ℕ → Type 0) → IsSound end stage body seen left → end ≡ end_behind (spelled (before_gate (take end seen)))
+pub sound_ends : ((content : List ℕ) → framed (payloads content) ≡ taken (records content)) → (end : ℕ) (stage : Stage) (body seen : List ℕ) (left : List ℕ → Type 0) → FitsItsStage end stage body seen left → end ≡ end_behind (spelled (before_gate (take end seen)))
 sound_ends law end stage body seen left sound = front_ends law end seen (omega (arith, sound.within, sound.size)) (stands_of end stage body seen left sound)

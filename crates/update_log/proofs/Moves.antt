@@ -7,13 +7,13 @@ use Rattle.tier_device.specs.Media.{overwritten, Torn}
 use Rattle.update_log.specs.declared.stage.Stage.{Stage}
 use Rattle.update_log.specs.declared.stage.Stage.TheVariants as stages
 use Rattle.update_log.specs.Frames.{header, before_gate, behind_gate}
-use Rattle.update_log.specs.Stage.{IsFront, IsStaged, BeforeOrAfter, IsResting, IsBegun, IsKept, IsWhole, IsSound, IsAppending, AtStage, HasRecord, payload_in}
+use Rattle.update_log.specs.Stage.{IsFront, IsStaged, BeforeOrAfter, IsResting, IsBegun, IsKept, IsWhole, FitsItsStage, IsAppending, AtStage, HasRecord, payload_in}
 use Rattle.update_log.specs.Calls.{HasMoved, HasFailed}
 use Rattle.update_log.proofs.Reading.{is_before, is_either, front_push}
 use Rattle.update_log.proofs.Writes.{torn_shut, written_staged, torn_gate, written_gate}
 
 -- at every stage the front stands
-pub stands_of : (end : ℕ) (stage : Stage) (body seen : List ℕ) (left : List ℕ → Type 0) → IsSound end stage body seen left → IsFront (take end seen)
+pub stands_of : (end : ℕ) (stage : Stage) (body seen : List ℕ) (left : List ℕ → Type 0) → FitsItsStage end stage body seen left → IsFront (take end seen)
 stands_of end stages.Resting body seen left sound = sound.at_stage.stands
 stands_of end stages.Foreign body seen left sound = sound.at_stage.stands
 stands_of end stages.Begun body seen left sound = sound.at_stage.stands
@@ -41,7 +41,7 @@ module _ (end : ℕ) (body seen : List ℕ) (left : List ℕ → Type 0) where
       is_either front payload rest gate c stands (short whole) whole.is_spelled (is ∙ ap (λ (b : List ℕ). front ++ gate ∷ (b ++ rest)) whole.bytes)
 
   -- whatever a stop leaves while a record is appended
-  pub either : (stage : Stage) → IsAppending stage → IsSound end stage body seen left → (c : List ℕ) → left c → BeforeOrAfter front payload c
+  pub either : (stage : Stage) → IsAppending stage → FitsItsStage end stage body seen left → (c : List ℕ) → left c → BeforeOrAfter front payload c
   either stages.Resting begun sound c l = absurd begun
   either stages.Foreign begun sound c l = absurd begun
   either stages.Begun begun sound c l = is_before front payload c sound.at_stage.stands (sound.at_stage.shut c l)
@@ -59,7 +59,7 @@ module _ (end : ℕ) (body seen : List ℕ) (left : List ℕ → Type 0) where
     long within size = length-take-le end seen (omega (arith, size, within))
 
     -- a call that fails
-    pub fails : (stage : Stage) → IsSound end stage body seen left → length seen' ≡ length seen → ((c : List ℕ) → left' c → BeforeOrAfter front payload c) → HasFailed end body seen seen' left'
+    pub fails : (stage : Stage) → FitsItsStage end stage body seen left → length seen' ≡ length seen → ((c : List ℕ) → left' c → BeforeOrAfter front payload c) → HasFailed end body seen seen' left'
     fails stage sound size each =
         let same : take end seen' ≡ front = subst (λ n. take n seen' ≡ front) (long sound.within sound.size) (each seen' now').front_stands in
         record {
@@ -76,7 +76,7 @@ module _ (end : ℕ) (body seen : List ℕ) (left : List ℕ → Type 0) where
         }
 
     -- a call that leads on and keeps the front
-    moves : (stage was : Stage) → IsSound end was body seen left → length seen' ≡ length seen → AtStage stage front body seen' left' → HasRecord stage end body → take end seen' ≡ front → IsSound end stage body seen' left'
+    moves : (stage was : Stage) → FitsItsStage end was body seen left → length seen' ≡ length seen → AtStage stage front body seen' left' → HasRecord stage end body → take end seen' ≡ front → FitsItsStage end stage body seen' left'
     moves stage was sound size at_stage has same = record {
       size = size ∙ sound.size;
       within = sound.within;
@@ -88,7 +88,7 @@ module _ (end : ℕ) (body seen : List ℕ) (left : List ℕ → Type 0) where
     same_front l rest is = ap (take end) is ∙ take_at front rest end l
 
     -- the write of the bytes behind the gate
-    module _ (tears : (c : List ℕ) → left' c → (d : List ℕ) × left d × Torn (end + 1) (length body) d c) (sound : IsSound end stages.Begun body seen left) where
+    module _ (tears : (c : List ℕ) → left' c → (d : List ℕ) × left d × Torn (end + 1) (length body) d c) (sound : FitsItsStage end stages.Begun body seen left) where
       pub size1 : length seen' ≡ length seen
       size1 = let t = tears seen' now' in t.2.same_length ∙ sized t.0 t.1
 
@@ -113,7 +113,7 @@ module _ (end : ℕ) (body seen : List ℕ) (left : List ℕ → Type 0) where
           }
 
     -- the first fence
-    module _ (fewer : (c : List ℕ) → left' c → left c) (sound : IsSound end stages.Written body seen left) where
+    module _ (fewer : (c : List ℕ) → left' c → left c) (sound : FitsItsStage end stages.Written body seen left) where
       pub size2 : length seen' ≡ length seen
       size2 = sized seen' (fewer seen' now')
 
@@ -130,7 +130,7 @@ module _ (end : ℕ) (body seen : List ℕ) (left : List ℕ → Type 0) where
           }
 
     -- the write of the gate
-    module _ (tears : (c : List ℕ) → left' c → (d : List ℕ) × left d × Torn end 1 d c) (sound : IsSound end stages.Kept body seen left) where
+    module _ (tears : (c : List ℕ) → left' c → (d : List ℕ) × left d × Torn end 1 d c) (sound : FitsItsStage end stages.Kept body seen left) where
       pub size3 : length seen' ≡ length seen
       size3 = let t = tears seen' now' in t.2.same_length ∙ sized t.0 t.1
 
@@ -161,7 +161,7 @@ module _ (end : ℕ) (body seen : List ℕ) (left : List ℕ → Type 0) where
           }
 
     -- the last fence
-    module _ (fewer : (c : List ℕ) → left' c → left c) (sound : IsSound end stages.Opened body seen left) where
+    module _ (fewer : (c : List ℕ) → left' c → left c) (sound : FitsItsStage end stages.Opened body seen left) where
       pub size4 : length seen' ≡ length seen
       size4 = sized seen' (fewer seen' now')
 

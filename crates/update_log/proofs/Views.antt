@@ -15,7 +15,7 @@ use Rattle.tier_device.specs.Media.{Keeps, LeftSince}
 use Rattle.update_log.specs.declared.stage.Stage.{Stage}
 use Rattle.update_log.specs.declared.stage.Stage.TheVariants as stages
 use Rattle.update_log.specs.Frames.{payloads, records, header, before_gate, spelled, joined, behind_gate, is_payload}
-use Rattle.update_log.specs.Stage.{IsFront, IsShut, BeforeOrAfter, IsResting, IsSound, AtStage, IsAppending, IsIdle, payload_in, next}
+use Rattle.update_log.specs.Stage.{IsFront, IsShut, IsWhole, HasRecord, BeforeOrAfter, IsResting, FitsItsStage, AtStage, IsAppending, IsIdle, payload_in, next}
 use Rattle.update_log.specs.View.{begun_in, WithOrWithout}
 use Rattle.update_log.proofs.Reading.{payloads_closed}
 use Rattle.update_log.specs.Calls.{payloads_after}
@@ -59,6 +59,16 @@ begun_appending stages.Kept payload h = refl
 begun_appending stages.Opened payload h = refl
 begun_appending stages.Failed payload h = absurd h
 
+-- where a record is being appended its bytes are whole
+pub whole_at : (stage : Stage) (end : ℕ) (body : List ℕ) → IsAppending stage → HasRecord stage end body → IsWhole end body
+whole_at stages.Resting end body h has = absurd h
+whole_at stages.Foreign end body h has = absurd h
+whole_at stages.Begun end body h has = has
+whole_at stages.Written end body h has = has
+whole_at stages.Kept end body h has = has
+whole_at stages.Opened end body h has = has
+whole_at stages.Failed end body h has = absurd h
+
 join_one : (rs : List Record) (o : Option Record) → rs ++ cons_option o [] ≡ joined rs o
 join_one rs None = append-nil rs
 join_one rs (Some r) = refl
@@ -80,9 +90,9 @@ pub rest_shown : (front seen c : List ℕ) (left : List ℕ → Type 0) → IsRe
 rest_shown front seen c left resting l = let same = resting.rest c l in (same, ap records same ∙ ap spelled (payloads_closed front seen resting.stands resting.shut))
 
 -- what holds of a region holds of one that shows the same and of which a stop leaves no more
-pub sound_kept : (end : ℕ) (stage : Stage) (body seen seen' : List ℕ) (left left' : List ℕ → Type 0) → seen' ≡ seen → ((c : List ℕ) → left' c → left c) → IsSound end stage body seen left → IsSound end stage body seen' left'
+pub sound_kept : (end : ℕ) (stage : Stage) (body seen seen' : List ℕ) (left left' : List ℕ → Type 0) → seen' ≡ seen → ((c : List ℕ) → left' c → left c) → FitsItsStage end stage body seen left → FitsItsStage end stage body seen' left'
 sound_kept end stage body seen seen' left left' same fewer sound =
-    subst (λ (s : List ℕ). IsSound end stage body s left') (sym same) (record {
+    subst (λ (s : List ℕ). FitsItsStage end stage body s left') (sym same) (record {
       size = sound.size;
       within = sound.within;
       at_stage = fewer_at stage sound.at_stage;
@@ -111,7 +121,7 @@ payload_in_behind payload =
     ap (take (length (behind_gate payload) - 5)) (ap (drop 4) split ∙ drop_at size (payload ++ 0 ∷ []) 4 four)
     ∙ take_at payload (0 ∷ []) (length (behind_gate payload) - 5) (omega (arith, length-body payload))
 
-pub begins : (end : ℕ) (body' body seen payload : List ℕ) (left : List ℕ → Type 0) → body ≡ behind_gate payload → is_payload payload ≡ true → end + 5 + length payload + 1 ≤ 262144 → IsSound end stages.Resting body' seen left → IsSound end stages.Begun body seen left
+pub begins : (end : ℕ) (body' body seen payload : List ℕ) (left : List ℕ → Type 0) → body ≡ behind_gate payload → is_payload payload ≡ true → end + 5 + length payload + 1 ≤ 262144 → FitsItsStage end stages.Resting body' seen left → FitsItsStage end stages.Begun body seen left
 begins end body' body seen payload left is spelled_is room sound =
     let same : payload_in body ≡ payload = ap payload_in is ∙ payload_in_behind payload in
     record {
@@ -127,9 +137,9 @@ begins end body' body seen payload left is spelled_is room sound =
 
 -- a region as it stands in a content at rest
 pub reopened : (end : ℕ) (stage : Stage) (body seen : List ℕ) (left : List ℕ → Type 0) → (stage ≡ stages.Resting → get_or seen end 0 ≢ 165) → (stage ≡ stages.Resting) ⊎ (stage ≡ stages.Foreign)
-    → length seen ≡ 262144 → end < length seen → IsFront (take end seen) → payloads seen ≡ before_gate (take end seen) → ((c : List ℕ) → left c → c ≡ seen) → IsSound end stage body seen left
+    → length seen ≡ 262144 → end < length seen → IsFront (take end seen) → payloads seen ≡ before_gate (take end seen) → ((c : List ℕ) → left c → c ≡ seen) → FitsItsStage end stage body seen left
 reopened end stage body seen left shut (inl is) size within stands ends rest =
-    subst (λ st. IsSound end st body seen left) (sym is)
+    subst (λ st. FitsItsStage end st body seen left) (sym is)
     (record {
       size = size;
       within = omega (arith, within, size);
@@ -146,10 +156,10 @@ reopened end stage body seen left shut (inl is) size within stands ends rest =
       record_begun = tt;
     })
 reopened end stage body seen left shut (inr is) size within stands ends rest =
-    subst (λ st. IsSound end st body seen left) (sym is)
+    subst (λ st. FitsItsStage end st body seen left) (sym is)
     (record { size = size; within = omega (arith, within, size); at_stage = record { stands = stands; ends = ends; rest = rest }; record_begun = tt })
 
-module _ (end : ℕ) (stage : Stage) (body seen : List ℕ) (left : List ℕ → Type 0) (sound : IsSound end stage body seen left) where
+module _ (end : ℕ) (stage : Stage) (body seen : List ℕ) (left : List ℕ → Type 0) (sound : FitsItsStage end stage body seen left) where
   abbrev Either : List ℕ → Type 0
   Either c = WithOrWithout (header (take end seen)) (spelled (before_gate (take end seen))) (begun_in stage (payload_in body)) c
 
@@ -162,27 +172,27 @@ module _ (end : ℕ) (stage : Stage) (body seen : List ℕ) (left : List ℕ →
   pub begun_now : IsAppending stage ⊎ (stage ≡ stages.Failed) → (c : List ℕ) → left c → Either c
   begun_now (inl appending) c l = shows_either (begun_appending stage (payload_in body) appending) c (either end body seen left stage appending sound c l)
   begun_now (inr is) c l =
-      shows_either (ap (λ (st : Stage). begun_in st (payload_in body)) is ∙ ap (λ (st : Stage). record_of (payload_in body)) is) c ((subst (λ (st : Stage). IsSound end st body seen left) is sound).at_stage.either c l)
+      shows_either (ap (λ (st : Stage). begun_in st (payload_in body)) is ∙ ap (λ (st : Stage). record_of (payload_in body)) is) c ((subst (λ (st : Stage). FitsItsStage end st body seen left) is sound).at_stage.either c l)
 
 -- the header stands in the front
 pub header_front : (end : ℕ) (seen : List ℕ) → IsFront (take end seen) → header (take end seen) ≡ header seen
 header_front end seen stands = take-take 16 end seen (omega (arith, stands.long, length-take end seen))
 
 -- what a stop may leave of a region where nothing is begun
-pub idle_now : (end : ℕ) (stage : Stage) (body seen : List ℕ) (left : List ℕ → Type 0) → IsSound end stage body seen left → IsIdle stage → (c : List ℕ) → left c → (c ≡ seen) × (records c ≡ spelled (before_gate (take end seen)))
-idle_now end stage body seen left sound (inl is) c l = rest_shown (take end seen) seen c left (subst (λ (st : Stage). IsSound end st body seen left) is sound).at_stage l
+pub idle_now : (end : ℕ) (stage : Stage) (body seen : List ℕ) (left : List ℕ → Type 0) → FitsItsStage end stage body seen left → IsIdle stage → (c : List ℕ) → left c → (c ≡ seen) × (records c ≡ spelled (before_gate (take end seen)))
+idle_now end stage body seen left sound (inl is) c l = rest_shown (take end seen) seen c left (subst (λ (st : Stage). FitsItsStage end st body seen left) is sound).at_stage l
 idle_now end stage body seen left sound (inr is) c l =
-    let foreign = (subst (λ (st : Stage). IsSound end st body seen left) is sound).at_stage in
+    let foreign = (subst (λ (st : Stage). FitsItsStage end st body seen left) is sound).at_stage in
     let same = foreign.rest c l in
     (same, ap records same ∙ ap spelled foreign.ends)
 
-idle_either : (end : ℕ) (stage : Stage) (body seen : List ℕ) (left : List ℕ → Type 0) → IsSound end stage body seen left → IsIdle stage → (o : Option Record) (c : List ℕ) → left c → WithOrWithout (header (take end seen)) (spelled (before_gate (take end seen))) o c
+idle_either : (end : ℕ) (stage : Stage) (body seen : List ℕ) (left : List ℕ → Type 0) → FitsItsStage end stage body seen left → IsIdle stage → (o : Option Record) (c : List ℕ) → left c → WithOrWithout (header (take end seen)) (spelled (before_gate (take end seen))) o c
 idle_either end stage body seen left sound idle o c l =
     let shown = idle_now end stage body seen left sound idle c l in
     record { header_is = ap header shown.0 ∙ sym (header_front end seen (stands_of end stage body seen left sound)); records_are = inl shown.1 }
 
 -- and of any region
-pub either_now : (end : ℕ) (stage : Stage) (body seen : List ℕ) (left : List ℕ → Type 0) → IsSound end stage body seen left → (c : List ℕ) → left c → WithOrWithout (header (take end seen)) (spelled (before_gate (take end seen))) (begun_in stage (payload_in body)) c
+pub either_now : (end : ℕ) (stage : Stage) (body seen : List ℕ) (left : List ℕ → Type 0) → FitsItsStage end stage body seen left → (c : List ℕ) → left c → WithOrWithout (header (take end seen)) (spelled (before_gate (take end seen))) (begun_in stage (payload_in body)) c
 either_now end stages.Resting body seen left sound c l = idle_either end stages.Resting body seen left sound (inl refl) None c l
 either_now end stages.Foreign body seen left sound c l = idle_either end stages.Foreign body seen left sound (inr refl) None c l
 either_now end stages.Begun body seen left sound c l = begun_now end stages.Begun body seen left sound (inl tt) c l

@@ -98,7 +98,7 @@ HasRecord stages.Opened end body = IsWhole end body
 HasRecord stages.Failed end body = Unit {0}
 
 -- What holds of a region: its next gate stands at `end`, and what a read and a stop give fits its stage.
-pub record IsSound (end : ℕ) (stage : Stage) (body seen : List ℕ) (left : List ℕ → Type 0) : Type 0 where
+pub record FitsItsStage (end : ℕ) (stage : Stage) (body seen : List ℕ) (left : List ℕ → Type 0) : Type 0 where
   pub size : length seen ≡ REGION_SIZE
   pub within : end < REGION_SIZE
   pub at_stage : AtStage stage (take end seen) body seen left

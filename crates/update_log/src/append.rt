@@ -1,9 +1,9 @@
 // The device calls of an append.
 ghost use Rattle.std.specs.Prelude.{◌≡◌, ◌+◌, ◌≤◌, ◌<◌, ◌^◌, List, ℕ, length, take, OnOk, OnErr};
 ghost use Rattle.tier_device.specs.declared.media.Tier.TheVariants.{Fast};
-ghost use Rattle.tier_device.specs.Media.{Keeps, Rose};
-ghost use Rattle.update_log.specs.Stage.{BeforeOrAfter, IsAppending, IsSound, payload_in};
-ghost use Rattle.update_log.specs.Calls.{HasMoved, HasFailed, end_after as next_end};
+ghost use Rattle.tier_device.specs.Media.{Keeps, Puts, Rose};
+ghost use Rattle.update_log.specs.Stage.{BeforeOrAfter, IsAppending, FitsItsStage, payload_in};
+ghost use Rattle.update_log.specs.Calls.{HasMoved, HasFailed, end_after as next_end, seen_after};
 
 use crate::format::OPEN;
 use crate::stage::Stage;
@@ -18,9 +18,10 @@ pub fn device_call<M: Media>(
     body: &[u8],
 ) -> Result<(), MediaError>
     requires appending { IsAppending stage }
-    requires sound { IsSound end stage body.now (M.seen media.old Fast) (M.left media.old (M.moment media.old) Fast) }
+    requires sound { FitsItsStage end stage body.now (M.seen media.old Fast) (M.left media.old (M.moment media.old) Fast) }
     ensures done { OnOk result (HasMoved end stage body.now (M.seen media.old Fast) (M.seen media.new Fast) (M.left media.new (M.moment media.new) Fast)) }
     ensures failed { OnErr result (HasFailed end body.now (M.seen media.old Fast) (M.seen media.new Fast) (M.left media.new (M.moment media.new) Fast)) }
+    ensures seen { OnOk result (Puts Fast (seen_after stage end body.now (M.seen media.old Fast)) (M.seen media.old) (M.seen media.new)) }
     ensures before { (c : List ℕ) → M.left media.old (M.moment media.old) Fast c → BeforeOrAfter (take end (M.seen media.old Fast)) (payload_in body.now) c }
     ensures after { (c : List ℕ) → M.left media.new (M.moment media.new) Fast c → BeforeOrAfter (take end (M.seen media.old Fast)) (payload_in body.now) c }
     ensures clock { OnOk result (M.moment media.new ≡ M.moment media.old + 1) }

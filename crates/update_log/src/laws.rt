@@ -1,7 +1,8 @@
 // What holds of the bytes of all regions.
-ghost use Rattle.std.specs.Prelude.{◌≡◌, ℕ, List};
-ghost use Rattle.update_log.specs.Frames.{payloads, records, framed, taken};
+ghost use Rattle.std.specs.Prelude.{◌≡◌, ◌∷◌, [], ℕ, List};
+ghost use Rattle.update_log.specs.Frames.{payloads, records, framed, taken, end_behind, behind_gate, header};
 
+use crate::format::{CLOSED, HEADER, OPEN, REGION_SIZE};
 use log_record::read_is_as_long;
 
 /// The records of a content take as many bytes as their spellings have, each behind its gate and its length.
@@ -10,3 +11,15 @@ pub fn records_are_as_long()
 {
     read_is_as_long();
 }
+
+/// How long a region is, where its records begin, what opens and closes a gate, and what stands behind one.
+pub fn region_has_its_numbers()
+    ensures size { REGION_SIZE ≡ 262144 }
+    ensures first_gate { HEADER ≡ 16 }
+    ensures open_byte { OPEN ≡ 165 }
+    ensures closed_byte { CLOSED ≡ 0 }
+    ensures first_end { end_behind [] ≡ 16 }
+    ensures behind { behind_gate (7 ∷ 8 ∷ 9 ∷ []) ≡ 3 ∷ 0 ∷ 0 ∷ 0 ∷ 7 ∷ 8 ∷ 9 ∷ 0 ∷ [] }
+    ensures shut_region { payloads (1 ∷ 0 ∷ 0 ∷ 0 ∷ 0 ∷ 0 ∷ 0 ∷ 0 ∷ 0 ∷ 0 ∷ 0 ∷ 0 ∷ 0 ∷ 0 ∷ 0 ∷ 0 ∷ 0 ∷ 10 ∷ 0 ∷ 0 ∷ 0 ∷ 2 ∷ 0 ∷ 0 ∷ 0 ∷ 1 ∷ 7 ∷ 3 ∷ 0 ∷ 0 ∷ 0 ∷ 0 ∷ []) ≡ [] }
+    ensures header_read { header (1 ∷ 2 ∷ 3 ∷ 4 ∷ 5 ∷ 6 ∷ 7 ∷ 8 ∷ 9 ∷ 10 ∷ 11 ∷ 12 ∷ 13 ∷ 14 ∷ 15 ∷ 16 ∷ 17 ∷ []) ≡ 1 ∷ 2 ∷ 3 ∷ 4 ∷ 5 ∷ 6 ∷ 7 ∷ 8 ∷ 9 ∷ 10 ∷ 11 ∷ 12 ∷ 13 ∷ 14 ∷ 15 ∷ 16 ∷ [] }
+{}

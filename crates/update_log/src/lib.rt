@@ -16,5 +16,6 @@ mod stage;
 
 pub use error::RegionError;
 pub use format::{CLOSED, HEADER, OPEN, REGION_SIZE};
+pub use laws::region_has_its_numbers;
 pub use region::Region;
 pub use stage::{Progress, Stage};

@@ -43,15 +43,16 @@ impl<M: Media> Model for Region<M> {
 
     ghost Value = { RegionView M };
 
-    ghost use Rattle.update_log.specs.Stage.{IsSound, payload_in};
+    ghost use Rattle.update_log.specs.Stage.{FitsItsStage, payload_in};
 
     ghost view = { λ r. record { media = r.media; end = r.end; stage = r.stage; begun = begun_in r.stage (payload_in r.body) } };
 
-    ghost invariant = { λ r. IsSound r.end r.stage r.body (M.seen r.media Fast) (M.left r.media (M.moment r.media) Fast) };
+    ghost invariant = { λ r. FitsItsStage r.end r.stage r.body (M.seen r.media Fast) (M.left r.media (M.moment r.media) Fast) };
 }
 
 impl<M: Media> Region<M> {
     ghost use Rattle.update_log.specs.View.{HasSize, WithOrWithout, header_of, records_of, begun_of};
+    ghost use Rattle.update_log.specs.Calls.{ShowsCall};
     ghost use Rattle.update_log.specs.Moments.{PastStays};
 
     /// The region that a medium holds, with the records that stand in it. Nothing may be pending on the medium. It makes no
@@ -176,6 +177,9 @@ impl<M: Media> Region<M> {
         // At each moment of the call a stop leaves the records from before the append, with the begun one or without.
         ensures any_moment { (c : List ℕ) → LeftSince (M.left self.new.media) (M.moment self.new.media) (M.moment self.old.media) Fast c
             → WithOrWithout (header_of M.seen self.old) (records_of M.seen self.old) (begun_of self.old) c }
+
+        // The first call writes the begun record and a closed gate behind it, the third opens its gate, and nothing else changes.
+        ensures seen { OnOk result (ShowsCall self.old.stage self.old.end (begun_of self.old) (M.seen self.old.media) (M.seen self.new.media)) }
 
         ensures progress { IfOk result (λ p. p ≡ progress self.old.stage) }
         ensures stage { OnOk result (self.new.stage ≡ next self.old.stage) }

@@ -1,6 +1,8 @@
+use Rattle.std.proofs.Common.{refl}
 use Rattle.std.proofs.lemmas.Result.{on_ok_weaker}
 use Rattle.tier_device.specs.declared.media.Tier.TheVariants.{Fast}
-use Rattle.update_log.proofs.DeviceCalls.{on_err, on_ok_both, write_body, fence_body, open_gate, fence_gate}
+use Rattle.update_log.specs.declared.stage.Stage.TheVariants as stages
+use Rattle.update_log.proofs.DeviceCalls.{shown, fenced, on_err, on_ok_both, write_body, fence_body, open_gate, fence_gate}
 use Rattle.update_log.proofs.append.device_call.Goals as goal
 
 pub returns-in-Begun-clause-done : goal.returns-in-Begun-clause-done
@@ -114,3 +116,23 @@ returns-in-Opened-clause-after g c =
     let law = g.met.M.Media in
     let o = fence_gate m.seen m.moment m.left law.seen_now law.sized c.args.end c.args.body.now c.args.media.now c.fence-in-Opened.new.self c.args.stage c.in-Opened.is c.requires.sound (c.fence-in-Opened.ensures.left Fast) in
     o.after
+
+pub returns-in-Begun-clause-seen : goal.returns-in-Begun-clause-seen
+returns-in-Begun-clause-seen g c =
+    let m = g.M.Media in
+    on_ok_weaker c.write.result (λ p. shown m.seen c.args.end c.args.body.now c.args.media.now c.write.new.self c.args.stage stages.Begun c.in-Begun.is p) c.write.ensures.written
+
+pub returns-in-Written-clause-seen : goal.returns-in-Written-clause-seen
+returns-in-Written-clause-seen g c =
+    let m = g.M.Media in
+    on_ok_weaker c.fence.result (λ p. fenced m.seen c.args.end c.args.body.now c.args.media.now c.fence.new.self c.args.stage stages.Written c.in-Written.is refl p) c.fence.ensures.seen
+
+pub returns-in-Kept-clause-seen : goal.returns-in-Kept-clause-seen
+returns-in-Kept-clause-seen g c =
+    let m = g.M.Media in
+    on_ok_weaker c.write-in-Kept.result (λ p. shown m.seen c.args.end c.args.body.now c.args.media.now c.write-in-Kept.new.self c.args.stage stages.Kept c.in-Kept.is p) c.write-in-Kept.ensures.written
+
+pub returns-in-Opened-clause-seen : goal.returns-in-Opened-clause-seen
+returns-in-Opened-clause-seen g c =
+    let m = g.M.Media in
+    on_ok_weaker c.fence-in-Opened.result (λ p. fenced m.seen c.args.end c.args.body.now c.args.media.now c.fence-in-Opened.new.self c.args.stage stages.Opened c.in-Opened.is refl p) c.fence-in-Opened.ensures.seen

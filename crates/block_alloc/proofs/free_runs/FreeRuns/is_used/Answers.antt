@@ -3,5 +3,5 @@ use Rattle.block_alloc.specs.Runs.{IsNormal}
 use Rattle.block_alloc.proofs.Joins.{normal-wider}
 use Rattle.block_alloc.proofs.free_runs.FreeRuns.is_used.Goals as goal
 
-pub are_apart-requires-clause-normal : goal.are_apart-requires-clause-normal
-are_apart-requires-clause-normal c = subst (IsNormal 0 4294967295) (sym c.deref.ensures.value) (normal-wider c.self.inside.first c.self.inside.end 0 4294967295 c.self.inside.runs.items (omega arith) (omega (arith, c.self.invariant.fits)) c.self.invariant.normal)
+pub is_beside-requires-clause-normal : goal.is_beside-requires-clause-normal
+is_beside-requires-clause-normal c = subst (IsNormal 0 4294967295) (sym c.deref.ensures.value) (normal-wider c.self.inside.first c.self.inside.end 0 4294967295 c.self.inside.runs.items (omega arith) (omega (arith, c.self.invariant.fits)) c.self.invariant.normal)

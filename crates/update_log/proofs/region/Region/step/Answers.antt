@@ -1,12 +1,12 @@
 use Rattle.std.proofs.Common.{◌≡◌, ◌∙◌, List, ℕ, ◌∷◌, [], ◌++◌, take, sym, ap, subst}
 use Rattle.tier_device.specs.declared.media.Tier.TheVariants.{Fast}
-use Rattle.tier_device.specs.Media.{LeftSince}
+use Rattle.tier_device.specs.Media.{LeftSince, Puts}
 use Rattle.update_log.specs.declared.stage.Stage.TheVariants as stages
-use Rattle.update_log.specs.Frames.{before_gate, spelled, joined}
+use Rattle.update_log.specs.Frames.{before_gate, spelled, joined, behind_gate}
 use Rattle.update_log.specs.Stage.{IsAppending, payload_in, BeforeOrAfter}
-use Rattle.update_log.specs.Calls.{payloads_after, end_after}
+use Rattle.update_log.specs.Calls.{payloads_after, end_after, seen_after, ShowsCall}
 use Rattle.update_log.specs.View.{RegionView, begun_in, WithOrWithout, header_of, records_of, begun_of}
-use Rattle.update_log.proofs.Views.{since_one, shows_either, begun_appending, next_resting, spelled_more}
+use Rattle.update_log.proofs.Views.{whole_at, since_one, shows_either, begun_appending, next_resting, spelled_more}
 use Rattle.update_log.proofs.region.Region.step.Goals as goal
 
 pub returns-in-Ok-clause-any_moment : goal.returns-in-Ok-clause-any_moment
@@ -55,3 +55,16 @@ returns-in-Ok-clause-appended g c done =
     let all : spelled (before_gate (take c.end_after-self-inside.result seen')) ≡ joined (spelled ps) (begun_of (record { media = s.media; end = s.end; stage = s.stage; begun = begun_in s.stage payload })) =
     ap (λ n. spelled (before_gate (take n seen'))) at_end ∙ ap spelled (moved.payloads_are ∙ more) ∙ spelled_more ps payload ∙ ap (joined (spelled ps)) (sym (begun_appending s.stage payload appending)) in
     subst (λ (v : RegionView _). spelled (before_gate (take c.end_after-self-inside.result seen')) ≡ joined (records_of m.seen v) (begun_of v)) c.self.view_is all
+
+pub returns-in-Ok-clause-seen : goal.returns-in-Ok-clause-seen
+returns-in-Ok-clause-seen g c =
+    let m = g.M.Media in
+    let s = c.self.inside in
+    let old = m.seen s.media in
+    let new = m.seen c.device_call.new.media in
+    let payload = payload_in s.body in
+    let appending = subst (λ (v : RegionView _). IsAppending v.stage) (sym c.self.view_is) c.requires in
+    let whole = whole_at s.stage s.end s.body appending c.self.invariant.record_begun in
+    let shows : Puts Fast (seen_after s.stage s.end (behind_gate payload) (old Fast)) old new =
+    subst (λ (bs : List ℕ). Puts Fast (seen_after s.stage s.end bs (old Fast)) old new) (c.as_slice.ensures ∙ whole.bytes) c.in-Ok.ensures.seen in
+    subst (λ (v : RegionView _). ShowsCall v.stage v.end (begun_of v) (m.seen v.media) new) c.self.view_is (record { payload = payload; spells = sym (begun_appending s.stage payload appending); shows = shows })

@@ -1,7 +1,7 @@
 use Rattle.std.proofs.Common.{◌∙◌, rules}
 use Rattle.std.proofs.lemmas.List.Sorted.{IsNonDecreasingBy-from_sort_by_key}
 use Rattle.layout.proofs.Apart.{stepping_is_apart}
-use Rattle.layout.proofs.extents.are_apart.Goals as goal
+use Rattle.layout.proofs.extents.places_apart.Goals as goal
 
 pub returns : goal.returns
 returns c =

@@ -3,7 +3,7 @@ use Rattle.std.proofs.lemmas.Bool.{cases_Bool, not-true}
 use Rattle.block_alloc.specs.declared.runs.Run.{Run}
 use Rattle.block_alloc.proofs.Search.{apart_at}
 use Rattle.block_alloc.proofs.Joins.{overlap_refused}
-use Rattle.block_alloc.proofs.runs.are_apart.Goals as goal
+use Rattle.block_alloc.proofs.runs.is_beside.Goals as goal
 
 pub returns : goal.returns
 returns c =

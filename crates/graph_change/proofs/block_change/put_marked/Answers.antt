@@ -1,0 +1,7 @@
+use Rattle.std.proofs.Common.{arith}
+use Rattle.graph_change.specs.View.{patch_of}
+use Rattle.graph_change.proofs.Overs.{all_over}
+use Rattle.graph_change.proofs.block_change.put_marked.Goals as goal
+
+pub returns : goal.returns
+returns c = all_over (patch_of (c.args.bytes.now, c.args.marks.now)) c.places.place c.args.block.now c.places.block (omega (arith, c.places-test.false)) c.places.invariant
