@@ -1,0 +1,5 @@
+pub mod Alike
+pub mod Directories
+pub mod Edited
+pub mod Entering
+pub mod Files

@@ -1,0 +1,11 @@
+//! One inode as its slot and its logical blocks.
+//!
+//! An `Inode` of `specs/Inode.antt` stands between the shared media and the graph of `file_graph`: the media spell it, and it is a node. `specs/After.antt` says what a
+//! net change of `graph_change` makes of its slot and its blocks.
+#![tactic(auto)]
+
+mod after;
+mod reading;
+
+pub use after::{entries_change_by_name, inode_after_is_node_after, inodes_after_are_graph_after};
+pub use reading::{alike_inodes_are_one_node, nodes_are_read_by_place};
