@@ -1,0 +1,4 @@
+pub mod Records
+pub mod Owners
+pub mod Idle
+pub mod Moved

@@ -1,0 +1,5 @@
+pub mod Invariant
+pub mod Logs
+pub mod Opening
+pub mod Standing
+pub mod World

@@ -1,0 +1,81 @@
+-- What holds of one client's part beside the kernel's, and of two clients' parts.
+use Rattle.std.specs.Prelude.{◌≡◌, ◌≢◌, ◌⊎◌, ℕ, ◌+◌, ◌<◌, ◌≤◌, List, [], length, Bool, true, false, Option, Some, None}
+use Rattle.posix_calls.specs.Tree.{Own, sum_up_to}
+use Rattle.posix_calls.specs.Operations.{is_client, opens}
+use Rattle.posix_calls.specs.declared.descriptor.Descriptor.{Descriptor}
+use Rattle.posix_calls.specs.declared.operation.Operation.{Operation}
+use Rattle.posix_calls.specs.declared.limits.TheConstants.{ROOT, MAX_INODE, MAX_CLIENTS}
+use Rattle.file_graph.specs.Graph.{Graph}
+use Rattle.file_graph.specs.Units.{charge}
+use Rattle.log_record.specs.declared.format.Record.{Record}
+use Rattle.call_effects.specs.NodeView.{NodeView}
+use Rattle.call_effects.specs.Known.{Knowledge, IsPlanned}
+use Rattle.world_facts.specs.Logs.{is_written, is_made_in, IsMadeOnce, units_in, ArePaid}
+use Rattle.world_facts.specs.World.{Begun, Region, Ready, Away, Back, Client, Account, Kernel, undigested, records_of, holds}
+
+-- ---- one client's part beside the kernel's
+
+-- the mark stands within the region that was sealed, if there is one
+pub record IsMarked (mark past : ℕ) (sealed : List Record) (other : Region) : Type 0 where
+  pub low : past ≤ mark
+  pub high : mark ≤ past + length sealed
+  pub away : (other ≡ Away) ⊎ (sealed ≡ [])
+
+-- every record touches only what the client holds for writing, and has the units for what it raises
+pub record IsLogged (g : Graph) (writes : ℕ → Bool) (records : List Record) : Type 0 where
+  pub leased : (i : ℕ) → is_written i records ≡ true → writes i ≡ true
+  pub paid : ArePaid g records
+
+-- a number is in the book until the record that makes its node is digested, and no two records make a node of it
+pub record IsNumbered (book numbers : ℕ → Bool) (log : List Record) : Type 0 where
+  pub made : (i : ℕ) → is_made_in i log ≡ true → book i ≡ true
+  pub once : (i : ℕ) → IsMadeOnce i log
+  pub granted : (i : ℕ) → numbers i ≡ true → book i ≡ true
+  pub unused : (i : ℕ) → numbers i ≡ true → is_made_in i log ≡ false
+
+-- what is copied is held
+pub record IsLeased (has : ℕ → Bool) (k : Knowledge) : Type 0 where
+  pub copies : (i : ℕ) (copy : Option NodeView) → k.copies i ≡ Some copy → has i ≡ true
+  pub blocks : (i b : ℕ) (bytes : List ℕ) → k.blocks i b ≡ Some bytes → has i ≡ true
+
+-- what is open is pinned, and what is pinned is in the book
+pub record IsPinned (book pins : ℕ → Bool) (own : Own) : Type 0 where
+  pub opened : (n : ℕ) (o : Descriptor) → own n ≡ Some o → pins o.inode ≡ true
+  pub booked : (i : ℕ) → pins i ≡ true → book i ≡ true
+
+-- what an operation opens is pinned
+abbrev pub OpensPinned : (ℕ → Bool) → ℕ → Operation → Type 0
+OpensPinned pins new operation = (what : ℕ × Descriptor) → opens new operation ≡ Some what → pins what.1.inode ≡ true
+
+-- by what the client knows, the begun call comes to its operation, and its record to the effects
+pub record IsPending (k : Knowledge) (pins : ℕ → Bool) (b : Begun) : Type 0 where
+  pub planned : IsPlanned k b.call b.new b.operation b.change.effects
+  pub pinned : OpensPinned pins b.new b.operation
+
+-- all that holds of one client's part beside the kernel's
+pub record Stands (g : Graph) (a : Account) (c : ℕ) (p : Client) : Type 0 where
+  pub number : p.knows.client ≡ c
+  pub marked : IsMarked a.mark p.past p.sealed p.other
+  pub logged : IsLogged g p.writes (records_of a p)
+  -- the book has the units of its records and the spare ones
+  pub units : a.units ≡ p.spare + units_in (records_of a p)
+  pub numbered : IsNumbered a.numbers p.knows.granted (undigested a p)
+  pub leased : IsLeased (holds p) p.knows
+  pub pinned : IsPinned a.pins p.pins p.knows.own
+  pub pending : (b : Begun) → p.begun ≡ Some b → IsPending p.knows p.pins b
+
+-- ---- the kernel's part
+
+pub record IsBooked (k : Kernel) : Type 0 where
+  -- a number in the book is one for a new node, and in one client's account
+  pub free : (c i : ℕ) → is_client c ≡ true → (k.accounts c).numbers i ≡ true → k.shared i ≡ None
+  pub range : (c i : ℕ) → is_client c ≡ true → (k.accounts c).numbers i ≡ true → (ROOT < i) × (i ≤ MAX_INODE)
+  pub alone : (c d i : ℕ) → is_client c ≡ true → is_client d ≡ true → d ≢ c → (k.accounts c).numbers i ≡ true → (k.accounts d).numbers i ≡ false
+  -- what is charged and what is out fit together
+  pub fits : charge k.shared + sum_up_to MAX_CLIENTS (λ c. (k.accounts c).units) ≤ k.capacity
+
+-- ---- two clients' parts
+
+-- what one holds for writing the other doesn't hold
+abbrev pub IsBeside : Client → Client → Type 0
+IsBeside p q = (i : ℕ) → p.writes i ≡ true → holds q i ≡ false

@@ -1,0 +1,24 @@
+//! Where it begins.
+
+ghost use Rattle.std.specs.Prelude.{◌≡◌, ℕ, ◌≤◌};
+ghost use Rattle.posix_calls.specs.Tree.{opening};
+ghost use Rattle.file_graph.specs.Graph.{Graph, fresh};
+ghost use Rattle.file_graph.specs.Units.{charge};
+ghost use Rattle.call_effects.specs.Settled.{nobody};
+ghost use Rattle.call_effects.specs.Wholes.{IsSound, state_of};
+ghost use Rattle.world_facts.specs.World.{tree_of};
+ghost use Rattle.world_facts.specs.Invariant.{Holds};
+ghost use Rattle.world_facts.specs.Opening.{idle_world, opening_world};
+
+/// A sound graph that fits, and of which nobody uses anything, is a world in which all holds, as after a recovery. It stands for the
+/// tree of the graph, with nothing open.
+pub fn idle_world_holds()
+    ensures holds { (capacity : ℕ) (g : Graph) → charge g ≤ capacity → IsSound g nobody → Holds (idle_world capacity g) }
+    ensures tree { (capacity : ℕ) (g : Graph) → tree_of (idle_world capacity g) ≡ state_of g nobody }
+{}
+
+/// So is the world that a format makes, and it stands for the empty tree.
+pub fn opening_world_holds()
+    ensures holds { (capacity : ℕ) → charge fresh ≤ capacity → Holds (opening_world capacity) }
+    ensures tree { (capacity : ℕ) → tree_of (opening_world capacity) ≡ opening }
+{}
