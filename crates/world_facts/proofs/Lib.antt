@@ -2,3 +2,11 @@ pub mod Records
 pub mod Owners
 pub mod Idle
 pub mod Moved
+pub mod Facts
+pub mod Paid
+pub mod Made
+pub mod Begins
+pub mod Knowing
+pub mod Replies
+pub mod Leases
+pub mod Regions

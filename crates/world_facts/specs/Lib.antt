@@ -1,5 +1,9 @@
+pub mod BookSteps
+pub mod ClientSteps
 pub mod Invariant
+pub mod LeaseSteps
 pub mod Logs
 pub mod Opening
+pub mod RegionSteps
 pub mod Standing
 pub mod World

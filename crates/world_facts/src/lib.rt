@@ -5,6 +5,11 @@
 //! one file tree that the world stands for.
 #![tactic(auto)]
 
+mod calls;
 mod opening;
 
+pub use calls::{
+    begun_call_is_a_step, begun_call_leaves_the_tree, begun_call_may_be_given_up,
+    call_without_a_record_is_a_step, failed_client_leaves_the_tree,
+};
 pub use opening::{idle_world_holds, opening_world_holds};

@@ -1,0 +1,139 @@
+-- A call begins its record, is given up, or fails: no answer is given, and the whole stays.
+use Rattle.std.proofs.Common.{◌≡◌, ◌≢◌, ◌⊎◌, inl, inr, ℕ, ◌+◌, ◌-◌, ◌≤◌, ◌||◌, cond, Bool, true, false, List, [], ◌∷◌, ◌++◌, refl, Some, None, Option, Ok, ap, sym, ◌∙◌, subst, arith}
+use Rattle.std.proofs.lemmas.Option.{same_Some}
+use Rattle.posix_calls.specs.Operations.{is_client}
+use Rattle.file_graph.specs.Graph.{Graph}
+use Rattle.file_graph.specs.Units.{growth}
+use Rattle.log_record.specs.declared.format.Record.{Record}
+use Rattle.call_effects.specs.Known.{Knowledge}
+use Rattle.call_effects.specs.Wholes.{state_of}
+use Rattle.call_effects.proofs.KnownUnits.{planned_units}
+use Rattle.call_effects.proofs.Rises.{growth_local}
+use Rattle.world_facts.specs.Logs.{after_records, is_written, is_touched, units_in, ArePaid}
+use Rattle.world_facts.specs.World.{Begun, Client, Account, World, undigested, records_of, change_of, holds, log_of, whole, held, tree_of, moved}
+use Rattle.world_facts.specs.Standing.{IsLogged, IsPending, Stands}
+use Rattle.world_facts.specs.Invariant.{Holds}
+use Rattle.world_facts.specs.ClientSteps.{with_client, CanBegin, begun, IsBegun, given_up, failed}
+use Rattle.world_facts.proofs.Records.{either, both, append_nil, front_written, front_unwritten, written_append, or_neither, units_append}
+use Rattle.world_facts.proofs.Owners.{whole_at}
+use Rattle.world_facts.proofs.Idle.{none_some}
+use Rattle.world_facts.proofs.Facts.{owned, writing_holds}
+use Rattle.world_facts.proofs.Paid.{paid_front, paid_join}
+use Rattle.world_facts.proofs.Moved.{quiet, booked_same, before_less, after_less, whole_same, held_same}
+
+-- a client's step that changes neither its records nor what it has open
+pub tree_same : (w : World) (c : ℕ) (g : Graph) (a : Account) (p : Client) → undigested a p ≡ log_of w c → g ≡ w.kernel.shared → p.knows.own ≡ (w.clients c).knows.own → tree_of (moved w c g a p) ≡ tree_of w
+tree_same w c g a p log shared own = ap (λ s. state_of s (held (moved w c g a p))) (whole_same w c g a p log shared) ∙ ap (λ o. state_of (whole w) o) (held_same w c g a p own)
+
+-- no record is begun
+pub idle_records : (a : Account) (p : Client) → p.begun ≡ None → records_of a p ≡ undigested a p
+idle_records a p idle = ap (λ o. undigested a p ++ change_of o) idle ∙ append_nil (undigested a p)
+
+module _ (w : World) (c : ℕ) (b : Begun) (h : Holds w) (can : CanBegin w c b) where
+  abbrev old : Client
+  old = w.clients c
+
+  abbrev account : Account
+  account = w.kernel.accounts c
+
+  s : Stands w.kernel.shared account c old
+  s = h.stands c can.client
+
+  log_leased : (i : ℕ) → is_written i (log_of w c ++ (b.change ∷ [])) ≡ true → old.writes i ≡ true
+  log_leased i e = elim (either (is_written i (log_of w c))) [
+      | inl there ↦ s.logged.leased i (front_written i (log_of w c) (change_of old.begun) there)
+      | inr clean ↦ elim (either (is_touched i b.change)) [
+        | inl there ↦ can.leased i there
+        | inr off ↦ both (is_written i (log_of w c ++ (b.change ∷ []))) e (written_append i (log_of w c) (b.change ∷ []) ∙ or_neither (is_written i (log_of w c)) (is_written i (b.change ∷ [])) clean (ap (λ x. x || false) off))
+      ]
+    ]
+
+  -- where it touches, the whole is what the client's own records make of the shared graph
+  own_view : (i : ℕ) → is_touched i b.change ≡ true → whole w i ≡ after_records w.kernel.shared (log_of w c) i
+  own_view i e = whole_at (log_of w) w.kernel.shared c i (owned w h c i can.client (writing_holds w h c i (can.leased i e)))
+
+  grown : growth (after_records w.kernel.shared (log_of w c)) b.change.effects ≤ b.change.units
+  grown =
+      let same : growth (whole w) b.change.effects ≡ growth (after_records w.kernel.shared (log_of w c)) b.change.effects = growth_local (whole w) (after_records w.kernel.shared (log_of w c)) b.change.effects own_view in
+      let units : growth (whole w) b.change.effects ≡ b.change.units = planned_units old.knows (whole w) (held w) b.call b.new b.operation b.change.effects b.change.units h.sound (h.agrees c can.client) can.planned can.counted in
+      omega (arith, same, units)
+
+  log_paid : ArePaid w.kernel.shared (log_of w c ++ (b.change ∷ []))
+  log_paid = paid_join (log_of w c) (b.change ∷ []) w.kernel.shared (paid_front (log_of w c) (change_of old.begun) w.kernel.shared s.logged.paid) (grown, tt)
+
+  pub begun_holds : Holds (begun w c b)
+  begun_holds =
+      let were : account.units ≡ old.spare + units_in (records_of account old) = s.units in
+      let before : units_in (records_of account old) ≡ units_in (log_of w c) = ap units_in (idle_records account old can.idle) in
+      let after : units_in (log_of w c ++ (b.change ∷ [])) ≡ units_in (log_of w c) + (b.change.units + 0) = units_append (log_of w c) (b.change ∷ []) in
+      let enough : b.change.units ≤ old.spare = can.enough in
+      let p : Client = record old { begun = Some b; spare = old.spare - b.change.units } in
+      quiet w c w.kernel.shared account (record old { begun = Some b; spare = old.spare - b.change.units }) h can.client refl refl refl
+        (booked_same w c (record old { begun = Some b; spare = old.spare - b.change.units }) h can.client)
+        (record {
+          number = s.number;
+          marked = s.marked;
+          logged = record { leased = log_leased; paid = log_paid };
+          units = omega (arith, were, before, after, enough);
+          numbered = s.numbered;
+          leased = s.leased;
+          pinned = s.pinned;
+          pending = λ d e. subst (λ x. IsPending old.knows old.pins x) (same_Some b d e) (record { planned = can.planned; pinned = can.pinned });
+        })
+        (before_less w c (record old { begun = Some b; spare = old.spare - b.change.units }) h can.client (λ i e. e))
+        (after_less w c (record old { begun = Some b; spare = old.spare - b.change.units }) h can.client (λ i e. e))
+        (h.agrees c can.client)
+
+  pub begun_tree : tree_of (begun w c b) ≡ tree_of w
+  begun_tree = tree_same w c w.kernel.shared account (record old { begun = Some b; spare = old.spare - b.change.units }) refl refl refl
+
+module _ (w : World) (c : ℕ) (b : Begun) (h : Holds w) (is : IsBegun w c b) where
+  abbrev was : Client
+  was = w.clients c
+
+  abbrev its : Account
+  its = w.kernel.accounts c
+
+  stood : Stands w.kernel.shared its c was
+  stood = h.stands c is.client
+
+  abbrev less : Client
+  less = record was { begun = None; spare = was.spare + b.change.units }
+
+  records_were : records_of its was ≡ log_of w c ++ (b.change ∷ [])
+  records_were = ap (λ o. log_of w c ++ change_of o) is.there
+
+  pub given_up_holds : Holds (given_up w c b)
+  given_up_holds =
+      let were : its.units ≡ was.spare + units_in (records_of its was) = stood.units in
+      let before : units_in (records_of its was) ≡ units_in (log_of w c) + (b.change.units + 0) = ap units_in records_were ∙ units_append (log_of w c) (b.change ∷ []) in
+      let after : units_in (log_of w c ++ []) ≡ units_in (log_of w c) = ap units_in (append_nil (log_of w c)) in
+      quiet w c w.kernel.shared its less h is.client refl refl refl (booked_same w c less h is.client)
+        (record {
+          number = stood.number;
+          marked = stood.marked;
+          logged = record {
+            leased = λ i e. stood.logged.leased i (front_written i (log_of w c) (change_of was.begun) (sym (ap (is_written i) (append_nil (log_of w c))) ∙ e));
+            paid = subst (λ rs. ArePaid w.kernel.shared rs) (sym (append_nil (log_of w c))) (paid_front (log_of w c) (change_of was.begun) w.kernel.shared stood.logged.paid);
+          };
+          units = omega (arith, were, before, after);
+          numbered = stood.numbered;
+          leased = stood.leased;
+          pinned = stood.pinned;
+          pending = λ d e. none_some d e;
+        })
+        (before_less w c less h is.client (λ i e. e)) (after_less w c less h is.client (λ i e. e)) (h.agrees c is.client)
+
+  pub given_up_tree : tree_of (given_up w c b) ≡ tree_of w
+  given_up_tree = tree_same w c w.kernel.shared its less refl refl refl
+
+module _ (w : World) (c : ℕ) (h : Holds w) (is_c : is_client c ≡ true) where
+  pub failed_holds : Holds (failed w c)
+  failed_holds =
+      let x = h.stands c is_c in
+      quiet w c w.kernel.shared (w.kernel.accounts c) (record (w.clients c) { failed = true }) h is_c refl refl refl (booked_same w c (record (w.clients c) { failed = true }) h is_c)
+        (record { number = x.number; marked = x.marked; logged = x.logged; units = x.units; numbered = x.numbered; leased = x.leased; pinned = x.pinned; pending = x.pending })
+        (before_less w c (record (w.clients c) { failed = true }) h is_c (λ i e. e)) (after_less w c (record (w.clients c) { failed = true }) h is_c (λ i e. e)) (h.agrees c is_c)
+
+  pub failed_tree : tree_of (failed w c) ≡ tree_of w
+  failed_tree = tree_same w c w.kernel.shared (w.kernel.accounts c) (record (w.clients c) { failed = true }) refl refl refl

@@ -1,0 +1,109 @@
+-- A region is sealed, comes back and is wiped: the records that are not digested stay.
+use Rattle.std.proofs.Common.{◌≡◌, ◌≢◌, ◌⊎◌, inl, inr, ℕ, ◌+◌, ◌-◌, ◌≤◌, cond, Bool, true, false, List, [], ◌∷◌, ◌++◌, length, drop, refl, Some, None, Option, ap, sym, ◌∙◌, subst, arith}
+use Rattle.std.proofs.Math.ListN.{drop_of_length-le}
+use Rattle.posix_calls.specs.Operations.{is_client}
+use Rattle.log_record.specs.declared.format.Record.{Record}
+use Rattle.world_facts.specs.Logs.{is_written, units_in, ArePaid, is_made_in, IsMadeOnce}
+use Rattle.world_facts.specs.World.{Region, Ready, Away, Back, Client, Account, World, undigested, records_of, change_of, holds, log_of, whole, held, tree_of}
+use Rattle.world_facts.specs.Standing.{IsMarked, IsLogged, IsNumbered, Stands}
+use Rattle.world_facts.specs.Invariant.{Holds}
+use Rattle.world_facts.specs.ClientSteps.{with_client}
+use Rattle.world_facts.specs.RegionSteps.{CanSeal, sealed, CanTakeBack, taken_back, CanWipe, wiped}
+use Rattle.world_facts.proofs.Records.{append_nil}
+use Rattle.world_facts.proofs.Begins.{tree_same}
+use Rattle.world_facts.proofs.Moved.{quiet, booked_same, before_less, after_less}
+
+-- no record is digested of what was just sealed
+none_yet : (mark past : ℕ) (current : List Record) → mark ≡ past → drop (mark - past) current ++ [] ≡ current
+none_yet mark past current e = ap (λ n. drop n current ++ []) (zero_is mark past e) ∙ append_nil current
+  where
+    zero_is : (mark past : ℕ) → mark ≡ past → mark - past ≡ 0
+    zero_is mark past e = omega (arith, e)
+
+nothing_sealed : (n : ℕ) (sealed current : List Record) → length sealed ≤ n → drop n sealed ++ current ≡ current
+nothing_sealed n sealed current low = ap (λ rs. rs ++ current) (drop_of_length-le sealed low)
+
+-- The regions of a client are other ones, with the same undigested records.
+module _ (w : World) (c : ℕ) (h : Holds w) (is_c : is_client c ≡ true) (past : ℕ) (newly current : List Record) (other : Region)
+    (log : drop ((w.kernel.accounts c).mark - past) newly ++ current ≡ log_of w c) (marked : IsMarked (w.kernel.accounts c).mark past newly other) where
+  abbrev p : Client
+  p = record (w.clients c) { past = past; sealed = newly; current = current; other = other }
+
+  s : Stands w.kernel.shared (w.kernel.accounts c) c (w.clients c)
+  s = h.stands c is_c
+
+  all : records_of (w.kernel.accounts c) p ≡ records_of (w.kernel.accounts c) (w.clients c)
+  all = ap (λ rs. rs ++ change_of (w.clients c).begun) log
+
+  pub regions_hold : Holds (with_client w c p)
+  regions_hold = quiet w c w.kernel.shared (w.kernel.accounts c) p h is_c refl log refl (booked_same w c p h is_c)
+      (record {
+        number = s.number;
+        marked = marked;
+        logged = subst (λ rs. IsLogged w.kernel.shared (w.clients c).writes rs) (sym all) s.logged;
+        units = s.units ∙ ap (λ rs. (w.clients c).spare + units_in rs) (sym all);
+        numbered = subst (λ rs. IsNumbered (w.kernel.accounts c).numbers (w.clients c).knows.granted rs) (sym log) s.numbered;
+        leased = s.leased;
+        pinned = s.pinned;
+        pending = s.pending;
+      })
+      (before_less w c p h is_c (λ i e. e)) (after_less w c p h is_c (λ i e. e)) (h.agrees c is_c)
+
+  pub regions_tree : tree_of (with_client w c p) ≡ tree_of w
+  regions_tree = tree_same w c w.kernel.shared (w.kernel.accounts c) p log refl refl
+
+-- ---- sealed
+
+module _ (w : World) (c : ℕ) (h : Holds w) (can : CanSeal w c) where
+  marks : IsMarked (w.kernel.accounts c).mark (w.clients c).past (w.clients c).sealed (w.clients c).other
+  marks = (h.stands c can.client).marked
+
+  at_past : (w.kernel.accounts c).mark ≡ (w.clients c).past
+  at_past = let low : (w.clients c).past ≤ (w.kernel.accounts c).mark = marks.low in
+      let high : (w.kernel.accounts c).mark ≤ (w.clients c).past + length (w.clients c).sealed = marks.high in
+      let none : length (w.clients c).sealed ≡ 0 = ap length can.empty in
+      omega (arith, low, high, none)
+
+  log_sealed : drop ((w.kernel.accounts c).mark - (w.clients c).past) (w.clients c).current ++ [] ≡ log_of w c
+  log_sealed = none_yet (w.kernel.accounts c).mark (w.clients c).past (w.clients c).current at_past
+      ∙ sym (nothing_sealed ((w.kernel.accounts c).mark - (w.clients c).past) (w.clients c).sealed (w.clients c).current (let none : length (w.clients c).sealed ≡ 0 = ap length can.empty in omega (arith, none)))
+
+  still_marked : IsMarked (w.kernel.accounts c).mark (w.clients c).past (w.clients c).current Away
+  still_marked = record { low = marks.low; high = (let e : (w.kernel.accounts c).mark ≡ (w.clients c).past = at_past in omega (arith, e)); away = inl refl }
+
+  pub sealed_holds : Holds (sealed w c)
+  sealed_holds = regions_hold w c h can.client (w.clients c).past (w.clients c).current [] Away log_sealed still_marked
+
+  pub sealed_tree : tree_of (sealed w c) ≡ tree_of w
+  sealed_tree = regions_tree w c h can.client (w.clients c).past (w.clients c).current [] Away log_sealed still_marked
+
+-- ---- back
+
+module _ (w : World) (c : ℕ) (h : Holds w) (can : CanTakeBack w c) where
+  abbrev mark : ℕ
+  mark = (w.kernel.accounts c).mark
+
+  log_back : drop (mark - mark) [] ++ (w.clients c).current ≡ log_of w c
+  log_back = nothing_sealed (mark - mark) [] (w.clients c).current (omega arith)
+      ∙ sym (nothing_sealed (mark - (w.clients c).past) (w.clients c).sealed (w.clients c).current (let e : mark ≡ (w.clients c).past + length (w.clients c).sealed = can.digested in omega (arith, e)))
+
+  back_marked : IsMarked mark mark [] Back
+  back_marked = record { low = omega arith; high = omega arith; away = inr refl }
+
+  pub taken_back_holds : Holds (taken_back w c)
+  taken_back_holds = regions_hold w c h can.client mark [] (w.clients c).current Back log_back back_marked
+
+  pub taken_back_tree : tree_of (taken_back w c) ≡ tree_of w
+  taken_back_tree = regions_tree w c h can.client mark [] (w.clients c).current Back log_back back_marked
+
+-- ---- wiped
+
+module _ (w : World) (c : ℕ) (h : Holds w) (can : CanWipe w c) where
+  m : IsMarked (w.kernel.accounts c).mark (w.clients c).past (w.clients c).sealed (w.clients c).other
+  m = (h.stands c can.client).marked
+
+  pub wiped_holds : Holds (wiped w c)
+  wiped_holds = regions_hold w c h can.client (w.clients c).past (w.clients c).sealed (w.clients c).current Ready refl (record { low = m.low; high = m.high; away = inr can.empty })
+
+  pub wiped_tree : tree_of (wiped w c) ≡ tree_of w
+  wiped_tree = regions_tree w c h can.client (w.clients c).past (w.clients c).sealed (w.clients c).current Ready refl (record { low = m.low; high = m.high; away = inr can.empty })

@@ -1,0 +1,56 @@
+-- The steps of the kernel's book: units, numbers and pins, each with when it may be taken.
+use Rattle.std.specs.Prelude.{◌≡◌, ◌≢◌, ℕ, ◌+◌, ◌-◌, ◌<◌, ◌≤◌, true, false, Option, Some, None}
+use Rattle.posix_calls.specs.Tree.{sum_up_to}
+use Rattle.posix_calls.specs.Operations.{is_client}
+use Rattle.posix_calls.specs.declared.descriptor.Descriptor.{Descriptor}
+use Rattle.posix_calls.specs.declared.limits.TheConstants.{ROOT, MAX_INODE, MAX_CLIENTS}
+use Rattle.file_graph.specs.Units.{charge}
+use Rattle.world_facts.specs.World.{Client, Account, World, moved}
+use Rattle.world_facts.specs.LeaseSteps.{also, without}
+
+-- ---- units
+
+-- what is charged and out, and so many more units, fit
+abbrev pub HasRoom : World → ℕ → Type 0
+HasRoom w units = charge w.kernel.shared + (sum_up_to MAX_CLIENTS (λ c. (w.kernel.accounts c).units) + units) ≤ w.kernel.capacity
+
+abbrev pub units_granted : World → ℕ → ℕ → World
+units_granted w c units = moved w c w.kernel.shared (record (w.kernel.accounts c) { units = (w.kernel.accounts c).units + units }) (record (w.clients c) { spare = (w.clients c).spare + units })
+
+abbrev pub units_returned : World → ℕ → ℕ → World
+units_returned w c units = moved w c w.kernel.shared (record (w.kernel.accounts c) { units = (w.kernel.accounts c).units - units }) (record (w.clients c) { spare = (w.clients c).spare - units })
+
+-- ---- numbers
+
+-- a number of no node, in nobody's account
+pub record IsUnbooked (w : World) (i : ℕ) : Type 0 where
+  pub low : ROOT < i
+  pub high : i ≤ MAX_INODE
+  pub none : w.kernel.shared i ≡ None
+  pub nobody : (d : ℕ) → is_client d ≡ true → (w.kernel.accounts d).numbers i ≡ false
+
+abbrev pub number_granted : World → ℕ → ℕ → World
+number_granted w c i = moved w c w.kernel.shared (record (w.kernel.accounts c) { numbers = also (w.kernel.accounts c).numbers i }) (record (w.clients c) { knows = record (w.clients c).knows { granted = also (w.clients c).knows.granted i } })
+
+-- an idle client gives back a number that it has not used
+pub record CanReturn (w : World) (c i : ℕ) : Type 0 where
+  pub client : is_client c ≡ true
+  pub idle : (w.clients c).begun ≡ None
+  pub granted : (w.clients c).knows.granted i ≡ true
+
+abbrev pub number_returned : World → ℕ → ℕ → World
+number_returned w c i = moved w c w.kernel.shared (record (w.kernel.accounts c) { numbers = without (w.kernel.accounts c).numbers i }) (record (w.clients c) { knows = record (w.clients c).knows { granted = without (w.clients c).knows.granted i } })
+
+-- ---- pins
+
+abbrev pub pinned : World → ℕ → ℕ → World
+pinned w c i = moved w c w.kernel.shared (record (w.kernel.accounts c) { pins = also (w.kernel.accounts c).pins i }) (record (w.clients c) { pins = also (w.clients c).pins i })
+
+-- an idle client drops a pin of what it has not open
+pub record CanUnpin (w : World) (c i : ℕ) : Type 0 where
+  pub client : is_client c ≡ true
+  pub idle : (w.clients c).begun ≡ None
+  pub closed : (n : ℕ) (o : Descriptor) → (w.clients c).knows.own n ≡ Some o → o.inode ≢ i
+
+abbrev pub unpinned : World → ℕ → ℕ → World
+unpinned w c i = moved w c w.kernel.shared (record (w.kernel.accounts c) { pins = without (w.kernel.accounts c).pins i }) (record (w.clients c) { pins = without (w.clients c).pins i })
