@@ -1,0 +1,110 @@
+-- What is damaged spells no graph.
+use Rattle.std.proofs.Common.{◌≡◌, ◌≢◌, ◌≤◌, ◌<◌, ℕ, [], true, refl, sym, ap, subst, arith, Option, Some, None, inl, inr}
+use Rattle.std.specs.Prelude.{IsSome, unwrap_or}
+use Rattle.std.proofs.lemmas.Bool.{false≢true}
+use Rattle.tier_device.specs.declared.media.Tier.{Tier}
+use Rattle.tier_device.specs.declared.media.Tier.TheVariants.{Fast, Block, Slow}
+use Rattle.file_graph.specs.declared.effect.Kind.{Kind}
+use Rattle.file_graph.specs.declared.effect.Kind.TheVariants as kind
+use Rattle.layout.specs.declared.error.What.{What}
+use Rattle.layout.specs.declared.slot.Slot.{Slot}
+use Rattle.layout.specs.declared.slot.Slot.TheVariants as slots
+use Rattle.layout.specs.Places.{Sizes, is_inode}
+use Rattle.layout.specs.Directory.{listed}
+use Rattle.extent_nodes.specs.Places.{place_of}
+use Rattle.tree_blocks.specs.Inode.{IsConsistent, IsConsistentBy, IsDirectory, IsDirectoryBlock, IsZeroFrom, Inode, inode_of, blocks_for, byte_of, entry_at, Blocks}
+use Rattle.area_image.specs.Store.{Store, slot, length_of, runs_by, runs_read, place, at_or, logical, inode}
+use Rattle.area_image.specs.Spelled.{SpellsInode, IsSpelled}
+use Rattle.area_image.specs.Damage.{LacksBlock, IsMappedTwice, IsShared, HasTwin, IsDamaged}
+
+no_some : {A : Type 0} (o : Option A) → o ≡ None → IsSome o → ⊥
+no_some o none some = false≢true (subst IsSome none some)
+
+-- a directory is consistent as one, and a file is zero behind its size
+as_directory : (i : ℕ) (x : Inode) → x.kind ≡ Some kind.Directory → IsConsistent i x → IsDirectory i x.size x.blocks
+as_directory i x is consistent = subst (λ k. IsConsistentBy i k x.size x.blocks) is consistent
+
+as_file : (i : ℕ) (x : Inode) → x.kind ≡ Some kind.File → IsConsistent i x → IsZeroFrom x.size x.blocks
+as_file i x is consistent = subst (λ k. IsConsistentBy i k x.size x.blocks) is consistent
+
+length_is : (x : Slot) (blocks : Blocks) → (inode_of x blocks).kind ≡ Some kind.Directory → length_of x ≡ blocks_for (inode_of x blocks).size
+length_is slots.Free blocks is = cc
+length_is (slots.File names size touch fast block slow) blocks is = cc
+length_is (slots.Directory names entries touch root) blocks is = refl
+
+blocks_is : (x : Slot) (blocks : Blocks) (k : Kind) → (inode_of x blocks).kind ≡ Some k → (inode_of x blocks).blocks ≡ blocks
+blocks_is slots.Free blocks k is = cc
+blocks_is (slots.File names size touch fast block slow) blocks k is = refl
+blocks_is (slots.Directory names entries touch root) blocks k is = refl
+
+-- a directory has its blocks in one tier
+other_root : (g : Sizes) (fast : Blocks) (i : ℕ) (x : Slot) (blocks : Blocks) (t : Tier) → t ≢ Fast → (inode_of x blocks).kind ≡ Some kind.Directory → runs_by g fast i x t ≡ Some []
+other_root g fast i slots.Free blocks t other is = cc
+other_root g fast i (slots.File names size touch one two three) blocks t other is = cc
+other_root g fast i (slots.Directory names entries touch root) blocks Fast other is = absurd (other refl)
+other_root g fast i (slots.Directory names entries touch root) blocks Block other is = refl
+other_root g fast i (slots.Directory names entries touch root) blocks Slow other is = refl
+
+other_place : (g : Sizes) (s : Store) (i : ℕ) (t : Tier) (k : ℕ) → t ≢ Fast → (inode g s i).kind ≡ Some kind.Directory → place g s i t k ≡ None
+unfolding runs_read
+other_place g s i t k other is = ap (λ o. place_of (unwrap_or o []) k) (other_root g (s Fast) i (slot g s i) (logical g s i) t other is)
+
+none_read : (g : Sizes) (s : Store) (i k : ℕ) → (inode g s i).kind ≡ Some kind.Directory → place g s i Fast k ≡ None → logical g s i k ≡ []
+unfolding logical
+none_read g s i k is none =
+    let second = other_place g s i Block k (λ e. cc) is in
+    let third = other_place g s i Slow k (λ e. cc) is in
+    λ p. at_or (s Fast) (none p) (at_or (s Block) (second p) (at_or (s Slow) (third p) []))
+
+no_entries : (i n k : ℕ) → is_inode i ≡ true → IsDirectoryBlock i n k [] → ⊥
+unfolding listed
+no_entries i n k number part = false≢true (subst (λ j. is_inode j ≡ true) (sym part.owner_is) number)
+
+module _ (g : Sizes) (s : Store) (i : ℕ) (number : is_inode i ≡ true) (is : SpellsInode g s i) where
+  no_lack : LacksBlock g s i → ⊥
+  no_lack lack =
+      let whole = as_directory i (inode g s i) lack.kind is.consistent in
+      let lt : lack.block < blocks_for (inode g s i).size = subst (λ n. lack.block < n) (length_is (slot g s i) (logical g s i) lack.kind) lack.within in
+      let part = subst (λ (b : Blocks). IsDirectoryBlock i (inode g s i).size lack.block (b lack.block)) (blocks_is (slot g s i) (logical g s i) kind.Directory lack.kind) (whole.parts lack.block lt) in
+      no_entries i (inode g s i).size lack.block number (subst (IsDirectoryBlock i (inode g s i).size lack.block) (none_read g s i lack.block lack.kind lack.none) part)
+
+  no_twice : (t : Tier) → IsMappedTwice g s i t → ⊥
+  no_twice t twice = twice.differ (sym (is.once t twice.other twice.block twice.here twice.there))
+
+  no_part : (inode g s i).kind ≡ Some kind.Directory → (k : ℕ) → k < length_of (slot g s i) → (IsDirectoryBlock i (inode g s i).size k (logical g s i k) → ⊥) → ⊥
+  no_part dir k lt wrong =
+      let whole = as_directory i (inode g s i) dir is.consistent in
+      let lt' : k < blocks_for (inode g s i).size = subst (λ n. k < n) (length_is (slot g s i) (logical g s i) dir) lt in
+      wrong (subst (λ (b : Blocks). IsDirectoryBlock i (inode g s i).size k (b k)) (blocks_is (slot g s i) (logical g s i) kind.Directory dir) (whole.parts k lt'))
+
+  no_twin : (inode g s i).kind ≡ Some kind.Directory → (k : ℕ) → HasTwin g s i k → ⊥
+  no_twin dir k twin =
+      let whole = as_directory i (inode g s i) dir is.consistent in
+      let b = blocks_is (slot g s i) (logical g s i) kind.Directory dir in
+      twin.differ (whole.distinct twin.entry twin.other twin.one_within twin.other_within (subst (λ (b : Blocks). (entry_at b twin.entry).0 ≡ (entry_at b twin.other).0) (sym b) twin.same))
+
+  no_tail : (inode g s i).kind ≡ Some kind.File → (at : ℕ) → (inode g s i).size ≤ at → byte_of (logical g s i) at ≢ 0 → ⊥
+  no_tail file at behind wrong =
+      let zero = as_file i (inode g s i) file is.consistent in
+      wrong (subst (λ (b : Blocks). byte_of b at ≡ 0) (blocks_is (slot g s i) (logical g s i) kind.File file) (zero at behind))
+
+no_shared : (g : Sizes) (s : Store) (i : ℕ) (t : Tier) → IsSpelled g s → IsShared g s i t → ⊥
+no_shared g s i t is shared = shared.differ (is.apart shared.other (record { inode = i; tier = t; logical = shared.logical }) shared.block shared.there shared.here)
+
+pub damage_none : (g : Sizes) (s : Store) (what : What) (block : ℕ) → IsDamaged g s what block → IsSpelled g s → ⊥
+damage_none g s what block (inl x) is = elim (x.wrong) [
+  | inl none ↦ no_some _ none (is.inodes x.inode x.is).slot
+  | inr lack ↦ no_lack g s x.inode x.is (is.inodes x.inode x.is) lack
+]
+damage_none g s what block (inr (inl x)) is = elim (x.wrong) [
+  | inl none ↦ no_some _ none ((is.inodes x.inode x.is).extents x.tier)
+  | inr (inl twice) ↦ no_twice g s x.inode x.is (is.inodes x.inode x.is) x.tier twice
+  | inr (inr shared) ↦ no_shared g s x.inode x.tier is shared
+]
+damage_none g s what block (inr (inr (inl x))) is = elim (x.wrong) [
+  | inl wrong ↦ no_part g s x.inode x.is (is.inodes x.inode x.is) x.kind x.number x.within wrong
+  | inr twin ↦ no_twin g s x.inode x.is (is.inodes x.inode x.is) x.kind x.number twin
+]
+damage_none g s what block (inr (inr (inr (inl x)))) is = no_tail g s x.number x.is (is.inodes x.number x.is) x.kind x.byte x.behind x.wrong
+damage_none g s what block (inr (inr (inr (inr (inl x))))) is = no_some _ x.none is.marks
+damage_none g s what block (inr (inr (inr (inr (inr x))))) is = omega (arith, x.more, is.charge)

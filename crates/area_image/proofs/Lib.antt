@@ -1,0 +1,4 @@
+pub mod Frames
+pub mod Damages
+pub mod Looked
+pub mod Shown

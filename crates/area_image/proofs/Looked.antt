@@ -1,0 +1,80 @@
+-- Reads one after the other.
+use Rattle.std.proofs.Common.{◌≡◌, ◌≢◌, ◌≤◌, ◌+◌, ◌⊎◌, inl, inr, ℕ, List, true, false, refl, sym, ◌∙◌, ap, subst, arith}
+use Rattle.std.specs.Prelude.{Result, Ok, Err, IfErr}
+use Rattle.tier_device.specs.declared.media.Tier.{Tier}
+use Rattle.tier_device.specs.Media.{Rose}
+use Rattle.batch_journal.specs.View.{JournalView}
+use Rattle.batch_journal.specs.Course.{Unmoved}
+use Rattle.batch_journal.proofs.Courses.{unmoved_on, tiers_same}
+use Rattle.area_image.specs.declared.error.AreaError.{AreaError}
+use Rattle.area_image.specs.declared.error.AreaError.TheVariants as errors
+use Rattle.area_image.specs.Store.{store_of}
+use Rattle.area_image.specs.Looks.{Looks}
+
+module _ {M : Type 0} (moment : M → ℕ) (seen : M → Tier → List ℕ) (left : M → ℕ → Tier → List ℕ → Type 0) (faults : M → ℕ) where
+  -- the store is the same
+  pub store_same : {T : Type 0} (old new : JournalView M) (r : Result T AreaError) → Looks moment seen left faults old new r → store_of (seen new.media) ≡ store_of (seen old.media)
+  store_same old new r looks = ap store_of (tiers_same (seen old.media) (seen new.media) looks.unmoved.reads)
+
+  -- another answer, decided without the device
+  pub looks_other : {T U : Type 0} (old new : JournalView M) (x : T) (r : Result U AreaError) → Looks moment seen left faults old new (Ok x) → IfErr r (λ e. e ≢ errors.DeviceFault) → Looks moment seen left faults old new r
+  looks_other old new x (Ok y) looks other = record { unmoved = looks.unmoved; geometry = looks.geometry; more_faults = looks.more_faults; one_fault = looks.one_fault; quiet = looks.quiet; quiet_refused = tt; fault = tt }
+  looks_other old new x (Err e) looks other = record { unmoved = looks.unmoved; geometry = looks.geometry; more_faults = looks.more_faults; one_fault = looks.one_fault; quiet = tt; quiet_refused = λ _. looks.quiet; fault = λ is. absurd (other is) }
+
+  -- the same refusal of another call
+  pub looks_err : {T U : Type 0} (old new : JournalView M) (e : AreaError) → Looks {T = T} moment seen left faults old new (Err e) → Looks {T = U} moment seen left faults old new (Err e)
+  looks_err old new e looks = record { unmoved = looks.unmoved; geometry = looks.geometry; more_faults = looks.more_faults; one_fault = looks.one_fault; quiet = tt; quiet_refused = looks.quiet_refused; fault = looks.fault }
+
+  -- one call behind another
+  pub looks_on : {T U : Type 0} (old mid new : JournalView M) (x : T) (r : Result U AreaError) → Looks moment seen left faults old mid (Ok x) → Looks moment seen left faults mid new r → Looks moment seen left faults old new r
+  looks_on old mid new x (Ok y) first second = record {
+    unmoved = unmoved_on first.unmoved second.unmoved;
+    geometry = second.geometry ∙ first.geometry;
+    more_faults = omega (arith, first.more_faults, second.more_faults);
+    one_fault = omega (arith, first.quiet.0, second.one_fault);
+    quiet = (second.quiet.0 ∙ first.quiet.0, second.quiet.1 ∙ first.quiet.1);
+    quiet_refused = tt;
+    fault = tt;
+  }
+  looks_on old mid new x (Err e) first second = record {
+    unmoved = unmoved_on first.unmoved second.unmoved;
+    geometry = second.geometry ∙ first.geometry;
+    more_faults = omega (arith, first.more_faults, second.more_faults);
+    one_fault = omega (arith, first.quiet.0, second.one_fault);
+    quiet = tt;
+    quiet_refused = λ other. let q = second.quiet_refused other in (q.0 ∙ first.quiet.0, q.1 ∙ first.quiet.1);
+    fault = λ is. let f = second.fault is in (f.0, elim (f.1) [ inl was ↦ inl (sym first.quiet.1 ∙ was) | inr rose ↦ inr (subst (λ (n : ℕ). Rose n (faults new.media)) first.quiet.0 rose) ]);
+  }
+
+  -- a read that was made
+  pub looks_ok : {T : Type 0} (old new : JournalView M) (x : T) → Unmoved (moment old.media) (moment new.media) (seen old.media) (seen new.media) (left old.media) (left new.media) → new.geometry ≡ old.geometry → faults new.media ≡ faults old.media → (old.failed ≡ false) × (new.failed ≡ false) → Looks moment seen left faults old new (Ok x)
+  looks_ok old new x unmoved geometry quiet going = record {
+    unmoved = unmoved;
+    geometry = geometry;
+    more_faults = omega (arith, quiet);
+    one_fault = omega (arith, quiet);
+    quiet = (quiet, going.1 ∙ sym going.0);
+    quiet_refused = tt;
+    fault = tt;
+  }
+
+  -- one that a device failed in
+  pub looks_fault : {T : Type 0} (old new : JournalView M) → Unmoved (moment old.media) (moment new.media) (seen old.media) (seen new.media) (left old.media) (left new.media) → new.geometry ≡ old.geometry → faults old.media ≤ faults new.media → faults new.media ≤ faults old.media + 1 → (new.failed ≡ true) × ((old.failed ≡ true) ⊎ Rose (faults old.media) (faults new.media)) → Looks {T = T} moment seen left faults old new (Err errors.DeviceFault)
+  looks_fault old new unmoved geometry more one cause = record {
+    unmoved = unmoved;
+    geometry = geometry;
+    more_faults = more;
+    one_fault = one;
+    quiet = tt;
+    quiet_refused = λ other. absurd (other refl);
+    fault = λ _. cause;
+  }
+
+  -- no call at all
+  pub looks_none : {T : Type 0} (old : JournalView M) (r : Result T AreaError) → IfErr r (λ e. e ≢ errors.DeviceFault) → Looks moment seen left faults old old r
+  looks_none old (Ok x) other = record { unmoved = still_there; geometry = refl; more_faults = omega arith; one_fault = omega arith; quiet = (refl, refl); quiet_refused = tt; fault = tt } where
+    still_there : Unmoved (moment old.media) (moment old.media) (seen old.media) (seen old.media) (left old.media) (left old.media)
+    still_there = record { clock = refl; reads = λ t. refl; past = λ m t x le l. l; kept = λ m t x le l. l }
+  looks_none old (Err e) other = record { unmoved = still_there; geometry = refl; more_faults = omega arith; one_fault = omega arith; quiet = tt; quiet_refused = λ _. (refl, refl); fault = λ is. absurd (other is) } where
+    still_there : Unmoved (moment old.media) (moment old.media) (seen old.media) (seen old.media) (left old.media) (left old.media)
+    still_there = record { clock = refl; reads = λ t. refl; past = λ m t x le l. l; kept = λ m t x le l. l }

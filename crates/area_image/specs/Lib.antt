@@ -1,0 +1,6 @@
+pub mod Store
+pub mod Reads
+pub mod Spelled
+pub mod Damage
+pub mod Map
+pub mod Looks
