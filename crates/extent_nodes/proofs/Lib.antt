@@ -1,3 +1,4 @@
+pub mod Spelled
 pub mod Maps
 pub mod Rising
 pub mod Joined

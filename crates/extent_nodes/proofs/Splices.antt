@@ -6,10 +6,10 @@ use Rattle.std.proofs.lemmas.Bool.{cases_lt, and_from, and_left, and_right, le-l
 use Rattle.std.proofs.lemmas.Option.{none-some, same_Some}
 use Rattle.std.proofs.lemmas.List.{append-nil}
 use Rattle.layout.specs.declared.extents.Extent.{Extent}
-use Rattle.extent_nodes.specs.Places.{place_in, place_of}
+use Rattle.extent_nodes.specs.Places.{in_run, place_in, place_of}
 use Rattle.extent_nodes.specs.Normal.{IsRising, Point, start_of, stop_of, Meet, AreApart, IsNormal, Joins}
 use Rattle.extent_nodes.specs.Parts.{part}
-use Rattle.extent_nodes.specs.Changes.{in_run, after, piece, changed, EndBefore, BeginBehind}
+use Rattle.extent_nodes.specs.Changes.{after, piece, changed, EndBefore, BeginBehind}
 use Rattle.extent_nodes.specs.Nodes.{last_end}
 use Rattle.extent_nodes.proofs.Maps.{has-in, not-has, place-here, place-later, place_of-append, or-none}
 use Rattle.extent_nodes.proofs.Rising.{rising-append, rising-left, rising-right, rising-tight, last-bound, none-before, none-behind}

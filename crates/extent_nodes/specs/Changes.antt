@@ -1,14 +1,10 @@
 -- Extents of which a run of blocks is mapped anew or unmapped.
-use Rattle.std.specs.Prelude.{◌+◌, ◌-◌, ◌<◌, ◌&&◌, nat_le, nat_lt, Bool, ℕ, List, [], ◌∷◌, ◌++◌, Option, Some, None, if◌then◌else◌}
+use Rattle.std.specs.Prelude.{◌+◌, ◌-◌, ◌<◌, ℕ, List, [], ◌∷◌, ◌++◌, Option, Some, None, if◌then◌else◌}
 use Rattle.std.specs.Option.{option_map}
 use Rattle.std.specs.List.{AllByRecursion}
 use Rattle.layout.specs.declared.extents.Extent.{Extent}
-use Rattle.extent_nodes.specs.Places.{place_of}
+use Rattle.extent_nodes.specs.Places.{in_run, place_of}
 use Rattle.extent_nodes.specs.Parts.{part}
-
--- whether a block is one of a run
-abbrev pub in_run : ℕ → ℕ → ℕ → Bool
-in_run first count b = nat_le first b && nat_lt b (first + count)
 
 -- the map of some extents, in which a run of blocks lies from a place on, or nowhere
 abbrev pub after : ℕ → ℕ → Option ℕ → List Extent → ℕ → Option ℕ

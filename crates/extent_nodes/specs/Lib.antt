@@ -3,3 +3,4 @@ pub mod Normal
 pub mod Parts
 pub mod Changes
 pub mod Nodes
+pub mod Spelled

@@ -7,9 +7,13 @@ use Rattle.layout.specs.declared.extents.Extent.{Extent}
 abbrev pub end_of : Extent → ℕ
 end_of e = e.logical + e.length
 
+-- whether a block is one of a run
+abbrev pub in_run : ℕ → ℕ → ℕ → Bool
+in_run first count b = nat_le first b && nat_lt b (first + count)
+
 -- whether an extent has a block
 abbrev pub has : ℕ → Extent → Bool
-has b e = nat_le e.logical b && nat_lt b (e.logical + e.length)
+has b e = in_run e.logical e.length b
 
 -- the place of a block within an extent
 abbrev pub place_in : ℕ → Extent → ℕ

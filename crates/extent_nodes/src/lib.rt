@@ -14,7 +14,7 @@ mod searching;
 
 pub use changing::change;
 pub use joining::{push, push_part};
-pub use laws::normal_form_is_one;
+pub use laws::{block_spells_a_map, map_is_spelled_by_a_block, normal_form_is_one};
 pub use node::{Found, Node};
 pub use packing::{pack, push_entries, push_summaries};
 pub use searching::{nodes_before, nodes_up_to};

@@ -65,6 +65,7 @@ impl Node {
         requires { IsRising 0 4294967295 self.now }
         ensures extent { result.extent ≡ extent_at block self.now }
         ensures compared { result.compared ≤ length self.now }
+        ensures some { 0 < length self.now → 0 < result.compared }
     {
         find(&self.entries, block)
     }
@@ -93,6 +94,7 @@ fn find(entries: &[Extent], block: u32) -> Found
     requires { IsRising 0 4294967295 entries.now }
     ensures extent { result.extent ≡ extent_at block entries.now }
     ensures compared { result.compared ≤ length entries.now }
+    ensures some { 0 < length entries.now → 0 < result.compared }
 {
     let mut low = 0;
     let mut high = entries.len();

@@ -1,3 +1,4 @@
+pub mod Choices
 pub mod Trees
 pub mod Rewrites
 pub mod Searches

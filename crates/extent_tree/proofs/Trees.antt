@@ -10,7 +10,7 @@ use Rattle.extent_nodes.proofs.Summaries.{length-summaries}
 use Rattle.extent_nodes.proofs.Levels.{rising-count, filled-count, least-count, most-count}
 use Rattle.std.proofs.lemmas.List.{length-map}
 use Rattle.extent_tree.specs.Value.{GrownByNeed, StaysOne}
-use Rattle.extent_tree.specs.Tree.{IsLevel, IsNeeded, IsTree, IsWidth, counts}
+use Rattle.extent_tree.specs.Tree.{IsLevel, IsNeeded, IsTree, IsWidth, counts, level_at}
 
 -- ---- how many nodes
 
@@ -82,7 +82,7 @@ no-levels : (width : ℕ) (ns : List (List Extent)) (inner : List (List (List Ex
 no-levels width ns [] is none = is
 no-levels width ns (level ∷ higher) is none = absurd (omega (arith, none))
 
-pub grown-by-need : (width : ℕ) (ns ms : List (List Extent)) (inner outer : List (List (List Extent))) → IsTree width ns inner → IsTree width ms outer → (length ns ≤ 1 → IsNeeded width ms) → GrownByNeed width (record { runs = flat ns; levels = counts ns inner }) (record { runs = flat ms; levels = counts ms outer })
+pub grown-by-need : (width : ℕ) (ns ms : List (List Extent)) (inner outer : List (List (List Extent))) → IsTree width ns inner → IsTree width ms outer → (length ns ≤ 1 → IsNeeded width ms) → GrownByNeed width (record { runs = flat ns; levels = counts ns inner; leaves = ns }) (record { runs = flat ms; levels = counts ms outer; leaves = ms })
 grown-by-need width ns ms inner outer old new need more =
     let levels : List (List (List Extent)) → ℕ = λ l. length (map (λ level. length (flat level)) l) in
     let a : levels inner ≡ length inner = length-map inner (λ level. length (flat level)) in
@@ -91,7 +91,7 @@ grown-by-need width ns ms inner outer old new need more =
     subst (λ k. width < slice_index (counts ms outer) k) (sym at)
     (needed-at width (length inner) ms outer new (λ none. need (no-levels width ns inner old none)) (omega (arith, more, a, b)))
 
-pub stays-one : (width : ℕ) (ns ms : List (List Extent)) (inner outer : List (List (List Extent))) → GrownByNeed width (record { runs = flat ns; levels = counts ns inner }) (record { runs = flat ms; levels = counts ms outer }) → StaysOne width (record { runs = flat ns; levels = counts ns inner }) (record { runs = flat ms; levels = counts ms outer })
+pub stays-one : (width : ℕ) (ns ms : List (List Extent)) (inner outer : List (List (List Extent))) → GrownByNeed width (record { runs = flat ns; levels = counts ns inner; leaves = ns }) (record { runs = flat ms; levels = counts ms outer; leaves = ms }) → StaysOne width (record { runs = flat ns; levels = counts ns inner; leaves = ns }) (record { runs = flat ms; levels = counts ms outer; leaves = ms })
 stays-one width ns ms inner outer grown one few = elim (cases_lt 1 (length (counts ms outer))) [
   | inl more ↦
       let first : length (counts ns inner) - 1 ≡ 0 = omega (arith, one) in
@@ -103,3 +103,11 @@ stays-one width ns ms inner outer grown one few = elim (cases_lt 1 (length (coun
 pub one-level : (width : ℕ) (ns : List (List Extent)) (inner : List (List (List Extent))) → IsTree width ns inner → length ns ≤ 1 → length (counts ns inner) ≡ 1
 one-level width ns [] is one = refl
 one-level width ns (level ∷ higher) is one = absurd (omega (arith, is.0, one))
+
+-- a level above some has entries where they have
+pub some-above : (width k : ℕ) (ns : List (List Extent)) (inner : List (List (List Extent))) → IsTree width ns inner → k ≤ length inner → 0 < length (flat ns) → 0 < length (flat (level_at k ns inner))
+some-above width zero ns inner is le some = some
+some-above width (suc k) ns [] is le some = absurd (omega (arith, le))
+some-above width (suc k) ns (level ∷ higher) is le some =
+    let covers = ap length is.1 ∙ length-summaries 0 ns in
+    some-above width k level higher is.4 (omega (arith, le)) (omega (arith, covers, is.0))

@@ -1,9 +1,9 @@
 // The leaves that a change rewrites: those that the run touches, and others beside them where too few entries are left.
 ghost use Rattle.std.specs.Prelude.{◌≡◌, ◌≤◌, ◌<◌, ◌+◌, ◌-◌, ◌/◌, ◌^◌, ◌↔◌, ◌⊎◌, length, IsTrue, IfSome, IfOk};
 ghost use Rattle.extent_nodes.specs.Changes.{changed};
-ghost use Rattle.extent_nodes.specs.Nodes.{flat, AreFilled};
-ghost use Rattle.extent_nodes.specs.Normal.{IsRising, PlacesFit, Joins};
-ghost use Rattle.extent_tree.specs.Chosen.{Touched, Remade, IsEnough};
+ghost use Rattle.extent_nodes.specs.Nodes.{flat, AreFilled, HaveFrom};
+ghost use Rattle.extent_nodes.specs.Normal.{IsRising, PlacesFit, IsNormal, Joins};
+ghost use Rattle.extent_tree.specs.Chosen.{Touched, Remade, IsEnough, MeetsEach, MeetsButOne};
 
 use block_alloc::Run;
 use extent_nodes::{Node, change, nodes_before, nodes_up_to, push_entries};
@@ -29,7 +29,8 @@ fn touched(leaves: &[Node], run: Run) -> Span
     requires fits { run.first + run.count < 2 ^ 32 }
     requires rising { IsRising 0 4294967295 (flat leaves.now) }
     requires filled { AreFilled leaves.now }
-    ensures { Touched run.first run.count result.from result.to leaves.now }
+    ensures touched { Touched run.first run.count result.from result.to leaves.now }
+    ensures each { MeetsEach run.first run.count result.from result.to leaves.now }
 {
     if leaves.len() <= 1 {
         return Span {
@@ -105,18 +106,21 @@ pub fn choose(
     requires some { 0 < run.count }
     requires fits { run.first + run.count < 2 ^ 32 }
     requires places { IfSome place (λ p. p + run.count < 2 ^ 32) }
-    requires rising { IsRising 0 4294967295 (flat leaves.now) }
-    requires fit { PlacesFit (flat leaves.now) }
+    requires normal { IsNormal (flat leaves.now) }
     requires filled { AreFilled leaves.now }
+    requires quarter { 1 < length leaves.now → HaveFrom (width / 4) width leaves.now }
     ensures touched { IfOk result (λ c. Touched run.first run.count c.span.from c.span.to leaves.now) }
     ensures made { IfOk result (λ c. Remade run.first run.count place c.span.from c.span.to leaves.now c.entries.items) }
     ensures enough { IfOk result (λ c. IsEnough width c.span.from c.span.to leaves.now c.entries.items) }
+    ensures met { IfOk result (λ c. MeetsButOne run.first run.count c.span.from c.span.to leaves.now) }
 {
-    let mut span = touched(leaves, run);
-    let mut entries = remade(alloc, &leaves[span.from..span.to], run, place)?;
-    'wider: while !is_enough(width, span, leaves.len(), entries.len()) {
-        span = wider(span);
-        entries = remade(alloc, &leaves[span.from..span.to], run, place)?;
+    let span = touched(leaves, run);
+    let entries = remade(alloc, &leaves[span.from..span.to], run, place)?;
+    if is_enough(width, span, leaves.len(), entries.len()) {
+        return Ok(Chosen { span, entries });
     }
+    // One leaf beside them has a quarter of the width itself.
+    let span = wider(span);
+    let entries = remade(alloc, &leaves[span.from..span.to], run, place)?;
     Ok(Chosen { span, entries })
 }

@@ -13,6 +13,7 @@ fn find_in_root(nodes: &[Node], block: u32) -> Found
     requires rising { IsRising 0 4294967295 (flat nodes.now) }
     ensures extent { result.extent ≡ extent_at block (flat nodes.now) }
     ensures compared { result.compared ≤ length (flat nodes.now) }
+    ensures some { 0 < length (flat nodes.now) → 0 < result.compared }
 {
     if nodes.is_empty() {
         return Found {
@@ -42,6 +43,7 @@ fn find_below<const N: usize>(nodes: &[Node], above: Found, block: u32) -> Found
     requires few { above.compared + N < 2 ^ 64 }
     ensures extent { result.extent ≡ extent_at block (flat nodes.now) }
     ensures compared { result.compared ≤ above.compared + N }
+    ensures more { above.compared ≤ result.compared }
 {
     let covering = above.extent;
     match covering {
@@ -64,6 +66,7 @@ pub fn find_in<const N: usize>(nodes: &[Node], inner: &[Level], block: u32) -> F
     requires tree { IsTree N nodes.now inner.now }
     ensures extent { result.extent ≡ extent_at block (flat nodes.now) }
     ensures compared { result.compared ≤ N * (1 + length inner.now) }
+    ensures some { 0 < length (flat nodes.now) → 0 < result.compared }
 {
     let mut found = find_in_root(level_nodes(nodes, inner, inner.len()), block);
     'down: for done in 0..inner.len() {

@@ -4,7 +4,7 @@ ghost use Rattle.extent_nodes.specs.Nodes.{flat, HaveFrom};
 ghost use Rattle.extent_nodes.specs.Normal.{IsRising, PlacesFit, IsNormal};
 ghost use Rattle.extent_nodes.specs.Places.{place_of, SamePlaces};
 ghost use Rattle.extent_tree.specs.Tree.{IsSound, counts};
-ghost use Rattle.extent_tree.specs.Value.{GrownByNeed, StaysOne};
+ghost use Rattle.extent_tree.specs.Value.{GrownByNeed, StaysOne, OthersStay};
 
 use crate::building::{Level, levels_above};
 use crate::choosing::{Span, choose};
@@ -31,7 +31,7 @@ impl<const N: usize> Model for Extents<N> {
 
     ghost Value = { ExtentMap };
 
-    ghost view = { λ t. record { runs = flat t.leaves.items; levels = counts t.leaves.items t.inner.items } };
+    ghost view = { λ t. record { runs = flat t.leaves.items; levels = counts t.leaves.items t.inner.items; leaves = t.leaves.items } };
 
     ghost invariant = { λ t. IsSound N t.leaves.items t.inner.items };
 }
@@ -50,6 +50,7 @@ impl<const N: usize> Extents<N> {
         requires most { N < 2 ^ 31 }
         ensures runs { result.runs ≡ [] }
         ensures levels { result.levels ≡ 0 ∷ [] }
+        ensures leaves { result.leaves ≡ [] }
     {
         Extents {
             alloc,
@@ -86,10 +87,11 @@ impl<const N: usize> Extents<N> {
         self.at_counted(block).place
     }
 
-    /// Where a block lies, where it is mapped, and the number of entries that were compared: at most `N` on each level.
+    /// Where a block lies, where it is mapped, and the number of entries that were compared: at most `N` on each level, and at least one where there are any.
     pub fn at_counted(&self, block: u32) -> Counted
         ensures place { result.place ≡ place_of self.now.runs block }
         ensures compared { result.compared ≤ N * length self.now.levels }
+        ensures some { 0 < length self.now.runs → 0 < result.compared }
     {
         look_up::<N>(&self.leaves, &self.inner, block)
     }
@@ -118,6 +120,7 @@ impl<const N: usize> Extents<N> {
 
     /// The leaves, which have the runs one after the other: at most `N` each and, where there are several, a quarter of that at least.
     pub fn leaves(&self) -> &[Node]
+        ensures leaves { result.now ≡ self.now.leaves }
         ensures runs { flat result.now ≡ self.now.runs }
         ensures most { HaveFrom 0 N result.now }
         ensures quarter { 1 < length result.now → HaveFrom (N / 4) N result.now }
@@ -125,7 +128,8 @@ impl<const N: usize> Extents<N> {
         &self.leaves
     }
 
-    /// Maps the blocks of a run to the places from one on, wherever they lay before. Where memory is refused, nothing has changed.
+    /// Maps the blocks of a run to the places from one on, wherever they lay before. The leaves that the run touches or borders on are rewritten, and one beside
+    /// them where they would have too few entries; all others stay. Where memory is refused, nothing has changed.
     pub fn map(&mut self, run: Run, place: u32) -> Result<(), AllocError>
         requires blocks { run.first + run.count < 2 ^ 32 }
         requires places { place + run.count < 2 ^ 32 }
@@ -133,6 +137,7 @@ impl<const N: usize> Extents<N> {
         ensures normal { IsNormal self.new.runs }
         ensures grown { GrownByNeed N self.old self.new }
         ensures one { StaysOne N self.old self.new }
+        ensures others { OthersStay run.first run.count self.old.leaves self.new.leaves }
         ensures err { OnErr result (self.new ≡ self.old) }
     {
         replace::<N>(
@@ -144,13 +149,15 @@ impl<const N: usize> Extents<N> {
         )
     }
 
-    /// Unmaps the blocks of a run. That may want memory too, since a run may be cut in two. Where it is refused, nothing has changed.
+    /// Unmaps the blocks of a run, which rewrites such leaves as `map` does. That may want memory too, since a run may be cut in two. Where it is refused, nothing has
+    /// changed.
     pub fn unmap(&mut self, run: Run) -> Result<(), AllocError>
         requires { run.first + run.count < 2 ^ 32 }
         ensures unmapped { OnOk result ((b : ℕ) → place_of self.new.runs b ≡ after run.first run.count None self.old.runs b) }
         ensures normal { IsNormal self.new.runs }
         ensures grown { GrownByNeed N self.old self.new }
         ensures one { StaysOne N self.old self.new }
+        ensures others { OthersStay run.first run.count self.old.leaves self.new.leaves }
         ensures err { OnErr result (self.new ≡ self.old) }
     {
         replace::<N>(self.alloc, &mut self.leaves, &mut self.inner, run, None)
@@ -161,6 +168,7 @@ fn look_up<const N: usize>(leaves: &[Node], inner: &[Level], block: u32) -> Coun
     requires { IsSound N leaves.now inner.now }
     ensures place { result.place ≡ place_of (flat leaves.now) block }
     ensures compared { result.compared ≤ N * (1 + length inner.now) }
+    ensures some { 0 < length (flat leaves.now) → 0 < result.compared }
 {
     let found = find_in::<N>(leaves, inner, block);
     Counted {
@@ -204,8 +212,9 @@ fn replace<const N: usize>(
     requires sound { IsSound N leaves.old.items inner.old.items }
     ensures sound { IsSound N leaves.new.items inner.new.items }
     ensures mapped { OnOk result ((b : ℕ) → place_of (flat leaves.new.items) b ≡ after run.first run.count place (flat leaves.old.items) b) }
-    ensures grown { GrownByNeed N (record { runs = flat leaves.old.items; levels = counts leaves.old.items inner.old.items }) (record { runs = flat leaves.new.items; levels = counts leaves.new.items inner.new.items }) }
-    ensures one { StaysOne N (record { runs = flat leaves.old.items; levels = counts leaves.old.items inner.old.items }) (record { runs = flat leaves.new.items; levels = counts leaves.new.items inner.new.items }) }
+    ensures grown { GrownByNeed N (record { runs = flat leaves.old.items; levels = counts leaves.old.items inner.old.items; leaves = leaves.old.items }) (record { runs = flat leaves.new.items; levels = counts leaves.new.items inner.new.items; leaves = leaves.new.items }) }
+    ensures one { StaysOne N (record { runs = flat leaves.old.items; levels = counts leaves.old.items inner.old.items; leaves = leaves.old.items }) (record { runs = flat leaves.new.items; levels = counts leaves.new.items inner.new.items; leaves = leaves.new.items }) }
+    ensures others { OthersStay run.first run.count leaves.old.items leaves.new.items }
     ensures leaves_kept { OnErr result (leaves.new.items ≡ leaves.old.items) }
     ensures inner_kept { OnErr result (inner.new.items ≡ inner.old.items) }
 {

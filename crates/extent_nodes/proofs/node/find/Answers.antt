@@ -12,6 +12,7 @@ bisect-preserved-then-block-entry c =
       in_order = omega arith;
       within = omega (arith, lt);
       count = omega (arith, c.bisect.invariant.count, c.bisect-test.true);
+      untouched = λ none. omega (arith, none);
       before = c.bisect.invariant.before;
       behind = behind-more c.args.block 0 4294967295 i c.args.entries.now (record { logical = 0; length = 0; place = 0 }) c.requires lt c.if-block-entry.true;
     }
@@ -31,6 +32,7 @@ bisect-preserved c =
       in_order = omega (arith, c.bisect-test.true);
       within = c.bisect.invariant.within;
       count = omega (arith, c.bisect.invariant.count);
+      untouched = λ none. omega (arith, none);
       before = before-more c.args.block 0 4294967295 i c.args.entries.now (record { logical = 0; length = 0; place = 0 }) c.requires lt (omega (arith, c.if-block-entry.false, c.if-block-entry-2.false));
       behind = c.bisect.invariant.behind;
     }

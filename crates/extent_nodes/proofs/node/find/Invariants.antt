@@ -1,4 +1,4 @@
-use Rattle.std.proofs.Common.{ℕ, ◌≤◌, ◌<◌, ◌+◌, ◌-◌, length, get_or}
+use Rattle.std.proofs.Common.{◌≡◌, ℕ, ◌≤◌, ◌<◌, ◌+◌, ◌-◌, length, get_or}
 use Rattle.layout.specs.declared.extents.Extent.{Extent}
 use Rattle.extent_nodes.proofs.node.find.Given as goal
 
@@ -8,6 +8,7 @@ invariant-bisect l = record {
   in_order : l.low ≤ l.high;
   within : l.high ≤ length l.entries;
   count : l.compared + l.high ≤ length l.entries + l.low;
+  untouched : l.compared ≡ 0 → l.high ≡ l.low + length l.entries;
   before : (k : ℕ) (d : Extent) → k < l.low → k < length l.entries → (get_or l.entries k d).logical + (get_or l.entries k d).length ≤ l.block;
   behind : (k : ℕ) (d : Extent) → l.high ≤ k → k < length l.entries → l.block < (get_or l.entries k d).logical;
 }

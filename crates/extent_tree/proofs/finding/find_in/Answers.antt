@@ -3,7 +3,7 @@ use Rattle.extent_nodes.specs.Places.{extent_at}
 use Rattle.extent_nodes.specs.Normal.{IsRising}
 use Rattle.extent_nodes.specs.Nodes.{flat, summaries}
 use Rattle.extent_tree.specs.Tree.{IsLevel, level_at}
-use Rattle.extent_tree.proofs.Trees.{nodes-few, levels-few}
+use Rattle.extent_tree.proofs.Trees.{nodes-few, levels-few, some-above}
 use Rattle.extent_tree.proofs.Searches.{tree-at, covers-at, top-one, root-few, small-product}
 use Rattle.extent_tree.proofs.finding.find_in.Goals as goal
 
@@ -28,6 +28,7 @@ down-init g c =
     record {
       extent = c.find_in_root-found.ensures.extent ∙ ap (λ l. extent_at c.args.block (flat l)) (c.level_nodes.ensures ∙ ap (λ k. level_at k nodes inner) top);
       compared = omega (arith, c.find_in_root-found.ensures.compared, ap (λ l. length (flat l)) c.level_nodes.ensures, few, one);
+      some = λ some. c.find_in_root-found.ensures.some (omega (arith, some-above g.row.N (length inner) nodes inner c.requires.tree (omega arith) some, ap (λ l. length (flat l)) c.level_nodes.ensures));
     }
 
 pub find_below-found-requires-clause-rising : goal.find_below-found-requires-clause-rising

@@ -3,8 +3,10 @@ use Rattle.extent_nodes.specs.Places.{place_of}
 use Rattle.extent_nodes.specs.Normal.{IsRising, IsNormal}
 use Rattle.extent_nodes.specs.Nodes.{flat}
 use Rattle.extent_tree.specs.Tree.{IsLevel, IsNeeded, IsTree}
+use Rattle.extent_tree.specs.Value.{OthersStay}
 use Rattle.extent_tree.proofs.Trees.{grown-by-need, stays-one}
 use Rattle.extent_tree.proofs.Rewrites.{told, slices, flat-three, rewritten-normal, rewritten-at, rewritten-level, rewritten-needed}
+use Rattle.extent_tree.proofs.Choices.{all-stay, others-stay}
 use Rattle.extent_tree.proofs.tree.replace.Goals as goal
 
 pub levels_above-requires-clause-rising : goal.levels_above-requires-clause-rising
@@ -68,3 +70,25 @@ returns-clause-one g c =
     let grown = grown-by-need g.row.N old c.splice.new.leaves.items c.args.inner.now.items c.in_ok-above.above.items c.requires.sound.tree tree
     (λ single. subst (IsNeeded g.row.N) new (rewritten-needed g.row.N c.args.run.first c.args.run.count c.args.place chosen.span.from chosen.span.to old packed chosen.entries.items r single)) in
     stays-one g.row.N old c.splice.new.leaves.items c.args.inner.now.items c.in_ok-above.above.items grown
+
+pub returns-clause-others : goal.returns-clause-others
+returns-clause-others g c =
+    let chosen = c.in_ok-chosen.chosen in
+    others-stay c.args.run.first c.args.run.count chosen.span.from chosen.span.to c.args.leaves.now.items c.deref.result.now c.in_ok-packed.packed.items c.splice.new.leaves.items c.deref.ensures.value c.in_ok-chosen.ensures.touched c.in_ok-chosen.ensures.met c.in_ok-splice.ensures.ok
+
+pub returns-then-run-eq0-clause-others : goal.returns-then-run-eq0-clause-others
+returns-then-run-eq0-clause-others g c = all-stay c.args.run.first c.args.run.count c.args.leaves.now.items
+
+pub returns-in_err-chosen-clause-others : goal.returns-in_err-chosen-clause-others
+returns-in_err-chosen-clause-others g c = all-stay c.args.run.first c.args.run.count c.args.leaves.now.items
+
+pub returns-in_err-packed-clause-others : goal.returns-in_err-packed-clause-others
+returns-in_err-packed-clause-others g c = all-stay c.args.run.first c.args.run.count c.args.leaves.now.items
+
+pub returns-in_err-above-clause-others : goal.returns-in_err-above-clause-others
+returns-in_err-above-clause-others g c = all-stay c.args.run.first c.args.run.count c.args.leaves.now.items
+
+pub returns-in_err-splice-clause-others : goal.returns-in_err-splice-clause-others
+returns-in_err-splice-clause-others g c =
+    let old = c.args.leaves.now.items in
+    subst (λ l. OthersStay c.args.run.first c.args.run.count old l) (sym c.in_err-splice.ensures.err) (all-stay c.args.run.first c.args.run.count old)
