@@ -10,3 +10,6 @@ pub mod Knowing
 pub mod Replies
 pub mod Leases
 pub mod Regions
+pub mod Books
+pub mod Fetches
+pub mod Digests

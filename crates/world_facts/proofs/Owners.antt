@@ -22,7 +22,7 @@ client_is c low high = grind (arith, nat_tests)
 -- ---- the whole graph at one inode
 
 -- Nobody of clients 1 to n writes it.
-nobody : (n : ℕ) (logs : ℕ → List Record) (g : Graph) (i : ℕ) → ((d : ℕ) → 1 ≤ d → d ≤ n → is_written i (logs d) ≡ false) → after_clients logs g n i ≡ g i
+pub nobody : (n : ℕ) (logs : ℕ → List Record) (g : Graph) (i : ℕ) → ((d : ℕ) → 1 ≤ d → d ≤ n → is_written i (logs d) ≡ false) → after_clients logs g n i ≡ g i
 unfolding after_clients
 nobody zero logs g i none = refl
 nobody (suc n) logs g i none =

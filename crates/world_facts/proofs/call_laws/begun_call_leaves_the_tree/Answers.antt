@@ -1,5 +1,5 @@
 use Rattle.world_facts.proofs.Begins.{begun_holds, begun_tree}
-use Rattle.world_facts.proofs.calls.begun_call_leaves_the_tree.Goals as goal
+use Rattle.world_facts.proofs.call_laws.begun_call_leaves_the_tree.Goals as goal
 
 pub returns-clause-holds : goal.returns-clause-holds
 returns-clause-holds c = begun_holds

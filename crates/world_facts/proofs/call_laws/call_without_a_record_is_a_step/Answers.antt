@@ -1,6 +1,6 @@
 use Rattle.std.proofs.Common.{inr, refl}
 use Rattle.world_facts.proofs.Replies.{answered_holds, answered_step, refused}
-use Rattle.world_facts.proofs.calls.call_without_a_record_is_a_step.Goals as goal
+use Rattle.world_facts.proofs.call_laws.call_without_a_record_is_a_step.Goals as goal
 
 pub returns-clause-holds : goal.returns-clause-holds
 returns-clause-holds c = λ w c call new operation h can. answered_holds w c call new operation h can

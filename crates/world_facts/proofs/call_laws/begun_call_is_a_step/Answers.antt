@@ -1,5 +1,5 @@
 use Rattle.world_facts.proofs.Replies.{replied_holds, replied_whole, replied_step}
-use Rattle.world_facts.proofs.calls.begun_call_is_a_step.Goals as goal
+use Rattle.world_facts.proofs.call_laws.begun_call_is_a_step.Goals as goal
 
 pub returns-clause-holds : goal.returns-clause-holds
 returns-clause-holds c = replied_holds

@@ -1,5 +1,5 @@
 use Rattle.world_facts.proofs.Idle.{idle_holds, idle_tree}
-use Rattle.world_facts.proofs.opening.idle_world_holds.Goals as goal
+use Rattle.world_facts.proofs.opening_laws.idle_world_holds.Goals as goal
 
 pub returns-clause-holds : goal.returns-clause-holds
 returns-clause-holds c = idle_holds
