@@ -13,3 +13,5 @@ pub mod Regions
 pub mod Books
 pub mod Fetches
 pub mod Digests
+pub mod Stops
+pub mod Reclaims
