@@ -15,3 +15,6 @@ pub mod Fetches
 pub mod Digests
 pub mod Stops
 pub mod Reclaims
+pub mod Orders
+pub mod Burials
+pub mod Breaks

@@ -17,14 +17,14 @@ use Rattle.call_effects.specs.Known.{Knowledge, Agrees, IsPlanned}
 use Rattle.call_effects.proofs.Settled.{closed_sound, settled_state}
 use Rattle.call_effects.proofs.KnownSteps.{planned_step, planned_sound}
 use Rattle.call_effects.proofs.KnownAfter.{other_agrees}
-use Rattle.world_facts.specs.Logs.{after_records, after_clients, after_each, is_written, is_touched, units_in, ArePaid, AreApart, IsDistinct}
+use Rattle.world_facts.specs.Logs.{after_records, after_clients, after_each, is_written, is_touched, units_in, ArePaid, AreApart, IsDistinct, IsOrder}
 use Rattle.world_facts.specs.World.{Begun, World, change_of, records_of, log_of, all_of, holds, whole, held, tree_of, at}
 use Rattle.world_facts.specs.Standing.{Stands}
 use Rattle.world_facts.specs.Invariant.{Holds}
 use Rattle.world_facts.specs.Outcome.{Unfinished, AreSomeOf, IsOutcome}
 use Rattle.world_facts.specs.Stop.{Leaves, stored, begun_calls, Stores}
 use Rattle.world_facts.proofs.Records.{either, both, in_first, in_rest, append_nil, front_written, rest_written, units_append}
-use Rattle.world_facts.proofs.Owners.{IsOrder, nobody as nobody_writes, is_low, is_high, client_is, ended_whole, first_in, among_rest}
+use Rattle.world_facts.proofs.Owners.{nobody as nobody_writes, is_low, is_high, client_is, ended_whole, first_in, among_rest}
 use Rattle.world_facts.proofs.Idle.{none_some}
 use Rattle.world_facts.proofs.Facts.{apart_all, apart_less, granted_alone}
 use Rattle.world_facts.proofs.Paid.{paid_same, paid_front, charge_records}

@@ -1,4 +1,6 @@
 pub mod BookSteps
+pub mod Broken
+pub mod Burial
 pub mod ClientSteps
 pub mod Invariant
 pub mod KernelSteps
