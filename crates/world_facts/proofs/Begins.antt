@@ -41,12 +41,12 @@ module _ (w : World) (c : ℕ) (b : Begun) (h : Holds w) (can : CanBegin w c b) 
 
   log_leased : (i : ℕ) → is_written i (log_of w c ++ (b.change ∷ [])) ≡ true → old.writes i ≡ true
   log_leased i e = elim (either (is_written i (log_of w c))) [
-      | inl there ↦ s.logged.leased i (front_written i (log_of w c) (change_of old.begun) there)
-      | inr clean ↦ elim (either (is_touched i b.change)) [
-        | inl there ↦ can.leased i there
-        | inr off ↦ both (is_written i (log_of w c ++ (b.change ∷ []))) e (written_append i (log_of w c) (b.change ∷ []) ∙ or_neither (is_written i (log_of w c)) (is_written i (b.change ∷ [])) clean (ap (λ x. x || false) off))
-      ]
+    | inl there ↦ s.logged.leased i (front_written i (log_of w c) (change_of old.begun) there)
+    | inr clean ↦ elim (either (is_touched i b.change)) [
+      | inl there ↦ can.leased i there
+      | inr off ↦ both (is_written i (log_of w c ++ (b.change ∷ []))) e (written_append i (log_of w c) (b.change ∷ []) ∙ or_neither (is_written i (log_of w c)) (is_written i (b.change ∷ [])) clean (ap (λ x. x || false) off))
     ]
+  ]
 
   -- where it touches, the whole is what the client's own records make of the shared graph
   own_view : (i : ℕ) → is_touched i b.change ≡ true → whole w i ≡ after_records w.kernel.shared (log_of w c) i
@@ -69,20 +69,20 @@ module _ (w : World) (c : ℕ) (b : Begun) (h : Holds w) (can : CanBegin w c b) 
       let enough : b.change.units ≤ old.spare = can.enough in
       let p : Client = record old { begun = Some b; spare = old.spare - b.change.units } in
       quiet w c w.kernel.shared account (record old { begun = Some b; spare = old.spare - b.change.units }) h can.client refl refl refl
-        (booked_same w c (record old { begun = Some b; spare = old.spare - b.change.units }) h can.client)
-        (record {
-          number = s.number;
-          marked = s.marked;
-          logged = record { leased = log_leased; paid = log_paid };
-          units = omega (arith, were, before, after, enough);
-          numbered = s.numbered;
-          leased = s.leased;
-          pinned = s.pinned;
-          pending = λ d e. subst (λ x. IsPending old.knows old.pins x) (same_Some b d e) (record { planned = can.planned; pinned = can.pinned });
-        })
-        (before_less w c (record old { begun = Some b; spare = old.spare - b.change.units }) h can.client (λ i e. e))
-        (after_less w c (record old { begun = Some b; spare = old.spare - b.change.units }) h can.client (λ i e. e))
-        (h.agrees c can.client)
+      (booked_same w c (record old { begun = Some b; spare = old.spare - b.change.units }) h can.client)
+      (record {
+        number = s.number;
+        marked = s.marked;
+        logged = record { leased = log_leased; paid = log_paid };
+        units = omega (arith, were, before, after, enough);
+        numbered = s.numbered;
+        leased = s.leased;
+        pinned = s.pinned;
+        pending = λ d e. subst (λ x. IsPending old.knows old.pins x) (same_Some b d e) (record { planned = can.planned; pinned = can.pinned });
+      })
+      (before_less w c (record old { begun = Some b; spare = old.spare - b.change.units }) h can.client (λ i e. e))
+      (after_less w c (record old { begun = Some b; spare = old.spare - b.change.units }) h can.client (λ i e. e))
+      (h.agrees c can.client)
 
   pub begun_tree : tree_of (begun w c b) ≡ tree_of w
   begun_tree = tree_same w c w.kernel.shared account (record old { begun = Some b; spare = old.spare - b.change.units }) refl refl refl
@@ -109,20 +109,20 @@ module _ (w : World) (c : ℕ) (b : Begun) (h : Holds w) (is : IsBegun w c b) wh
       let before : units_in (records_of its was) ≡ units_in (log_of w c) + (b.change.units + 0) = ap units_in records_were ∙ units_append (log_of w c) (b.change ∷ []) in
       let after : units_in (log_of w c ++ []) ≡ units_in (log_of w c) = ap units_in (append_nil (log_of w c)) in
       quiet w c w.kernel.shared its less h is.client refl refl refl (booked_same w c less h is.client)
-        (record {
-          number = stood.number;
-          marked = stood.marked;
-          logged = record {
-            leased = λ i e. stood.logged.leased i (front_written i (log_of w c) (change_of was.begun) (sym (ap (is_written i) (append_nil (log_of w c))) ∙ e));
-            paid = subst (λ rs. ArePaid w.kernel.shared rs) (sym (append_nil (log_of w c))) (paid_front (log_of w c) (change_of was.begun) w.kernel.shared stood.logged.paid);
-          };
-          units = omega (arith, were, before, after);
-          numbered = stood.numbered;
-          leased = stood.leased;
-          pinned = stood.pinned;
-          pending = λ d e. none_some d e;
-        })
-        (before_less w c less h is.client (λ i e. e)) (after_less w c less h is.client (λ i e. e)) (h.agrees c is.client)
+      (record {
+        number = stood.number;
+        marked = stood.marked;
+        logged = record {
+          leased = λ i e. stood.logged.leased i (front_written i (log_of w c) (change_of was.begun) (sym (ap (is_written i) (append_nil (log_of w c))) ∙ e));
+          paid = subst (λ rs. ArePaid w.kernel.shared rs) (sym (append_nil (log_of w c))) (paid_front (log_of w c) (change_of was.begun) w.kernel.shared stood.logged.paid);
+        };
+        units = omega (arith, were, before, after);
+        numbered = stood.numbered;
+        leased = stood.leased;
+        pinned = stood.pinned;
+        pending = λ d e. none_some d e;
+      })
+      (before_less w c less h is.client (λ i e. e)) (after_less w c less h is.client (λ i e. e)) (h.agrees c is.client)
 
   pub given_up_tree : tree_of (given_up w c b) ≡ tree_of w
   given_up_tree = tree_same w c w.kernel.shared its less refl refl refl
@@ -132,8 +132,8 @@ module _ (w : World) (c : ℕ) (h : Holds w) (is_c : is_client c ≡ true) where
   failed_holds =
       let x = h.stands c is_c in
       quiet w c w.kernel.shared (w.kernel.accounts c) (record (w.clients c) { failed = true }) h is_c refl refl refl (booked_same w c (record (w.clients c) { failed = true }) h is_c)
-        (record { number = x.number; marked = x.marked; logged = x.logged; units = x.units; numbered = x.numbered; leased = x.leased; pinned = x.pinned; pending = x.pending })
-        (before_less w c (record (w.clients c) { failed = true }) h is_c (λ i e. e)) (after_less w c (record (w.clients c) { failed = true }) h is_c (λ i e. e)) (h.agrees c is_c)
+      (record { number = x.number; marked = x.marked; logged = x.logged; units = x.units; numbered = x.numbered; leased = x.leased; pinned = x.pinned; pending = x.pending })
+      (before_less w c (record (w.clients c) { failed = true }) h is_c (λ i e. e)) (after_less w c (record (w.clients c) { failed = true }) h is_c (λ i e. e)) (h.agrees c is_c)
 
   pub failed_tree : tree_of (failed w c) ≡ tree_of w
   failed_tree = tree_same w c w.kernel.shared (w.kernel.accounts c) (record (w.clients c) { failed = true }) refl refl refl

@@ -54,9 +54,9 @@ module _ (w : World) (h : Holds w) where
   -- and what a client holds no other writes
   pub held_alone : (c d i : ℕ) → is_client c ≡ true → is_client d ≡ true → d ≢ c → holds (w.clients c) i ≡ true → is_written i (all_of w d) ≡ false
   held_alone c d i is_c is_d other has = elim (either (is_written i (all_of w d))) [
-      | inl there ↦ both (holds (w.clients c) i) has (written_alone d c i is_d is_c (λ same. other (sym same)) there)
-      | inr clean ↦ clean
-    ]
+    | inl there ↦ both (holds (w.clients c) i) has (written_alone d c i is_d is_c (λ same. other (sym same)) there)
+    | inr clean ↦ clean
+  ]
 
   pub writing_holds : (c i : ℕ) → (w.clients c).writes i ≡ true → holds (w.clients c) i ≡ true
   writing_holds c i e = in_rest ((w.clients c).reads i) ((w.clients c).writes i) e

@@ -21,7 +21,7 @@ use Rattle.world_facts.specs.Opening.{knows_nothing, idle_client, idle_account, 
 pub none_some : {A : Type 0} {P : Type 0} (x : A) → ◌≡◌ {A = Option A} None (Some x) → P
 none_some x e = absurd (cc)
 
-no_records : (n : ℕ) (g : Graph) → after_clients (λ c. []) g n ≡ g
+pub no_records : (n : ℕ) (g : Graph) → after_clients (λ c. []) g n ≡ g
 unfolding after_clients
 no_records zero g = refl
 no_records (suc n) g = no_records n g

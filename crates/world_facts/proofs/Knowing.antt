@@ -47,17 +47,17 @@ block_stays (e ∷ es) i b block off =
 -- what is open after an operation was open, or is what it opens
 pub opened_after : (new n : ℕ) (own : Own) (operation : Operation) (o : Descriptor) → own_after new own operation n ≡ Some o → (own n ≡ Some o) ⊎ ((what : ℕ × Descriptor) × (opens new operation ≡ Some what) × (what.1 ≡ o))
 opened_after new n own (NewFile at number reads writes) o e = elim (eqb_tells n number) [
-    | inl same ↦ let d : Descriptor = record { inode = new; reads = reads; writes = writes } in inr ((number, d), refl, (let is : Some d ≡ Some o = sym (ap (λ b. cond b (Some d) (own n)) same.0) ∙ e in cc))
-    | inr off ↦ inl (sym (same_if n number (Some (record { inode = new; reads = reads; writes = writes })) (own n) off.1) ∙ e)
-  ]
+  | inl same ↦ let d : Descriptor = record { inode = new; reads = reads; writes = writes } in inr ((number, d), refl, (let is : Some d ≡ Some o = sym (ap (λ b. cond b (Some d) (own n)) same.0) ∙ e in cc))
+  | inr off ↦ inl (sym (same_if n number (Some (record { inode = new; reads = reads; writes = writes })) (own n) off.1) ∙ e)
+]
 opened_after new n own (OpenFile i empties number reads writes) o e = elim (eqb_tells n number) [
-    | inl same ↦ let d : Descriptor = record { inode = i; reads = reads; writes = writes } in inr ((number, d), refl, (let is : Some d ≡ Some o = sym (ap (λ b. cond b (Some d) (own n)) same.0) ∙ e in cc))
-    | inr off ↦ inl (sym (same_if n number (Some (record { inode = i; reads = reads; writes = writes })) (own n) off.1) ∙ e)
-  ]
+  | inl same ↦ let d : Descriptor = record { inode = i; reads = reads; writes = writes } in inr ((number, d), refl, (let is : Some d ≡ Some o = sym (ap (λ b. cond b (Some d) (own n)) same.0) ∙ e in cc))
+  | inr off ↦ inl (sym (same_if n number (Some (record { inode = i; reads = reads; writes = writes })) (own n) off.1) ∙ e)
+]
 opened_after new n own (CloseFile i number) o e = elim (eqb_tells n number) [
-    | inl same ↦ none_some o (sym (ap (λ b. cond b None (own n)) same.0) ∙ e)
-    | inr off ↦ inl (sym (same_if n number None (own n) off.1) ∙ e)
-  ]
+  | inl same ↦ none_some o (sym (ap (λ b. cond b None (own n)) same.0) ∙ e)
+  | inr off ↦ inl (sym (same_if n number None (own n) off.1) ∙ e)
+]
 opened_after new n own (Tell answer) o e = inl e
 opened_after new n own (NewDir at) o e = inl e
 opened_after new n own (Write i at bytes) o e = inl e
@@ -69,12 +69,12 @@ opened_after new n own (Move from to i is_dir replaced) o e = inl e
 
 pub pinned_after : (book pins : ℕ → Bool) (own : Own) (new : ℕ) (operation : Operation) → IsPinned book pins own → OpensPinned pins new operation → IsPinned book pins (own_after new own operation)
 pinned_after book pins own new operation pinned opening = record {
-    opened = λ n o e. elim (opened_after new n own operation o e) [
-      | inl was ↦ pinned.opened n o was
-      | inr is ↦ subst (λ (d : Descriptor). pins d.inode ≡ true) is.2 (opening is.0 is.1)
-    ];
-    booked = pinned.booked;
-  }
+  opened = λ n o e. elim (opened_after new n own operation o e) [
+    | inl was ↦ pinned.opened n o was
+    | inr is ↦ subst (λ (d : Descriptor). pins d.inode ≡ true) is.2 (opening is.0 is.1)
+  ];
+  booked = pinned.booked;
+}
 
 and_left : (a b : Bool) → (a && b) ≡ true → a ≡ true
 and_left true b e = refl
@@ -121,24 +121,24 @@ module _ (w : World) (c : ℕ) (h : Holds w) (is_c : is_client c ≡ true) (call
   -- what another holds is not touched
   beside : (d i : ℕ) → is_client d ≡ true → d ≢ c → holds (w.clients d) i ≡ true → is_among i (touches es) ≡ false
   beside d i is_d other has = elim (either (is_among i (touches es))) [
-      | inl there ↦ both (holds (w.clients d) i) has (h.beside c d is_c is_d other i (leased i there))
-      | inr clean ↦ clean
-    ]
+    | inl there ↦ both (holds (w.clients d) i) has (h.beside c d is_c is_d other i (leased i there))
+    | inr clean ↦ clean
+  ]
 
   pub others_agree_after : (d : ℕ) → is_client d ≡ true → d ≢ c → Agrees (w.clients d).knows after opened
   others_agree_after d is_d other =
       subst (λ e. Agrees (w.clients d).knows after (with_own (held w) e (own_after new k.own operation))) numbered
-        (other_agrees k (whole w) (held w) call new operation es h.sound (h.agrees c is_c) planned (w.clients d).knows (h.agrees d is_d)
-          (λ same. other (sym (h.stands d is_d).number ∙ same ∙ numbered))
-          (λ i copy e. beside d i is_d other ((h.stands d is_d).leased.copies i copy e))
-          (λ i b bytes e. beside d i is_d other ((h.stands d is_d).leased.blocks i b bytes e))
-          (λ m. granted_alone w h c d new is_c is_d other (planned.number m)))
+      (other_agrees k (whole w) (held w) call new operation es h.sound (h.agrees c is_c) planned (w.clients d).knows (h.agrees d is_d)
+      (λ same. other (sym (h.stands d is_d).number ∙ same ∙ numbered))
+      (λ i copy e. beside d i is_d other ((h.stands d is_d).leased.copies i copy e))
+      (λ i b bytes e. beside d i is_d other ((h.stands d is_d).leased.blocks i b bytes e))
+      (λ m. granted_alone w h c d new is_c is_d other (planned.number m)))
 
   pub leased_after : IsLeased (holds (w.clients c)) (knows_after k new operation es)
   leased_after = record {
-      copies = λ i copy e. let was = mapped (view_after es i) (k.copies i) copy e in (h.stands c is_c).leased.copies i was.0 was.1;
-      blocks = λ i b bytes e. elim (either (is_among i (touches es))) [
-        | inl there ↦ writing_holds w h c i (leased i there)
-        | inr clean ↦ (h.stands c is_c).leased.blocks i b bytes (sym (block_stays es i b (k.blocks i b) clean) ∙ e)
-      ];
-    }
+    copies = λ i copy e. let was = mapped (view_after es i) (k.copies i) copy e in (h.stands c is_c).leased.copies i was.0 was.1;
+    blocks = λ i b bytes e. elim (either (is_among i (touches es))) [
+      | inl there ↦ writing_holds w h c i (leased i there)
+      | inr clean ↦ (h.stands c is_c).leased.blocks i b bytes (sym (block_stays es i b (k.blocks i b) clean) ∙ e)
+    ];
+  }

@@ -82,20 +82,20 @@ module _ (w : World) (c i : ℕ) (h : Holds w) (is_c : is_client c ≡ true) whe
 
 kept_if : {A : Type 0} (P : Type 0) (j i : ℕ) (o : Option A) (x : A) → cond (j == i) None o ≡ Some x → (j ≢ i → o ≡ Some x → P) → P
 kept_if P j i o x e there = elim (eqb_tells j i) [
-    | inl same ↦ none_some x (sym (ap (λ t. cond t None o) same.0) ∙ e)
-    | inr off ↦ there off.1 (sym (ap (λ t. cond t None o) off.0) ∙ e)
-  ]
+  | inl same ↦ none_some x (sym (ap (λ t. cond t None o) same.0) ∙ e)
+  | inr off ↦ there off.1 (sym (ap (λ t. cond t None o) off.0) ∙ e)
+]
 
 pub forgets : (k : Knowledge) (i : ℕ) → IsForgetful k (forgetting k i)
 forgets k i = record {
-    client = refl;
-    own = λ n. refl;
-    copies = record {
-      nodes = λ j copy e. kept_if (k.copies j ≡ Some copy) j i (k.copies j) copy e (λ off there. there);
-      blocks = λ j b bytes e. kept_if (k.blocks j b ≡ Some bytes) j i (k.blocks j b) bytes e (λ off there. there);
-    };
-    granted = λ j e. e;
-  }
+  client = refl;
+  own = λ n. refl;
+  copies = record {
+    nodes = λ j copy e. kept_if (k.copies j ≡ Some copy) j i (k.copies j) copy e (λ off there. there);
+    blocks = λ j b bytes e. kept_if (k.blocks j b ≡ Some bytes) j i (k.blocks j b) bytes e (λ off there. there);
+  };
+  granted = λ j e. e;
+}
 
 module _ (w : World) (c i : ℕ) (h : Holds w) (can : CanGive w c i) where
   abbrev giver : Client
@@ -109,9 +109,9 @@ module _ (w : World) (c i : ℕ) (h : Holds w) (can : CanGive w c i) where
 
   less : (has : ℕ → Bool) (j : ℕ) → without has i j ≡ true → has j ≡ true
   less has j e = elim (eqb_tells j i) [
-      | inl same ↦ absurd (false≢true (sym (ap (λ t. cond t false (has j)) same.0) ∙ e))
-      | inr off ↦ sym (ap (λ t. cond t false (has j)) off.0) ∙ e
-    ]
+    | inl same ↦ absurd (false≢true (sym (ap (λ t. cond t false (has j)) same.0) ∙ e))
+    | inr off ↦ sym (ap (λ t. cond t false (has j)) off.0) ∙ e
+  ]
 
   fewer : (has : ℕ → Bool) (j : ℕ) → has j ≡ false → without has i j ≡ false
   fewer has j e = elim (eqb_tells j i) [ inl same ↦ ap (λ t. cond t false (has j)) same.0 | inr off ↦ ap (λ t. cond t false (has j)) off.0 ∙ e ]

@@ -10,3 +10,11 @@ pub mod Knowing
 pub mod Replies
 pub mod Leases
 pub mod Regions
+pub mod Books
+pub mod Fetches
+pub mod Digests
+pub mod Stops
+pub mod Reclaims
+pub mod Orders
+pub mod Burials
+pub mod Breaks

@@ -48,9 +48,9 @@ once_more i (s ∷ rs) r once apart =
   where
     single : is_made i s.effects ≡ true → is_made_in i (r ∷ []) ≡ false
     single e = elim (either (is_made i r.effects)) [
-        | inl there ↦ both (is_made i s.effects) e (or_first (is_made i s.effects) (is_made_in i rs) (apart there))
-        | inr clean ↦ ap (λ b. b || false) clean
-      ]
+      | inl there ↦ both (is_made i s.effects) e (or_first (is_made i s.effects) (is_made_in i rs) (apart there))
+      | inr clean ↦ ap (λ b. b || false) clean
+    ]
 
 -- ---- a number that no record makes stays free
 

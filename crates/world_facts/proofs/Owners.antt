@@ -5,7 +5,7 @@ use Rattle.std.proofs.lemmas.Bool.{false≢true}
 use Rattle.posix_calls.specs.Operations.{is_client}
 use Rattle.file_graph.specs.Graph.{Graph, Node, is_among}
 use Rattle.log_record.specs.declared.format.Record.{Record}
-use Rattle.world_facts.specs.Logs.{after_records, after_clients, after_each, is_written, AreApart, IsDistinct}
+use Rattle.world_facts.specs.Logs.{after_records, after_clients, after_each, is_written, AreApart, IsDistinct, IsOrder}
 use Rattle.world_facts.proofs.Records.{either, both, or_first, or_rest, in_rest, in_first, records_alone, records_stay, records_append, front_unwritten, rest_unwritten}
 
 -- ---- the numbers of clients
@@ -22,7 +22,7 @@ client_is c low high = grind (arith, nat_tests)
 -- ---- the whole graph at one inode
 
 -- Nobody of clients 1 to n writes it.
-nobody : (n : ℕ) (logs : ℕ → List Record) (g : Graph) (i : ℕ) → ((d : ℕ) → 1 ≤ d → d ≤ n → is_written i (logs d) ≡ false) → after_clients logs g n i ≡ g i
+pub nobody : (n : ℕ) (logs : ℕ → List Record) (g : Graph) (i : ℕ) → ((d : ℕ) → 1 ≤ d → d ≤ n → is_written i (logs d) ≡ false) → after_clients logs g n i ≡ g i
 unfolding after_clients
 nobody zero logs g i none = refl
 nobody (suc n) logs g i none =
@@ -151,12 +151,6 @@ each_at (d ∷ cs) logs g c i there once others =
           each_at cs logs (after_records g (logs d)) c i (among_rest c d cs there other.1) once.1 (λ e is_e. others e (in_rest (d == e) (is_among e cs) is_e))
           ∙ records_alone (after_records g (logs d)) g (logs c) i (records_stay g (logs d) i (others d (first_in d cs) (λ same. other.1 (sym same))))
     ]
-
--- all clients, each once
-pub record IsOrder (cs : List ℕ) : Type 0 where
-  pub clients : (c : ℕ) → is_among c cs ≡ true → is_client c ≡ true
-  pub all : (c : ℕ) → is_client c ≡ true → is_among c cs ≡ true
-  pub once : IsDistinct cs
 
 -- records that come to the ends of all logs, in whatever order of the clients
 pub ended_whole : (old new more : ℕ → List Record) (g : Graph) (cs : List ℕ) → AreApart new → ((c : ℕ) → is_client c ≡ true → new c ≡ old c ++ more c) → IsOrder cs

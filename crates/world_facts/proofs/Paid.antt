@@ -12,9 +12,10 @@ use Rattle.world_facts.proofs.Records.{in_first, in_rest}
 -- Records that are paid over one graph are so over each that has the same nodes where they write.
 pub paid_same : (rs : List Record) (g h : Graph) → ((i : ℕ) → is_written i rs ≡ true → g i ≡ h i) → ArePaid g rs → ArePaid h rs
 paid_same [] g h same paid = tt
-paid_same (r ∷ rs) g h same paid =
-    (subst (λ n. n ≤ r.units) (growth_local g h r.effects (λ i e. same i (in_first (is_touched i r) (is_written i rs) e))) paid.0,
-     paid_same rs (after_effects g r.effects) (after_effects h r.effects) (λ i e. alone g h r.effects i (same i (in_rest (is_touched i r) (is_written i rs) e))) paid.1)
+paid_same (r ∷ rs) g h same paid = (
+  subst (λ n. n ≤ r.units) (growth_local g h r.effects (λ i e. same i (in_first (is_touched i r) (is_written i rs) e))) paid.0,
+  paid_same rs (after_effects g r.effects) (after_effects h r.effects) (λ i e. alone g h r.effects i (same i (in_rest (is_touched i r) (is_written i rs) e))) paid.1,
+)
 
 pub paid_rest : (rs ss : List Record) (g : Graph) → ArePaid g (rs ++ ss) → ArePaid (after_records g rs) ss
 paid_rest [] ss g paid = paid

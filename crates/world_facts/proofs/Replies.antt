@@ -34,7 +34,7 @@ module _ (w : World) (c : ℕ) (h : Holds w) (is_c : is_client c ≡ true) where
       → Step (tree_of w) c call (reply_of operation) (state_of (after_effects (whole w) es) (with_own (held w) c (own_after new (w.clients c).knows.own operation)))
   known_step call new operation es planned =
       subst (λ d. Step (tree_of w) d call (reply_of operation) (state_of (after_effects (whole w) es) (with_own (held w) d (own_after new (w.clients c).knows.own operation)))) (h.stands c is_c).number
-        (planned_step (w.clients c).knows (whole w) (held w) h.sound (h.agrees c is_c) call new operation es planned)
+      (planned_step (w.clients c).knows (whole w) (held w) h.sound (h.agrees c is_c) call new operation es planned)
 
   -- a call that is refused by what the client knows
   pub refused : (call : Call) (e : Errno) → run_part (part_of (w.clients c).knows) (decide (w.clients c).knows.own call) ≡ Known (Err e) → Step (tree_of w) c call (reply.Failed e) (tree_of w)
@@ -62,22 +62,22 @@ module _ (w : World) (c : ℕ) (call : Call) (new : ℕ) (operation : Operation)
   answered_holds =
       let s = h.stands c can.client in
       holds_moved w c w.kernel.shared (w.kernel.accounts c) told h can.client
-        (booked_same w c told h can.client)
-        (record {
-          number = s.number;
-          marked = s.marked;
-          logged = s.logged;
-          units = s.units;
-          numbered = record { made = s.numbered.made; once = s.numbered.once; granted = λ i e. s.numbered.granted i (granted_before (w.clients c).knows new i operation [] e); unused = λ i e. s.numbered.unused i (granted_before (w.clients c).knows new i operation [] e) };
-          leased = leased_after w c h can.client call new operation [] can.planned touches_none;
-          pinned = pinned_after (w.kernel.accounts c).pins (w.clients c).pins (w.clients c).knows.own new operation s.pinned can.pinned;
-          pending = λ b e. none_some b (sym can.idle ∙ e);
-        })
-        (λ d is_d other. h.stands d is_d)
-        (before_less w c told h can.client (λ i e. e)) (after_less w c told h can.client (λ i e. e))
-        (same_both (λ g o. IsSound g o) (planned_sound_after w c h can.client call new operation [] can.planned touches_none))
-        (same_both (λ g o. Agrees (knows_after (w.clients c).knows new operation []) g o) (own_agrees_after w c h can.client call new operation [] can.planned touches_none))
-        (λ d is_d other. same_both (λ g o. Agrees (w.clients d).knows g o) (others_agree_after w c h can.client call new operation [] can.planned touches_none d is_d other))
+      (booked_same w c told h can.client)
+      (record {
+        number = s.number;
+        marked = s.marked;
+        logged = s.logged;
+        units = s.units;
+        numbered = record { made = s.numbered.made; once = s.numbered.once; granted = λ i e. s.numbered.granted i (granted_before (w.clients c).knows new i operation [] e); unused = λ i e. s.numbered.unused i (granted_before (w.clients c).knows new i operation [] e) };
+        leased = leased_after w c h can.client call new operation [] can.planned touches_none;
+        pinned = pinned_after (w.kernel.accounts c).pins (w.clients c).pins (w.clients c).knows.own new operation s.pinned can.pinned;
+        pending = λ b e. none_some b (sym can.idle ∙ e);
+      })
+      (λ d is_d other. h.stands d is_d)
+      (before_less w c told h can.client (λ i e. e)) (after_less w c told h can.client (λ i e. e))
+      (same_both (λ g o. IsSound g o) (planned_sound_after w c h can.client call new operation [] can.planned touches_none))
+      (same_both (λ g o. Agrees (knows_after (w.clients c).knows new operation []) g o) (own_agrees_after w c h can.client call new operation [] can.planned touches_none))
+      (λ d is_d other. same_both (λ g o. Agrees (w.clients d).knows g o) (others_agree_after w c h can.client call new operation [] can.planned touches_none d is_d other))
 
   pub answered_step : Step (tree_of w) c call (reply_of operation) (tree_of (answered w c new operation))
   answered_step = same_both (λ g o. Step (tree_of w) c call (reply_of operation) (state_of g o)) (known_step w c h can.client call new operation [] can.planned)
@@ -118,12 +118,13 @@ module _ (w : World) (c : ℕ) (b : Begun) (h : Holds w) (is : IsBegun w c b) wh
 
   logs_apart : AreApart (log_of (replied w c b))
   logs_apart = apart_less (all_of w) (log_of (replied w c b)) (λ d i is_d e. elim (◌==◌ d c) as (λ t. (d == c) ≡ t → is_written i (all_of w d) ≡ true) [
-      | true ↦ λ same. here d i (eqb-true d c same) e
-      | false ↦ λ off. there d i (λ same. both (d == c) (eq-eqb d c same) off) e
-    ] refl) (apart_all w h)
+    | true ↦ λ same. here d i (eqb-true d c same) e
+    | false ↦ λ off. there d i (λ same. both (d == c) (eq-eqb d c same) off) e
+  ] refl) (apart_all w h)
     where
       here : (d i : ℕ) → d ≡ c → is_written i (log_of (replied w c b) d) ≡ true → is_written i (all_of w d) ≡ true
       here d i same e = ap (λ x. is_written i (all_of w x)) same ∙ ap (is_written i) (all_were ∙ sym new_log) ∙ ap (λ x. is_written i (log_of (replied w c b) x)) (sym same) ∙ e
+
       there : (d i : ℕ) → d ≢ c → is_written i (log_of (replied w c b) d) ≡ true → is_written i (all_of w d) ≡ true
       there d i other e = front_written i (log_of w d) (change_of (w.clients d).begun) (ap (is_written i) (sym (log_else w c w.kernel.shared account logged d other)) ∙ e)
 
@@ -136,20 +137,21 @@ module _ (w : World) (c : ℕ) (b : Begun) (h : Holds w) (is : IsBegun w c b) wh
   -- the number of the new node is used up
   numbered : IsNumbered account.numbers logged.knows.granted (undigested account logged)
   numbered = subst (λ log. IsNumbered account.numbers logged.knows.granted log) (sym log_is) (record {
-      made = λ i e. elim (either (is_made_in i (log_of w c))) [
-        | inl there ↦ s.numbered.made i there
-        | inr clean ↦ let m = makes_now i (later i e clean) in s.numbered.granted i (subst (λ x. was.knows.granted x ≡ true) (sym m.1) (planned.number m.0))
-      ];
-      once = λ i. once_more i (log_of w c) b.change (s.numbered.once i) (λ e. let m = makes_now i e in s.numbered.unused i (subst (λ x. was.knows.granted x ≡ true) (sym m.1) (planned.number m.0)));
-      granted = λ i e. s.numbered.granted i (granted_before was.knows b.new i b.operation b.change.effects e);
-      unused = λ i e. unmade_append i (log_of w c) (b.change ∷ []) (s.numbered.unused i (granted_before was.knows b.new i b.operation b.change.effects e)) (elim (either (is_made i b.change.effects)) [
-        | inl there ↦ let m = makes_now i there in absurd (granted_apart was.knows b.new i b.operation b.change.effects e m.0 m.1)
-        | inr clean ↦ ap (λ x. x || false) clean
-      ]);
-    })
+    made = λ i e. elim (either (is_made_in i (log_of w c))) [
+      | inl there ↦ s.numbered.made i there
+      | inr clean ↦ let m = makes_now i (later i e clean) in s.numbered.granted i (subst (λ x. was.knows.granted x ≡ true) (sym m.1) (planned.number m.0))
+    ];
+    once = λ i. once_more i (log_of w c) b.change (s.numbered.once i) (λ e. let m = makes_now i e in s.numbered.unused i (subst (λ x. was.knows.granted x ≡ true) (sym m.1) (planned.number m.0)));
+    granted = λ i e. s.numbered.granted i (granted_before was.knows b.new i b.operation b.change.effects e);
+    unused = λ i e. unmade_append i (log_of w c) (b.change ∷ []) (s.numbered.unused i (granted_before was.knows b.new i b.operation b.change.effects e)) (elim (either (is_made i b.change.effects)) [
+      | inl there ↦ let m = makes_now i there in absurd (granted_apart was.knows b.new i b.operation b.change.effects e m.0 m.1)
+      | inr clean ↦ ap (λ x. x || false) clean
+    ]);
+  })
     where
       makes_now : (i : ℕ) → is_made i b.change.effects ≡ true → (makes b.operation ≡ true) × (i ≡ b.new)
       makes_now i e = makes_granted w h c is.client b.call b.new b.operation b.change.effects planned i e
+
       later : (i : ℕ) → is_made_in i (log_of w c ++ (b.change ∷ [])) ≡ true → is_made_in i (log_of w c) ≡ false → is_made i b.change.effects ≡ true
       later i e clean = elim (either (is_made i b.change.effects)) [
         | inl there ↦ there
@@ -159,22 +161,22 @@ module _ (w : World) (c : ℕ) (b : Begun) (h : Holds w) (is : IsBegun w c b) wh
   pub replied_holds : Holds (replied w c b)
   replied_holds =
       holds_moved w c w.kernel.shared account logged h is.client
-        (booked_same w c logged h is.client)
-        (record {
-          number = s.number;
-          marked = s.marked;
-          logged = record { leased = λ i e. s.logged.leased i (ap (is_written i) (sym all_same) ∙ e); paid = subst (λ rs. ArePaid w.kernel.shared rs) (sym all_same) s.logged.paid };
-          units = s.units ∙ ap (λ rs. was.spare + units_in rs) (sym all_same);
-          numbered = numbered;
-          leased = leased_after w c h is.client b.call b.new b.operation b.change.effects planned leased;
-          pinned = pinned_after account.pins was.pins was.knows.own b.new b.operation s.pinned (s.pending b is.there).pinned;
-          pending = λ d e. none_some d e;
-        })
-        (λ d is_d other. h.stands d is_d)
-        (before_less w c logged h is.client (λ i e. e)) (after_less w c logged h is.client (λ i e. e))
-        (after_both (λ g o. IsSound g o) (planned_sound_after w c h is.client b.call b.new b.operation b.change.effects planned leased))
-        (after_both (λ g o. Agrees logged.knows g o) (own_agrees_after w c h is.client b.call b.new b.operation b.change.effects planned leased))
-        (λ d is_d other. after_both (λ g o. Agrees (w.clients d).knows g o) (others_agree_after w c h is.client b.call b.new b.operation b.change.effects planned leased d is_d other))
+      (booked_same w c logged h is.client)
+      (record {
+        number = s.number;
+        marked = s.marked;
+        logged = record { leased = λ i e. s.logged.leased i (ap (is_written i) (sym all_same) ∙ e); paid = subst (λ rs. ArePaid w.kernel.shared rs) (sym all_same) s.logged.paid };
+        units = s.units ∙ ap (λ rs. was.spare + units_in rs) (sym all_same);
+        numbered = numbered;
+        leased = leased_after w c h is.client b.call b.new b.operation b.change.effects planned leased;
+        pinned = pinned_after account.pins was.pins was.knows.own b.new b.operation s.pinned (s.pending b is.there).pinned;
+        pending = λ d e. none_some d e;
+      })
+      (λ d is_d other. h.stands d is_d)
+      (before_less w c logged h is.client (λ i e. e)) (after_less w c logged h is.client (λ i e. e))
+      (after_both (λ g o. IsSound g o) (planned_sound_after w c h is.client b.call b.new b.operation b.change.effects planned leased))
+      (after_both (λ g o. Agrees logged.knows g o) (own_agrees_after w c h is.client b.call b.new b.operation b.change.effects planned leased))
+      (λ d is_d other. after_both (λ g o. Agrees (w.clients d).knows g o) (others_agree_after w c h is.client b.call b.new b.operation b.change.effects planned leased d is_d other))
 
   pub replied_step : Step (tree_of w) c b.call (reply_of b.operation) (tree_of (replied w c b))
   replied_step = after_both (λ g o. Step (tree_of w) c b.call (reply_of b.operation) (state_of g o)) (known_step w c h is.client b.call b.new b.operation b.change.effects planned)

@@ -1,9 +1,14 @@
 pub mod BookSteps
+pub mod Broken
+pub mod Burial
 pub mod ClientSteps
 pub mod Invariant
+pub mod KernelSteps
 pub mod LeaseSteps
 pub mod Logs
 pub mod Opening
+pub mod Outcome
 pub mod RegionSteps
 pub mod Standing
+pub mod Stop
 pub mod World

@@ -69,3 +69,9 @@ AreApart logs = (c d i : ℕ) → is_client c ≡ true → is_client d ≡ true 
 abbrev pub IsDistinct : List ℕ → Type 0
 IsDistinct [] = Unit {0}
 IsDistinct (c ∷ cs) = (is_among c cs ≡ false) × IsDistinct cs
+
+-- all clients, each once
+pub record IsOrder (cs : List ℕ) : Type 0 where
+  pub clients : (c : ℕ) → is_among c cs ≡ true → is_client c ≡ true
+  pub all : (c : ℕ) → is_client c ≡ true → is_among c cs ≡ true
+  pub once : IsDistinct cs

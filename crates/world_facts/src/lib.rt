@@ -5,11 +5,37 @@
 //! one file tree that the world stands for.
 #![tactic(auto)]
 
-mod calls;
-mod opening;
+mod book_laws;
+mod broken_laws;
+mod burial_laws;
+mod call_laws;
+mod kernel_laws;
+mod lease_laws;
+mod opening_laws;
+mod order_laws;
+mod part_laws;
+mod region_laws;
+mod stop_laws;
 
-pub use calls::{
+pub use book_laws::{
+    number_may_be_granted_and_returned, pin_may_be_set_and_dropped,
+    units_may_be_granted_and_returned,
+};
+pub use broken_laws::{
+    number_used_twice_is_free_between, reclaim_of_an_open_file_is_seen,
+    writing_without_a_lease_is_seen,
+};
+pub use burial_laws::gone_client_may_be_buried;
+pub use call_laws::{
     begun_call_is_a_step, begun_call_leaves_the_tree, begun_call_may_be_given_up,
     call_without_a_record_is_a_step, failed_client_leaves_the_tree,
 };
-pub use opening::{idle_world_holds, opening_world_holds};
+pub use kernel_laws::{records_may_be_digested, unused_file_may_be_reclaimed};
+pub use lease_laws::{
+    copy_may_be_fetched, lease_may_be_given, read_lease_may_be_taken, write_lease_may_be_taken,
+};
+pub use opening_laws::{idle_world_holds, opening_world_holds};
+pub use order_laws::clients_records_commute;
+pub use part_laws::{one_part_may_move, quiet_part_may_move};
+pub use region_laws::{region_may_be_sealed, region_may_be_taken_back, region_may_be_wiped};
+pub use stop_laws::stop_stores_an_outcome;

@@ -1,0 +1,31 @@
+-- The steps of the shared graph, each with when it may be taken.
+use Rattle.std.specs.Prelude.{◌≡◌, ℕ, ◌+◌, ◌-◌, List, ◌++◌, length, drop, Bool, true, false, ◌&&◌, not, Option, Some, None}
+use Rattle.posix_calls.specs.Operations.{is_client}
+use Rattle.file_graph.specs.Graph.{Graph, Node, FileBody, set_node}
+use Rattle.log_record.specs.declared.format.Record.{Record}
+use Rattle.world_facts.specs.Logs.{after_records, is_made_in, units_in}
+use Rattle.world_facts.specs.World.{Client, Account, World, whole, moved}
+
+-- ---- records are digested
+
+-- the first records of a client's sealed region that are not digested, and those that follow
+pub record CanDigest (w : World) (c : ℕ) (first rest : List Record) : Type 0 where
+  pub client : is_client c ≡ true
+  pub split : drop ((w.kernel.accounts c).mark - (w.clients c).past) (w.clients c).sealed ≡ first ++ rest
+
+-- their effects, the mark, their units and the numbers of their new nodes move at once
+abbrev pub digested : World → ℕ → List Record → World
+digested w c first = moved w c (after_records w.kernel.shared first) (record (w.kernel.accounts c) { mark = (w.kernel.accounts c).mark + length first; units = (w.kernel.accounts c).units - units_in first; numbers = λ i. (w.kernel.accounts c).numbers i && not (is_made_in i first) }) (w.clients c)
+
+-- ---- a file is reclaimed
+
+pub record CanReclaim (w : World) (i : ℕ) : Type 0 where
+  -- it stands in the shared graph, it has no name in the whole, and nobody has pinned it
+  pub node : Node
+  pub there : w.kernel.shared i ≡ Some node
+  pub bytes : List ℕ
+  pub unnamed : whole w i ≡ Some (record { names = 0; body = FileBody bytes })
+  pub unpinned : (c : ℕ) → is_client c ≡ true → (w.kernel.accounts c).pins i ≡ false
+
+abbrev pub reclaimed : World → ℕ → World
+reclaimed w i = record { kernel = record { shared = set_node w.kernel.shared i None; capacity = w.kernel.capacity; accounts = w.kernel.accounts }; clients = w.clients }

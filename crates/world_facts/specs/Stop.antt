@@ -1,0 +1,33 @@
+-- What a stop stores.
+use Rattle.std.specs.Prelude.{◌≡◌, ◌⊎◌, ℕ, ◌≤◌, List, [], ◌++◌, true, Option, Some, None, option_map}
+use Rattle.posix_calls.specs.Operations.{is_client}
+use Rattle.posix_calls.specs.declared.limits.TheConstants.{MAX_CLIENTS}
+use Rattle.file_graph.specs.Graph.{Graph}
+use Rattle.file_graph.specs.Units.{charge}
+use Rattle.log_record.specs.declared.format.Record.{Record}
+use Rattle.call_effects.specs.Settled.{nobody, settled_graph}
+use Rattle.call_effects.specs.Wholes.{IsSound, state_of}
+use Rattle.world_facts.specs.Logs.{after_clients, AreApart, ArePaid}
+use Rattle.world_facts.specs.Outcome.{Unfinished, IsOutcome}
+use Rattle.world_facts.specs.World.{World, Begun, change_of, log_of, tree_of}
+
+-- in place of each log it leaves the log, or the log and the begun record
+abbrev pub Leaves : World → (ℕ → List Record) → Type 0
+Leaves w logs = (c : ℕ) → is_client c ≡ true → (logs c ≡ log_of w c) ⊎ (logs c ≡ log_of w c ++ change_of (w.clients c).begun)
+
+-- the shared graph after all of these logs
+abbrev pub stored : World → (ℕ → List Record) → Graph
+stored w logs = after_clients logs w.kernel.shared MAX_CLIENTS
+
+-- the calls that have begun a record
+abbrev pub begun_calls : World → Unfinished
+begun_calls w c = option_map (λ b. b.call) (w.clients c).begun
+
+-- what is stored is sound without descriptors, and fits; once it is settled, its state is the tree after some of the begun calls
+pub record Stores (w : World) (logs : ℕ → List Record) : Type 0 where
+  pub sound : IsSound (stored w logs) nobody
+  pub outcome : IsOutcome (tree_of w) [] (begun_calls w) (state_of (settled_graph (stored w logs)) nobody)
+  -- no inode is written by the records of two clients, and each client's are paid for over the shared graph
+  pub apart : AreApart logs
+  pub paid : (c : ℕ) → is_client c ≡ true → ArePaid w.kernel.shared (logs c)
+  pub fits : charge (stored w logs) ≤ w.kernel.capacity
