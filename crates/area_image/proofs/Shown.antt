@@ -1,5 +1,5 @@
 -- What is read of a journal's medium is what the store has.
-use Rattle.std.proofs.Common.{◌≡◌, ◌≢◌, ◌≤◌, ◌<◌, ◌+◌, ◌-◌, ◌*◌, ◌^◌, ◌||◌, ℕ, List, [], Bool, true, false, length, refl, sym, ◌∙◌, ap, arith, Option, Some, None}
+use Rattle.std.proofs.Common.{◌≡◌, ◌≢◌, ◌≤◌, ◌<◌, ◌+◌, ◌-◌, ◌*◌, ◌^◌, ◌||◌, ℕ, List, [], Bool, true, false, length, refl, sym, ◌∙◌, ap, arith, Option, Some, None, Ok}
 use Rattle.std.specs.Prelude.{◌==◌, nat_le, nat_lt, if◌then◌else◌}
 use Rattle.std.proofs.lemmas.Bool.{cond-true, cond-false, and_parts, and_from, leb-true, le-leb, ltb-true, lt-ltb, ne_eqb, eq-eqb}
 use Rattle.std.proofs.lemmas.List.{take_all}
@@ -9,6 +9,8 @@ use Rattle.layout.specs.declared.slot.Slot.{Slot}
 use Rattle.layout.specs.declared.slot.Slot.TheVariants as slots
 use Rattle.layout.specs.declared.geometry.Space.{Space}
 use Rattle.layout.specs.Bytes.{◌>>=◌}
+use Rattle.layout.specs.Answers.{answer}
+use Rattle.layout.specs.declared.error.What.{What}
 use Rattle.layout.specs.Extents.{ExtentList, extents_of}
 use Rattle.layout.specs.Places.{Sizes, is_inode, is_node, slot_block, slot_byte, tier_blocks, node_end}
 use Rattle.layout.specs.Slot.{slot_of, fits_slot, is_root, roots_apart}
@@ -109,3 +111,9 @@ runs_none g fast i x t zero = cond-true (root_of x t == 0) _ _ (eq-eqb (root_of 
 
 pub runs_some : (g : Sizes) (fast : Blocks) (i : ℕ) (x : Slot) (t : Tier) → root_of x t ≢ 0 → runs_by g fast i x t ≡ own_extents g (space_of x t) i (length_of x) (fast (root_of x t))
 runs_some g fast i x t some = cond-false (root_of x t == 0) _ _ (ne_eqb (root_of x t) 0 some)
+
+-- ---- answers of a decoder
+
+pub answered : {A : Type 0} (what : What) (block : ℕ) (o : Option A) (x : A) → Ok x ≡ answer what block o → o ≡ Some x
+answered what block None x is = cc
+answered what block (Some y) x is = cc

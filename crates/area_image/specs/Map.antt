@@ -1,11 +1,12 @@
 -- An inode's slot and extents as they are held in memory.
-use Rattle.std.specs.Prelude.{◌≡◌, ℕ, List, Option, Some, None, IsSome}
+use Rattle.std.specs.Prelude.{◌≡◌, ℕ, List, [], Option, Some, None, IsSome}
 use Rattle.tier_device.specs.declared.media.Tier.{Tier}
 use Rattle.tier_device.specs.declared.media.Tier.TheVariants as tiers
 use Rattle.layout.specs.declared.slot.Slot.{Slot}
 use Rattle.layout.specs.declared.extents.Extent.{Extent}
+use Rattle.layout.specs.Extents.{ExtentList}
 use Rattle.layout.specs.Places.{Sizes}
-use Rattle.extent_nodes.specs.Places.{place_of, SamePlaces}
+use Rattle.extent_nodes.specs.Places.{place_of}
 use Rattle.area_image.specs.Store.{Store, slot_read, runs_read, place}
 use Rattle.area_image.specs.Damage.{LacksBlock}
 
@@ -30,7 +31,7 @@ pub record Shows (g : Sizes) (s : Store) (i : ℕ) (v : MapView) : Type 0 where
   pub once : (t u : Tier) (k : ℕ) → IsSome (place g s i t k) → IsSome (place g s i u k) → t ≡ u
   pub whole : LacksBlock g s i → ⊥
 
--- Extents of the same map as those that were read.
-abbrev pub SameRuns : List Extent → Option (List Extent) → Type 0
-SameRuns runs None = ⊥
-SameRuns runs (Some read) = SamePlaces runs read
+-- the extents of a block, none where there is no block
+abbrev pub extents_in : Option ExtentList → List Extent
+extents_in None = []
+extents_in (Some v) = v.extents

@@ -2,9 +2,17 @@
 #![tactic(auto)]
 
 mod error;
+mod extents;
 mod laws;
+mod marks;
+mod reading;
+mod slots;
 
 pub use error::AreaError;
+pub use extents::read_extents;
 pub use laws::{
     damage_spells_no_graph, free_blocks_are_not_read, write_to_free_blocks_stays_loose,
 };
+pub use marks::read_marks;
+pub use reading::{blank_block, read_block};
+pub use slots::{length_of, read_slot, root_of, space_of};

@@ -1,0 +1,95 @@
+// Extents as they are read.
+ghost use Rattle.std.specs.Prelude.{◌≡◌, ◌≢◌, ◌≤◌, Some, None, nat_le, true, IfOk, IfErr};
+ghost use Rattle.std.specs.List.{list_all};
+ghost use Rattle.layout.specs.declared.error.What.TheVariants as what;
+ghost use Rattle.layout.specs.Places.{is_node};
+ghost use Rattle.extent_nodes.specs.Places.{end_of};
+ghost use Rattle.area_image.specs.Store.{store_of, is_own, own_extents, runs_by, root_of, space_of, length_of};
+ghost use Rattle.area_image.specs.Looks.{Looks};
+ghost use Rattle.area_image.specs.Map.{extents_in};
+ghost use Rattle.area_image.specs.Damage.{OnDamage};
+ghost use Rattle.area_image.specs.declared.error.AreaError.TheVariants.{DeviceFault};
+ghost use Rattle.tier_device.specs.declared.media.Tier.TheVariants as tiers;
+
+use crate::error::AreaError;
+use crate::reading::{blank_block, read_block};
+use crate::slots::{length_of, root_of, space_of};
+use batch_journal::Journal;
+use layout::{Extent, ExtentBlock, Geometry, LayoutError, Slot, Space, What};
+use std::alloc::Global;
+use tier_device::{Media, Tier};
+
+/// The extents of an inode in a tier, as its slot leads to them; `None` where it has no extent block there. `Damaged` names the extent block, where it spells none
+/// that are the inode's and end within its logical blocks.
+pub fn read_extents<M: Media>(
+    alloc: Global,
+    journal: &mut Journal<M>,
+    inode: u32,
+    slot: &Slot,
+    tier: Tier,
+) -> Result<Option<ExtentBlock>, AreaError>
+    requires { root_of slot.now tier ≢ 0 → is_node journal.old.geometry (root_of slot.now tier) ≡ true }
+    ensures runs { IfOk result (λ x. runs_by journal.old.geometry (store_of (M.seen journal.old.media) tiers.Fast) inode slot.now tier ≡ Some (extents_in x)) }
+    ensures damaged { IfErr result (λ e. OnDamage e (λ w block. (w ≡ what.ExtentBlock) × (block ≡ root_of slot.now tier) × (root_of slot.now tier ≢ 0)
+        × (runs_by journal.old.geometry (store_of (M.seen journal.old.media) tiers.Fast) inode slot.now tier ≡ None))) }
+    ensures looks { Looks M.moment M.seen M.left M.faults journal.old journal.new result }
+{
+    let root = root_of(slot, tier);
+    if root == 0 {
+        return Ok(None);
+    }
+    let mut bytes = blank_block();
+    read_block(journal, Tier::Fast, root, &mut bytes)?;
+    let geometry = journal.geometry();
+    let place = space_of(slot, tier);
+    let blocks = length_of(slot);
+    match spelled_extents(alloc, &geometry, place, root, inode, blocks, &bytes) {
+        Ok(found) => Ok(Some(found)),
+        Err(error) => Err(error),
+    }
+}
+
+// The extents that a block spells, if they are the inode's and end within its blocks.
+fn spelled_extents(
+    alloc: Global,
+    geometry: &Geometry,
+    place: Space,
+    root: u32,
+    inode: u32,
+    blocks: u64,
+    bytes: &[u8],
+) -> Result<ExtentBlock, AreaError>
+    ensures runs { IfOk result (λ x. own_extents geometry.now place inode blocks bytes.now ≡ Some x.extents) }
+    ensures device { IfErr result (λ e. e ≢ DeviceFault) }
+    ensures damaged { IfErr result (λ e. OnDamage e (λ w block. (w ≡ what.ExtentBlock) × (block ≡ root) × (own_extents geometry.now place inode blocks bytes.now ≡ None))) }
+{
+    let damaged = AreaError::Damaged {
+        what: What::ExtentBlock,
+        block: root,
+    };
+    match ExtentBlock::decode(alloc, geometry, place, root, bytes) {
+        Ok(found) => {
+            if !is_own(&found, inode, blocks) {
+                return Err(damaged);
+            }
+            Ok(found)
+        }
+        Err(LayoutError::Memory) => Err(AreaError::Memory),
+        Err(LayoutError::Damaged { .. }) => Err(damaged),
+    }
+}
+
+// Whether they are the inode's, and end within so many blocks.
+fn is_own(found: &ExtentBlock, inode: u32, blocks: u64) -> bool
+    ensures { result ≡ is_own inode blocks found.now }
+{
+    found.owner() == inode && end_within(found.extents(), blocks)
+}
+
+fn end_within(extents: &[Extent], blocks: u64) -> bool
+    ensures { result ≡ list_all (λ e. nat_le (end_of e) blocks) extents.now }
+{
+    extents
+        .iter()
+        .all(|e| e.logical as u64 + e.length as u64 <= blocks)
+}
