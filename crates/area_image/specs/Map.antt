@@ -1,13 +1,16 @@
 -- An inode's slot and extents as they are held in memory.
-use Rattle.std.specs.Prelude.{◌≡◌, ℕ, List, [], Option, Some, None, IsSome}
+use Rattle.std.specs.Prelude.{◌≡◌, ◌≢◌, ℕ, List, [], Option, Some, None, IsSome}
 use Rattle.tier_device.specs.declared.media.Tier.{Tier}
 use Rattle.tier_device.specs.declared.media.Tier.TheVariants as tiers
 use Rattle.layout.specs.declared.slot.Slot.{Slot}
 use Rattle.layout.specs.declared.extents.Extent.{Extent}
 use Rattle.layout.specs.Extents.{ExtentList}
+use Rattle.layout.specs.declared.error.What.{What}
+use Rattle.layout.specs.declared.error.What.TheVariants as what
+use Rattle.batch_journal.specs.Blocks.{Blocks}
 use Rattle.layout.specs.Places.{Sizes}
 use Rattle.extent_nodes.specs.Places.{place_of}
-use Rattle.area_image.specs.Store.{Store, slot_read, runs_read, place}
+use Rattle.area_image.specs.Store.{Store, root_of, runs_by, slot_read, runs_read, place}
 use Rattle.area_image.specs.Damage.{LacksBlock}
 
 -- a slot, and the extents of each tier
@@ -35,3 +38,11 @@ pub record Shows (g : Sizes) (s : Store) (i : ℕ) (v : MapView) : Type 0 where
 abbrev pub extents_in : Option ExtentList → List Extent
 extents_in None = []
 extents_in (Some v) = v.extents
+
+-- The extent block that a slot names in some tier spells none that are the inode's within its size.
+pub record HasNoExtents (g : Sizes) (fast : Blocks) (i : ℕ) (slot : Slot) (w : What) (block : ℕ) : Type 0 where
+  pub tier : Tier
+  pub structure : w ≡ what.ExtentBlock
+  pub at : block ≡ root_of slot tier
+  pub some : root_of slot tier ≢ 0
+  pub none : runs_by g fast i slot tier ≡ None

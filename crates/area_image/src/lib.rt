@@ -7,6 +7,7 @@ mod laws;
 mod marks;
 mod reading;
 mod slots;
+mod trees;
 
 pub use error::AreaError;
 pub use extents::read_extents;
@@ -16,3 +17,4 @@ pub use laws::{
 pub use marks::read_marks;
 pub use reading::{blank_block, read_block};
 pub use slots::{length_of, read_slot, root_of, space_of};
+pub use trees::{InodeTrees, read_trees};
