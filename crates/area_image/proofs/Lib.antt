@@ -2,3 +2,4 @@ pub mod Frames
 pub mod Damages
 pub mod Looked
 pub mod Shown
+pub mod Parts

@@ -1,5 +1,5 @@
--- An inode's slot and extents as they are held in memory.
-use Rattle.std.specs.Prelude.{◌≡◌, ◌≢◌, ℕ, List, [], Option, Some, None, IsSome}
+-- An inode's slot and extents as they are read.
+use Rattle.std.specs.Prelude.{◌≡◌, ◌≢◌, ◌⊎◌, ℕ, List, [], Option, Some, None}
 use Rattle.tier_device.specs.declared.media.Tier.{Tier}
 use Rattle.tier_device.specs.declared.media.Tier.TheVariants as tiers
 use Rattle.layout.specs.declared.slot.Slot.{Slot}
@@ -8,31 +8,9 @@ use Rattle.layout.specs.Extents.{ExtentList}
 use Rattle.layout.specs.declared.error.What.{What}
 use Rattle.layout.specs.declared.error.What.TheVariants as what
 use Rattle.batch_journal.specs.Blocks.{Blocks}
-use Rattle.layout.specs.Places.{Sizes}
-use Rattle.extent_nodes.specs.Places.{place_of}
-use Rattle.area_image.specs.Store.{Store, root_of, runs_by, slot_read, runs_read, place}
-use Rattle.area_image.specs.Damage.{LacksBlock}
-
--- a slot, and the extents of each tier
-pub record MapView : Type 0 where
-  pub slot : Slot
-  pub fast : List Extent
-  pub block : List Extent
-  pub slow : List Extent
-
--- the extents of one tier
-abbrev pub runs_in : MapView → Tier → List Extent
-runs_in v tiers.Fast = v.fast
-runs_in v tiers.Block = v.block
-runs_in v tiers.Slow = v.slow
-
--- It is what the store has of inode i: its slot, and in each tier the blocks that its extents map; no two tiers map one, and a directory lacks none.
-pub record Shows (g : Sizes) (s : Store) (i : ℕ) (v : MapView) : Type 0 where
-  pub slot : slot_read g s i ≡ Some v.slot
-  pub extents : (t : Tier) → IsSome (runs_read g s i t)
-  pub places : (t : Tier) (k : ℕ) → place_of (runs_in v t) k ≡ place g s i t k
-  pub once : (t u : Tier) (k : ℕ) → IsSome (place g s i t k) → IsSome (place g s i u k) → t ≡ u
-  pub whole : LacksBlock g s i → ⊥
+use Rattle.layout.specs.Places.{Sizes, slot_block}
+use Rattle.area_image.specs.Store.{Store, root_of, runs_by, slot_read}
+use Rattle.area_image.specs.declared.trees.InodeTrees.{InodeTrees}
 
 -- the extents of a block, none where there is no block
 abbrev pub extents_in : Option ExtentList → List Extent
@@ -46,3 +24,20 @@ pub record HasNoExtents (g : Sizes) (fast : Blocks) (i : ℕ) (slot : Slot) (w :
   pub at : block ≡ root_of slot tier
   pub some : root_of slot tier ≢ 0
   pub none : runs_by g fast i slot tier ≡ None
+
+-- the extents of one tier
+abbrev pub runs_in : InodeTrees → Tier → List Extent
+runs_in x tiers.Fast = extents_in x.fast
+runs_in x tiers.Block = extents_in x.block
+runs_in x tiers.Slow = extents_in x.slow
+
+-- By this slot, inode i has these extents.
+pub record HasRuns (g : Sizes) (s : Store) (i : ℕ) (slot : Slot) (x : InodeTrees) : Type 0 where
+  pub fast : runs_by g (s tiers.Fast) i slot tiers.Fast ≡ Some (extents_in x.fast)
+  pub block : runs_by g (s tiers.Fast) i slot tiers.Block ≡ Some (extents_in x.block)
+  pub slow : runs_by g (s tiers.Fast) i slot tiers.Slow ≡ Some (extents_in x.slow)
+
+-- The slot of inode i is none, or an extent block that it names.
+abbrev pub IsPartDamage : Sizes → Store → ℕ → What → ℕ → Type 0
+IsPartDamage g s i w block =
+    ((w ≡ what.Slot) × (block ≡ slot_block i) × (slot_read g s i ≡ None)) ⊎ ((x : Slot) × (slot_read g s i ≡ Some x) × HasNoExtents g (s tiers.Fast) i x w block)

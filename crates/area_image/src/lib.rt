@@ -3,6 +3,7 @@
 
 mod error;
 mod extents;
+mod inode;
 mod laws;
 mod marks;
 mod reading;
@@ -11,6 +12,7 @@ mod trees;
 
 pub use error::AreaError;
 pub use extents::read_extents;
+pub use inode::{InodeParts, read_inode};
 pub use laws::{
     damage_spells_no_graph, free_blocks_are_not_read, write_to_free_blocks_stays_loose,
 };
