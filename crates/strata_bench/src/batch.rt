@@ -1,15 +1,17 @@
 // Commits of batches of images, beside copies of the same bytes.
 ghost use Rattle.std.specs.Prelude.{◌≡◌, ◌≤◌, ◌<◌, length, IfOk};
 ghost use Rattle.tier_device.specs.Memory.{IsAtRest};
+ghost use Rattle.tier_device.specs.Media.{AtRest};
+ghost use Rattle.tier_device.specs.declared.media.Tier.TheVariants.{Fast};
 ghost use Rattle.batch_journal.specs.Blocks.{AreJournaled};
 ghost use Rattle.batch_journal.specs.Volume.{KeepsGeometry};
 
-use anyhow::{Result, bail};
-use batch_journal::{Batch, Journal, MAX_IMAGES};
+use crate::desk::{Desk, bytes_of, keep_freed_memory, time_copies};
+use crate::failure::Failure;
+use batch_journal::{Batch, Journal, JournalError, MAX_IMAGES};
 use layout::{BLOCK, FIRST_NODE_BLOCK, Geometry, Super};
 use std::alloc::{AllocError, Global};
-use std::time::Instant;
-use tier_device::{MemMedia, Tier};
+use tier_device::{Media, MemMedia, Tier};
 
 /// How many media are opened.
 const TRIES: u32 = 10;
@@ -25,78 +27,125 @@ struct Times {
     copy: u128,
 }
 
-/// Prints the time of a commit of so many images, that of a copy of the same bytes, and their ratio, and the time in which a
-/// medium of the default sizes is opened. Each is the best of some tries.
-pub fn run(rt: &HostRuntime, images: usize) -> Result<()> {
-    if MAX_IMAGES < images {
-        bail!("a batch has up to {MAX_IMAGES} images");
+impl Times {
+    fn best(&self, other: Times) -> Times {
+        Times {
+            open: self.open.min(other.open),
+            commit: self.commit.min(other.commit),
+            copy: self.copy.min(other.copy),
+        }
     }
-    let Some(geometry) = Geometry::new(1_024, 512, 1_024, 1_024) else {
-        bail!("there are no such media");
-    };
-    let batch = batch_of(rt.alloc(), images as u32)?;
-    let times = best_of(rt, &geometry, &batch, images * BLOCK)?;
-    report(rt, images, &times)
 }
 
-fn best_of(rt: &HostRuntime, geometry: &Geometry, batch: &Batch, bytes: usize) -> Result<Times> {
-    let mut best = Times {
-        open: u128::MAX,
-        commit: u128::MAX,
-        copy: u128::MAX,
-    };
-    for _ in 0..TRIES {
-        let (open, commit) = one_try(rt, geometry, batch)?;
-        best.open = best.open.min(open);
-        best.commit = best.commit.min(commit);
-        best.copy = best.copy.min(copies(rt, bytes)?);
+const LONGEST: Times = Times {
+    open: u128::MAX,
+    commit: u128::MAX,
+    copy: u128::MAX,
+};
+
+/// Tells the time of a commit of so many images, that of a copy of the same bytes, and their ratio, and the time in which a
+/// medium of the default sizes is opened. Each is the best of some tries.
+pub fn run(desk: &mut Desk<'_>, images: usize) -> Result<(), Failure> {
+    if MAX_IMAGES < images {
+        return Err(Failure::Told("a batch has up to 256 images"));
     }
-    Ok(best)
+    match Geometry::new(1_024, 512, 1_024, 1_024) {
+        Some(geometry) => time_commits(desk, &geometry, images as u32),
+        None => Err(Failure::Told("there are no such media")),
+    }
+}
+
+fn time_commits(desk: &mut Desk<'_>, geometry: &Geometry, images: u32) -> Result<(), Failure>
+    requires { images ≤ 256 }
+{
+    let batch = batch_of(desk.alloc(), images)?;
+    let mut best = LONGEST;
+    for _ in 0..TRIES {
+        best = best.best(one_try(desk, geometry, &batch, images)?);
+    }
+    report(desk, images as usize, best);
+    Ok(())
+}
+
+fn report(desk: &mut Desk<'_>, images: usize, best: Times) {
+    let commit = best.commit / u128::from(TURNS);
+    let copy = best.copy / u128::from(TURNS);
+    desk.tell_sized("commit", images, "images", commit);
+    desk.tell("copy of their bytes", copy, " ns");
+    desk.tell_ratio("ratio", commit, copy);
+    desk.tell("opening of a medium", best.open, " ns");
+}
+
+fn one_try(
+    desk: &mut Desk<'_>,
+    geometry: &Geometry,
+    batch: &Batch,
+    images: u32,
+) -> Result<Times, Failure>
+    requires { images ≤ 256 }
+{
+    let (open, commit) = time_on_a_medium(desk, geometry, batch)?;
+    let copy = time_of_copies(desk, BLOCK * images as usize)?;
+    Ok(Times { open, commit, copy })
 }
 
 // The times in which a medium is opened, and the batch is committed to it as often as is asked.
-fn one_try(rt: &HostRuntime, geometry: &Geometry, batch: &Batch) -> Result<(u128, u128)> {
-    let media = medium(rt.alloc(), geometry)?;
-    let (mut journal, open) = timed_opening(rt, media)?;
-    let commit = timed_commits(rt, &mut journal, batch)?;
-    Ok((open, commit))
+fn time_on_a_medium(
+    desk: &mut Desk<'_>,
+    geometry: &Geometry,
+    batch: &Batch,
+) -> Result<(u128, u128), Failure> {
+    let media = medium(desk.alloc(), geometry)?;
+    time_on(desk, media, batch)
 }
 
-fn timed_opening(rt: &HostRuntime, media: MemMedia) -> Result<(Journal<MemMedia>, u128)>
-    requires { IsAtRest media }
+fn time_on<M: Media + Drop>(
+    desk: &mut Desk<'_>,
+    media: M,
+    batch: &Batch,
+) -> Result<(u128, u128), Failure>
+    requires { AtRest (M.seen media) (M.left media (M.moment media)) Fast }
 {
-    let start = Instant::now(rt)?;
-    let journal = opened(rt.alloc(), media)?;
-    Ok((journal, start.elapsed(rt)?.as_nanos()))
+    let start = desk.now();
+    match Journal::reopen(desk.alloc(), media) {
+        Ok(mut journal) => {
+            let open = desk.since(start);
+            Ok((open, time_turns(desk, &mut journal, batch)?))
+        }
+        Err((error, _media)) => Err(Failure::Journal(error)),
+    }
 }
 
-fn timed_commits(rt: &HostRuntime, journal: &mut Journal<MemMedia>, batch: &Batch) -> Result<u128> {
-    keep_freed_memory(rt.alloc())?;
-    let start = Instant::now(rt)?;
-    commit_all(journal, batch)?;
-    Ok(start.elapsed(rt)?.as_nanos())
+// The allocator keeps as much memory as the media keep of the commits.
+fn time_turns<M: Media>(
+    desk: &mut Desk<'_>,
+    journal: &mut Journal<M>,
+    batch: &Batch,
+) -> Result<u128, Failure> {
+    keep_freed_memory(desk.alloc(), 30_000_000)?;
+    keep_freed_memory(desk.alloc(), 28_000_000)?;
+    let start = desk.now();
+    match commit_all(journal, batch) {
+        Ok(()) => Ok(desk.since(start)),
+        Err(error) => Err(Failure::Journal(error)),
+    }
 }
 
-// Writes and frees as much memory as the media keep of the commits, twice: the allocator then keeps what is freed, so that no
-// page is asked of the system while a batch is committed.
-fn keep_freed_memory(alloc: Global) -> Result<(), AllocError> {
-    for size in [30_000_000, 28_000_000] {
-        let block = vec![in alloc; 0x61u8; size]?;
-        drop(block);
+fn commit_all<M: Media>(journal: &mut Journal<M>, batch: &Batch) -> Result<(), JournalError> {
+    for _ in 0..TURNS {
+        if !batch.suits(&journal.geometry()) {
+            return Err(JournalError::BatchTooLarge);
+        }
+        journal.commit(batch)?;
     }
     Ok(())
 }
 
-fn report(rt: &HostRuntime, images: usize, times: &Times) -> Result<()> {
-    let commit = times.commit / u128::from(TURNS);
-    let copy = times.copy / u128::from(TURNS);
-    println!(rt; "commit of {images} images: {commit} ns")?;
-    println!(rt; "copy of their bytes: {copy} ns")?;
-    if let Some(ratio) = commit.saturating_mul(10).checked_div(copy) {
-        println!(rt; "ratio: {}.{}", ratio / 10, ratio % 10)?;
-    }
-    println!(rt; "opening of a medium: {} ns", times.open)?;
-    Ok(())
+// The time in which so many bytes are copied as often as a batch is committed, each time to another place.
+fn time_of_copies(desk: &mut Desk<'_>, bytes: usize) -> Result<u128, Failure> {
+    let from = bytes_of(desk.alloc(), 0x61, bytes)?;
+    let mut to = bytes_of(desk.alloc(), 0x62, bytes.saturating_mul(TURNS as usize))?;
+    Ok(time_copies(desk, &mut to, &from).nanos())
 }
 
 // Images of so many blocks of the node pool, from its first on.
@@ -113,64 +162,22 @@ fn batch_of(alloc: Global, images: u32) -> Result<Batch, AllocError>
 }
 
 // A medium of these sizes, with nothing on it but the superblock.
-fn medium(alloc: Global, geometry: &Geometry) -> Result<MemMedia>
+fn medium(alloc: Global, geometry: &Geometry) -> Result<MemMedia, AllocError>
     ensures { IfOk result IsAtRest }
 {
     let fast = fast_tier(alloc, geometry)?;
-    let block = zeros(alloc, BLOCK * geometry.tier_blocks(Tier::Block) as usize)?;
-    let slow = zeros(alloc, BLOCK * geometry.tier_blocks(Tier::Slow) as usize)?;
+    let block = bytes_of(alloc, 0, BLOCK * geometry.tier_blocks(Tier::Block) as usize)?;
+    let slow = bytes_of(alloc, 0, BLOCK * geometry.tier_blocks(Tier::Slow) as usize)?;
     Ok(MemMedia::of_bytes(alloc, fast, block, slow)?)
 }
 
 fn fast_tier(alloc: Global, geometry: &Geometry) -> Result<Vec<u8>, AllocError> {
     let size = BLOCK;
-    let mut fast = zeros(alloc, size)?;
+    let mut fast = vec![in alloc; 0u8; size]?;
     let found = Super {
         geometry: *geometry,
     };
     found.encode(&mut fast);
     fast.resize(BLOCK * geometry.tier_blocks(Tier::Fast) as usize, 0)?;
     Ok(fast)
-}
-
-fn zeros(alloc: Global, size: usize) -> Result<Vec<u8>, AllocError>
-    ensures { IfOk result (λ v. length v.items ≡ size) }
-{
-    let bytes = vec![in alloc; 0u8; size]?;
-    Ok(bytes)
-}
-
-fn opened(alloc: Global, media: MemMedia) -> Result<Journal<MemMedia>>
-    requires { IsAtRest media }
-{
-    match Journal::reopen(alloc, media) {
-        Ok(journal) => Ok(journal),
-        Err((error, _media)) => bail!("opening a medium: {error}"),
-    }
-}
-
-fn commit_all(journal: &mut Journal<MemMedia>, batch: &Batch) -> Result<()> {
-    for _ in 0..TURNS {
-        if !batch.suits(&journal.geometry()) {
-            bail!("a batch of other blocks");
-        }
-        if let Err(error) = journal.commit(batch) {
-            bail!("committing: {error}");
-        }
-    }
-    Ok(())
-}
-
-// The time in which so many bytes are copied as often as a batch is committed, each time to another place.
-fn copies(rt: &HostRuntime, bytes: usize) -> Result<u128> {
-    let alloc = rt.alloc();
-    let from = vec![in alloc; 0x61u8; bytes]?;
-    let mut to = vec![in alloc; 0x62u8; bytes.saturating_mul(TURNS as usize)]?;
-    let start = Instant::now(rt)?;
-    for place in to.chunks_exact_mut(bytes.max(1)) {
-        if place.len() == from.len() {
-            place.copy_from_slice(&from);
-        }
-    }
-    Ok(start.elapsed(rt)?.as_nanos())
 }

@@ -4,12 +4,13 @@ ghost use Rattle.lease_manager.specs.declared.view.LeaseMode.TheVariants.{Free};
 ghost use Rattle.lease_manager.specs.Words.{IsInode};
 ghost use Rattle.lease_manager.specs.Passes.{lease_of, records_of};
 
+use crate::desk::Desk;
+use crate::failure::Failure;
 use lease_manager::{LeaseMode, Leases, Opened, Pass};
 use std::sync::atomic::AtomicU64;
 use std::sync::atomic::Ordering::SeqCst;
+use std::thread;
 use std::thread::Threads;
-use std::time::{Clock, Duration, Instant};
-use std::{io, thread};
 
 /// The inodes of one client, so that eight clients go over inodes apart.
 const OWN: u32 = 128;
@@ -81,97 +82,103 @@ fn set_bits(word: &AtomicU64) -> u64 {
     bits
 }
 
-// Nanoseconds for one turn of all that one client takes.
-fn nanos(time: Duration) -> f64 {
-    time.as_secs_f64() * 1e9 / f64::from(OWN * TURNS)
+// Tenths of a nanosecond for one turn of all that one client takes.
+fn tenths(nanos: u128) -> u128 {
+    nanos.saturating_mul(10) / u128::from(OWN * TURNS)
 }
 
 // The time of one `fetch_or` of a bare word.
-fn bare_word<R: Clock>(rt: &R) -> io::Result<f64> {
+fn bare_word(desk: &mut Desk<'_>) -> u128 {
     let word = AtomicU64::new(0);
-    let start = Instant::now(rt)?;
+    let start = desk.now();
     let bits = set_bits(&word);
-    let time = start.elapsed(rt)?;
+    let time = desk.since(start);
     // The bits are looked at so that no compiler leaves the steps out.
-    Ok(if bits == 0 { f64::MAX } else { nanos(time) })
+    if bits == 0 { u128::MAX } else { tenths(time) }
 }
 
 // The time in which one client takes a lease and gives it.
-fn one_client<R: Clock + AllocGlobal>(rt: &R, kind: Kind) -> Result<f64, anyhow::Error> {
+fn one_client(desk: &mut Desk<'_>, kind: Kind) -> Result<u128, Failure> {
     let Opened {
         leases,
         mut passes,
         ..
-    } = Leases::open(rt.alloc())?;
-    let start = Instant::now(rt)?;
+    } = Leases::open(desk.alloc())?;
+    let start = desk.now();
     if let [first, ..] = passes.as_mut_slice() {
         own_turns(&leases, first, kind);
     }
-    Ok(nanos(start.elapsed(rt)?))
+    Ok(tenths(desk.since(start)))
 }
 
 // The time in which each of eight clients takes a lease and gives it, on inodes apart and in a thread each.
-fn eight_clients<R: Threads + Sync + Clock + AllocGlobal>(
-    rt: &R,
+fn eight_clients<R: Threads + Sync>(
+    threads: &R,
+    desk: &mut Desk<'_>,
     kind: Kind,
-) -> Result<f64, anyhow::Error> {
+) -> Result<u128, Failure> {
     let Opened {
         leases,
         mut passes,
         ..
-    } = Leases::open(rt.alloc())?;
+    } = Leases::open(desk.alloc())?;
     let all = &leases;
     let go = move |_: usize, pass: &mut Pass|
         requires { pass.now.table ≡ all.now }
     { own_turns(all, pass, kind) };
-    let start = Instant::now(rt)?;
-    thread::for_each_mut(rt, passes.as_mut_slice(), 8, &go);
-    Ok(nanos(start.elapsed(rt)?))
+    let start = desk.now();
+    thread::for_each_mut(threads, passes.as_mut_slice(), 8, &go);
+    Ok(tenths(desk.since(start)))
 }
 
-// Nanoseconds, each the best of some tries.
+// Tenths of a nanosecond, each the best of some tries.
 #[derive(Clone, Copy)]
 struct Times {
-    bare: f64,
-    read: f64,
-    write: f64,
-    eight: f64,
+    bare: u128,
+    read: u128,
+    write: u128,
+    eight: u128,
 }
 
-fn best_of<R: Threads + Sync + Clock + AllocGlobal>(rt: &R) -> Result<Times, anyhow::Error> {
-    let mut best = Times {
-        bare: f64::MAX,
-        read: f64::MAX,
-        write: f64::MAX,
-        eight: f64::MAX,
-    };
-    for _ in 0..TRIES {
-        best.bare = best.bare.min(bare_word(rt)?);
-        best.read = best.read.min(one_client(rt, Kind::Read)?);
-        best.write = best.write.min(one_client(rt, Kind::Write)?);
-        best.eight = best.eight.min(eight_clients(rt, Kind::Write)?);
+fn one_try<R: Threads + Sync>(threads: &R, desk: &mut Desk<'_>) -> Result<Times, Failure> {
+    let read = one_client(desk, Kind::Read)?;
+    let write = one_client(desk, Kind::Write)?;
+    let eight = eight_clients(threads, desk, Kind::Write)?;
+    let bare = bare_word(desk);
+    Ok(Times {
+        bare,
+        read,
+        write,
+        eight,
+    })
+}
+
+fn best_of<R: Threads + Sync>(threads: &R, desk: &mut Desk<'_>) -> Result<Times, Failure> {
+    let mut best = one_try(threads, desk)?;
+    for _ in 1..TRIES {
+        let times = one_try(threads, desk)?;
+        best.bare = best.bare.min(times.bare);
+        best.read = best.read.min(times.read);
+        best.write = best.write.min(times.write);
+        best.eight = best.eight.min(times.eight);
     }
     Ok(best)
 }
 
-/// Prints the time in which a lease is taken and given, beside one `fetch_or` of a bare word, and how many leases
-/// eight threads on inodes apart take in the time in which one thread takes one. Each is the best of some tries.
-pub fn run<R: Threads + Sync + Clock + Print + AllocGlobal>(rt: &R) -> Result<(), anyhow::Error> {
-    let times = best_of(rt)?;
-    println!(rt; "fetch_or of a bare word: {:.1} ns", times.bare)?;
-    report(rt, "read", times.read, times.bare)?;
-    report(rt, "write", times.write, times.bare)?;
-    println!(rt;
-        "eight threads on inodes apart: {:.1} leases in the time of one",
-        8.0 * times.write / times.eight
-    )?;
-    Ok(())
-}
-
-fn report<R: Print>(rt: &R, kind: &str, time: f64, bare: f64) -> Result<(), anyhow::Error> {
-    println!(rt;
-        "take a {kind} lease and give it: {time:.1} ns, {:.1} times as long",
-        time / bare
-    )?;
+/// Tells the time in which a lease is taken and given, beside one `fetch_or` of a bare word, and how many leases eight threads on
+/// inodes apart take in the time in which one thread takes one. Each is the best of some tries.
+pub fn run<R: Threads + Sync>(threads: &R, desk: &mut Desk<'_>) -> Result<(), Failure> {
+    let best = best_of(threads, desk)?;
+    desk.tell_tenths("fetch_or of a bare word", best.bare, " ns");
+    desk.tell_tenths("take a read lease and give it", best.read, " ns");
+    desk.tell_ratio("times a fetch_or", best.read, best.bare);
+    desk.tell_tenths("take a write lease and give it", best.write, " ns");
+    desk.tell_ratio("times a fetch_or", best.write, best.bare);
+    let one = best.write.saturating_mul(8);
+    desk.tell_ratio(
+        "leases of eight threads on inodes apart in the time of one",
+        one,
+        best.eight,
+    );
     Ok(())
 }

@@ -1,9 +1,9 @@
 // How many calls a second a file tree in memory answers.
-use anyhow::{Result, bail};
+use crate::desk::{Desk, Sum, bytes_of};
+use crate::failure::Failure;
 use plain_tree::PlainTree;
 use posix_calls::{Bytes, Call, Flags, Reply};
 use std::alloc::{AllocError, Global};
-use std::time::{Duration, Instant};
 
 const DIRECTORIES: u32 = 20;
 
@@ -29,168 +29,135 @@ const MAKE: Flags = Flags {
     truncate: false,
 };
 
-const WRITE: Flags = Flags {
-    read: false,
-    write: true,
-    create: false,
-    exclusive: false,
-    truncate: false,
-};
-
 // The descriptor that the first open file gets.
 const CLOSE: Call = Call::Close { descriptor: 0 };
 
-// The calls of one kind, and the time that they took.
-#[derive(Clone, Copy)]
-struct Clocked {
-    calls: u64,
-    time: Duration,
+// A file tree, and whether it refused a call.
+#[derive(Drop)]
+struct Tree {
+    tree: PlainTree,
+    has_refused: bool,
 }
 
-impl Clocked {
-    fn new() -> Self {
-        Clocked {
-            calls: 0,
-            time: Duration::ZERO,
-        }
-    }
-
+impl Tree {
     // Asks a call, and adds its time.
-    fn ask(&mut self, rt: &HostRuntime, tree: &mut PlainTree, call: &Call) -> Result<()> {
-        let start = Instant::now(rt)?;
-        let reply = tree.ask(1, call);
-        self.time = self.time.saturating_add(start.elapsed(rt)?);
-        self.calls = self.calls.saturating_add(1);
-        succeeded(&reply)
-    }
-
-    fn open(
-        &mut self,
-        rt: &HostRuntime,
-        tree: &mut PlainTree,
-        path: &str,
-        flags: Flags,
-    ) -> Result<()> {
-        let path = bytes_of(rt.alloc(), path)?;
-        self.ask(rt, tree, &Call::Open { path, flags })
-    }
-
-    fn stat(&mut self, rt: &HostRuntime, tree: &mut PlainTree, path: &str) -> Result<()> {
-        let path = bytes_of(rt.alloc(), path)?;
-        self.ask(rt, tree, &Call::Stat { path })
-    }
-
-    fn report(&self, rt: &HostRuntime, kind: &str) -> Result<()> {
-        let calls = u128::from(self.calls).saturating_mul(1_000_000_000);
-        let rate = calls.checked_div(self.time.as_nanos()).unwrap_or(0);
-        println!(rt; "{kind}: {rate} calls a second")?;
-        Ok(())
+    fn ask(&mut self, desk: &mut Desk<'_>, call: &Call, sum: &mut Sum) {
+        let start = desk.now();
+        let reply = self.tree.ask(1, call);
+        sum.add(1, desk.since(start));
+        self.has_refused |= is_refusal(&reply);
     }
 }
 
-fn succeeded(reply: &Reply) -> Result<()> {
-    match reply {
-        Reply::Failed { errno } => bail!("a call was answered {errno}"),
-        _ => Ok(()),
+fn is_refusal(reply: &Reply) -> bool {
+    matches!(reply, Reply::Failed { .. })
+}
+
+/// Tells how many calls of each kind are answered in a second, over a thousand files in twenty directories.
+pub fn run(desk: &mut Desk<'_>) -> Result<(), Failure> {
+    let mut tree = Tree {
+        tree: PlainTree::new(desk.alloc())?,
+        has_refused: false,
+    };
+    time_all(desk, &mut tree)?;
+    if tree.has_refused {
+        return Err(Failure::Told("a call was refused"));
     }
+    Ok(())
 }
 
-/// Prints how many calls of each kind are answered in a second, over a thousand files in twenty directories.
-pub fn run(rt: &HostRuntime) -> Result<()> {
-    let mut tree = PlainTree::new(rt.alloc())?;
-    let paths = make_files(rt, &mut tree)?;
-    time_writes(rt, &mut tree, &paths)?;
-    time_stats(rt, &mut tree, &paths)?;
-    time_reads(rt, &mut tree, &paths)
+fn time_all(desk: &mut Desk<'_>, tree: &mut Tree) -> Result<(), Failure> {
+    make_directories(desk, tree)?;
+    time_writes(desk, tree)?;
+    time_stats(desk, tree)?;
+    time_reads(desk, tree)?;
+    Ok(())
 }
 
-// Makes the directories and the files, and gives the paths of the files.
-fn make_files(rt: &HostRuntime, tree: &mut PlainTree) -> Result<Vec<String>> {
-    let mut paths = Vec::new(rt.alloc());
+fn make_directories(desk: &mut Desk<'_>, tree: &mut Tree) -> Result<(), AllocError> {
     for directory in 0..DIRECTORIES {
-        make_directory(rt, tree, directory)?;
-        for file in 0..FILES {
-            let path = format!(in rt.alloc(); "/d{directory}/f{file}")?;
-            make_file(rt, tree, &path)?;
-            paths.push(path)?;
-        }
+        let path = directory_path(desk.alloc(), directory)?;
+        tree.ask(desk, &Call::Mkdir { path }, &mut Sum::new());
     }
-    Ok(paths)
+    Ok(())
 }
 
-fn make_directory(rt: &HostRuntime, tree: &mut PlainTree, directory: u32) -> Result<()> {
-    let name = format!(in rt.alloc(); "/d{directory}")?;
-    let path = bytes_of(rt.alloc(), &name)?;
-    Clocked::new().ask(rt, tree, &Call::Mkdir { path })
-}
-
-fn make_file(rt: &HostRuntime, tree: &mut PlainTree, path: &str) -> Result<()> {
-    let mut clocked = Clocked::new();
-    clocked.open(rt, tree, path, MAKE)?;
-    clocked.ask(rt, tree, &CLOSE)
-}
-
-fn time_writes(rt: &HostRuntime, tree: &mut PlainTree, paths: &[String]) -> Result<()> {
-    let size = BLOCK;
-    let block = vec![in rt.alloc(); 0x61u8; size]?;
+// Makes each file and writes its bytes.
+fn time_writes(desk: &mut Desk<'_>, tree: &mut Tree) -> Result<(), AllocError> {
     let write = Call::Pwrite {
         descriptor: 0,
         at: 0,
-        bytes: Bytes::from_vec(block),
+        bytes: Bytes::from_vec(bytes_of(desk.alloc(), 0x61, BLOCK)?),
     };
-    let clocks = time_uses(rt, tree, paths, WRITE, &write)?;
-    clocks.uses.report(rt, "pwrite of 4 KiB")
+    let sums = time_uses(desk, tree, MAKE, &write)?;
+    tell(desk, "pwrite of 4 KiB", sums.uses);
+    Ok(())
 }
 
-fn time_stats(rt: &HostRuntime, tree: &mut PlainTree, paths: &[String]) -> Result<()> {
-    let mut stats = Clocked::new();
-    for path in paths {
-        stats.stat(rt, tree, path)?;
+fn time_stats(desk: &mut Desk<'_>, tree: &mut Tree) -> Result<(), AllocError> {
+    let mut stats = Sum::new();
+    for file in 0..DIRECTORIES * FILES {
+        let path = file_path(desk.alloc(), file)?;
+        tree.ask(desk, &Call::Stat { path }, &mut stats);
     }
-    stats.report(rt, "stat")
+    tell(desk, "stat", stats);
+    Ok(())
 }
 
-fn time_reads(rt: &HostRuntime, tree: &mut PlainTree, paths: &[String]) -> Result<()> {
+fn time_reads(desk: &mut Desk<'_>, tree: &mut Tree) -> Result<(), AllocError> {
     let read = Call::Pread {
         descriptor: 0,
         at: 0,
         count: BLOCK as u64,
     };
-    let clocks = time_uses(rt, tree, paths, READ, &read)?;
-    clocks.opens.report(rt, "open")?;
-    clocks.uses.report(rt, "pread of 4 KiB")?;
-    clocks.closes.report(rt, "close")
+    let sums = time_uses(desk, tree, READ, &read)?;
+    tell(desk, "open", sums.opens);
+    tell(desk, "pread of 4 KiB", sums.uses);
+    tell(desk, "close", sums.closes);
+    Ok(())
+}
+
+fn tell(desk: &mut Desk<'_>, what: &str, sum: Sum) {
+    desk.tell(what, sum.rate(), " calls a second");
 }
 
 // The calls that open files, use them and close them.
 #[derive(Clone, Copy)]
-struct Clocks {
-    opens: Clocked,
-    uses: Clocked,
-    closes: Clocked,
+struct Sums {
+    opens: Sum,
+    uses: Sum,
+    closes: Sum,
 }
 
 // Opens each file, asks a call of it, and closes it.
 fn time_uses(
-    rt: &HostRuntime,
-    tree: &mut PlainTree,
-    paths: &[String],
+    desk: &mut Desk<'_>,
+    tree: &mut Tree,
     flags: Flags,
     call: &Call,
-) -> Result<Clocks> {
-    let mut clocks = Clocks {
-        opens: Clocked::new(),
-        uses: Clocked::new(),
-        closes: Clocked::new(),
+) -> Result<Sums, AllocError> {
+    let mut sums = Sums {
+        opens: Sum::new(),
+        uses: Sum::new(),
+        closes: Sum::new(),
     };
-    for path in paths {
-        clocks.opens.open(rt, tree, path, flags)?;
-        clocks.uses.ask(rt, tree, call)?;
-        clocks.closes.ask(rt, tree, &CLOSE)?;
+    for file in 0..DIRECTORIES * FILES {
+        let path = file_path(desk.alloc(), file)?;
+        tree.ask(desk, &Call::Open { path, flags }, &mut sums.opens);
+        tree.ask(desk, call, &mut sums.uses);
+        tree.ask(desk, &CLOSE, &mut sums.closes);
     }
-    Ok(clocks)
+    Ok(sums)
 }
 
-fn bytes_of(alloc: Global, path: &str) -> Result<Bytes, AllocError> {
+fn directory_path(alloc: Global, directory: u32) -> Result<Bytes, AllocError> {
+    let path = format!(in alloc; "/d{directory}")?;
+    Bytes::copy_of(alloc, path.as_bytes())
+}
+
+// Of this number among all files.
+fn file_path(alloc: Global, file: u32) -> Result<Bytes, AllocError> {
+    let (directory, file) = (file / FILES, file % FILES);
+    let path = format!(in alloc; "/d{directory}/f{file}")?;
     Bytes::copy_of(alloc, path.as_bytes())
 }
