@@ -1,13 +1,13 @@
 mod Apart
 mod Blocks
-mod DirChanges
-mod DirPlaces
-mod DirectoryLaws
+pub mod DirChanges
+pub mod DirPlaces
+pub mod DirectoryLaws
 mod ExtentLaws
 mod Fields
 mod Items
-mod Limits
+pub mod Limits
 mod MarksLaws
-mod Pairs
+pub mod Pairs
 mod SlotLaws
 mod Supers

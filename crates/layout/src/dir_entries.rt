@@ -54,6 +54,21 @@ impl<'a> DirEntries<'a> {
         }
     }
 
+    /// The entries of a block that is known to spell some: nothing is tested.
+    pub fn known(block: &'a [u8]) -> Self
+        requires { AreEntries block.now }
+        ensures { result ≡ listed block.now }
+    {
+        match head_of(block) {
+            Some(((owner, count), _)) => DirEntries {
+                owner,
+                count: count as usize,
+                block,
+            },
+            None => unreachable!(),
+        }
+    }
+
     /// The inode of the directory.
     pub fn owner(&self) -> u32
         ensures { result ≡ self.now.owner }

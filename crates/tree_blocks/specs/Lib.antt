@@ -1,2 +1,3 @@
 pub mod After
+pub mod Directory
 pub mod Inode

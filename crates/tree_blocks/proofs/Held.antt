@@ -1,0 +1,88 @@
+-- The entries of a directory, as the entries of one block change.
+use Rattle.std.proofs.Common.{◌≡◌, ◌≢◌, inl, inr, ℕ, ◌/◌, ◌%◌, ◌<◌, List, length, refl, sym, ◌∙◌, ap, subst, arith}
+use Rattle.std.proofs.lemmas.Bool.{cases_eq}
+use Rattle.std.proofs.lemmas.List.{get_or-set_same, get_or-set_other, length-set}
+use Rattle.layout.specs.declared.directory.DirEntry.{DirEntry}
+use Rattle.layout.specs.Directory.{EntryList, AreEntries, listed, no_entry, entry_of, with_entry}
+use Rattle.tree_blocks.specs.Inode.{Blocks, plain, entry_at, entries_in, blocks_for, IsDirectoryBlock, IsDirectory}
+use Rattle.tree_blocks.specs.After.{IsEntered}
+
+-- an entry by the list of its block
+pub entry_is : (b : Blocks) (e : ℕ) (v : EntryList) → listed (b (e / 56)) ≡ v → entry_at b e ≡ plain (entry_of v (e % 56))
+unfolding entry_at
+entry_is b e v is = ap (λ l. plain (entry_of l (e % 56))) is
+
+-- the same block leaves the same entries
+pub same_block : (b c : Blocks) (e : ℕ) → c (e / 56) ≡ b (e / 56) → entry_at c e ≡ entry_at b e
+unfolding entry_at
+same_block b c e same = ap (λ l. plain (entry_of (listed l) (e % 56))) same
+
+-- one block lists others than it did
+module _ (b c : Blocks) (place : ℕ) (v : EntryList) (others : (k : ℕ) → k ≢ place / 56 → c k ≡ b k) (is : listed (c (place / 56)) ≡ v) where
+  pub entry_there : entry_at c place ≡ plain (entry_of v (place % 56))
+  unfolding entry_at
+  entry_there = ap (λ l. plain (entry_of l (place % 56))) is
+
+  -- an entry beside it that the lists have in common
+  pub entry_beside : (e : ℕ) → (e / 56 ≡ place / 56 → entry_of v (e % 56) ≡ entry_of (listed (b (place / 56))) (e % 56)) → entry_at c e ≡ entry_at b e
+  unfolding entry_at
+  entry_beside e same = elim (cases_eq (e / 56) (place / 56)) [
+    | inl at ↦
+        ap (λ k. plain (entry_of (listed (c k)) (e % 56))) at ∙ ap (λ l. plain (entry_of l (e % 56))) is ∙ ap plain (same at)
+        ∙ ap (λ k. plain (entry_of (listed (b k)) (e % 56))) (sym at)
+    | inr off ↦ same_block b c e (others (e / 56) off)
+  ]
+
+-- ---- one entry for another
+
+pub set_same : (v : EntryList) (i : ℕ) (x : DirEntry) → i < length v.entries → entry_of (with_entry v i x) i ≡ x
+set_same v i x lt = get_or-set_same v.entries i x no_entry lt
+
+pub set_other : (v : EntryList) (i j : ℕ) (x : DirEntry) → j ≢ i → entry_of (with_entry v i x) j ≡ entry_of v j
+set_other v i j x off = get_or-set_other v.entries i j x no_entry off
+
+module _ (b c : Blocks) (place : ℕ) (x : DirEntry) (others : (k : ℕ) → k ≢ place / 56 → c k ≡ b k) (is : listed (c (place / 56)) ≡ with_entry (listed (b (place / 56))) (place % 56) x)
+    (inside : place % 56 < length (listed (b (place / 56))).entries) where
+  pub set_there : entry_at c place ≡ plain x
+  set_there = entry_there b c place (with_entry (listed (b (place / 56))) (place % 56) x) others is ∙ ap plain (set_same (listed (b (place / 56))) (place % 56) x inside)
+
+  pub set_beside : (e : ℕ) → e ≢ place → entry_at c e ≡ entry_at b e
+  set_beside e off =
+      entry_beside b c place (with_entry (listed (b (place / 56))) (place % 56) x) others is e (λ at. set_other (listed (b (place / 56))) (place % 56) (e % 56) x (λ same. off (omega (arith, at, same))))
+
+-- ---- the blocks of a directory
+
+-- a part of a directory stays one where it has as many entries as before
+pub part_stays : (owner n m k : ℕ) (b c : List ℕ) → c ≡ b → entries_in n k ≡ entries_in m k → IsDirectoryBlock owner n k b → IsDirectoryBlock owner m k c
+part_stays owner n m k b c same count part = subst (IsDirectoryBlock owner m k) (sym same) (record { entries = part.entries; owner_is = part.owner_is; count_is = part.count_is ∙ count })
+
+module _ (owner n : ℕ) (b : Blocks) (is : IsDirectory owner n b) where
+  -- the part in which an entry stands
+  pub part_of : (e : ℕ) → e < n → IsDirectoryBlock owner n (e / 56) (b (e / 56))
+  part_of e lt = is.parts (e / 56) (omega (arith, lt))
+
+  pub within_part : (e : ℕ) → e < n → e % 56 < length (listed (b (e / 56))).entries
+  within_part e lt = let p = (part_of e lt).count_is in omega (arith, lt, p)
+
+  -- ---- an entry leads elsewhere
+
+  module _ (c : Blocks) (place : ℕ) (lt : place < n) (x : DirEntry) (others : (k : ℕ) → k ≢ place / 56 → c k ≡ b k) (entries : AreEntries (c (place / 56)))
+      (now : listed (c (place / 56)) ≡ with_entry (listed (b (place / 56))) (place % 56) x) where
+    pub is_set : (name : List ℕ) → (entry_at b place).0 ≡ name → x.name ≡ name → IsEntered place (name, (x.inode, x.kind)) n (entry_at b) n (entry_at c)
+    is_set name old new = record {
+      at_name = inl (lt, old, refl);
+      there = set_there b c place x others now (within_part place lt) ∙ ap (λ s. (s, (x.inode, x.kind))) new;
+      others = λ e below off. set_beside b c place x others now (within_part place lt) e off;
+    }
+
+    pub parts_set : (k : ℕ) → k < blocks_for n → IsDirectoryBlock owner n k (c k)
+    parts_set k low = elim (cases_eq k (place / 56)) [
+      | inl here ↦
+          let part = part_of place lt in
+          subst (λ j. IsDirectoryBlock owner n j (c j)) (sym here) (record {
+            entries = entries;
+            owner_is = ap (λ v. v.owner) now ∙ part.owner_is;
+            count_is = ap (λ v. length v.entries) now ∙ length-set (listed (b (place / 56))).entries (place % 56) x ∙ part.count_is;
+          })
+      | inr off ↦ part_stays owner n n k (b k) (c k) (others k off) refl (is.parts k low)
+    ]
