@@ -1,20 +1,18 @@
 -- A call begins its record, is given up, or fails: no answer is given, and the whole stays.
-use Rattle.std.proofs.Common.{◌≡◌, ◌≢◌, ◌⊎◌, inl, inr, ℕ, ◌+◌, ◌-◌, ◌≤◌, ◌||◌, cond, Bool, true, false, List, [], ◌∷◌, ◌++◌, refl, Some, None, Option, Ok, ap, sym, ◌∙◌, subst, arith}
+use Rattle.std.proofs.Common.{◌≡◌, inl, inr, ℕ, ◌+◌, ◌-◌, ◌≤◌, ◌||◌, true, false, [], ◌∷◌, ◌++◌, refl, Some, None, ap, sym, ◌∙◌, subst, arith}
 use Rattle.std.proofs.lemmas.Option.{same_Some}
 use Rattle.posix_calls.specs.Operations.{is_client}
 use Rattle.file_graph.specs.Graph.{Graph}
 use Rattle.file_graph.specs.Units.{growth}
-use Rattle.log_record.specs.declared.format.Record.{Record}
-use Rattle.call_effects.specs.Known.{Knowledge}
 use Rattle.call_effects.specs.Wholes.{state_of}
 use Rattle.call_effects.proofs.KnownUnits.{planned_units}
 use Rattle.call_effects.proofs.Rises.{growth_local}
 use Rattle.world_facts.specs.Logs.{after_records, is_written, is_touched, units_in, ArePaid}
-use Rattle.world_facts.specs.World.{Begun, Client, Account, World, undigested, records_of, change_of, holds, log_of, whole, held, tree_of, moved}
-use Rattle.world_facts.specs.Standing.{IsLogged, IsPending, Stands}
+use Rattle.world_facts.specs.World.{Begun, Client, Account, World, undigested, records_of, change_of, log_of, whole, held, tree_of, moved}
+use Rattle.world_facts.specs.Standing.{IsPending, Stands}
 use Rattle.world_facts.specs.Invariant.{Holds}
-use Rattle.world_facts.specs.ClientSteps.{with_client, CanBegin, begun, IsBegun, given_up, failed}
-use Rattle.world_facts.proofs.Records.{either, both, append_nil, front_written, front_unwritten, written_append, or_neither, units_append}
+use Rattle.world_facts.specs.ClientSteps.{CanBegin, begun, IsBegun, given_up, failed}
+use Rattle.world_facts.proofs.Records.{either, both, append_nil, front_written, written_append, or_neither, units_append}
 use Rattle.world_facts.proofs.Owners.{whole_at}
 use Rattle.world_facts.proofs.Idle.{none_some}
 use Rattle.world_facts.proofs.Facts.{owned, writing_holds}

@@ -1,24 +1,20 @@
 -- Units, numbers and pins are granted and given back, and the whole stays.
-use Rattle.std.proofs.Common.{◌≡◌, ◌≢◌, ◌⊎◌, inl, inr, ℕ, ◌+◌, ◌-◌, ◌<◌, ◌≤◌, ◌==◌, ◌||◌, cond, Bool, true, false, List, [], ◌++◌, refl, Some, None, Option, ap, sym, ◌∙◌, subst, arith}
+use Rattle.std.proofs.Common.{◌≡◌, ◌≢◌, inl, inr, ℕ, ◌+◌, ◌-◌, ◌<◌, ◌≤◌, ◌==◌, ◌||◌, cond, Bool, true, false, refl, None, ap, sym, ◌∙◌, subst, arith}
 use Rattle.std.proofs.lemmas.Bool.{false≢true}
 use Rattle.std.proofs.lemmas.Bool.Decides.{eqb_tells}
 use Rattle.posix_calls.specs.Tree.{sum_up_to}
 use Rattle.posix_calls.specs.Operations.{is_client}
-use Rattle.posix_calls.specs.declared.descriptor.Descriptor.{Descriptor}
-use Rattle.posix_calls.proofs.Sums.{same_if, there_if}
-use Rattle.file_graph.specs.Graph.{Graph}
+use Rattle.posix_calls.proofs.Sums.{same_if}
 use Rattle.file_graph.specs.Units.{charge}
-use Rattle.log_record.specs.declared.format.Record.{Record}
 use Rattle.call_effects.specs.Fits.{IsNew}
-use Rattle.call_effects.specs.Known.{Knowledge, Agrees, IsForgetful}
 use Rattle.call_effects.proofs.Served.{less_agrees}
 use Rattle.world_facts.specs.Logs.{is_made_in, units_in}
-use Rattle.world_facts.specs.World.{Begun, Client, Account, World, records_of, log_of, whole, held, tree_of, at, moved}
+use Rattle.world_facts.specs.World.{Client, Account, World, records_of, log_of, whole, held, tree_of, at, moved}
 use Rattle.world_facts.specs.Standing.{IsBooked, Stands}
 use Rattle.world_facts.specs.Invariant.{Holds}
 use Rattle.world_facts.specs.LeaseSteps.{also, without}
 use Rattle.world_facts.specs.BookSteps.{HasRoom, units_granted, units_returned, IsUnbooked, number_granted, CanReturn, number_returned, pinned, CanUnpin, unpinned}
-use Rattle.world_facts.proofs.Records.{either, both, in_first, in_rest, still_false}
+use Rattle.world_facts.proofs.Records.{both, in_first, in_rest, still_false}
 use Rattle.world_facts.proofs.Owners.{client_is}
 use Rattle.world_facts.proofs.Idle.{none_some}
 use Rattle.world_facts.proofs.Made.{clients_none}

@@ -1,11 +1,10 @@
 -- What goes wrong in small worlds that break one part of the invariant each.
-use Rattle.std.proofs.Common.{◌≡◌, ◌≢◌, ℕ, ◌==◌, ◌||◌, cond, Bool, true, false, List, [], ◌∷◌, refl, Some, None, Option, ◌-◌, ap, sym, ◌∙◌, subst, lit≤}
+use Rattle.std.proofs.Common.{◌≡◌, ◌≢◌, ◌==◌, Bool, true, false, [], ◌∷◌, refl, Some, None, Option, ◌-◌, ap, sym, ◌∙◌, lit≤}
 use Rattle.std.specs.Prelude.{option_map, IsSome, is_some}
 use Rattle.std.proofs.lemmas.Bool.{false≢true}
-use Rattle.posix_calls.specs.Tree.{State, Descriptors, refers_to, has_open, is_open}
-use Rattle.posix_calls.specs.Tree as tree
+use Rattle.posix_calls.specs.Tree.{State, refers_to, has_open, is_open}
 use Rattle.posix_calls.proofs.Sums.{any_there}
-use Rattle.file_graph.specs.Graph.{Graph, Node, FileBody, set_node}
+use Rattle.file_graph.specs.Graph.{Graph, Node, set_node}
 use Rattle.call_effects.specs.Wholes.{state_of, keep, tree_node}
 use Rattle.world_facts.specs.Logs.{after_records, after_each, AreApart, IsMadeOnce}
 use Rattle.world_facts.specs.Broken.{both_counting, one_file, making, dropping, one_open}

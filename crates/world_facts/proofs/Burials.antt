@@ -1,5 +1,5 @@
 -- A client that is gone is buried: the whole stays, and what it had open is closed.
-use Rattle.std.proofs.Common.{◌≡◌, ◌≢◌, ◌⊎◌, inl, inr, ℕ, ◌+◌, ◌-◌, ◌≤◌, ◌==◌, cond, Bool, true, false, List, [], ◌++◌, drop, refl, Some, None, Option, ap, sym, ◌∙◌, subst, arith}
+use Rattle.std.proofs.Common.{◌≡◌, ◌≢◌, inl, inr, ℕ, ◌+◌, ◌-◌, ◌≤◌, cond, true, refl, Some, None, ap, sym, ◌∙◌, subst, arith}
 use Rattle.std.proofs.lemmas.Bool.{false≢true}
 use Rattle.std.proofs.lemmas.Bool.Decides.{eqb_tells}
 use Rattle.posix_calls.specs.Tree.{Own, Descriptors, with_own, sum_up_to}
@@ -9,9 +9,8 @@ use Rattle.posix_calls.proofs.Sums.{same_if, there_if}
 use Rattle.file_graph.specs.Graph.{Graph}
 use Rattle.file_graph.specs.Units.{charge}
 use Rattle.call_effects.specs.Wholes.{IsSound, state_of}
-use Rattle.call_effects.specs.Known.{Knowledge, Agrees}
-use Rattle.world_facts.specs.World.{Client, Account, World, undigested, records_of, log_of, whole, held, tree_of, at, moved}
-use Rattle.world_facts.specs.Standing.{Stands}
+use Rattle.call_effects.specs.Known.{Agrees}
+use Rattle.world_facts.specs.World.{Client, Account, World, undigested, log_of, whole, held, tree_of, at}
 use Rattle.world_facts.specs.Invariant.{Holds}
 use Rattle.world_facts.specs.Opening.{knows_nothing, idle_client, idle_account}
 use Rattle.world_facts.specs.Burial.{CanBury, buried}
@@ -25,16 +24,16 @@ nothing_open n = None
 -- a sound graph stays sound where one client has nothing open
 less_open : (g : Graph) (held : Descriptors) (c : ℕ) → IsSound g held → IsSound g (with_own held c nothing_open)
 less_open g held c sound = record {
-    typed = record {
-      kinds = sound.typed.kinds;
-      numbers = sound.typed.numbers;
-      root = sound.typed.root;
-      opened = λ d n o e. sound.typed.opened d n o (was d n o e);
-      in_range = λ d n o e. sound.typed.in_range d n o (was d n o e);
-    };
-    counts = sound.counts;
-    reached = sound.reached;
-  }
+  typed = record {
+    kinds = sound.typed.kinds;
+    numbers = sound.typed.numbers;
+    root = sound.typed.root;
+    opened = λ d n o e. sound.typed.opened d n o (was d n o e);
+    in_range = λ d n o e. sound.typed.in_range d n o (was d n o e);
+  };
+  counts = sound.counts;
+  reached = sound.reached;
+}
   where
     was : (d n : ℕ) (o : Descriptor) → with_own held c nothing_open d n ≡ Some o → held d n ≡ Some o
     was d n o e = elim (eqb_tells d c) [
@@ -72,14 +71,14 @@ module _ (w : World) (c : ℕ) (h : Holds w) (can : CanBury w c) where
 
   others : (d : ℕ) → is_client d ≡ true → d ≢ c → Agrees (w.clients d).knows (whole w) (with_own (held w) c nothing_open)
   others d is_d other = let known = h.agrees d is_d in record {
-      client = known.client;
-      own = λ n. same_if ((w.clients d).knows.client) c None (held w (w.clients d).knows.client n) (λ same. other (sym (h.stands d is_d).number ∙ same)) ∙ known.own n;
-      back = known.back;
-      put_back = known.put_back;
-      copies = known.copies;
-      blocks = known.blocks;
-      granted = known.granted;
-    }
+    client = known.client;
+    own = λ n. same_if ((w.clients d).knows.client) c None (held w (w.clients d).knows.client n) (λ same. other (sym (h.stands d is_d).number ∙ same)) ∙ known.own n;
+    back = known.back;
+    put_back = known.put_back;
+    copies = known.copies;
+    blocks = known.blocks;
+    granted = known.granted;
+  }
 
   pub buried_holds : Holds (buried w c)
   buried_holds = holds_moved w c w.kernel.shared left grave h can.client

@@ -1,5 +1,5 @@
 -- Records go into the shared graph, and the whole stays.
-use Rattle.std.proofs.Common.{◌≡◌, ◌≢◌, ◌⊎◌, inl, inr, ℕ, ◌+◌, ◌-◌, ◌<◌, ◌≤◌, ◌||◌, cond, Bool, true, false, List, [], ◌∷◌, ◌++◌, length, take, drop, refl, Some, None, Option, ap, sym, ◌∙◌, subst, arith, append_assoc}
+use Rattle.std.proofs.Common.{◌≡◌, ◌≢◌, inl, inr, ℕ, ◌+◌, ◌-◌, ◌≤◌, ◌||◌, Bool, true, false, List, ◌++◌, length, take, drop, refl, ap, sym, ◌∙◌, subst, arith, append_assoc}
 use Rattle.std.specs.Prelude.{◌&&◌, not}
 use Rattle.std.proofs.lemmas.Bool.{false≢true}
 use Rattle.std.proofs.lemmas.List.{take-append-drop, length-append, length-drop, length-take-le}
@@ -11,12 +11,12 @@ use Rattle.file_graph.specs.Units.{charge}
 use Rattle.log_record.specs.declared.format.Record.{Record}
 use Rattle.call_effects.specs.Wholes.{IsSound, state_of}
 use Rattle.call_effects.specs.Known.{Agrees}
-use Rattle.world_facts.specs.Logs.{after_records, after_clients, is_written, is_made_in, IsMadeOnce, units_in, ArePaid}
-use Rattle.world_facts.specs.World.{Client, Account, World, undigested, records_of, change_of, holds, log_of, all_of, whole, held, tree_of, at, moved}
-use Rattle.world_facts.specs.Standing.{IsBooked, IsMarked, Stands}
+use Rattle.world_facts.specs.Logs.{after_records, is_written, is_made_in, IsMadeOnce, units_in, ArePaid}
+use Rattle.world_facts.specs.World.{Client, Account, World, undigested, records_of, change_of, log_of, all_of, whole, held, tree_of, at}
+use Rattle.world_facts.specs.Standing.{IsBooked, Stands}
 use Rattle.world_facts.specs.Invariant.{Holds}
 use Rattle.world_facts.specs.KernelSteps.{CanDigest, digested}
-use Rattle.world_facts.proofs.Records.{either, both, still_false, records_stay, front_written, front_unwritten, rest_written, units_append}
+use Rattle.world_facts.proofs.Records.{either, both, records_stay, front_unwritten, rest_written, units_append}
 use Rattle.world_facts.proofs.Owners.{digested_whole}
 use Rattle.world_facts.proofs.Made.{records_none, front_unmade, rest_made, rest_unmade, once_rest, once_apart, made_append}
 use Rattle.world_facts.proofs.Paid.{paid_same, paid_rest, paid_front, charge_records}

@@ -1,21 +1,20 @@
 -- What the invariant says of records, leases and numbers of different clients.
-use Rattle.std.proofs.Common.{◌≡◌, ◌≢◌, ◌⊎◌, inl, inr, ℕ, ◌+◌, ◌≤◌, ◌==◌, ◌||◌, cond, Bool, true, false, List, [], ◌∷◌, ◌++◌, refl, Some, None, Option, Ok, ap, sym, ◌∙◌, subst, arith}
+use Rattle.std.proofs.Common.{◌≡◌, ◌≢◌, inl, inr, ℕ, ◌==◌, ◌||◌, Bool, true, false, List, refl, sym, subst}
 use Rattle.std.proofs.lemmas.Bool.{false≢true, eqb-true}
 use Rattle.posix_calls.specs.Operations.{is_client, makes}
 use Rattle.posix_calls.specs.declared.call.Call.{Call}
 use Rattle.posix_calls.specs.declared.operation.Operation.{Operation}
 use Rattle.posix_calls.specs.declared.operation.Operation.TheVariants.{Tell, NewDir, NewFile, OpenFile, CloseFile, Write, Resize, RemoveDir, AddName, DropName, Move}
 use Rattle.posix_calls.specs.declared.operation.Replaced.TheVariants.{Nothing, OldFile, OldDir}
-use Rattle.file_graph.specs.Graph.{Graph, is_among, touches}
 use Rattle.file_graph.specs.declared.effect.Effect.{Effect}
 use Rattle.log_record.specs.declared.format.Record.{Record}
-use Rattle.call_effects.specs.Effects.{effects_by, effects_of, stored_at, recounted}
+use Rattle.call_effects.specs.Effects.{effects_by, stored_at, recounted}
 use Rattle.call_effects.specs.Known.{IsPlanned}
 use Rattle.call_effects.proofs.KnownSteps.{planned_answer}
-use Rattle.world_facts.specs.Logs.{is_written, is_touched, is_made, is_made_in, AreApart}
-use Rattle.world_facts.specs.World.{Begun, World, undigested, records_of, change_of, holds, log_of, all_of, whole, held}
+use Rattle.world_facts.specs.Logs.{is_written, is_made, AreApart}
+use Rattle.world_facts.specs.World.{World, change_of, holds, log_of, all_of, whole, held}
 use Rattle.world_facts.specs.Invariant.{Holds}
-use Rattle.world_facts.proofs.Records.{either, both, in_first, in_rest, still_false, front_written, rest_written}
+use Rattle.world_facts.proofs.Records.{either, both, in_rest, still_false, front_written}
 use Rattle.world_facts.proofs.Owners.{IsOwner}
 
 pub apart_less : (old new : ℕ → List Record) → ((d i : ℕ) → is_client d ≡ true → is_written i (new d) ≡ true → is_written i (old d) ≡ true) → AreApart old → AreApart new

@@ -1,14 +1,14 @@
 -- Copies and blocks are fetched: what the client's own records make of the shared node is what the whole has there.
-use Rattle.std.proofs.Common.{◌≡◌, ◌≢◌, ◌⊎◌, inl, inr, ℕ, ◌==◌, ◌||◌, cond, Bool, true, false, List, [], refl, Some, None, Option, Ok, ap, sym, ◌∙◌, subst}
+use Rattle.std.proofs.Common.{◌≡◌, inl, inr, ℕ, ◌==◌, cond, Bool, true, false, List, refl, Some, None, Option, Ok, ap, sym, ◌∙◌, subst}
 use Rattle.std.specs.Prelude.{◌&&◌, option_map}
 use Rattle.std.proofs.lemmas.Bool.{eqb-true}
 use Rattle.std.proofs.lemmas.Bool.Decides.{eqb_tells}
-use Rattle.posix_calls.specs.Operations.{is_client, makes}
+use Rattle.posix_calls.specs.Operations.{is_client}
 use Rattle.posix_calls.specs.Decide.{decide}
 use Rattle.posix_calls.specs.Query.{Known, run_part}
 use Rattle.posix_calls.specs.declared.call.Call.{Call}
 use Rattle.posix_calls.specs.declared.operation.Operation.{Operation}
-use Rattle.file_graph.specs.Graph.{Graph, FileBody, file_bytes}
+use Rattle.file_graph.specs.Graph.{FileBody, file_bytes}
 use Rattle.file_graph.specs.declared.effect.Effect.{Effect}
 use Rattle.call_effects.specs.Blocks.{block_of, block_at}
 use Rattle.call_effects.specs.NodeView.{NodeView, view_of_node, view_at}
@@ -18,7 +18,7 @@ use Rattle.call_effects.proofs.Changes.{fair_of}
 use Rattle.call_effects.proofs.KnownMissing.{stays_known}
 use Rattle.call_effects.proofs.PutBack.{stands_back}
 use Rattle.call_effects.proofs.Served.{copy_agrees, blocks_agree}
-use Rattle.world_facts.specs.World.{Begun, Client, Account, World, holds, log_of, whole, held, tree_of}
+use Rattle.world_facts.specs.World.{Begun, Client, World, holds, log_of, whole, held, tree_of}
 use Rattle.world_facts.specs.Standing.{IsPending, Stands}
 use Rattle.world_facts.specs.Invariant.{Holds}
 use Rattle.world_facts.specs.LeaseSteps.{own_view, CanFetch, fetched, CanRead, blocks_fetched}

@@ -1,22 +1,19 @@
 -- Where nobody holds anything and no log has a record, all of it holds.
-use Rattle.std.proofs.Common.{◌≡◌, ◌≢◌, inl, inr, ℕ, zero, suc, ◌+◌, ◌≤◌, Bool, true, false, cond, List, [], ◌++◌, ◌-◌, drop, refl, Some, None, Option, ap, sym, ◌∙◌, subst, arith}
+use Rattle.std.proofs.Common.{◌≡◌, inl, inr, ℕ, zero, suc, ◌≤◌, Bool, true, false, cond, [], ◌++◌, ◌-◌, drop, refl, Some, None, Option, ap, sym, ◌∙◌, subst, arith}
 use Rattle.std.proofs.lemmas.Bool.{false≢true}
-use Rattle.posix_calls.specs.Tree.{sum_up_to, Descriptors, opening}
+use Rattle.posix_calls.specs.Tree.{sum_up_to}
 use Rattle.posix_calls.specs.Operations.{is_client}
-use Rattle.posix_calls.specs.declared.descriptor.Descriptor.{Descriptor}
 use Rattle.posix_calls.proofs.Sums.{all_zero}
-use Rattle.file_graph.specs.Graph.{Graph, fresh}
+use Rattle.file_graph.specs.Graph.{Graph}
 use Rattle.file_graph.specs.Units.{charge}
 use Rattle.call_effects.specs.Settled.{nobody}
 use Rattle.call_effects.specs.Wholes.{IsSound, state_of}
-use Rattle.call_effects.specs.Known.{Agrees}
-use Rattle.call_effects.proofs.Fresh.{fresh_sound, fresh_state}
 use Rattle.log_record.specs.declared.format.Record.{Record}
 use Rattle.world_facts.specs.Logs.{after_clients, is_written, ArePaid, units_in, is_made_in, IsMadeOnce}
-use Rattle.world_facts.specs.World.{Client, World, records_of, whole, held, tree_of}
-use Rattle.world_facts.specs.Standing.{Stands, IsBooked}
+use Rattle.world_facts.specs.World.{records_of, whole, held, tree_of}
+use Rattle.world_facts.specs.Standing.{Stands}
 use Rattle.world_facts.specs.Invariant.{Holds}
-use Rattle.world_facts.specs.Opening.{knows_nothing, idle_client, idle_account, idle_world, opening_world}
+use Rattle.world_facts.specs.Opening.{idle_client, idle_account, idle_world}
 
 pub none_some : {A : Type 0} {P : Type 0} (x : A) → ◌≡◌ {A = Option A} None (Some x) → P
 none_some x e = absurd (cc)

@@ -1,33 +1,31 @@
 -- What clients know, hold and have open after a call of one of them.
-use Rattle.std.proofs.Common.{◌≡◌, ◌≢◌, ◌⊎◌, inl, inr, ℕ, ◌≤◌, ◌==◌, ◌||◌, cond, Bool, true, false, List, [], ◌∷◌, ◌++◌, refl, Some, None, Option, Ok, ap, sym, ◌∙◌, subst}
-use Rattle.std.specs.Prelude.{◌&&◌, not, option_map}
+use Rattle.std.proofs.Common.{◌≡◌, ◌≢◌, ◌⊎◌, inl, inr, ℕ, ◌==◌, ◌||◌, cond, Bool, true, false, List, [], ◌∷◌, ◌++◌, refl, Some, None, Option, ap, sym, ◌∙◌, subst}
+use Rattle.std.specs.Prelude.{◌&&◌, not}
 use Rattle.std.proofs.lemmas.Bool.{false≢true}
 use Rattle.std.proofs.lemmas.Bool.Decides.{eqb_tells}
-use Rattle.posix_calls.specs.Tree.{Own, Descriptors, with_own, set_own}
+use Rattle.posix_calls.specs.Tree.{Own, Descriptors, with_own}
 use Rattle.posix_calls.specs.Operations.{is_client, makes, own_after, opens}
 use Rattle.posix_calls.specs.declared.call.Call.{Call}
 use Rattle.posix_calls.specs.declared.descriptor.Descriptor.{Descriptor}
 use Rattle.posix_calls.specs.declared.operation.Operation.{Operation}
 use Rattle.posix_calls.specs.declared.operation.Operation.TheVariants.{Tell, NewDir, NewFile, OpenFile, CloseFile, Write, Resize, RemoveDir, AddName, DropName, Move}
-use Rattle.posix_calls.proofs.Sums.{same_if, there_if}
+use Rattle.posix_calls.proofs.Sums.{same_if}
 use Rattle.file_graph.specs.Graph.{Graph, after_effects, is_among, touches, subjects}
 use Rattle.std.proofs.lemmas.List.Concat.{flat_map-cons}
 use Rattle.file_graph.specs.declared.effect.Effect.{Effect}
 use Rattle.call_effects.specs.Blocks.{block_after, block_acted}
-use Rattle.call_effects.specs.NodeView.{NodeView, view_after}
+use Rattle.call_effects.specs.NodeView.{view_after}
 use Rattle.call_effects.specs.Wholes.{IsSound}
 use Rattle.call_effects.specs.Known.{Knowledge, Agrees, IsPlanned, knows_after}
 use Rattle.call_effects.proofs.Blocks.{mapped}
 use Rattle.call_effects.proofs.KnownSteps.{planned_sound}
 use Rattle.call_effects.proofs.KnownAfter.{agrees_after, other_agrees}
-use Rattle.world_facts.specs.Logs.{is_written}
-use Rattle.world_facts.specs.World.{Client, Account, World, holds, whole, held, moved}
+use Rattle.world_facts.specs.World.{World, holds, whole, held}
 use Rattle.world_facts.specs.Standing.{IsLeased, IsPinned, OpensPinned}
 use Rattle.world_facts.specs.Invariant.{Holds}
 use Rattle.world_facts.proofs.Records.{either, both, or_first, or_rest, or_joined}
 use Rattle.world_facts.proofs.Idle.{none_some}
 use Rattle.world_facts.proofs.Facts.{writing_holds, granted_alone}
-use Rattle.world_facts.proofs.Moved.{held_moved}
 
 -- ---- blocks that no effect touches
 

@@ -1,18 +1,17 @@
 -- Leases are taken and given, and the whole stays.
-use Rattle.std.proofs.Common.{◌≡◌, ◌≢◌, ◌⊎◌, inl, inr, ℕ, ◌==◌, ◌||◌, cond, Bool, true, false, List, [], ◌++◌, refl, Some, None, Option, ap, sym, ◌∙◌, subst}
+use Rattle.std.proofs.Common.{◌≡◌, ◌≢◌, inl, inr, ℕ, ◌==◌, ◌||◌, cond, Bool, true, false, refl, Some, None, Option, ap, sym, ◌∙◌}
 use Rattle.std.proofs.lemmas.Bool.{false≢true}
 use Rattle.std.proofs.lemmas.Bool.Decides.{eqb_tells}
 use Rattle.posix_calls.specs.Operations.{is_client}
 use Rattle.posix_calls.proofs.Sums.{same_if}
-use Rattle.call_effects.specs.NodeView.{NodeView}
-use Rattle.call_effects.specs.Known.{Knowledge, IsForgetful, HasCopies}
+use Rattle.call_effects.specs.Known.{Knowledge, IsForgetful}
 use Rattle.call_effects.proofs.Served.{less_agrees}
 use Rattle.world_facts.specs.Logs.{is_written}
-use Rattle.world_facts.specs.World.{Client, Account, World, records_of, holds, log_of, whole, held, tree_of}
-use Rattle.world_facts.specs.Standing.{IsBeside, Stands}
+use Rattle.world_facts.specs.World.{Client, World, records_of, holds, whole, held, tree_of}
+use Rattle.world_facts.specs.Standing.{Stands}
 use Rattle.world_facts.specs.Invariant.{Holds}
 use Rattle.world_facts.specs.LeaseSteps.{also, without, IsUnwritten, IsUnheld, read_taken, write_taken, CanGive, forgetting, given}
-use Rattle.world_facts.proofs.Records.{both, or_first, or_rest, or_neither, in_first, in_rest, append_nil}
+use Rattle.world_facts.proofs.Records.{both, or_first, or_rest, or_neither, in_first, in_rest}
 use Rattle.world_facts.proofs.Idle.{none_some}
 use Rattle.world_facts.proofs.Facts.{writing_holds}
 use Rattle.world_facts.proofs.Begins.{tree_same, idle_records}

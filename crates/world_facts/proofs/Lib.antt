@@ -18,3 +18,5 @@ pub mod Reclaims
 pub mod Orders
 pub mod Burials
 pub mod Breaks
+pub mod Walks
+pub mod Besides

@@ -1,13 +1,12 @@
 -- Which records make a node.
-use Rattle.std.proofs.Common.{◌≡◌, ◌≢◌, ◌⊎◌, inl, inr, ℕ, zero, suc, ◌≤◌, ◌||◌, cond, Bool, true, false, List, [], ◌∷◌, ◌++◌, refl, Some, None, Option, ap, sym, ◌∙◌, subst, arith}
+use Rattle.std.proofs.Common.{◌≡◌, inl, inr, ℕ, zero, suc, ◌≤◌, ◌||◌, cond, Bool, true, false, List, [], ◌∷◌, ◌++◌, refl, None, Option, ap, sym, ◌∙◌, arith}
 use Rattle.std.proofs.lemmas.Bool.{false≢true}
-use Rattle.file_graph.specs.Graph.{Graph, Node, after_effect, after_effects, acted, is_among, subjects}
+use Rattle.file_graph.specs.Graph.{Graph, Node, after_effect, after_effects, acted, is_among}
 use Rattle.file_graph.specs.declared.effect.Effect.{Effect}
 use Rattle.file_graph.specs.declared.effect.Effect.TheVariants as effect
-use Rattle.file_graph.proofs.Touches.{alone}
 use Rattle.log_record.specs.declared.format.Record.{Record}
 use Rattle.world_facts.specs.Logs.{after_records, after_clients, makes_node, is_made, is_made_in, IsMadeOnce}
-use Rattle.world_facts.proofs.Records.{either, both, or_first, or_rest, or_neither, in_first, in_rest, or_joined}
+use Rattle.world_facts.proofs.Records.{either, both, or_first, or_rest, or_neither, in_rest, or_joined}
 
 -- ---- lists
 

@@ -1,19 +1,18 @@
 -- A step that changes the shared graph and one client's account and part: what it has to keep.
-use Rattle.std.proofs.Common.{◌≡◌, ◌≢◌, ◌⊎◌, inl, inr, ℕ, ◌+◌, ◌<◌, ◌≤◌, ◌==◌, cond, Bool, true, false, List, [], ◌∷◌, ◌++◌, refl, Some, None, Option, ap, sym, ◌∙◌, subst, arith}
+use Rattle.std.proofs.Common.{◌≡◌, ◌≢◌, inl, inr, ℕ, ◌+◌, ◌<◌, ◌≤◌, cond, true, false, refl, None, ap, sym, ◌∙◌, subst}
 use Rattle.std.proofs.lemmas.Bool.Decides.{eqb_tells}
 use Rattle.posix_calls.specs.Tree.{Own, Descriptors, with_own, sum_up_to}
 use Rattle.posix_calls.specs.Operations.{is_client}
 use Rattle.posix_calls.proofs.Sums.{same_if, there_if, one_changes}
 use Rattle.file_graph.specs.Graph.{Graph}
 use Rattle.file_graph.specs.Units.{charge}
-use Rattle.log_record.specs.declared.format.Record.{Record}
 use Rattle.call_effects.specs.Wholes.{IsSound}
-use Rattle.call_effects.specs.Known.{Knowledge, Agrees}
-use Rattle.world_facts.specs.Logs.{after_clients, is_written, AreApart}
-use Rattle.world_facts.specs.World.{Client, Account, Kernel, World, undigested, records_of, change_of, holds, log_of, all_of, whole, held, held_by, at, moved}
+use Rattle.call_effects.specs.Known.{Agrees}
+use Rattle.world_facts.specs.Logs.{after_clients}
+use Rattle.world_facts.specs.World.{Client, Account, World, undigested, records_of, holds, log_of, all_of, whole, held, at, moved}
 use Rattle.world_facts.specs.Standing.{Stands, IsBooked, IsBeside}
 use Rattle.world_facts.specs.Invariant.{Holds}
-use Rattle.world_facts.proofs.Records.{either, both, in_rest, front_unwritten}
+use Rattle.world_facts.proofs.Records.{either, both}
 use Rattle.world_facts.proofs.Owners.{is_low, is_high}
 
 -- ---- what holds of the client that moved and of the others

@@ -1,5 +1,5 @@
 -- Records of different clients commute, since no inode is written by two of them.
-use Rattle.std.proofs.Common.{◌≡◌, ℕ, List, [], ◌++◌, refl, ap, sym, ◌∙◌}
+use Rattle.std.proofs.Common.{◌≡◌, ℕ, List, [], refl, ap, sym, ◌∙◌}
 use Rattle.file_graph.specs.Graph.{Graph}
 use Rattle.log_record.specs.declared.format.Record.{Record}
 use Rattle.world_facts.specs.Logs.{after_clients, after_each, AreApart, IsOrder}

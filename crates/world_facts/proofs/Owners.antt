@@ -1,12 +1,12 @@
 -- Each inode has an owner, and the whole graph there is what the owner's records make of the shared node.
-use Rattle.std.proofs.Common.{◌≡◌, ◌≢◌, ◌⊎◌, inl, inr, ℕ, zero, suc, ◌≤◌, ◌==◌, ◌||◌, cond, Bool, true, false, List, [], ◌∷◌, ◌++◌, refl, Some, None, Option, ap, sym, ◌∙◌, arith, subst}
+use Rattle.std.proofs.Common.{◌≡◌, ◌≢◌, ◌⊎◌, inl, inr, ℕ, zero, suc, ◌≤◌, ◌==◌, ◌||◌, true, false, List, [], ◌∷◌, ◌++◌, refl, ap, sym, ◌∙◌, arith}
 use Rattle.std.proofs.lemmas.Bool.Decides.{eqb_tells, nat_tests}
 use Rattle.std.proofs.lemmas.Bool.{false≢true}
 use Rattle.posix_calls.specs.Operations.{is_client}
-use Rattle.file_graph.specs.Graph.{Graph, Node, is_among}
+use Rattle.file_graph.specs.Graph.{Graph, is_among}
 use Rattle.log_record.specs.declared.format.Record.{Record}
 use Rattle.world_facts.specs.Logs.{after_records, after_clients, after_each, is_written, AreApart, IsDistinct, IsOrder}
-use Rattle.world_facts.proofs.Records.{either, both, or_first, or_rest, in_rest, in_first, records_alone, records_stay, records_append, front_unwritten, rest_unwritten}
+use Rattle.world_facts.proofs.Records.{either, both, in_rest, in_first, records_alone, records_stay, records_append, front_unwritten, rest_unwritten}
 
 -- ---- the numbers of clients
 

@@ -1,9 +1,8 @@
 -- A record's growth is the same wherever it is measured, so what is paid at the call is paid at the digest.
-use Rattle.std.proofs.Common.{◌≡◌, ◌≢◌, ◌⊎◌, inl, inr, ℕ, zero, suc, ◌+◌, ◌≤◌, ◌||◌, cond, Bool, true, false, List, [], ◌∷◌, ◌++◌, refl, ap, sym, ◌∙◌, subst, arith}
-use Rattle.file_graph.specs.Graph.{Graph, after_effects, touches, is_among}
+use Rattle.std.proofs.Common.{◌≡◌, ℕ, ◌+◌, ◌≤◌, true, List, [], ◌∷◌, ◌++◌, subst, arith}
+use Rattle.file_graph.specs.Graph.{Graph, after_effects}
 use Rattle.file_graph.specs.Units.{charge, growth}
 use Rattle.file_graph.proofs.Touches.{alone, charge_rises}
-use Rattle.posix_calls.specs.Tree.{sum_up_to}
 use Rattle.log_record.specs.declared.format.Record.{Record}
 use Rattle.call_effects.proofs.Rises.{growth_local}
 use Rattle.world_facts.specs.Logs.{after_records, is_touched, is_written, units_in, ArePaid}

@@ -1,12 +1,12 @@
 -- A file that has no name and that nobody has pinned goes out of the shared graph, and no call sees it.
-use Rattle.std.proofs.Common.{◌≡◌, ◌≢◌, ◌⊎◌, inl, inr, ℕ, zero, suc, ◌+◌, ◌-◌, ◌≤◌, ◌==◌, ◌||◌, cond, Bool, true, false, List, [], ◌∷◌, ◌++◌, refl, Some, None, Option, ap, sym, ◌∙◌, subst, arith}
+use Rattle.std.proofs.Common.{◌≡◌, ◌≢◌, inl, inr, ℕ, zero, suc, ◌+◌, ◌-◌, ◌≤◌, ◌||◌, cond, Bool, true, false, List, [], ◌∷◌, refl, Some, None, Option, ap, sym, ◌∙◌, subst, arith}
 use Rattle.std.proofs.lemmas.Bool.{false≢true, eqb-true}
 use Rattle.std.proofs.lemmas.Bool.Decides.{eqb_tells}
-use Rattle.posix_calls.specs.Tree.{Descriptors, Own, sum_up_to, any_up_to, refers_to, has_open, is_open}
-use Rattle.posix_calls.specs.Operations.{is_client, makes}
+use Rattle.posix_calls.specs.Tree.{Own, sum_up_to, any_up_to, refers_to, has_open, is_open}
+use Rattle.posix_calls.specs.Operations.{is_client}
 use Rattle.posix_calls.specs.declared.descriptor.Descriptor.{Descriptor}
 use Rattle.posix_calls.proofs.Sums.{same_if, there_if, any_is}
-use Rattle.file_graph.specs.Graph.{Graph, Node, FileBody, set_node, cost, after_effects, is_among, touches}
+use Rattle.file_graph.specs.Graph.{Graph, set_node, cost, after_effects, is_among, touches}
 use Rattle.file_graph.specs.Units.{charge, rise, growth}
 use Rattle.file_graph.specs.declared.effect.Effect.{Effect}
 use Rattle.file_graph.proofs.Touches.{alone}
@@ -15,9 +15,8 @@ use Rattle.call_effects.specs.Wholes.{IsSound, state_of}
 use Rattle.call_effects.specs.Fits.{IsUnusedFile}
 use Rattle.call_effects.specs.Known.{Agrees}
 use Rattle.call_effects.proofs.Unused.{same_state, sound_still, agrees_still}
-use Rattle.world_facts.specs.Logs.{after_records, after_clients, is_made, is_made_in, ArePaid}
+use Rattle.world_facts.specs.Logs.{is_made, is_made_in, ArePaid}
 use Rattle.world_facts.specs.World.{Begun, World, change_of, log_of, all_of, whole, held, tree_of}
-use Rattle.world_facts.specs.Standing.{Stands}
 use Rattle.world_facts.specs.Invariant.{Holds}
 use Rattle.world_facts.specs.KernelSteps.{CanReclaim, reclaimed}
 use Rattle.world_facts.proofs.Records.{either, both, or_first, or_rest, records_alone}

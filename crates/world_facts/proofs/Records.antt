@@ -1,7 +1,7 @@
 -- Records at one inode: what they make of it depends on what stands there alone, and who doesn't touch it leaves it.
-use Rattle.std.proofs.Common.{◌≡◌, ◌≢◌, ◌⊎◌, inl, inr, ℕ, ◌+◌, ◌≤◌, ◌||◌, cond, Bool, true, false, List, [], ◌∷◌, ◌++◌, refl, Some, None, Option, ap, sym, ◌∙◌, arith, subst}
+use Rattle.std.proofs.Common.{◌≡◌, ◌⊎◌, inl, inr, ℕ, ◌+◌, ◌||◌, Bool, true, false, List, [], ◌∷◌, ◌++◌, refl, ap, sym, ◌∙◌, arith}
 use Rattle.std.proofs.lemmas.Bool.{false≢true}
-use Rattle.file_graph.specs.Graph.{Graph, Node, after_effects, touches, is_among}
+use Rattle.file_graph.specs.Graph.{Graph, after_effects}
 use Rattle.file_graph.proofs.Touches.{untouched, alone}
 use Rattle.log_record.specs.declared.format.Record.{Record}
 use Rattle.world_facts.specs.Logs.{after_records, is_touched, is_written, units_in}

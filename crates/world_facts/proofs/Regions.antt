@@ -1,10 +1,10 @@
 -- A region is sealed, comes back and is wiped: the records that are not digested stay.
-use Rattle.std.proofs.Common.{◌≡◌, ◌≢◌, ◌⊎◌, inl, inr, ℕ, ◌+◌, ◌-◌, ◌≤◌, cond, Bool, true, false, List, [], ◌∷◌, ◌++◌, length, drop, refl, Some, None, Option, ap, sym, ◌∙◌, subst, arith}
+use Rattle.std.proofs.Common.{◌≡◌, inl, inr, ℕ, ◌+◌, ◌-◌, ◌≤◌, true, List, [], ◌++◌, length, drop, refl, ap, sym, ◌∙◌, subst, arith}
 use Rattle.std.proofs.Math.ListN.{drop_of_length-le}
 use Rattle.posix_calls.specs.Operations.{is_client}
 use Rattle.log_record.specs.declared.format.Record.{Record}
-use Rattle.world_facts.specs.Logs.{is_written, units_in, ArePaid, is_made_in, IsMadeOnce}
-use Rattle.world_facts.specs.World.{Region, Ready, Away, Back, Client, Account, World, undigested, records_of, change_of, holds, log_of, whole, held, tree_of}
+use Rattle.world_facts.specs.Logs.{units_in}
+use Rattle.world_facts.specs.World.{Region, Ready, Away, Back, Client, World, records_of, change_of, log_of, tree_of}
 use Rattle.world_facts.specs.Standing.{IsMarked, IsLogged, IsNumbered, Stands}
 use Rattle.world_facts.specs.Invariant.{Holds}
 use Rattle.world_facts.specs.ClientSteps.{with_client}

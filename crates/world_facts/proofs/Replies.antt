@@ -1,7 +1,7 @@
 -- A call is answered: the tree moves by its step.
-use Rattle.std.proofs.Common.{◌≡◌, ◌≢◌, ◌⊎◌, inl, inr, ℕ, ◌+◌, ◌-◌, ◌≤◌, ◌==◌, ◌||◌, cond, Bool, true, false, List, [], ◌∷◌, ◌++◌, drop, refl, Some, None, Option, Ok, Err, ap, sym, ◌∙◌, subst, arith, append_assoc}
+use Rattle.std.proofs.Common.{◌≡◌, ◌≢◌, inl, inr, ℕ, ◌+◌, ◌-◌, ◌==◌, ◌||◌, true, false, List, [], ◌∷◌, ◌++◌, drop, refl, None, Err, ap, sym, ◌∙◌, subst, append_assoc}
 use Rattle.std.proofs.lemmas.Bool.{false≢true, eqb-true, eq-eqb}
-use Rattle.posix_calls.specs.Tree.{Own, Descriptors, State, with_own}
+use Rattle.posix_calls.specs.Tree.{Descriptors, with_own}
 use Rattle.posix_calls.specs.Query.{Known, run_part}
 use Rattle.posix_calls.specs.Decide.{decide}
 use Rattle.posix_calls.specs.Operations.{is_client, makes, own_after, reply_of, Step}
@@ -11,19 +11,18 @@ use Rattle.posix_calls.specs.declared.errno.Errno.{Errno}
 use Rattle.posix_calls.specs.declared.operation.Operation.{Operation}
 use Rattle.file_graph.specs.Graph.{Graph, after_effects, is_among, touches}
 use Rattle.file_graph.specs.declared.effect.Effect.{Effect}
-use Rattle.log_record.specs.declared.format.Record.{Record}
 use Rattle.call_effects.specs.Wholes.{IsSound, state_of}
-use Rattle.call_effects.specs.Known.{Knowledge, Agrees, IsPlanned, part_of, knows_after}
+use Rattle.call_effects.specs.Known.{Agrees, IsPlanned, part_of, knows_after}
 use Rattle.call_effects.proofs.KnownSteps.{planned_step, refused_step}
-use Rattle.world_facts.specs.Logs.{after_records, after_clients, is_written, is_touched, is_made, is_made_in, IsMadeOnce, units_in, ArePaid, AreApart}
-use Rattle.world_facts.specs.World.{Begun, Client, Account, World, undigested, records_of, change_of, holds, log_of, all_of, whole, held, tree_of, moved}
-use Rattle.world_facts.specs.Standing.{IsNumbered, IsPending, Stands}
+use Rattle.world_facts.specs.Logs.{is_written, is_touched, is_made, is_made_in, units_in, ArePaid, AreApart}
+use Rattle.world_facts.specs.World.{Begun, Client, Account, World, undigested, records_of, change_of, log_of, all_of, whole, held, tree_of}
+use Rattle.world_facts.specs.Standing.{IsNumbered, Stands}
 use Rattle.world_facts.specs.Invariant.{Holds}
-use Rattle.world_facts.specs.ClientSteps.{with_client, CanAnswer, answered, IsBegun, replied}
+use Rattle.world_facts.specs.ClientSteps.{CanAnswer, answered, IsBegun, replied}
 use Rattle.world_facts.proofs.Records.{either, both, append_nil, front_written, rest_written, in_first}
 use Rattle.world_facts.proofs.Owners.{appended_whole}
 use Rattle.world_facts.proofs.Idle.{none_some}
-use Rattle.world_facts.proofs.Made.{unmade_append, made_append, once_more, rest_made}
+use Rattle.world_facts.proofs.Made.{unmade_append, once_more}
 use Rattle.world_facts.proofs.Facts.{apart_all, apart_less, makes_granted}
 use Rattle.world_facts.proofs.Knowing.{pinned_after, granted_before, granted_apart, planned_sound_after, own_agrees_after, others_agree_after, leased_after}
 use Rattle.world_facts.proofs.Moved.{holds_moved, booked_same, before_less, after_less, whole_same, held_moved, log_there, log_else}

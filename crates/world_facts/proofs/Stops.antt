@@ -1,17 +1,15 @@
 -- What a stop stores: the whole graph after the effects of some begun records, which are a run of the file tree.
-use Rattle.std.proofs.Common.{◌≡◌, ◌≢◌, ◌⊎◌, inl, inr, ℕ, zero, suc, ◌+◌, ◌≤◌, ◌==◌, ◌||◌, cond, Bool, true, false, List, [], ◌∷◌, ◌++◌, refl, Some, None, Option, ap, sym, ◌∙◌, subst, arith}
+use Rattle.std.proofs.Common.{◌≡◌, ◌≢◌, ◌⊎◌, inl, inr, ℕ, zero, suc, ◌+◌, ◌≤◌, ◌==◌, true, false, List, [], ◌∷◌, ◌++◌, refl, Some, None, ap, sym, ◌∙◌, subst, arith}
 use Rattle.std.specs.Prelude.{option_map}
 use Rattle.std.proofs.lemmas.Bool.{false≢true}
 use Rattle.std.proofs.lemmas.Bool.Decides.{eqb_tells}
-use Rattle.posix_calls.specs.Tree.{Descriptors, State, with_own, sum_up_to}
-use Rattle.posix_calls.specs.Run.{Run, Turn, settled}
-use Rattle.posix_calls.specs.Operations.{is_client, makes, own_after, reply_of, Step}
-use Rattle.posix_calls.specs.declared.call.Call.{Call}
+use Rattle.posix_calls.specs.Tree.{Descriptors, with_own, sum_up_to}
+use Rattle.posix_calls.specs.Run.{Run, Turn}
+use Rattle.posix_calls.specs.Operations.{is_client, own_after, reply_of, Step}
 use Rattle.posix_calls.proofs.Sums.{same_if}
 use Rattle.file_graph.specs.Graph.{Graph, after_effects, is_among, touches}
 use Rattle.file_graph.specs.Units.{charge}
 use Rattle.log_record.specs.declared.format.Record.{Record}
-use Rattle.call_effects.specs.Settled.{nobody, settled_graph}
 use Rattle.call_effects.specs.Wholes.{IsSound, state_of}
 use Rattle.call_effects.specs.Known.{Knowledge, Agrees, IsPlanned}
 use Rattle.call_effects.proofs.Settled.{closed_sound, settled_state}
@@ -19,13 +17,11 @@ use Rattle.call_effects.proofs.KnownSteps.{planned_step, planned_sound}
 use Rattle.call_effects.proofs.KnownAfter.{other_agrees}
 use Rattle.world_facts.specs.Logs.{after_records, after_clients, after_each, is_written, is_touched, units_in, ArePaid, AreApart, IsDistinct, IsOrder}
 use Rattle.world_facts.specs.World.{Begun, World, change_of, records_of, log_of, all_of, holds, whole, held, tree_of, at}
-use Rattle.world_facts.specs.Standing.{Stands}
 use Rattle.world_facts.specs.Invariant.{Holds}
-use Rattle.world_facts.specs.Outcome.{Unfinished, AreSomeOf, IsOutcome}
+use Rattle.world_facts.specs.Outcome.{Unfinished, AreSomeOf}
 use Rattle.world_facts.specs.Stop.{Leaves, stored, begun_calls, Stores}
 use Rattle.world_facts.proofs.Records.{either, both, in_first, in_rest, append_nil, front_written, rest_written, units_append}
 use Rattle.world_facts.proofs.Owners.{nobody as nobody_writes, is_low, is_high, client_is, ended_whole, first_in, among_rest}
-use Rattle.world_facts.proofs.Idle.{none_some}
 use Rattle.world_facts.proofs.Facts.{apart_all, apart_less, granted_alone}
 use Rattle.world_facts.proofs.Paid.{paid_same, paid_front, charge_records}
 

@@ -1,11 +1,11 @@
 -- The steps of the kernel's book: units, numbers and pins, each with when it may be taken.
-use Rattle.std.specs.Prelude.{◌≡◌, ◌≢◌, ℕ, ◌+◌, ◌-◌, ◌<◌, ◌≤◌, true, false, Option, Some, None}
+use Rattle.std.specs.Prelude.{◌≡◌, ◌≢◌, ℕ, ◌+◌, ◌-◌, ◌<◌, ◌≤◌, true, false, Some, None}
 use Rattle.posix_calls.specs.Tree.{sum_up_to}
 use Rattle.posix_calls.specs.Operations.{is_client}
 use Rattle.posix_calls.specs.declared.descriptor.Descriptor.{Descriptor}
 use Rattle.posix_calls.specs.declared.limits.TheConstants.{ROOT, MAX_INODE, MAX_CLIENTS}
 use Rattle.file_graph.specs.Units.{charge}
-use Rattle.world_facts.specs.World.{Client, Account, World, moved}
+use Rattle.world_facts.specs.World.{World, moved}
 use Rattle.world_facts.specs.LeaseSteps.{also, without}
 
 -- ---- units

@@ -1,7 +1,6 @@
 -- Small worlds that break one part of the invariant each.
-use Rattle.std.specs.Prelude.{ℕ, List, [], ◌∷◌, Bool, true, false, ◌==◌, ◌&&◌, Option, Some, None, if◌then◌else◌}
+use Rattle.std.specs.Prelude.{ℕ, List, [], ◌∷◌, true, ◌==◌, ◌&&◌, Some, None, if◌then◌else◌}
 use Rattle.posix_calls.specs.Tree.{Descriptors}
-use Rattle.posix_calls.specs.declared.descriptor.Descriptor.{Descriptor}
 use Rattle.file_graph.specs.Graph.{Graph, FileBody}
 use Rattle.file_graph.specs.declared.effect.Kind.TheVariants as kind
 use Rattle.file_graph.specs.declared.effect.Effect.TheVariants as effect

@@ -1,7 +1,7 @@
 -- A client that is gone is buried, once its call is settled and its records are digested.
-use Rattle.std.specs.Prelude.{◌≡◌, ℕ, List, [], ◌++◌, length, true, Option, None}
+use Rattle.std.specs.Prelude.{◌≡◌, ℕ, [], true, None}
 use Rattle.posix_calls.specs.Operations.{is_client}
-use Rattle.world_facts.specs.World.{Client, Account, World, log_of, moved}
+use Rattle.world_facts.specs.World.{World, log_of, moved}
 use Rattle.world_facts.specs.Opening.{idle_client, idle_account}
 
 pub record CanBury (w : World) (c : ℕ) : Type 0 where

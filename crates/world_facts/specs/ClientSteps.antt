@@ -1,5 +1,5 @@
 -- The steps of a client's call, each with when it may be taken.
-use Rattle.std.specs.Prelude.{◌≡◌, ℕ, ◌+◌, ◌-◌, ◌≤◌, List, [], ◌∷◌, ◌++◌, Bool, true, Option, Some, None, Ok}
+use Rattle.std.specs.Prelude.{◌≡◌, ℕ, ◌+◌, ◌-◌, ◌≤◌, [], ◌∷◌, ◌++◌, true, Some, None, Ok}
 use Rattle.posix_calls.specs.Query.{Known, run_part}
 use Rattle.posix_calls.specs.Operations.{is_client}
 use Rattle.posix_calls.specs.declared.call.Call.{Call}

@@ -1,10 +1,10 @@
 -- The steps of the shared graph, each with when it may be taken.
-use Rattle.std.specs.Prelude.{◌≡◌, ℕ, ◌+◌, ◌-◌, List, ◌++◌, length, drop, Bool, true, false, ◌&&◌, not, Option, Some, None}
+use Rattle.std.specs.Prelude.{◌≡◌, ℕ, ◌+◌, ◌-◌, List, ◌++◌, length, drop, true, false, ◌&&◌, not, Some, None}
 use Rattle.posix_calls.specs.Operations.{is_client}
-use Rattle.file_graph.specs.Graph.{Graph, Node, FileBody, set_node}
+use Rattle.file_graph.specs.Graph.{Node, FileBody, set_node}
 use Rattle.log_record.specs.declared.format.Record.{Record}
 use Rattle.world_facts.specs.Logs.{after_records, is_made_in, units_in}
-use Rattle.world_facts.specs.World.{Client, Account, World, whole, moved}
+use Rattle.world_facts.specs.World.{World, whole, moved}
 
 -- ---- records are digested
 

@@ -1,12 +1,12 @@
 -- The steps of leases and copies, each with when it may be taken.
-use Rattle.std.specs.Prelude.{◌≡◌, ◌≢◌, ◌⊎◌, ℕ, List, Bool, true, false, ◌==◌, ◌||◌, Option, Some, None, if◌then◌else◌}
+use Rattle.std.specs.Prelude.{◌≡◌, ◌≢◌, ◌⊎◌, ℕ, List, Bool, true, false, ◌==◌, ◌||◌, Some, None, if◌then◌else◌}
 use Rattle.posix_calls.specs.Operations.{is_client}
 use Rattle.file_graph.specs.Graph.{Graph, FileBody}
 use Rattle.call_effects.specs.Blocks.{block_of}
 use Rattle.call_effects.specs.NodeView.{view_at}
 use Rattle.call_effects.specs.Known.{Knowledge, with_copy, with_blocks}
 use Rattle.world_facts.specs.Logs.{after_records, is_written}
-use Rattle.world_facts.specs.World.{Client, World, holds, log_of}
+use Rattle.world_facts.specs.World.{World, holds, log_of}
 use Rattle.world_facts.specs.ClientSteps.{with_client}
 
 abbrev pub also : (ℕ → Bool) → ℕ → ℕ → Bool

@@ -11,4 +11,5 @@ pub mod Outcome
 pub mod RegionSteps
 pub mod Standing
 pub mod Stop
+pub mod Walk
 pub mod World

@@ -1,7 +1,7 @@
 -- The steps of a client's two regions, each with when it may be taken.
-use Rattle.std.specs.Prelude.{◌≡◌, ℕ, ◌+◌, List, [], length, true, Option, None}
+use Rattle.std.specs.Prelude.{◌≡◌, ℕ, ◌+◌, [], length, true, None}
 use Rattle.posix_calls.specs.Operations.{is_client}
-use Rattle.world_facts.specs.World.{Ready, Away, Back, Client, World}
+use Rattle.world_facts.specs.World.{Ready, Away, Back, World}
 use Rattle.world_facts.specs.ClientSteps.{with_client}
 
 -- the region that is written is sealed and handed over, and the other one is written from now on

@@ -11,7 +11,7 @@ use Rattle.log_record.specs.declared.format.Record.{Record}
 use Rattle.call_effects.specs.NodeView.{NodeView}
 use Rattle.call_effects.specs.Known.{Knowledge, IsPlanned}
 use Rattle.world_facts.specs.Logs.{is_written, is_made_in, IsMadeOnce, units_in, ArePaid}
-use Rattle.world_facts.specs.World.{Begun, Region, Ready, Away, Back, Client, Account, Kernel, undigested, records_of, holds}
+use Rattle.world_facts.specs.World.{Begun, Region, Away, Client, Account, Kernel, undigested, records_of, holds}
 
 -- ---- one client's part beside the kernel's
 

@@ -1,5 +1,5 @@
 -- What a stop stores.
-use Rattle.std.specs.Prelude.{◌≡◌, ◌⊎◌, ℕ, ◌≤◌, List, [], ◌++◌, true, Option, Some, None, option_map}
+use Rattle.std.specs.Prelude.{◌≡◌, ◌⊎◌, ℕ, ◌≤◌, List, [], ◌++◌, true, option_map}
 use Rattle.posix_calls.specs.Operations.{is_client}
 use Rattle.posix_calls.specs.declared.limits.TheConstants.{MAX_CLIENTS}
 use Rattle.file_graph.specs.Graph.{Graph}
@@ -9,7 +9,7 @@ use Rattle.call_effects.specs.Settled.{nobody, settled_graph}
 use Rattle.call_effects.specs.Wholes.{IsSound, state_of}
 use Rattle.world_facts.specs.Logs.{after_clients, AreApart, ArePaid}
 use Rattle.world_facts.specs.Outcome.{Unfinished, IsOutcome}
-use Rattle.world_facts.specs.World.{World, Begun, change_of, log_of, tree_of}
+use Rattle.world_facts.specs.World.{World, change_of, log_of, tree_of}
 
 -- in place of each log it leaves the log, or the log and the begun record
 abbrev pub Leaves : World → (ℕ → List Record) → Type 0

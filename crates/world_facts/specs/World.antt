@@ -1,6 +1,6 @@
 -- What there is between two steps, as plain data: the kernel's part, and each client's.
 use Rattle.std.specs.Prelude.{ℕ, ◌-◌, List, [], ◌∷◌, ◌++◌, drop, Bool, ◌==◌, ◌||◌, Option, Some, None, if◌then◌else◌}
-use Rattle.posix_calls.specs.Tree.{Own, Descriptors, State}
+use Rattle.posix_calls.specs.Tree.{Descriptors, State}
 use Rattle.posix_calls.specs.Operations.{is_client}
 use Rattle.posix_calls.specs.declared.call.Call.{Call}
 use Rattle.posix_calls.specs.declared.operation.Operation.{Operation}

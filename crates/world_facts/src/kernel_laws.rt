@@ -1,9 +1,12 @@
 //! The steps of the shared graph. None of them changes the tree.
 
-ghost use Rattle.std.specs.Prelude.{◌≡◌, ℕ, List, None};
-ghost use Rattle.file_graph.specs.Graph.{set_node};
+ghost use Rattle.std.specs.Prelude.{◌≡◌, ℕ, List, true, Some, None};
+ghost use Rattle.posix_calls.specs.Operations.{is_client};
+ghost use Rattle.posix_calls.specs.declared.descriptor.Descriptor.{Descriptor};
+ghost use Rattle.file_graph.specs.Graph.{set_node, after_effects};
 ghost use Rattle.log_record.specs.declared.format.Record.{Record};
-ghost use Rattle.world_facts.specs.World.{World, whole, tree_of};
+ghost use Rattle.world_facts.specs.World.{Begun, World, whole, tree_of};
+ghost use Rattle.world_facts.specs.ClientSteps.{IsBegun, replied};
 ghost use Rattle.world_facts.specs.KernelSteps.{CanDigest, digested, CanReclaim, reclaimed};
 ghost use Rattle.world_facts.specs.Invariant.{Holds};
 
@@ -21,4 +24,16 @@ pub fn unused_file_may_be_reclaimed()
     ensures holds { (w : World) (i : ℕ) → Holds w → CanReclaim w i → Holds (reclaimed w i) }
     ensures whole { (w : World) (i : ℕ) → Holds w → CanReclaim w i → whole (reclaimed w i) ≡ set_node (whole w) i None }
     ensures tree { (w : World) (i : ℕ) → Holds w → CanReclaim w i → tree_of (reclaimed w i) ≡ tree_of w }
+{}
+
+/// A call that has begun its record stays begun while records are digested, its own client's too, and its answer makes of the whole
+/// what it would have made before.
+pub fn digest_leaves_begun_calls()
+    ensures begun { (w : World) (c d : ℕ) (b : Begun) (first rest : List Record) → Holds w → IsBegun w c b → CanDigest w d first rest → IsBegun (digested w d first) c b }
+    ensures answered { (w : World) (c d : ℕ) (b : Begun) (first rest : List Record) → Holds w → IsBegun w c b → CanDigest w d first rest → whole (replied (digested w d first) c b) ≡ after_effects (whole w) b.change.effects }
+{}
+
+/// A file that a client has open can't be reclaimed, also where it has lost its last name: it is pinned.
+pub fn open_file_is_not_reclaimed()
+    ensures { (w : World) (c n : ℕ) (o : Descriptor) → Holds w → is_client c ≡ true → (w.clients c).knows.own n ≡ Some o → CanReclaim w o.inode → ⊥ }
 {}

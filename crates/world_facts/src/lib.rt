@@ -16,6 +16,7 @@ mod order_laws;
 mod part_laws;
 mod region_laws;
 mod stop_laws;
+mod walk_laws;
 
 pub use book_laws::{
     number_may_be_granted_and_returned, pin_may_be_set_and_dropped,
@@ -30,7 +31,10 @@ pub use call_laws::{
     begun_call_is_a_step, begun_call_leaves_the_tree, begun_call_may_be_given_up,
     call_without_a_record_is_a_step, failed_client_leaves_the_tree,
 };
-pub use kernel_laws::{records_may_be_digested, unused_file_may_be_reclaimed};
+pub use kernel_laws::{
+    digest_leaves_begun_calls, open_file_is_not_reclaimed, records_may_be_digested,
+    unused_file_may_be_reclaimed,
+};
 pub use lease_laws::{
     copy_may_be_fetched, lease_may_be_given, read_lease_may_be_taken, write_lease_may_be_taken,
 };
@@ -39,3 +43,4 @@ pub use order_laws::clients_records_commute;
 pub use part_laws::{one_part_may_move, quiet_part_may_move};
 pub use region_laws::{region_may_be_sealed, region_may_be_taken_back, region_may_be_wiped};
 pub use stop_laws::stop_stores_an_outcome;
+pub use walk_laws::small_world_walks;
