@@ -1,6 +1,7 @@
 -- What clients know after a call of one of them agrees with the whole again.
 use Rattle.std.proofs.Common.{◌≡◌, ◌≢◌, ◌⊎◌, inl, inr, ℕ, List, [], ◌∷◌, refl, Some, None, Option, cond, ap, sym, ◌∙◌, subst, true, false, Bool, ◌==◌}
-use Rattle.std.specs.Prelude.{option_map, ◌&&◌, ◌||◌, not}
+use Rattle.std.specs.Prelude.{option_map, is_some, ◌&&◌, ◌||◌, not}
+use Rattle.std.specs.FinMap as fin
 use Rattle.std.proofs.lemmas.Bool.{eq-eqb}
 use Rattle.std.proofs.lemmas.Bool.Decides.{eqb_tells}
 use Rattle.posix_calls.specs.Tree.{Own, Descriptors, with_own}
@@ -10,20 +11,21 @@ use Rattle.posix_calls.specs.declared.operation.Operation.{Operation}
 use Rattle.posix_calls.specs.declared.operation.Operation.TheVariants.{Tell, NewDir, NewFile, OpenFile, CloseFile, Write, Resize, RemoveDir, AddName, DropName, Move}
 use Rattle.posix_calls.specs.declared.operation.Replaced.TheVariants.{Nothing, OldFile, OldDir}
 use Rattle.posix_calls.specs.declared.call.Call.{Call}
-use Rattle.file_graph.specs.Graph.{Graph, Node, is_among, acted, after_effect, after_effects, touches, file_bytes}
+use Rattle.file_graph.specs.Graph.{Graph, Node, is_among, acted, after_effect, after_effects, touches, subjects, file_bytes}
 use Rattle.file_graph.specs.declared.effect.Kind.{Kind}
 use Rattle.file_graph.specs.declared.effect.Kind.TheVariants as kind
 use Rattle.file_graph.specs.declared.effect.Effect.{Effect}
 use Rattle.file_graph.specs.declared.effect.Effect.TheVariants as effect
 use Rattle.file_graph.proofs.Touches.{untouched}
-use Rattle.call_effects.specs.Effects.{effects_by, effects_of, stored_at, recounted}
+use Rattle.call_effects.specs.Effects.{effects_by, effects_of, making, stored_at, recounted}
 use Rattle.call_effects.specs.Wholes.{IsSound}
 use Rattle.call_effects.specs.Blocks.{block_of}
-use Rattle.call_effects.specs.NodeView.{NodeView, view_of_node, view_after}
+use Rattle.call_effects.specs.NodeView.{NodeView, view_at, view_of_node, view_acted, view_after, empty_view, in_entries}
 use Rattle.call_effects.specs.Fits.{Fits, IsNew, IsRoom, IsEntry, IsUsedFile}
-use Rattle.call_effects.specs.Known.{Knowledge, Agrees, IsGone, IsPutBack, IsPlanned, knows_after}
+use Rattle.call_effects.specs.Known.{Knowledge, Agrees, IsGone, IsPutBack, IsPlanned, knows_after, knows_made, with_copy}
 use Rattle.call_effects.proofs.KnownTold.{both_hold}
 use Rattle.call_effects.proofs.KnownSteps.{planned_answer}
+use Rattle.call_effects.proofs.Served.{copy_agrees}
 use Rattle.call_effects.proofs.Steps.{answer_fits}
 use Rattle.call_effects.proofs.Blocks.{mapped}
 use Rattle.call_effects.proofs.NodeViews.{effects_at, viewed_after, block_known_after}
@@ -148,6 +150,38 @@ new_alike names new (AddName at i) o p e = absurd (cc)
 new_alike names new (DropName at i) o p e = absurd (cc)
 new_alike names new (Move from to i is_dir replaced) o p e = absurd (cc)
 
+-- a view stays through what is entered, and through a count
+some_after : (d new : ℕ) (kd : Kind) (name : List ℕ) (o : Option NodeView) → is_some o ≡ true → is_some (view_after (effect.Enter d new kd name ∷ effect.Names new 1 ∷ []) new o) ≡ true
+some_after d new kd name None e = absurd (cc)
+some_after d new kd name (Some v) e = counted (is_among new (subjects (effect.Enter d new kd name))) where
+  named : (c : Bool) (w : NodeView) → is_some (cond c (view_acted (effect.Names new 1) (Some w)) (Some w)) ≡ true
+  named true w = refl
+  named false w = refl
+
+  counted : (b : Bool) → is_some (view_after (effect.Names new 1 ∷ []) new (cond b (view_acted (effect.Enter d new kd name) (Some v)) (Some v))) ≡ true
+  counted true = named (is_among new (subjects (effect.Names new 1))) (in_entries (λ es. fin.insert es name (new, kd)) v)
+  counted false = named (is_among new (subjects (effect.Names new 1))) v
+
+made_first : (new : ℕ) (kd : Kind) (at : Location) → is_some (view_after (making new kd at) new None) ≡ true
+made_first new kd at = ap (λ b. is_some (view_after (effect.Enter at.parent new kd at.name ∷ effect.Names new 1 ∷ []) new (cond b (Some (empty_view kd)) None))) (among_itself new) ∙ some_after at.parent new kd at.name (Some (empty_view kd)) refl
+  where
+    among_itself : (i : ℕ) → is_among i (i ∷ []) ≡ true
+    among_itself i = ap (λ b. b || false) (eq-eqb i i refl)
+
+-- the effects that make a node leave one there
+made_view : (names new : ℕ) (operation : Operation) → makes operation ≡ true → is_some (view_after (effects_by names new operation) new None) ≡ true
+made_view names new (NewDir at) m = made_first new kind.Directory at
+made_view names new (NewFile at number reads writes) m = made_first new kind.File at
+made_view names new (Tell answer) m = absurd (cc)
+made_view names new (OpenFile i empties number reads writes) m = absurd (cc)
+made_view names new (CloseFile i number) m = absurd (cc)
+made_view names new (Write i at bytes) m = absurd (cc)
+made_view names new (Resize i len) m = absurd (cc)
+made_view names new (RemoveDir at i) m = absurd (cc)
+made_view names new (AddName at i) m = absurd (cc)
+made_view names new (DropName at i) m = absurd (cc)
+made_view names new (Move from to i is_dir replaced) m = absurd (cc)
+
 -- ---- one's own knowledge
 
 -- a number that is left is not the new one
@@ -232,3 +266,17 @@ module _ (k : Knowledge) (g : Graph) (d : Descriptors) (c : Call) (new : ℕ) (o
     blocks = λ i b bytes is. ap (λ t. option_map (block_of b) (file_bytes (cond t (after_effects g es i) (known.back i)))) (blocks i b bytes is) ∙ known.blocks i b bytes is;
     granted = λ i is. new_stays g new i operation es effects_are_those (not_new other numbers i is) (known.granted i is);
   }
+
+  -- ---- a copy of the new node
+
+  abbrev after : Knowledge
+  after = knows_after k new operation es
+
+  -- nothing stands at its number before, and something after
+  pub made_agrees : makes operation ≡ true → Agrees (knows_made k new operation es) (after_effects g es) (with_own d k.client (own_after new k.own operation))
+  made_agrees m =
+      let none = (agrees.granted new (plan.number m)).none in
+      let seen : view_at (after_effects g es) new ≡ view_after es new None = viewed_after g es new None (ap (option_map view_of_node) none) in
+      let stands : is_some (view_after es new None) ≡ true = subst (λ (fs : List Effect). is_some (view_after fs new None) ≡ true) effects_are_those (made_view (stored_at g (recounted operation)) new operation m) in
+      subst (λ copy. Agrees (with_copy after new copy) (after_effects g es) (with_own d k.client (own_after new k.own operation))) seen
+      (copy_agrees after (after_effects g es) (with_own d k.client (own_after new k.own operation)) agrees_after new (λ gone. absurd (let clash : false ≡ true = sym (ap is_some (sym seen ∙ ap (option_map view_of_node) gone)) ∙ stands in cc)))

@@ -1,6 +1,7 @@
 -- What a call asks of: the root, what an entry of a directory that was looked at names, and what its client has open.
 use Rattle.std.proofs.Common.{◌≡◌, ℕ, zero, suc, ◌+◌, ◌-◌, ◌≤◌, arith, List, [], ◌∷◌, refl, Some, None, Option, Ok, Err, Result, cond, ap, ◌∙◌, subst, true, false, Bool}
-use Rattle.std.specs.Prelude.{min}
+use Rattle.std.specs.Prelude.{min, nat_lt}
+use Rattle.std.proofs.lemmas.Bool.{ltb-false}
 use Rattle.std.specs.FinMap as fin
 use Rattle.posix_calls.specs.Content.{Entries}
 use Rattle.posix_calls.specs.Path.{reading}
@@ -84,6 +85,10 @@ result_is p x y e = cc
 there_are : (count size at few : ℕ) → min count (size - at) ≡ suc few → at + suc few ≤ size
 there_are count size at few e = omega (arith, e)
 
+-- no more of them than are asked for
+are_few : (count size at few : ℕ) → nat_lt 65536 count ≡ false → min count (size - at) ≡ suc few → suc few ≤ 65536
+are_few count size at few small e = let most = ltb-false 65536 count small in omega (arith, e, most)
+
 module _ (p : Part) (OnDir OnNode : ℕ → Type 0) (OnRange : ℕ → ℕ → ℕ → Type 0) where
   abbrev QueryIn : {A : Type 0} → Query A → Type 0
   QueryIn q = QueryAll p OnDir OnNode OnRange q
@@ -159,6 +164,11 @@ module _ (p : Part) (OnDir OnNode : ℕ → Type 0) (OnRange : ℕ → ℕ → �
   query_past : (e : Errno) (test : Bool) (f : Unit {0} → Query Operation) → QueryIn (f tt) → QueryIn (refuse e test >>= f)
   query_past e test f rest = query_then _ _ (query_refuse e test) (λ u r. rest)
 
+  query_where : (e : Errno) (test : Bool) (f : Unit {0} → Query Operation) → (test ≡ false → QueryIn (f tt)) → QueryIn (refuse e test >>= f)
+  unfolding QueryAll ◌>>=◌
+  query_where e true f rest = tt
+  query_where e false f rest = rest refl
+
   query_path : (path : List ℕ) (f : List (List ℕ) → Query Operation) → ((names : List (List ℕ)) → QueryIn (f names)) → QueryIn (said (reading path) >>= f)
   query_path path f rest = query_then _ _ (query_said (reading path)) (λ names e. rest names)
 
@@ -186,7 +196,7 @@ module _ (p : Part) (OnDir OnNode : ℕ → Type 0) (OnRange : ℕ → ℕ → �
   query_bytes i at (suc count) met = query_range i at (suc count) _ (met count refl) (λ bytes. query_gives bytes)
 
   -- where the root passes, what an entry names, what is open, and the bytes of that which there are, so does all that a call asks of
-  module _ (own : Own) (root : OnDir 1 × OnNode 1) (named : (at i : ℕ) (name : List ℕ) (entries : Entries ℕ) → run_part p (entries_at at) ≡ Known (Ok entries) → fin.get entries name ≡ Some i → OnDir i × OnNode i) (opens : (number : ℕ) (x : Descriptor) → own number ≡ Some x → OnNode x.inode) (reads : (number : ℕ) (x : Descriptor) (size at count : ℕ) → own number ≡ Some x → run_part p (size_at x.inode) ≡ Known (Ok size) → at + suc count ≤ size → OnRange x.inode at (suc count)) where
+  module _ (own : Own) (root : OnDir 1 × OnNode 1) (named : (at i : ℕ) (name : List ℕ) (entries : Entries ℕ) → run_part p (entries_at at) ≡ Known (Ok entries) → fin.get entries name ≡ Some i → OnDir i × OnNode i) (opens : (number : ℕ) (x : Descriptor) → own number ≡ Some x → OnNode x.inode) (reads : (number : ℕ) (x : Descriptor) (size at count : ℕ) → own number ≡ Some x → run_part p (size_at x.inode) ≡ Known (Ok size) → at + suc count ≤ size → suc count ≤ 65536 → OnRange x.inode at (suc count)) where
     query_walk : (from : ℕ) (way : List ℕ) (names : List (List ℕ)) → OnNode from → QueryIn (walk from way names)
     unfolding walk
     query_walk from way [] met = query_gives root_place
@@ -347,9 +357,9 @@ module _ (p : Part) (OnDir OnNode : ℕ → Type 0) (OnRange : ℕ → ℕ → �
     unfolding pread
     query_pread number at count =
         query_opened _ (own number) _ (λ x is.
-        query_past _ _ _ (
+        query_where _ _ _ (λ small.
         query_then _ _ (query_look x.inode _ (opens number x is) (λ s. query_gives _)) (λ size s.
-        query_then _ _ (query_bytes x.inode at (min count (size - at)) (λ few e. reads number x size at few is s (there_are count size at few e))) (λ bytes r. query_gives _))))
+        query_then _ _ (query_bytes x.inode at (min count (size - at)) (λ few e. reads number x size at few is s (there_are count size at few e) (are_few count size at few small e))) (λ bytes r. query_gives _))))
 
     query_write_at : (i at : ℕ) (bytes : List ℕ) → QueryIn (write_at i at bytes)
     query_write_at i at [] = query_gives _

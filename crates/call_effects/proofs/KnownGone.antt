@@ -139,7 +139,7 @@ module _ (g : Graph) (d : Descriptors) (fair : IsFair g d) where
   open_stays client number x is = used_stays x.inode (open_file g d client number x x.inode fair is refl)
 
   pub call_asks_kept : (client : ℕ) (c : Call) → QueryKept (decide (d client) c)
-  call_asks_kept client c = let root = dir_stays 1 fair.typed.root in query_call (whole v) Stays Stays (λ i at count. Stays i) (d client) (root, root) named_stays (open_stays client) (λ number x size at count is seen few. open_stays client number x is) c
+  call_asks_kept client c = let root = dir_stays 1 fair.typed.root in query_call (whole v) Stays Stays (λ i at count. Stays i) (d client) (root, root) named_stays (open_stays client) (λ number x size at count is seen few most. open_stays client number x is) c
 
   -- where files are put back that are gone, what is kept is the same
   module _ (back : Graph) (put_back : IsPutBack g back) where

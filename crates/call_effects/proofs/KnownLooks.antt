@@ -80,4 +80,4 @@ module _ (k : Knowledge) (g : Graph) (d : Descriptors) (fair : IsFair g d) (agre
       (seen_kind at i name (k.copies at) r.0 refl r.1 (ap (λ m. fin.get m name) r.2 ∙ there), tt)
 
   pub call_looks : (own : Own) (c : Call) (i : ℕ) → run_part p (decide own c) ≡ Unknown (missing.Node i) → IsLookedAtNext p i (decide own c)
-  call_looks own c i e = looked_at p (decide own c) i (query_call p KindKnown Any AnyRange own ((Some true, refl), tt) named_kind (λ number x is. tt) (λ number x size at count is seen few. tt) c) e
+  call_looks own c i e = looked_at p (decide own c) i (query_call p KindKnown Any AnyRange own ((Some true, refl), tt) named_kind (λ number x is. tt) (λ number x size at count is seen few most. tt) c) e

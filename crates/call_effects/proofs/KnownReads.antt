@@ -66,11 +66,17 @@ record IsInFile (k : Knowledge) (i at count : ℕ) : Type 0 where
   copy : k.copies i ≡ Some (Some (FileView names size))
   some : 1 ≤ count
   within : at + count ≤ size
+  most : count ≤ 65536
 
 -- so the blocks that it touches begin within the file
 within_file : (at bytes size b first count : ℕ) → 1 ≤ bytes → at / 4096 ≡ first → blocks_touched at bytes ≡ count → at + bytes ≤ size → b < first + count → 4096 * b < size
 within_file at zero size b first count some from many few high = absurd (omega (arith, some))
 within_file at (suc bytes) size b first count some from many few high = omega (arith, from, many, few, high)
+
+-- and they are few
+few_blocks : (at bytes count : ℕ) → bytes ≤ 65536 → blocks_touched at bytes ≡ count → count ≤ 17
+few_blocks at zero count few many = omega (arith, many)
+few_blocks at (suc bytes) count few many = omega (arith, few, many)
 
 module _ (k : Knowledge) where
   abbrev p : Part
@@ -79,19 +85,19 @@ module _ (k : Knowledge) where
   no_bytes : {A : Type 0} (at count size : ℕ) → 0 ≡ size → at + suc count ≤ size → A
   no_bytes at count size e few = absurd (omega (arith, e, few))
 
-  sized : (i size at count : ℕ) (copy : Option (Option NodeView)) → k.copies i ≡ copy → (o : Option Seen) → option_map (λ c. option_map view_seen c) copy ≡ Some o → size_seen o ≡ size → at + suc count ≤ size → IsInFile k i at (suc count)
-  sized i size at count None is o e same few = absurd (cc)
-  sized i size at count (Some None) is o e same few = let none : None ≡ o = cc in no_bytes at count size (ap size_seen none ∙ same) few
-  sized i size at count (Some (Some (DirView names es))) is o e same few = let dir : Some (Dir (without_kinds es)) ≡ o = cc in no_bytes at count size (ap size_seen dir ∙ same) few
-  sized i size at count (Some (Some (FileView names many))) is o e same few =
+  sized : (i size at count : ℕ) (copy : Option (Option NodeView)) → k.copies i ≡ copy → (o : Option Seen) → option_map (λ c. option_map view_seen c) copy ≡ Some o → size_seen o ≡ size → at + suc count ≤ size → suc count ≤ 65536 → IsInFile k i at (suc count)
+  sized i size at count None is o e same few most = absurd (cc)
+  sized i size at count (Some None) is o e same few most = let none : None ≡ o = cc in no_bytes at count size (ap size_seen none ∙ same) few
+  sized i size at count (Some (Some (DirView names es))) is o e same few most = let dir : Some (Dir (without_kinds es)) ≡ o = cc in no_bytes at count size (ap size_seen dir ∙ same) few
+  sized i size at count (Some (Some (FileView names many))) is o e same few most =
       let file : Some (File names many) ≡ o = cc in
       let length : many ≡ size = ap size_seen file ∙ same in
-      record { names = names; size = many; copy = is; some = omega arith; within = omega (arith, few, length) }
+      record { names = names; size = many; copy = is; some = omega arith; within = omega (arith, few, length); most = most }
 
-  in_file : (number : ℕ) (x : Descriptor) (size at count : ℕ) → k.own number ≡ Some x → run_part p (size_at x.inode) ≡ Known (Ok size) → at + suc count ≤ size → IsInFile k x.inode at (suc count)
-  in_file number x size at count is seen few =
+  in_file : (number : ℕ) (x : Descriptor) (size at count : ℕ) → k.own number ≡ Some x → run_part p (size_at x.inode) ≡ Known (Ok size) → at + suc count ≤ size → suc count ≤ 65536 → IsInFile k x.inode at (suc count)
+  in_file number x size at count is seen few most =
       let r = read_known p x.inode size_seen size seen in
-      sized x.inode size at count (k.copies x.inode) refl r.0 r.1 r.2 few
+      sized x.inode size at count (k.copies x.inode) refl r.0 r.1 r.2 few most
 
   call_reads : (c : Call) (i first count : ℕ) → run_part p (decide k.own c) ≡ Unknown (missing.Blocks i first count) → IsReadOf p (IsInFile k) i first count (decide k.own c)
   call_reads c i first count e = read_of p (IsInFile k) (decide k.own c) i first count (query_call p Any Any (IsInFile k) k.own (tt, tt) (λ at i name entries e there. (tt, tt)) (λ number x is. tt) in_file c) e
@@ -106,3 +112,9 @@ module _ (k : Knowledge) where
       let touches = r.next.touches in
       let unknown = a_block (k.blocks i) first count (missing_not_joined k (decide k.own c) i first count e) in
       record { names = file.names; size = file.size; copy = file.copy; within = λ b high. within_file r.next.at r.next.bytes file.size b first count file.some (let a : r.next.at / 4096 ≡ first = cc in a) (let n : blocks_touched r.next.at r.next.bytes ≡ count = cc in n) file.within high; block = unknown.block; low = unknown.low; high = unknown.high; unknown = unknown.unknown }
+
+  pub call_blocks_few : (c : Call) (i first count : ℕ) → run_part p (decide k.own c) ≡ Unknown (missing.Blocks i first count) → count ≤ 17
+  call_blocks_few c i first count e =
+      let r = call_reads c i first count e in
+      let touches = r.next.touches in
+      few_blocks r.next.at r.next.bytes count r.passes.most (let n : blocks_touched r.next.at r.next.bytes ≡ count = cc in n)

@@ -43,3 +43,5 @@ pub mod Unused
 pub mod Views
 pub mod Ways
 pub mod WellFormed
+pub mod SubjectsMissing
+pub mod Limits

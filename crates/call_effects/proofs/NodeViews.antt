@@ -1,5 +1,5 @@
 -- What a view tells of its node, and that effects make of it what they make of the node; the same of blocks.
-use Rattle.std.proofs.Common.{◌≡◌, ℕ, ◌*◌, List, [], ◌∷◌, take, refl, Some, None, Option, cond, ap, sym, ◌∙◌, true, false, Bool}
+use Rattle.std.proofs.Common.{◌≡◌, ℕ, ◌*◌, List, [], ◌∷◌, ◌++◌, take, refl, Some, None, Option, cond, ap, sym, ◌∙◌, true, false, Bool}
 use Rattle.std.specs.Prelude.{option_map}
 use Rattle.std.specs.FinMap as fin
 use Rattle.std.proofs.Math.Seq.{drop-nil}
@@ -131,3 +131,13 @@ block_known_after g [] i b old new known is = known new is
 block_known_after g (e ∷ es) i b old new known is =
     block_known_after (after_effect g e) es i b (cond (is_among i (subjects e)) (block_acted e b old) old) new
     (λ block there. block_acts_if (is_among i (subjects e)) e b (g i) old block known there) is
+
+-- ---- one list of effects after another
+
+pub views_joined : (es more : List Effect) (i : ℕ) (view : Option NodeView) → view_after (es ++ more) i view ≡ view_after more i (view_after es i view)
+views_joined [] more i view = refl
+views_joined (e ∷ es) more i view = views_joined es more i (cond (is_among i (subjects e)) (view_acted e view) view)
+
+pub blocks_joined : (es more : List Effect) (i b : ℕ) (block : Option (List ℕ)) → block_after (es ++ more) i b block ≡ block_after more i b (block_after es i b block)
+blocks_joined [] more i b block = refl
+blocks_joined (e ∷ es) more i b block = blocks_joined es more i b (cond (is_among i (subjects e)) (block_acted e b block) block)

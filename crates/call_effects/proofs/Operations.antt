@@ -18,7 +18,7 @@ use Rattle.file_graph.specs.declared.effect.Kind.{Kind}
 use Rattle.file_graph.specs.declared.effect.Kind.TheVariants as kind
 use Rattle.file_graph.specs.declared.effect.Effect.{Effect}
 use Rattle.file_graph.specs.declared.effect.Effect.TheVariants as effect
-use Rattle.call_effects.specs.Effects.{effects_of, replacing, replaced_file, dropping, kind_if, stored, stored_at}
+use Rattle.call_effects.specs.Effects.{effects_of, clearing, replaced_file, dropping, kind_if, stored, stored_at}
 use Rattle.call_effects.specs.Wholes.{kept, tree_of}
 use Rattle.call_effects.specs.Fits.{IsNew, IsRoom, IsEntry, IsUsedFile, IsEmptyDir, Fits}
 use Rattle.call_effects.proofs.Puts.{put, put_there, put_other}
@@ -86,12 +86,12 @@ moved_none g d new from to i b fair entry room =
     }
 
 -- the second half, on the graph that the first half left
-moved_on : (g h : Graph) (d : Descriptors) (new : ℕ) (from to : Location) (i : ℕ) (b : Bool) (replaced : Replaced) → after_effects g (replacing (stored_at g (replaced_file replaced)) to replaced) ≡ h → IsFair h d → tree_of (kept h d) ≡ less_replaced d (tree_of (kept g d)) to replaced
+moved_on : (g h : Graph) (d : Descriptors) (new : ℕ) (from to : Location) (i : ℕ) (b : Bool) (replaced : Replaced) → after_effects g (clearing (stored_at g (replaced_file replaced)) to replaced) ≡ h → IsFair h d → tree_of (kept h d) ≡ less_replaced d (tree_of (kept g d)) to replaced
     → IsEntry h from (i, kind_if b) → IsRoom h to → IsAfterOperation g d new (Move from to i b replaced)
 moved_on g h d new from to i b replaced is fair same entry room =
     let half = moved_none h d new from to i b fair entry room in
     let rest = effect.Leave from.parent from.name ∷ effect.Enter to.parent i (kind_if b) to.name ∷ [] in
-    let first = replacing (stored_at g (replaced_file replaced)) to replaced in
+    let first = clearing (stored_at g (replaced_file replaced)) to replaced in
     let whole : after_effects g (first ++ rest) ≡ after_effects h rest = after_append g first rest ∙ ap (λ x. after_effects x rest) is in
     record {
       tree = ap (λ x. tree_of (kept x d)) whole ∙ half.tree ∙ ap (λ t. entered (left t from) to i) same;

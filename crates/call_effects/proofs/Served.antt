@@ -1,6 +1,7 @@
 -- What a client gets of the whole agrees with it, and what it forgets does no harm.
-use Rattle.std.proofs.Common.{◌≡◌, inl, inr, ℕ, List, refl, Some, None, cond, ap, sym, ◌∙◌, true, false, Bool, ◌==◌}
-use Rattle.std.specs.Prelude.{option_map, ◌&&◌}
+use Rattle.std.proofs.Common.{◌≡◌, inl, inr, ℕ, List, refl, Some, None, cond, ap, sym, subst, ◌∙◌, true, false, Bool, ◌==◌}
+use Rattle.std.specs.Prelude.{option_map, ◌&&◌, ◌||◌}
+use Rattle.call_effects.specs.Fits.{IsNew}
 use Rattle.std.proofs.lemmas.Bool.{eqb-true}
 use Rattle.std.proofs.lemmas.Bool.Decides.{eqb_tells}
 use Rattle.posix_calls.specs.Operations.{is_client}
@@ -8,7 +9,7 @@ use Rattle.posix_calls.specs.Tree.{Descriptors}
 use Rattle.file_graph.specs.Graph.{Graph, FileBody, file_bytes}
 use Rattle.call_effects.specs.Blocks.{block_of, block_at}
 use Rattle.call_effects.specs.NodeView.{view_of_node, view_at}
-use Rattle.call_effects.specs.Known.{Knowledge, Agrees, IsForgetful, is_within, with_copy, with_blocks}
+use Rattle.call_effects.specs.Known.{Knowledge, Agrees, IsForgetful, is_within, with_copy, with_blocks, with_granted}
 use Rattle.call_effects.proofs.Changes.{file}
 use Rattle.call_effects.proofs.KnownTold.{both_hold}
 use Rattle.call_effects.proofs.PutBack.{stands_back}
@@ -86,3 +87,12 @@ module _ (k : Knowledge) (g : Graph) (d : Descriptors) (agrees : Agrees k g d) w
     blocks = λ i b bytes is. agrees.blocks i b bytes (forgets.copies.blocks i b bytes is);
     granted = λ i is. agrees.granted i (forgets.granted i is);
   }
+
+  -- ---- a number that is granted
+
+  granted_or : (i j : ℕ) (b : Bool) → (j == i) ≡ b → IsNew g i → (b || k.granted j) ≡ true → IsNew g j
+  granted_or i j true same free is = subst (IsNew g) (sym (eqb-true j i same)) free
+  granted_or i j false apart free is = agrees.granted j is
+
+  pub granted_agrees : (i : ℕ) → IsNew g i → Agrees (with_granted k i) g d
+  granted_agrees i free = record { client = agrees.client; own = agrees.own; back = agrees.back; put_back = agrees.put_back; copies = agrees.copies; blocks = agrees.blocks; granted = λ j is. granted_or i j (j == i) refl free is }

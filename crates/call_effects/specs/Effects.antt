@@ -34,10 +34,10 @@ abbrev pub removing : Location → ℕ → List Effect
 removing at i = effect.Leave at.parent at.name ∷ effect.Drop i ∷ []
 
 -- what a rename puts out of its place; a file has so many names
-abbrev pub replacing : ℕ → Location → Replaced → List Effect
-replacing names at Nothing = []
-replacing names at (OldFile j) = dropping at j names
-replacing names at (OldDir j) = removing at j
+abbrev pub clearing : ℕ → Location → Replaced → List Effect
+clearing names at Nothing = []
+clearing names at (OldFile j) = dropping at j names
+clearing names at (OldDir j) = removing at j
 
 -- the file that a rename puts out of its place
 abbrev pub replaced_file : Replaced → Option ℕ
@@ -64,7 +64,7 @@ effects_by names new (Resize i len) = effect.Size i len ∷ []
 effects_by names new (RemoveDir at i) = removing at i
 effects_by names new (AddName at i) = effect.Enter at.parent i kind.File at.name ∷ effect.Names i (names + 1) ∷ []
 effects_by names new (DropName at i) = dropping at i names
-effects_by names new (Move from to i is_dir replaced) = replacing names to replaced ++ (effect.Leave from.parent from.name ∷ effect.Enter to.parent i (kind_if is_dir) to.name ∷ [])
+effects_by names new (Move from to i is_dir replaced) = clearing names to replaced ++ (effect.Leave from.parent from.name ∷ effect.Enter to.parent i (kind_if is_dir) to.name ∷ [])
 
 -- the count of names that a file has stored, if there is one to ask for
 abbrev pub stored_at : Graph → Option ℕ → ℕ

@@ -1,5 +1,5 @@
 -- What a client knows of the whole, and what it can answer by that.
-use Rattle.std.specs.Prelude.{◌≡◌, ◌⊎◌, ℕ, ◌+◌, ◌*◌, ◌<◌, ◌≤◌, ◌==◌, ◌&&◌, nat_le, nat_lt, List, Bool, true, false, Option, Some, None, Ok, not, unwrap_or, option_map, if◌then◌else◌}
+use Rattle.std.specs.Prelude.{◌≡◌, ◌⊎◌, ℕ, ◌+◌, ◌*◌, ◌<◌, ◌≤◌, ◌==◌, ◌&&◌, ◌||◌, nat_le, nat_lt, List, Bool, true, false, Option, Some, None, Ok, not, unwrap_or, option_map, if◌then◌else◌}
 use Rattle.std.specs.List.{list_any}
 use Rattle.std.specs.FinMap as fin
 use Rattle.posix_calls.specs.Content.{Entries, range}
@@ -76,6 +76,10 @@ pub record IsForgetful (k less : Knowledge) : Type 0 where
 -- what a client knows with one more copy
 abbrev pub with_copy : Knowledge → ℕ → Option NodeView → Knowledge
 with_copy k i copy = record k { copies = λ j. if j == i then Some copy else k.copies j }
+
+-- what a client knows with one more number that it was granted
+abbrev pub with_granted : Knowledge → ℕ → Knowledge
+with_granted k i = record k { granted = λ j. j == i || k.granted j }
 
 -- whether a block is one of so many from a first one on
 abbrev pub is_within : ℕ → ℕ → ℕ → Bool
@@ -190,3 +194,7 @@ knows_after k new operation es = record {
   blocks = λ i b. block_after es i b (k.blocks i b);
   granted = λ i. k.granted i && not (makes operation && i == new);
 }
+
+-- the same with a copy of the node that the operation made
+abbrev pub knows_made : Knowledge → ℕ → Operation → List Effect → Knowledge
+knows_made k new operation es = with_copy (knows_after k new operation es) new (view_after es new None)

@@ -1,8 +1,8 @@
 -- The record of an operation, as questions: the effects that it has, and by how many units they may raise the graph.
-use Rattle.std.specs.Prelude.{ℕ, ◌+◌, ◌-◌, ◌==◌, max, min, List, length, Option, Some, None, if◌then◌else◌}
+use Rattle.std.specs.Prelude.{ℕ, ◌+◌, ◌-◌, ◌==◌, max, min, List, length, Bool, true, Option, Some, None, is_some, if◌then◌else◌}
 use Rattle.std.specs.FinMap as fin
 use Rattle.posix_calls.specs.Content.{file_units, directory_units}
-use Rattle.posix_calls.specs.Query.{Query, Gives, ◌>>=◌}
+use Rattle.posix_calls.specs.Query.{Query, Gives, ◌>>=◌, Part}
 use Rattle.posix_calls.specs.Walk.{entries_at, size_at, names_at}
 use Rattle.posix_calls.specs.declared.operation.Location.{Location}
 use Rattle.posix_calls.specs.declared.operation.Operation.{Operation}
@@ -20,6 +20,11 @@ names_if (Some i) = names_at i
 -- the effects of an operation, where a new node has the number new; of the tree they depend on a file's number of names alone
 abbrev pub effects_asked : ℕ → Operation → Query (List Effect)
 effects_asked new operation = names_if (recounted operation) >>= (λ names. Gives (effects_by names new operation))
+
+-- whether the file whose names an operation counts is known, if there is one
+abbrev pub knows_names : Part → Option ℕ → Bool
+knows_names p None = true
+knows_names p (Some i) = is_some (p.node i)
 
 -- the rise of a file from one size to another; a fall is no rise
 abbrev pub file_rise : ℕ → ℕ → ℕ

@@ -1,5 +1,9 @@
 -- The inodes that an operation changes, as they are known before its effects are made.
-use Rattle.std.specs.Prelude.{ℕ, ◌==◌, nat_lt, List, [], ◌∷◌, if◌then◌else◌}
+use Rattle.std.specs.Prelude.{◌≡◌, ℕ, ◌==◌, nat_lt, List, [], ◌∷◌, true, None, if◌then◌else◌}
+use Rattle.posix_calls.specs.Query.{Part}
+use Rattle.posix_calls.specs.declared.operation.Missing.{Missing}
+use Rattle.posix_calls.specs.declared.operation.Missing.TheVariants as missing
+use Rattle.file_graph.specs.Graph.{is_among}
 use Rattle.posix_calls.specs.declared.operation.Operation.{Operation}
 use Rattle.posix_calls.specs.declared.operation.Operation.TheVariants.{Tell, NewDir, NewFile, OpenFile, CloseFile, Write, Resize, RemoveDir, AddName, DropName, Move}
 use Rattle.posix_calls.specs.declared.operation.Replaced.{Replaced}
@@ -34,3 +38,10 @@ subjects_of new (RemoveDir at i) = rising (i ∷ at.parent ∷ [])
 subjects_of new (AddName at i) = rising (i ∷ at.parent ∷ [])
 subjects_of new (DropName at i) = rising (i ∷ at.parent ∷ [])
 subjects_of new (Move from to i is_dir replaced) = rising (to.parent ∷ from.parent ∷ replaced_inode replaced)
+
+-- what is missing is a node that an operation changes, and that a part doesn't know
+pub record IsSubjectMissing (p : Part) (new : ℕ) (operation : Operation) (what : Missing) : Type 0 where
+  pub inode : ℕ
+  pub is : what ≡ missing.Node inode
+  pub among : is_among inode (subjects_of new operation) ≡ true
+  pub unknown : p.node inode ≡ None

@@ -1,6 +1,6 @@
 //! What holds of a client that knows a part of the whole.
 
-ghost use Rattle.std.specs.Prelude.{◌≡◌, ◌≢◌, ℕ, Bool, List, [], Option, Some, None, IsSome, Result, Ok, Err, true, false, ◌&&◌, if◌then◌else◌};
+ghost use Rattle.std.specs.Prelude.{◌≡◌, ◌≢◌, ◌≤◌, ◌+◌, ◌/◌, ℕ, Bool, List, [], ◌++◌, Option, Some, None, IsSome, Result, Ok, Err, true, false, ◌&&◌, if◌then◌else◌};
 ghost use Rattle.posix_calls.specs.Path.{reading};
 ghost use Rattle.posix_calls.specs.Tree.{Descriptors, with_own};
 ghost use Rattle.posix_calls.specs.Query.{Known, Unknown, IsPart, IsLeft, run, run_part};
@@ -14,7 +14,7 @@ ghost use Rattle.posix_calls.specs.declared.call.Call.{Call};
 ghost use Rattle.posix_calls.specs.declared.call.Call.TheVariants.{Open, Truncate, Mkdir, Rmdir, Link, Unlink, Rename};
 ghost use Rattle.posix_calls.specs.declared.call.Flags.{Flags};
 ghost use Rattle.posix_calls.specs.declared.call.Reply.TheVariants.{Failed};
-ghost use Rattle.posix_calls.specs.declared.limits.TheConstants.{MAX_DESCRIPTORS};
+ghost use Rattle.posix_calls.specs.declared.limits.TheConstants.{MAX_DESCRIPTORS, MAX_TRANSFER, UNIT_BYTES};
 ghost use Rattle.posix_calls.specs.declared.errno.Errno.TheVariants.{Exists, IsDirectory, Busy, NotPermitted};
 ghost use Rattle.posix_calls.specs.declared.errno.Errno.{Errno};
 ghost use Rattle.file_graph.specs.Graph.{Graph, FileBody, set_node, is_among, after_effects, touches};
@@ -22,12 +22,12 @@ ghost use Rattle.file_graph.specs.Units.{growth};
 ghost use Rattle.file_graph.specs.declared.effect.Effect.{Effect};
 ghost use Rattle.call_effects.specs.Calls.{answer_over};
 ghost use Rattle.call_effects.specs.Effects.{effects_of, kind_if};
-ghost use Rattle.call_effects.specs.NodeView.{NodeView, view_at};
-ghost use Rattle.call_effects.specs.Blocks.{block_of};
+ghost use Rattle.call_effects.specs.NodeView.{NodeView, view_at, view_after};
+ghost use Rattle.call_effects.specs.Blocks.{block_of, block_at, block_after};
 ghost use Rattle.call_effects.specs.Records.{effects_asked, growth_asked, units_asked};
 ghost use Rattle.call_effects.specs.Wholes.{IsSound, state_of, graph_view, kept};
-ghost use Rattle.call_effects.specs.Fits.{Fits, IsUnusedFile};
-ghost use Rattle.call_effects.specs.Known.{Knowledge, Agrees, IsPutBack, HasCopies, IsForgetful, IsLookedAtNext, IsReadNext, IsNodeMissing, AreBlocksMissing, IsPlanned, IsCopiedEntry, knows_after, part_of, stored_view, with_blocks, with_copy};
+ghost use Rattle.call_effects.specs.Fits.{Fits, IsNew, IsUnusedFile};
+ghost use Rattle.call_effects.specs.Known.{Knowledge, Agrees, IsPutBack, HasCopies, IsForgetful, IsLookedAtNext, IsReadNext, IsNodeMissing, AreBlocksMissing, IsPlanned, IsCopiedEntry, knows_after, knows_made, part_of, stored_view, with_blocks, with_copy, with_granted};
 
 /// No call meets a file that is gone, which is one that has no name and that nobody has open: it comes to the same over the
 /// graph as it stands stored, with such files still in it, and also where such files are put back that were dropped.
@@ -70,10 +70,11 @@ pub fn known_call_is_a_step()
 {}
 
 /// After a call that a client decided by what it knows, its copies and blocks with the effects, its descriptors, and the numbers
-/// that it has not used agree with the whole again. So does what another client knows, where that has no copy of an inode that the
-/// effects touch and no block of one, and was not granted the new number.
+/// that it has not used agree with the whole again, also with a copy of the node that the call made. So does what another client
+/// knows, where that has no copy of an inode that the effects touch and no block of one, and was not granted the new number.
 pub fn known_call_keeps_agreement()
     ensures own { (k : Knowledge) (g : Graph) (held : Descriptors) (call : Call) (new : ℕ) (operation : Operation) (es : List Effect) → IsSound g held → Agrees k g held → IsPlanned k call new operation es → Agrees (knows_after k new operation es) (after_effects g es) (with_own held k.client (own_after new k.own operation)) }
+    ensures made { (k : Knowledge) (g : Graph) (held : Descriptors) (call : Call) (new : ℕ) (operation : Operation) (es : List Effect) → IsSound g held → Agrees k g held → IsPlanned k call new operation es → makes operation ≡ true → Agrees (knows_made k new operation es) (after_effects g es) (with_own held k.client (own_after new k.own operation)) }
     ensures others { (k other : Knowledge) (g : Graph) (held : Descriptors) (call : Call) (new : ℕ) (operation : Operation) (es : List Effect) → IsSound g held → Agrees k g held → IsPlanned k call new operation es → Agrees other g held → other.client ≢ k.client → ((i : ℕ) (copy : Option NodeView) → other.copies i ≡ Some copy → is_among i (touches es) ≡ false) → ((i b : ℕ) (bytes : List ℕ) → other.blocks i b ≡ Some bytes → is_among i (touches es) ≡ false) → (makes operation ≡ true → other.granted new ≡ false) → Agrees other (after_effects g es) (with_own held k.client (own_after new k.own operation)) }
 {}
 
@@ -85,8 +86,8 @@ pub fn copied_entries_tell_kinds()
 
 /// What is missing is the first thing that a call asks for and that the client has no answer to, in the order of the call's
 /// errors: a node, and never its kind alone, or bytes of a file. Of a node the client has no copy, and in every sound whole that
-/// agrees there is one. Of a file whose bytes are missing the client has a copy; the blocks are within its size, and one of them at
-/// least it doesn't know. An operation's effects and growth miss nothing but a node, without its bytes.
+/// agrees there is one. Of a file whose bytes are missing the client has a copy; the blocks are within its size, no more than the
+/// longest read touches, and one of them at least it doesn't know. An operation's effects and growth miss nothing but a node, without its bytes.
 pub fn missing_is_asked_next()
     ensures first { (k : Knowledge) (call : Call) (what : Missing) → run_part (part_of k) (decide k.own call) ≡ Unknown what → IsLeft (part_of k) what (decide k.own call) }
     ensures looked { (k : Knowledge) (g : Graph) (held : Descriptors) (call : Call) (i : ℕ) → IsSound g held → Agrees k g held → run_part (part_of k) (decide k.own call) ≡ Unknown (Node i) → IsLookedAtNext (part_of k) i (decide k.own call) }
@@ -95,6 +96,7 @@ pub fn missing_is_asked_next()
     ensures blocks_there { (k : Knowledge) (g : Graph) (held : Descriptors) (call : Call) (i first count : ℕ) → IsSound g held → Agrees k g held → run_part (part_of k) (decide k.own call) ≡ Unknown (Blocks i first count) → IsSome (kept g held i) }
     ensures no_copy { (k : Knowledge) (call : Call) (i : ℕ) → run_part (part_of k) (decide k.own call) ≡ Unknown (Node i) → k.copies i ≡ None }
     ensures blocks { (k : Knowledge) (call : Call) (i first count : ℕ) → run_part (part_of k) (decide k.own call) ≡ Unknown (Blocks i first count) → AreBlocksMissing k i first count }
+    ensures few_blocks { (k : Knowledge) (call : Call) (i first count : ℕ) → run_part (part_of k) (decide k.own call) ≡ Unknown (Blocks i first count) → count ≤ MAX_TRANSFER / UNIT_BYTES + 1 }
     ensures effects_there { (k : Knowledge) (g : Graph) (held : Descriptors) (new : ℕ) (operation : Operation) (i : ℕ) → IsSound g held → Agrees k g held → Fits g held (held k.client) operation → run_part (part_of k) (effects_asked new operation) ≡ Unknown (Node i) → IsSome (kept g held i) }
     ensures effects { (k : Knowledge) (new : ℕ) (operation : Operation) (what : Missing) → run_part (part_of k) (effects_asked new operation) ≡ Unknown what → IsNodeMissing k what }
     ensures growth_there { (k : Knowledge) (g : Graph) (held : Descriptors) (operation : Operation) (i : ℕ) → IsSound g held → Agrees k g held → Fits g held (held k.client) operation → run_part (part_of k) (growth_asked operation) ≡ Unknown (Node i) → IsSome (kept g held i) }
@@ -114,11 +116,23 @@ pub fn served_copy_is_missing_no_longer()
 {}
 
 /// What a client gets of a whole that agrees with what it knows agrees with it too: the node that stands at an inode, where nothing
-/// stands there if it knows no block of what once did, and blocks of a file. So does what is left where it forgets some of it.
+/// stands there if it knows no block of what once did, blocks of a file, and a number that is free for a new node. So does what is
+/// left where it forgets some of it.
 pub fn served_copy_agrees()
     ensures node { (k : Knowledge) (g : Graph) (held : Descriptors) (i : ℕ) → Agrees k g held → (g i ≡ None → (b : ℕ) → k.blocks i b ≡ None) → Agrees (with_copy k i (view_at g i)) g held }
     ensures blocks { (k : Knowledge) (g : Graph) (held : Descriptors) (i first count names : ℕ) (bytes : List ℕ) → Agrees k g held → g i ≡ Some (record { names = names; body = FileBody bytes }) → Agrees (with_blocks k i first count (λ b. block_of b bytes)) g held }
+    ensures granted { (k : Knowledge) (g : Graph) (held : Descriptors) (i : ℕ) → Agrees k g held → IsNew g i → Agrees (with_granted k i) g held }
     ensures less { (k less : Knowledge) (g : Graph) (held : Descriptors) → Agrees k g held → IsForgetful k less → Agrees less g held }
+{}
+
+/// What a client fetched of a whole, and effects of its own that the whole does not have yet, tell what the whole has after them: the
+/// view of each node is that of the fetched view after the effects, and a block is the fetched one after them, or is known from the
+/// effects alone. Lists of effects one behind the other are told one after the other.
+pub fn effects_replay_over_what_was_fetched()
+    ensures view { (g : Graph) (es : List Effect) (i : ℕ) → view_at (after_effects g es) i ≡ view_after es i (view_at g i) }
+    ensures block { (g : Graph) (es : List Effect) (i b : ℕ) (fetched : Option (List ℕ)) (bytes : List ℕ) → ((block : List ℕ) → fetched ≡ Some block → block_at g i b ≡ Some block) → block_after es i b fetched ≡ Some bytes → block_at (after_effects g es) i b ≡ Some bytes }
+    ensures views_join { (first rest : List Effect) (i : ℕ) (view : Option NodeView) → view_after (first ++ rest) i view ≡ view_after rest i (view_after first i view) }
+    ensures blocks_join { (first rest : List Effect) (i b : ℕ) (block : Option (List ℕ)) → block_after (first ++ rest) i b block ≡ block_after rest i b (block_after first i b block) }
 {}
 
 /// A call on the root that every tree refuses is refused by what any client knows, with no copy at all: the root is known to be

@@ -1,20 +1,20 @@
 //! What holds of every sound graph.
 
-ghost use Rattle.std.specs.Prelude.{◌≡◌, ℕ, ◌≤◌, None, Ok, Err, true};
+ghost use Rattle.std.specs.Prelude.{◌≡◌, ℕ, ◌≤◌, None, IsSome, Ok, Err, true};
 ghost use Rattle.posix_calls.specs.Tree.{Descriptors, opening};
 ghost use Rattle.posix_calls.specs.Query.{view_of};
 ghost use Rattle.posix_calls.specs.Operations.{makes, reply_of, held_after, state_after, Step};
-ghost use Rattle.posix_calls.specs.WellFormed.{IsWellFormed};
+ghost use Rattle.posix_calls.specs.WellFormed.{IsWellFormed, IsWithinLimits};
 ghost use Rattle.posix_calls.specs.declared.operation.Operation.{Operation};
 ghost use Rattle.posix_calls.specs.declared.call.Call.{Call};
 ghost use Rattle.posix_calls.specs.declared.call.Reply.TheVariants.{Failed};
 ghost use Rattle.posix_calls.specs.declared.errno.Errno.{Errno};
-ghost use Rattle.posix_calls.specs.declared.limits.TheConstants.{MAX_CLIENTS};
-ghost use Rattle.file_graph.specs.Graph.{Graph, fresh, after_effects};
+ghost use Rattle.posix_calls.specs.declared.limits.TheConstants.{MAX_CLIENTS, MAX_INODE, MAX_NAMES, ROOT};
+ghost use Rattle.file_graph.specs.Graph.{Graph, fresh, after_effects, set_node};
 ghost use Rattle.call_effects.specs.Calls.{answer_over};
-ghost use Rattle.call_effects.specs.Effects.{effects_of};
-ghost use Rattle.call_effects.specs.Wholes.{IsSound, state_of, graph_view};
-ghost use Rattle.call_effects.specs.Fits.{IsNew, Fits};
+ghost use Rattle.call_effects.specs.Effects.{stored, effects_of};
+ghost use Rattle.call_effects.specs.Wholes.{IsSound, state_of, tree_of, graph_view};
+ghost use Rattle.call_effects.specs.Fits.{IsNew, IsUnusedFile, Fits};
 
 /// The graph of a root alone, of which nothing is open, is sound, and stands for the empty tree.
 pub fn fresh_graph_stands_for_the_opening()
@@ -52,4 +52,15 @@ pub fn call_is_a_step()
 /// The state that a sound graph and descriptors stand for is well-formed.
 pub fn sound_graph_is_well_formed()
     ensures { (g : Graph) (held : Descriptors) → IsSound g held → IsWellFormed (state_of g held) }
+{}
+
+/// A sound graph that is within the limits stays so after a call: no file in it is too large, no directory too full, and no node has too
+/// many names, also none of the files that have no name and that nobody has open, which its tree no longer has; so it does once
+/// such a file is dropped. The tree that it stands for is within them too. A sound graph has no node beyond the inode numbers.
+pub fn calls_keep_a_graph_within_its_limits()
+    ensures call { (g : Graph) (held : Descriptors) (client new : ℕ) (call : Call) (operation : Operation) → IsSound g held → IsWithinLimits (tree_of g) → answer_over g held client call ≡ Ok operation → (makes operation ≡ true → IsNew g new) → IsWithinLimits (tree_of (after_effects g (effects_of g new operation))) }
+    ensures dropped { (g : Graph) (held : Descriptors) (i : ℕ) → IsUnusedFile g held i → IsWithinLimits (tree_of g) → IsWithinLimits (tree_of (set_node g i None)) }
+    ensures seen { (g : Graph) (held : Descriptors) → IsWithinLimits (tree_of g) → IsWithinLimits (state_of g held).tree }
+    ensures stored { (g : Graph) (held : Descriptors) (i : ℕ) → IsSound g held → IsWithinLimits (tree_of g) → stored (g i) ≤ MAX_NAMES }
+    ensures nodes { (g : Graph) (held : Descriptors) (i : ℕ) → IsSound g held → IsSome (g i) → (ROOT ≤ i) × (i ≤ MAX_INODE) }
 {}

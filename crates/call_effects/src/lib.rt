@@ -19,19 +19,23 @@ mod touched;
 
 pub use growth::growth_of;
 pub use known_laws::{
-    copied_entries_tell_kinds, dropping_a_gone_file_keeps_all, known_answer_is_of_the_whole,
-    known_call_is_a_step, known_call_keeps_agreement, missing_is_asked_next,
-    no_call_meets_a_file_that_is_gone, part_is_of_the_whole, root_is_refused_without_a_copy,
-    served_copy_agrees, served_copy_is_missing_no_longer,
+    copied_entries_tell_kinds, dropping_a_gone_file_keeps_all,
+    effects_replay_over_what_was_fetched, known_answer_is_of_the_whole, known_call_is_a_step,
+    known_call_keeps_agreement, missing_is_asked_next, no_call_meets_a_file_that_is_gone,
+    part_is_of_the_whole, root_is_refused_without_a_copy, served_copy_agrees,
+    served_copy_is_missing_no_longer,
 };
 pub use laws::{
-    answered_operation_fits, call_is_a_step, fresh_graph_stands_for_the_opening,
-    operation_is_its_effects, sound_graph_is_well_formed, stored_counts_are_the_counted_names,
+    answered_operation_fits, call_is_a_step, calls_keep_a_graph_within_its_limits,
+    fresh_graph_stands_for_the_opening, operation_is_its_effects, sound_graph_is_well_formed,
+    stored_counts_are_the_counted_names,
 };
 pub use record::record_of;
 pub use record_laws::{
     answered_operations_have_spellings, asked_effects_are_the_operations,
     asked_growth_is_the_effects_growth, growth_is_local,
 };
-pub use settling::settled_graph_is_sound;
-pub use touched::{MAX_SUBJECTS, subjects, subjects_are_what_the_effects_touch};
+pub use settling::{graph_without_a_client_is_sound, settled_graph_is_sound};
+pub use touched::{
+    MAX_SUBJECTS, missing_nodes_are_subjects, subjects, subjects_are_what_the_effects_touch,
+};

@@ -1,11 +1,12 @@
-ghost use Rattle.std.specs.Prelude.{◌≡◌, ◌+◌, ◌-◌, ◌^◌, ◌<◌, ◌≤◌, [], ◌∷◌, ◌++◌, length, false, None, Ok, IfOk, IfErr, IfSome, OnOk, is_some, vec_len, if◌then◌else◌};
+ghost use Rattle.std.specs.Prelude.{◌≡◌, ◌+◌, ◌-◌, ◌^◌, ◌<◌, ◌≤◌, [], ◌∷◌, ◌++◌, length, true, false, None, Ok, IfOk, IfErr, IfSome, OnOk, is_some, vec_len, if◌then◌else◌};
 ghost use Rattle.std.specs.Vec.{vec_capacity};
 ghost use Rattle.posix_calls.specs.Answers.{Tells};
 ghost use Rattle.posix_calls.specs.declared.operation.Operation.TheVariants.{AddName};
+ghost use Rattle.posix_calls.specs.declared.operation.DecideError.TheVariants.{Memory};
 ghost use Rattle.file_graph.specs.declared.effect.Effect.TheVariants.{Size, Leave, Enter};
 ghost use Rattle.call_effects.specs.Changed.{changes};
-ghost use Rattle.call_effects.specs.Effects.{recounted, kind_if, making, dropping, removing, replacing, effects_by};
-ghost use Rattle.call_effects.specs.Records.{names_if, effects_asked};
+ghost use Rattle.call_effects.specs.Effects.{recounted, kind_if, making, dropping, removing, clearing, effects_by};
+ghost use Rattle.call_effects.specs.Records.{names_if, knows_names, effects_asked};
 ghost use Rattle.call_effects.specs.Recorded.{effects_told, leaving_first, putting_out, made_first};
 
 use crate::changed::has_effects;
@@ -22,8 +23,8 @@ const MOST_EFFECTS: usize = 4;
 ///
 /// The names and bytes of the operation go into the record, but for one name that two effects of a rename need. Of the tree, the
 /// file that gets another number of names has to be known; `Missing` names it. Memory is taken before anything is moved, so the
-/// operation is handed back with each error; `Memory` may stand in place of any answer, and does where a file's names would pass
-/// 32 bits. An operation that changes nothing meets no error.
+/// operation is handed back with each error; where that file is known `Memory` may stand in place of any answer, and does where its names would
+/// pass 32 bits. An operation that changes nothing meets no error.
 pub fn record_of<T: TreeAnswers>(
     alloc: Global,
     tree: &T,
@@ -33,6 +34,7 @@ pub fn record_of<T: TreeAnswers>(
 ) -> Result<Option<Record>, (DecideError, Operation)>
     ensures tells { Tells (T.part tree.now) (effects_asked new operation) (effects_told result) }
     ensures units { IfOk result (λ made. IfSome made (λ made. made.units ≡ units)) }
+    ensures memory { IfErr result (λ back. back.0 ≡ Memory → knows_names (T.part tree.now) (recounted operation) ≡ true) }
     ensures some { IfOk result (λ made. is_some made ≡ changes operation) }
     ensures none { changes operation ≡ false → result ≡ Ok None }
     ensures back { IfErr result (λ back. back.1 ≡ operation) }
@@ -71,6 +73,8 @@ fn recounted(operation: &Operation) -> Option<u32>
 fn names_if<T: TreeAnswers>(tree: &T, inode: Option<u32>) -> Result<u32, DecideError>
     ensures tells { Tells (T.part tree.now) (names_if inode) result }
     ensures fits { IfOk result (λ names. names + 1 < 2 ^ 32) }
+    ensures known { IfOk result (λ _. knows_names (T.part tree.now) inode ≡ true) }
+    ensures memory { IfErr result (λ why. why ≡ Memory → knows_names (T.part tree.now) inode ≡ true) }
 {
     let Some(inode) = inode else {
         return Ok(0);
@@ -245,7 +249,7 @@ fn moving(
 ) -> Effects
     requires first { effects.items ≡ leaving_first to replaced }
     requires room { MOST_EFFECTS ≤ vec_capacity effects }
-    ensures { result ≡ replacing names to replaced ++ (Leave from.parent from.name ∷ Enter to.parent inode kind to.name ∷ []) }
+    ensures { result ≡ clearing names to replaced ++ (Leave from.parent from.name ∷ Enter to.parent inode kind to.name ∷ []) }
 {
     put_out(&mut effects, names.saturating_sub(1), replaced);
     put(&mut effects, leaving(from));

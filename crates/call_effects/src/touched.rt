@@ -1,11 +1,14 @@
 ghost use Rattle.std.specs.Prelude.{◌≡◌, ◌+◌, ◌<◌, ◌≤◌, ℕ, [], ◌∷◌, length, false, IfSome, IfNone, insert, if◌then◌else◌};
 ghost use Rattle.std.specs.List.Sorted.{IsStrictlyIncreasing};
 ghost use Rattle.arrayvec.specs.ArrayVec.{array_vec_len};
+ghost use Rattle.posix_calls.specs.Query.{Part, Unknown, run_part};
+ghost use Rattle.posix_calls.specs.declared.operation.Missing.{Missing};
 ghost use Rattle.posix_calls.specs.declared.operation.Operation.{Operation};
 ghost use Rattle.file_graph.specs.Graph.{is_among, touches};
 ghost use Rattle.call_effects.specs.Changed.{changes};
 ghost use Rattle.call_effects.specs.Effects.{effects_by};
-ghost use Rattle.call_effects.specs.Subjects.{put_in, rising, replaced_inode, subjects_of};
+ghost use Rattle.call_effects.specs.Records.{effects_asked, growth_asked};
+ghost use Rattle.call_effects.specs.Subjects.{put_in, rising, replaced_inode, subjects_of, IsSubjectMissing};
 
 use arrayvec::ArrayVec;
 use posix_calls::{Operation, Replaced};
@@ -45,6 +48,13 @@ pub fn subjects_are_what_the_effects_touch()
     ensures rising { (new : ℕ) (operation : Operation) → IsStrictlyIncreasing (subjects_of new operation) }
     ensures few { (new : ℕ) (operation : Operation) → length (subjects_of new operation) ≤ MAX_SUBJECTS }
     ensures unchanged { (new : ℕ) (operation : Operation) → changes operation ≡ false → subjects_of new operation ≡ [] }
+{}
+
+/// What someone who knows a part of the tree has to learn of it for an operation's record and for its growth is a node among the
+/// inodes that the operation changes: whoever has a lease and a copy of each of them misses nothing.
+pub fn missing_nodes_are_subjects()
+    ensures effects { (p : Part) (new : ℕ) (operation : Operation) (what : Missing) → run_part p (effects_asked new operation) ≡ Unknown what → IsSubjectMissing p new operation what }
+    ensures growth { (p : Part) (new : ℕ) (operation : Operation) (what : Missing) → run_part p (growth_asked operation) ≡ Unknown what → IsSubjectMissing p new operation what }
 {}
 
 fn one_if(inode: u32, is_one: bool) -> ArrayVec<u32, MAX_SUBJECTS>

@@ -1,10 +1,11 @@
 // What a graph has stored at an inode.
-ghost use Rattle.std.specs.Prelude.{◌≡◌, ◌<◌, ◌^◌, Some, true, map, IfOk, option_map};
+ghost use Rattle.std.specs.Prelude.{◌≡◌, ◌<◌, ◌^◌, Some, true, length, map, IfOk, IfErr, option_map};
 ghost use Rattle.std.specs.FinMap as fin;
 ghost use Rattle.std.specs.Ordering.{nat_cmp};
 ghost use Rattle.std.specs.Cmp.Lexicographic.{slice_cmp};
 ghost use Rattle.posix_calls.specs.Answers.{entry_in, count_in, listed_in, description_of};
 ghost use Rattle.posix_calls.specs.Content.{range};
+ghost use Rattle.posix_calls.specs.Memory.{has_names};
 ghost use Rattle.posix_calls.specs.Walk.{names_seen, size_seen};
 ghost use Rattle.file_graph.specs.Graph.{graph_of};
 ghost use Rattle.file_graph.specs.Plain.{pairs};
@@ -90,9 +91,10 @@ pub fn entry_count(graph: &PlainGraph, dir: u32) -> u32
     }
 }
 
-/// The names in a directory, in the order of their bytes.
+/// The names in a directory, in the order of their bytes. No memory is wanted where there is none.
 pub fn names(alloc: Global, graph: &PlainGraph, dir: u32) -> Result<Names, AllocError>
-    ensures { IfOk result (λ names. names ≡ listed_in (seen_at (graph_of graph.now) dir)) }
+    ensures names { IfOk result (λ names. names ≡ listed_in (seen_at (graph_of graph.now) dir)) }
+    ensures memory { IfErr result (λ _. has_names (Some (seen_at (graph_of graph.now) dir)) ≡ true) }
 {
     match graph.entries(dir) {
         Some(entries) => names_of(alloc, entries),
@@ -101,7 +103,8 @@ pub fn names(alloc: Global, graph: &PlainGraph, dir: u32) -> Result<Names, Alloc
 }
 
 fn names_of(alloc: Global, entries: &[PlainEntry]) -> Result<Names, AllocError>
-    ensures { IfOk result (λ names. names ≡ map (λ e. e.0) (pairs entries.now)) }
+    ensures names { IfOk result (λ names. names ≡ map (λ e. e.0) (pairs entries.now)) }
+    ensures memory { IfErr result (λ _. 0 < length entries.now) }
 {
     let mut names = Vec::new(alloc);
     for entry in entries {

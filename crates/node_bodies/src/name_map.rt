@@ -1,4 +1,4 @@
-ghost use Rattle.std.specs.Prelude.{◌≡◌, ◌==◌, ◌≤◌, ◌<◌, ◌^◌, length, map, option_map, IfOk, OnOk, OnErr};
+ghost use Rattle.std.specs.Prelude.{◌≡◌, ◌==◌, ◌≤◌, ◌<◌, ◌^◌, length, map, option_map, IfOk, IfErr, OnOk, OnErr};
 ghost use Rattle.std.specs.List.Sorted.{IsSearchInRange};
 ghost use Rattle.std.specs.Ordering.{nat_cmp};
 ghost use Rattle.std.specs.FinMap as fin;
@@ -89,9 +89,10 @@ impl<V: Drop> NameMap<V> {
         self.entries
     }
 
-    /// Copies of the names, in the order of their bytes.
+    /// Copies of the names, in the order of their bytes. No memory is wanted where there is none.
     pub fn names(&self, alloc: Global) -> Result<Names, AllocError>
-        ensures { IfOk result (λ names. names ≡ map (λ e. e.0) (fin.entries self.now)) }
+        ensures names { IfOk result (λ names. names ≡ map (λ e. e.0) (fin.entries self.now)) }
+        ensures memory { IfErr result (λ _. 0 < fin.len self.now) }
     {
         names_of_entries(alloc, self.as_slice())
     }
@@ -124,8 +125,12 @@ fn get_entry<'a, V>(entries: &'a [NamedEntry<V>], name: &[u8]) -> Option<&'a V>
 }
 
 fn names_of_entries<V>(alloc: Global, entries: &[NamedEntry<V>]) -> Result<Names, AllocError>
-    ensures { IfOk result (λ names. names ≡ map (λ e. e.0) (pairs entries.now)) }
+    ensures names { IfOk result (λ names. names ≡ map (λ e. e.0) (pairs entries.now)) }
+    ensures memory { IfErr result (λ _. 0 < length entries.now) }
 {
+    if entries.is_empty() {
+        return Ok(Names::from_vec(Vec::new(alloc)));
+    }
     let mut names = Vec::with_capacity(alloc, entries.len())?;
     for entry in entries {
         names.push(entry.name.copy(alloc)?)?;

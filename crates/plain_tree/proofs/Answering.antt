@@ -8,7 +8,7 @@ use Rattle.posix_calls.specs.Tree.{Node, File, Dir, entries_of}
 use Rattle.posix_calls.specs.declared.operation.Missing.{Missing}
 use Rattle.posix_calls.specs.Query.{Query, Gives, Refuses, IsDir, Look, Range, View, Found, Known, Unknown, run, run_part, seen, whole}
 use Rattle.posix_calls.specs.Walk.{entries_seen}
-use Rattle.plain_tree.specs.Plain.{tree_of}
+use Rattle.plain_tree.specs.Plain.{stored_tree}
 use Rattle.std.proofs.lemmas.Bool.{ltb-false}
 use Rattle.std.proofs.lemmas.List.{get_or_past}
 
@@ -37,8 +37,8 @@ known_of v q r e = same (run v q) r (sym (whole_knows v q) ∙ e)
     same : {A : Type 0} (x y : _) → ◌≡◌ {A = Found A} (Known x) (Known y) → x ≡ y
     same x y e = cc
 
-pub nothing_past : (nodes held : List (Option Node)) (i : ℕ) → nodes ≡ held → false ≡ ltb i (length nodes) → tree_of held i ≡ None
-nothing_past nodes held i same past = ap (λ (ns : List (Option Node)). tree_of ns i) (sym same) ∙ get_or_past nodes i None (ltb-false i (length nodes) (sym past))
+pub nothing_past : (nodes held : List (Option Node)) (i : ℕ) → nodes ≡ held → false ≡ ltb i (length nodes) → stored_tree held i ≡ None
+nothing_past nodes held i same past = ap (λ (ns : List (Option Node)). stored_tree ns i) (sym same) ∙ get_or_past nodes i None (ltb-false i (length nodes) (sym past))
 
 -- ---- a directory with no entries
 

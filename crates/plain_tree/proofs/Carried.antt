@@ -3,7 +3,7 @@ use Rattle.std.proofs.Common.{◌≡◌, ℕ, List, Option, None, Some, true, fa
 use Rattle.posix_calls.specs.Tree.{Node, Tree, Descriptors, with_own, State}
 use Rattle.posix_calls.specs.Operations.{tree_after, own_after, held_after, state_after, opens, only_tells, reply_of, IsInRange}
 use Rattle.posix_calls.proofs.Steps.{with_same}
-use Rattle.plain_tree.specs.Plain.{tree_of, held_of, state_in, with_opened, HasNumber, IsDone}
+use Rattle.plain_tree.specs.Plain.{stored_tree, held_of, state_in, with_opened, HasNumber, IsDone}
 use Rattle.posix_calls.specs.declared.operation.Operation.{Operation}
 use Rattle.posix_calls.specs.declared.operation.Operation.TheVariants.{Tell, NewDir, NewFile, OpenFile, CloseFile, Write, Resize, RemoveDir, AddName, DropName, Move}
 use Rattle.posix_calls.specs.declared.descriptor.Descriptor.{Descriptor}
@@ -14,26 +14,26 @@ same_state t u h k p q = λ i. record { tree = p i; descriptors = q i }
 
 -- an operation by what it makes of the tree and the descriptors
 pub carried : (nodes nodes' : List (Option Node)) (rows rows' : List (List (Option Descriptor))) (client new : ℕ) (operation : Operation) → held_of rows' ≡ held_after client new (held_of rows) operation
-    → tree_of nodes' ≡ tree_after (held_of rows') new (tree_of nodes) operation → state_in nodes' rows' ≡ state_after client new (state_in nodes rows) operation
+    → stored_tree nodes' ≡ tree_after (held_of rows') new (stored_tree nodes) operation → state_in nodes' rows' ≡ state_after client new (state_in nodes rows) operation
 carried nodes nodes' rows rows' client new operation held tree =
-    same_state _ _ _ _ (tree ∙ ap (λ (h : Descriptors). tree_after h new (tree_of nodes) operation) held) held
+    same_state _ _ _ _ (tree ∙ ap (λ (h : Descriptors). tree_after h new (stored_tree nodes) operation) held) held
 
 -- an operation that leaves the descriptors
 pub quiet : (nodes nodes' : List (Option Node)) (rows : List (List (Option Descriptor))) (client new : ℕ) (operation : Operation) → own_after new (held_of rows client) operation ≡ held_of rows client
-    → tree_of nodes' ≡ tree_after (held_of rows) new (tree_of nodes) operation → state_in nodes' rows ≡ state_after client new (state_in nodes rows) operation
+    → stored_tree nodes' ≡ tree_after (held_of rows) new (stored_tree nodes) operation → state_in nodes' rows ≡ state_after client new (state_in nodes rows) operation
 quiet nodes nodes' rows client new operation own tree =
     carried nodes nodes' rows rows client new operation (sym (ap (with_own (held_of rows) client) own ∙ with_same (held_of rows) client)) tree
 
-pub unchanged : (nodes nodes' : List (Option Node)) (rows : List (List (Option Descriptor))) → tree_of nodes' ≡ tree_of nodes → state_in nodes' rows ≡ state_in nodes rows
+pub unchanged : (nodes nodes' : List (Option Node)) (rows : List (List (Option Descriptor))) → stored_tree nodes' ≡ stored_tree nodes → state_in nodes' rows ≡ state_in nodes rows
 unchanged nodes nodes' rows tree = same_state _ _ _ _ tree refl
 
 -- the same, of what an operation is known to be
 pub quiet_as : (nodes nodes' : List (Option Node)) (rows : List (List (Option Descriptor))) (client new : ℕ) (operation known : Operation) → operation ≡ known → own_after new (held_of rows client) known ≡ held_of rows client
-    → tree_of nodes' ≡ tree_after (held_of rows) new (tree_of nodes) known → state_in nodes' rows ≡ state_after client new (state_in nodes rows) operation
+    → stored_tree nodes' ≡ tree_after (held_of rows) new (stored_tree nodes) known → state_in nodes' rows ≡ state_after client new (state_in nodes rows) operation
 quiet_as nodes nodes' rows client new operation known is own tree = quiet nodes nodes' rows client new known own tree ∙ ap (state_after client new (state_in nodes rows)) (sym is)
 
 pub carried_as : (nodes nodes' : List (Option Node)) (rows rows' : List (List (Option Descriptor))) (client new : ℕ) (operation known : Operation) → operation ≡ known → held_of rows' ≡ held_after client new (held_of rows) known
-    → tree_of nodes' ≡ tree_after (held_of rows') new (tree_of nodes) known → state_in nodes' rows' ≡ state_after client new (state_in nodes rows) operation
+    → stored_tree nodes' ≡ tree_after (held_of rows') new (stored_tree nodes) known → state_in nodes' rows' ≡ state_after client new (state_in nodes rows) operation
 carried_as nodes nodes' rows rows' client new operation known is held tree = carried nodes nodes' rows rows' client new known held tree ∙ ap (state_after client new (state_in nodes rows)) (sym is)
 
 -- an operation that only tells is done at once
@@ -53,6 +53,9 @@ told nodes rows client (Move from to i is_dir replaced) r tells is = absurd (cc)
 -- what the reply of an operation says of it
 pub tells_none : (operation : Operation) → (if only_tells operation then None else Some (reply_of operation)) ≡ None → only_tells operation ≡ true
 tells_none operation e = elim (only_tells operation) as (λ b. ◌≡◌ {A = Option Reply} (if b then None else Some (reply_of operation)) None → b ≡ true) [ true ↦ λ h. refl | false ↦ λ h. absurd (cc) ] e
+
+pub tells_not : (operation : Operation) (r : Reply) → (if only_tells operation then None else Some (reply_of operation)) ≡ Some r → only_tells operation ≡ false
+tells_not operation r e = elim (only_tells operation) as (λ b. ◌≡◌ {A = Option Reply} (if b then None else Some (reply_of operation)) (Some r) → b ≡ false) [ true ↦ λ h. absurd (cc) | false ↦ λ h. refl ] e
 
 pub tells_some : (operation : Operation) (r : Reply) → (if only_tells operation then None else Some (reply_of operation)) ≡ Some r → r ≡ reply_of operation
 tells_some operation r e = elim (only_tells operation) as (λ b. ◌≡◌ {A = Option Reply} (if b then None else Some (reply_of operation)) (Some r) → r ≡ reply_of operation) [ true ↦ λ h. absurd (cc) | false ↦ λ h. let same : reply_of operation ≡ r = cc in sym same ] e
@@ -101,8 +104,8 @@ opened_low new (Move from to i is_dir replaced) range = tt
 
 -- an operation that closes nothing, by what it makes of the tree, and what it opens
 pub carried_open : (nodes nodes' : List (Option Node)) (rows rows' : List (List (Option Descriptor))) (client new : ℕ) (operation : Operation) (opened : Option (ℕ × Descriptor)) → ((i number : ℕ) → operation ≡ CloseFile i number → ⊥) → opened ≡ opens new operation
-    → tree_of nodes' ≡ tree_after (held_of rows) new (tree_of nodes) operation → held_of rows' ≡ with_opened (held_of rows) client opened → state_in nodes' rows' ≡ state_after client new (state_in nodes rows) operation
+    → stored_tree nodes' ≡ tree_after (held_of rows) new (stored_tree nodes) operation → held_of rows' ≡ with_opened (held_of rows) client opened → state_in nodes' rows' ≡ state_after client new (state_in nodes rows) operation
 carried_open nodes nodes' rows rows' client new operation opened closes is tree held =
     let now : held_of rows' ≡ with_opened (held_of rows) client (opens new operation) = held ∙ ap (with_opened (held_of rows) client) is in
     carried nodes nodes' rows rows' client new operation (now ∙ opened_held (held_of rows) client new operation closes)
-    (tree ∙ opened_tree (held_of rows) client new (tree_of nodes) operation ∙ ap (λ (h : Descriptors). tree_after h new (tree_of nodes) operation) (sym now))
+    (tree ∙ opened_tree (held_of rows) client new (stored_tree nodes) operation ∙ ap (λ (h : Descriptors). tree_after h new (stored_tree nodes) operation) (sym now))

@@ -5,7 +5,7 @@ use Rattle.posix_calls.specs.Tree.{Own, State, IsBare}
 use Rattle.posix_calls.specs.Query.{run, view_of, dir_test}
 use Rattle.posix_calls.specs.Decide.{decide}
 use Rattle.posix_calls.specs.Operations.{IsInRange}
-use Rattle.plain_tree.specs.Plain.{IsSound, IsHeld, Replaces, IsPlaced, IsDoable}
+use Rattle.plain_tree.specs.Plain.{IsConsistent, IsHeld, Replaces, IsPlaced, IsDoable}
 use Rattle.posix_calls.specs.WellFormed.{IsDirectory}
 use Rattle.posix_calls.specs.declared.operation.Location.{Location}
 use Rattle.posix_calls.specs.declared.operation.Operation.{Operation}
@@ -18,7 +18,7 @@ use Rattle.posix_calls.proofs.Trees.{tree_of, range_of}
 use Rattle.posix_calls.proofs.Fits.{Fits, FitsReplaced}
 use Rattle.posix_calls.proofs.Calls.{decide_fits}
 
-module _ (s : State) (sound : IsSound s) where
+module _ (s : State) (sound : IsConsistent s) where
   -- a name's directory is there, and has an inode number
   held : (at : Location) → IsDirectory (s.tree at.parent) → IsHeld s.tree at
   held at dir = (range_of s.tree at.parent true (tree_of s sound.0) dir, λ none. let clash : None ≡ Some true = sym (ap (option_map dir_test) none) ∙ dir in absurd cc)

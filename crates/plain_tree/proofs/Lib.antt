@@ -5,5 +5,6 @@ pub mod Tables
 pub mod Carried
 pub mod Doable
 pub mod Answering
+pub mod Taking
 pub mod Asking
 pub mod Tallies

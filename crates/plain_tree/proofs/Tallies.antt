@@ -7,7 +7,7 @@ use Rattle.std.proofs.lemmas.List.{get_or_past}
 use Rattle.std.specs.FinMap as fin
 use Rattle.posix_calls.specs.Tree.{Node, Tree, Dir, set_node, entries_of, names_in, names_of, IsBare}
 use Rattle.posix_calls.specs.Operations.{entered, left}
-use Rattle.plain_tree.specs.Plain.{tree_of, count_at, one_for, at_location, IsBareReplaced, IsInode, IsCounted, Replaces}
+use Rattle.plain_tree.specs.Plain.{stored_tree, count_at, one_for, at_location, IsBareReplaced, IsInode, AreNameCounts, Replaces}
 use Rattle.posix_calls.specs.declared.operation.Replaced.{Replaced}
 use Rattle.posix_calls.specs.declared.operation.Replaced.TheVariants.{Nothing, OldFile, OldDir}
 use Rattle.posix_calls.specs.Content.{Entries}
@@ -74,60 +74,60 @@ bare_put_out t to i (OldDir j) h = bare_entered t to i j (off_parent t to j j h.
 abbrev Nodes : Type 0
 Nodes = List (Option Node)
 
-pub counted_none : IsCounted [] []
+pub counted_none : AreNameCounts [] []
 unfolding names_of
-counted_none i = sym (all_zero MAX_INODE (λ d. names_in i (tree_of [] d)) (λ d. nothing d))
+counted_none i = sym (all_zero MAX_INODE (λ d. names_in i (stored_tree [] d)) (λ d. nothing d))
   where
-    nothing : (d : ℕ) → names_in i (tree_of [] d) ≡ 0
+    nothing : (d : ℕ) → names_in i (stored_tree [] d) ≡ 0
     nothing d = ap (names_in i) (get_or_past [] d None (omega arith))
 
-pub counted_same : (counts counts' : List ℕ) (old new : Nodes) → IsCounted counts old → count_at counts' ≡ count_at counts → tree_of new ≡ tree_of old → IsCounted counts' new
+pub counted_same : (counts counts' : List ℕ) (old new : Nodes) → AreNameCounts counts old → count_at counts' ≡ count_at counts → stored_tree new ≡ stored_tree old → AreNameCounts counts' new
 counted_same counts counts' old new was same tree i = ap (λ (f : ℕ → ℕ). f i) same ∙ was i ∙ sym (ap (λ (t : Tree). names_of t i) tree)
 
-pub counted_set : (counts : List ℕ) (old new : Nodes) (i : ℕ) (x : Option Node) → IsCounted counts old → tree_of new ≡ set_node (tree_of old) i x → IsBare (tree_of old i) → IsBare x → IsCounted counts new
+pub counted_set : (counts : List ℕ) (old new : Nodes) (i : ℕ) (x : Option Node) → AreNameCounts counts old → stored_tree new ≡ set_node (stored_tree old) i x → IsBare (stored_tree old i) → IsBare x → AreNameCounts counts new
 counted_set counts old new i x was tree before after k =
-    was k ∙ sym (ap (λ (t : Tree). names_of t k) tree ∙ bare_names (tree_of old) i x before after k)
+    was k ∙ sym (ap (λ (t : Tree). names_of t k) tree ∙ bare_names (stored_tree old) i x before after k)
 
-pub counted_if : {R : Type 0} (r : Result R AllocError) (counts : List ℕ) (old new : Nodes) (i : ℕ) (x : Option Node) → IsCounted counts old → IsBare (tree_of old i) → IsBare x
-    → OnOk r (tree_of new ≡ set_node (tree_of old) i x) → OnErr r (tree_of new ≡ tree_of old) → IsCounted counts new
+pub counted_if : {R : Type 0} (r : Result R AllocError) (counts : List ℕ) (old new : Nodes) (i : ℕ) (x : Option Node) → AreNameCounts counts old → IsBare (stored_tree old i) → IsBare x
+    → OnOk r (stored_tree new ≡ set_node (stored_tree old) i x) → OnErr r (stored_tree new ≡ stored_tree old) → AreNameCounts counts new
 counted_if (Ok a) counts old new i x was before after ok err = counted_set counts old new i x was ok before after
 counted_if (Err e) counts old new i x was before after ok err = counted_same counts counts old new was refl err
 
 -- what was stored, and the inode under a name
-module _ (counts made : List ℕ) (old : Nodes) (at : Location) (o : Option ℕ) (was : IsCounted counts old) (same : count_at made ≡ count_at counts) (place : IsInode at.parent) (is : o ≡ at_location (tree_of old) at) where
+module _ (counts made : List ℕ) (old : Nodes) (at : Location) (o : Option ℕ) (was : AreNameCounts counts old) (same : count_at made ≡ count_at counts) (place : IsInode at.parent) (is : o ≡ at_location (stored_tree old) at) where
   -- it has a name that can go
   pub can_go : (k : ℕ) → one_for o k ≤ count_at made k
   can_go k =
-      let most = named_most (tree_of old) at place k in
-      let one : one_for o k ≡ one_for (at_location (tree_of old) at) k = ap (λ (p : Option ℕ). one_for p k) is in
+      let most = named_most (stored_tree old) at place k in
+      let one : one_for o k ≡ one_for (at_location (stored_tree old) at) k = ap (λ (p : Option ℕ). one_for p k) is in
       let now : count_at made k ≡ count_at counts k = ap (λ (f : ℕ → ℕ). f k) same in
       let before = was k in
       omega (arith, most, one, now, before)
 
   module _ (between : List ℕ) (fewer : (k : ℕ) → count_at between k + one_for o k ≡ count_at made k) where
-    pub few_then : (i most : ℕ) → names_of (tree_of old) i ≤ most → count_at between i ≤ most
+    pub few_then : (i most : ℕ) → names_of (stored_tree old) i ≤ most → count_at between i ≤ most
     few_then i most few =
         let now : count_at made i ≡ count_at counts i = ap (λ (f : ℕ → ℕ). f i) same in
         let less = fewer i in
         let before = was i in
         omega (arith, few, now, less, before)
 
-    pub counted_left : (new : Nodes) → tree_of new ≡ left (tree_of old) at → IsCounted between new
+    pub counted_left : (new : Nodes) → stored_tree new ≡ left (stored_tree old) at → AreNameCounts between new
     counted_left new tree k =
-        let all : names_of (tree_of new) k ≡ names_of (left (tree_of old) at) k = ap (λ (t : Tree). names_of t k) tree in
-        let less = names_left (tree_of old) at place k in
-        let one : one_for o k ≡ one_for (at_location (tree_of old) at) k = ap (λ (p : Option ℕ). one_for p k) is in
+        let all : names_of (stored_tree new) k ≡ names_of (left (stored_tree old) at) k = ap (λ (t : Tree). names_of t k) tree in
+        let less = names_left (stored_tree old) at place k in
+        let one : one_for o k ≡ one_for (at_location (stored_tree old) at) k = ap (λ (p : Option ℕ). one_for p k) is in
         let now : count_at made k ≡ count_at counts k = ap (λ (f : ℕ → ℕ). f k) same in
         let before = was k in
         let stored = fewer k in
         omega (arith, all, less, one, now, before, stored)
 
-    pub counted_entered : (after : List ℕ) (new : Nodes) (i : ℕ) → ((k : ℕ) → count_at after k ≡ count_at between k + one_for (Some i) k) → tree_of new ≡ entered (tree_of old) at i → IsCounted after new
+    pub counted_entered : (after : List ℕ) (new : Nodes) (i : ℕ) → ((k : ℕ) → count_at after k ≡ count_at between k + one_for (Some i) k) → stored_tree new ≡ entered (stored_tree old) at i → AreNameCounts after new
     counted_entered after new i more tree k =
-        let all : names_of (tree_of new) k ≡ names_of (entered (tree_of old) at i) k = ap (λ (t : Tree). names_of t k) tree in
-        let come = names_entered (tree_of old) at i place k in
-        let less = names_left (tree_of old) at place k in
-        let one : one_for o k ≡ one_for (at_location (tree_of old) at) k = ap (λ (p : Option ℕ). one_for p k) is in
+        let all : names_of (stored_tree new) k ≡ names_of (entered (stored_tree old) at i) k = ap (λ (t : Tree). names_of t k) tree in
+        let come = names_entered (stored_tree old) at i place k in
+        let less = names_left (stored_tree old) at place k in
+        let one : one_for o k ≡ one_for (at_location (stored_tree old) at) k = ap (λ (p : Option ℕ). one_for p k) is in
         let now : count_at made k ≡ count_at counts k = ap (λ (f : ℕ → ℕ). f k) same in
         let before = was k in
         let stored = fewer k in

@@ -1,5 +1,5 @@
 -- The state that a plain tree stores.
-use Rattle.std.specs.Prelude.{◌≡◌, ◌≢◌, ◌⊎◌, true, ℕ, zero, suc, ◌<◌, ◌≤◌, ◌==◌, List, [], get_or, Option, Some, None, if◌then◌else◌}
+use Rattle.std.specs.Prelude.{◌≡◌, ◌≢◌, ◌⊎◌, Bool, true, false, ℕ, zero, suc, ◌<◌, ◌≤◌, ◌==◌, List, [], get_or, Option, Some, None, if◌then◌else◌}
 use Rattle.std.specs.FinMap as fin
 use Rattle.posix_calls.specs.Tree.{Node, Tree, set_node, entries_of, IsBare, names_of, Descriptors, State, set_descriptor}
 use Rattle.posix_calls.specs.Own.{own_of}
@@ -18,8 +18,8 @@ use Rattle.posix_calls.specs.declared.limits.TheConstants.{ROOT, MAX_INODE, MAX_
 use Rattle.posix_calls.specs.declared.descriptor.Descriptor.{Descriptor}
 
 -- the tree with these nodes, from inode 0 on
-abbrev pub tree_of : List (Option Node) → Tree
-tree_of nodes i = get_or nodes i None
+abbrev pub stored_tree : List (Option Node) → Tree
+stored_tree nodes i = get_or nodes i None
 
 -- what is open in these rows, of which the first is client 1's
 abbrev pub held_of : List (List (Option Descriptor)) → Descriptors
@@ -32,8 +32,8 @@ pub record Stored : Type 0 where
   pub rows : List (List (Option Descriptor))
 
 -- the state that is stored
-abbrev pub state_of : Stored → State
-state_of s = record { tree = tree_of s.nodes; descriptors = held_of s.rows }
+abbrev pub stored_state : Stored → State
+stored_state s = record { tree = stored_tree s.nodes; descriptors = held_of s.rows }
 
 -- how many names are stored for each inode, from inode 0 on
 abbrev pub count_at : List ℕ → ℕ → ℕ
@@ -45,12 +45,12 @@ one_for None j = 0
 one_for (Some i) j = if i == j then 1 else 0
 
 -- for each inode is stored how many names it has in the whole tree
-abbrev pub IsCounted : List ℕ → List (Option Node) → Type 0
-IsCounted counts nodes = (i : ℕ) → count_at counts i ≡ names_of (tree_of nodes) i
+abbrev pub AreNameCounts : List ℕ → List (Option Node) → Type 0
+AreNameCounts counts nodes = (i : ℕ) → count_at counts i ≡ names_of (stored_tree nodes) i
 
 -- the state is well-formed, and within its limits
-abbrev pub IsSound : State → Type 0
-IsSound s = IsWellFormed s × IsWithinLimits s.tree
+abbrev pub IsConsistent : State → Type 0
+IsConsistent s = IsWellFormed s × IsWithinLimits s.tree
 
 -- a number that a node can have
 abbrev pub IsInode : ℕ → Type 0
@@ -88,7 +88,7 @@ IsMovable t from to i replaced = (at_location t from ≡ Some i) × Replaces t t
 
 -- these nodes and rows as a state
 abbrev pub state_in : List (Option Node) → List (List (Option Descriptor)) → State
-state_in nodes rows = state_of (record { nodes = nodes; rows = rows })
+state_in nodes rows = stored_state (record { nodes = nodes; rows = rows })
 
 -- ---- operations
 
@@ -137,6 +137,12 @@ IsDoable t operation = IsInRange operation × HasFewNames t × IsPlaced t operat
 abbrev pub IsDone : State → ℕ → Operation → Reply → State → Type 0
 IsDone old client operation r after = (new : ℕ) × (makes operation ≡ true → IsLowest old.tree new) × (r ≡ reply_of operation) × (after ≡ state_after client new old operation)
 
--- memory ran out, or the inode numbers for a new node; nothing changed
+-- whether an operation takes memory when it is carried out
+abbrev pub takes_room : Operation → Bool
+takes_room (Tell answer) = false
+takes_room (CloseFile i number) = false
+takes_room _ = true
+
+-- memory ran out for an operation that takes some, or the inode numbers for a new node; nothing changed
 abbrev pub IsDropped : State → Operation → Reply → State → Type 0
-IsDropped old operation r after = ((r ≡ Failed errno.NoMemory) ⊎ ((r ≡ Failed errno.NoSpace) × (makes operation ≡ true) × IsTaken old.tree)) × (after ≡ old)
+IsDropped old operation r after = (((r ≡ Failed errno.NoMemory) × (takes_room operation ≡ true)) ⊎ ((r ≡ Failed errno.NoSpace) × (makes operation ≡ true) × IsTaken old.tree)) × (after ≡ old)

@@ -1,4 +1,4 @@
-ghost use Rattle.std.specs.Prelude.{◌≡◌, ℕ, Option, None, Some, length, take, drop, map, option_map, [], IfOk, OnOk, OnErr};
+ghost use Rattle.std.specs.Prelude.{◌≡◌, ℕ, Option, None, Some, length, take, drop, map, option_map, [], ◌<◌, IfOk, IfErr, OnOk, OnErr};
 ghost use Rattle.std.specs.FinMap as fin;
 ghost use Rattle.posix_calls.specs.Content.{resized, written};
 ghost use Rattle.posix_calls.specs.Tree.{File, Dir, bytes_of, entries_of};
@@ -100,10 +100,11 @@ impl PlainNode {
         }
     }
 
-    /// The names in a directory, in the order of their bytes.
+    /// The names in a directory, in the order of their bytes. No memory is wanted where there is none.
     #[tactic(auto, using(crate::proofs::Answering::where_nothing_is))]
     pub fn names(&self, alloc: Global) -> Result<Names, AllocError>
-        ensures { IfOk result (λ names. names ≡ map (λ e. e.0) (fin.entries (entries_of self.now))) }
+        ensures names { IfOk result (λ names. names ≡ map (λ e. e.0) (fin.entries (entries_of self.now))) }
+        ensures memory { IfErr result (λ _. 0 < fin.len (entries_of self.now)) }
     {
         match &self.body {
             PlainBody::Nothing | PlainBody::File(_) => Ok(Names::from_vec(Vec::new(alloc))),

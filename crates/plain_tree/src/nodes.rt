@@ -4,7 +4,7 @@ ghost use Rattle.posix_calls.specs.Tree.{File, bytes_of, set_node, has_open, nam
 ghost use Rattle.posix_calls.specs.Operations.{entered, left, less_unused};
 ghost use Rattle.posix_calls.specs.Own.{own_of};
 ghost use Rattle.posix_calls.specs.Exact.{IsLowest, IsTaken};
-ghost use Rattle.plain_tree.specs.Plain.{tree_of, held_of, at_location, IsInode};
+ghost use Rattle.plain_tree.specs.Plain.{stored_tree, held_of, at_location, IsInode};
 ghost use Rattle.posix_calls.specs.declared.limits.TheConstants.{MAX_NAMES};
 
 use crate::name_counts::{make_counts, name_came, name_count, name_went};
@@ -26,7 +26,7 @@ impl Model for PlainNodes {
     ghost use Rattle.std.specs.Coded.{coded_list, coded_option};
     ghost use Rattle.posix_calls.specs.Tree.{Node};
     ghost use Rattle.plain_tree.specs.Codes.{node_code};
-    ghost use Rattle.plain_tree.specs.Plain.{IsCounted};
+    ghost use Rattle.plain_tree.specs.Plain.{AreNameCounts};
 
     ghost Value = { List (Option Node) };
 
@@ -34,7 +34,7 @@ impl Model for PlainNodes {
 
     ghost view = { λ p. p.nodes.items };
 
-    ghost invariant = { λ p. IsCounted p.counts.items p.nodes.items };
+    ghost invariant = { λ p. AreNameCounts p.counts.items p.nodes.items };
 }
 
 impl PlainNodes {
@@ -57,14 +57,14 @@ impl PlainNodes {
 
     /// How many names an inode has.
     pub fn name_count(&self, inode: u32) -> u32
-        ensures { result ≡ names_of (tree_of self.now) inode }
+        ensures { result ≡ names_of (stored_tree self.now) inode }
     {
         name_count(&self.counts, inode)
     }
 
     /// Places for all inodes up to this one, with nothing in those that are new.
     pub fn make_room(&mut self, inode: u32) -> Result<(), AllocError>
-        ensures tree { tree_of self.new ≡ tree_of self.old }
+        ensures tree { stored_tree self.new ≡ stored_tree self.old }
         ensures room { OnOk result (inode < length self.new) }
         ensures longer { length self.old ≤ length self.new }
     {
@@ -74,9 +74,9 @@ impl PlainNodes {
     /// Puts a node with no entries at an inode, in place of one with none.
     pub fn put(&mut self, inode: u32, node: PlainNode)
         requires room { inode < length self.old }
-        requires before { IsBare (tree_of self.old inode) }
+        requires before { IsBare (stored_tree self.old inode) }
         requires after { IsBare node }
-        ensures tree { tree_of self.new ≡ set_node (tree_of self.old) inode node }
+        ensures tree { stored_tree self.new ≡ set_node (stored_tree self.old) inode node }
         ensures kept { length self.new ≡ length self.old }
     {
         put_node(&mut self.nodes, inode, node);
@@ -84,8 +84,8 @@ impl PlainNodes {
 
     /// Takes away what stands at an inode, where that has no entries.
     pub fn clear(&mut self, inode: u32)
-        requires { IsBare (tree_of self.old inode) }
-        ensures tree { tree_of self.new ≡ set_node (tree_of self.old) inode None }
+        requires { IsBare (stored_tree self.old inode) }
+        ensures tree { stored_tree self.new ≡ set_node (stored_tree self.old) inode None }
         ensures kept { length self.new ≡ length self.old }
     {
         clear(&mut self.nodes, inode);
@@ -94,9 +94,9 @@ impl PlainNodes {
     /// Puts an inode under a name, in place of what is there. Where there is no memory for it, the tree stays as it was.
     pub fn enter(&mut self, alloc: Global, at: Location, inode: u32) -> Result<(), AllocError>
         requires place { IsInode at.parent }
-        requires few { names_of (tree_of self.old) inode ≤ MAX_NAMES }
-        ensures ok { OnOk result (tree_of self.new ≡ entered (tree_of self.old) at inode) }
-        ensures err { OnErr result (tree_of self.new ≡ tree_of self.old) }
+        requires few { names_of (stored_tree self.old) inode ≤ MAX_NAMES }
+        ensures ok { OnOk result (stored_tree self.new ≡ entered (stored_tree self.old) at inode) }
+        ensures err { OnErr result (stored_tree self.new ≡ stored_tree self.old) }
         ensures longer { length self.old ≤ length self.new }
     {
         let before = entry_in(&self.nodes, &at);
@@ -111,7 +111,7 @@ impl PlainNodes {
     pub fn leave(&mut self, alloc: Global, at: &Location)
         requires room { at.now.parent < length self.old }
         requires place { IsInode at.now.parent }
-        ensures tree { tree_of self.new ≡ left (tree_of self.old) at.now }
+        ensures tree { stored_tree self.new ≡ left (stored_tree self.old) at.now }
         ensures kept { length self.new ≡ length self.old }
     {
         let before = entry_in(&self.nodes, at);
@@ -127,26 +127,26 @@ impl PlainNodes {
         at: u64,
         bytes: &[u8],
     ) -> Result<(), AllocError>
-        requires { IsBare (tree_of self.old inode) }
-        ensures ok { OnOk result (tree_of self.new ≡ set_node (tree_of self.old) inode (Some (File (written at bytes.now (bytes_of (tree_of self.old inode)))))) }
-        ensures err { OnErr result (tree_of self.new ≡ tree_of self.old) }
+        requires { IsBare (stored_tree self.old inode) }
+        ensures ok { OnOk result (stored_tree self.new ≡ set_node (stored_tree self.old) inode (Some (File (written at bytes.now (bytes_of (stored_tree self.old inode)))))) }
+        ensures err { OnErr result (stored_tree self.new ≡ stored_tree self.old) }
     {
         write(alloc, &mut self.nodes, inode, at, bytes)
     }
 
     /// Cuts or grows a file. Where there is no memory for it, the tree stays as it was.
     pub fn resize(&mut self, alloc: Global, inode: u32, len: u64) -> Result<(), AllocError>
-        requires { IsBare (tree_of self.old inode) }
-        ensures ok { OnOk result (tree_of self.new ≡ set_node (tree_of self.old) inode (Some (File (resized len (bytes_of (tree_of self.old inode)))))) }
-        ensures err { OnErr result (tree_of self.new ≡ tree_of self.old) }
+        requires { IsBare (stored_tree self.old inode) }
+        ensures ok { OnOk result (stored_tree self.new ≡ set_node (stored_tree self.old) inode (Some (File (resized len (bytes_of (stored_tree self.old inode)))))) }
+        ensures err { OnErr result (stored_tree self.new ≡ stored_tree self.old) }
     {
         resize(alloc, &mut self.nodes, inode, len)
     }
 
     /// Takes a file away that has no name, and that nobody has open.
     pub fn drop_unused(&mut self, rows: &[OwnDescriptors], inode: u32)
-        requires { IsBare (tree_of self.old inode) }
-        ensures tree { tree_of self.new ≡ less_unused (held_of rows.now) (tree_of self.old) inode }
+        requires { IsBare (stored_tree self.old inode) }
+        ensures tree { stored_tree self.new ≡ less_unused (held_of rows.now) (stored_tree self.old) inode }
         ensures kept { length self.new ≡ length self.old }
     {
         if self.name_count(inode) == 0 && !is_open(rows, inode) {
@@ -156,7 +156,7 @@ impl PlainNodes {
 }
 
 fn make_room(nodes: &mut Vec<PlainNode>, inode: u32) -> Result<(), AllocError>
-    ensures tree { tree_of nodes.new.items ≡ tree_of nodes.old.items }
+    ensures tree { stored_tree nodes.new.items ≡ stored_tree nodes.old.items }
     ensures room { OnOk result (inode < length nodes.new.items) }
     ensures longer { length nodes.old.items ≤ length nodes.new.items }
 {
@@ -168,14 +168,14 @@ fn make_room(nodes: &mut Vec<PlainNode>, inode: u32) -> Result<(), AllocError>
 
 fn put_node(nodes: &mut Vec<PlainNode>, inode: u32, node: PlainNode)
     requires { inode < length nodes.old.items }
-    ensures tree { tree_of nodes.new.items ≡ set_node (tree_of nodes.old.items) inode node }
+    ensures tree { stored_tree nodes.new.items ≡ set_node (stored_tree nodes.old.items) inode node }
     ensures kept { length nodes.new.items ≡ length nodes.old.items }
 {
     nodes[inode as usize] = node;
 }
 
 fn clear(nodes: &mut Vec<PlainNode>, inode: u32)
-    ensures tree { tree_of nodes.new.items ≡ set_node (tree_of nodes.old.items) inode None }
+    ensures tree { stored_tree nodes.new.items ≡ set_node (stored_tree nodes.old.items) inode None }
     ensures kept { length nodes.new.items ≡ length nodes.old.items }
 {
     if (inode as usize) < nodes.len() {
@@ -189,8 +189,8 @@ fn enter(
     at: Location,
     inode: u32,
 ) -> Result<(), AllocError>
-    ensures ok { OnOk result (tree_of nodes.new.items ≡ entered (tree_of nodes.old.items) at inode) }
-    ensures err { OnErr result (tree_of nodes.new.items ≡ tree_of nodes.old.items) }
+    ensures ok { OnOk result (stored_tree nodes.new.items ≡ entered (stored_tree nodes.old.items) at inode) }
+    ensures err { OnErr result (stored_tree nodes.new.items ≡ stored_tree nodes.old.items) }
     ensures longer { length nodes.old.items ≤ length nodes.new.items }
 {
     make_room(nodes, at.parent)?;
@@ -199,7 +199,7 @@ fn enter(
 
 fn leave(alloc: Global, nodes: &mut Vec<PlainNode>, at: &Location)
     requires { at.now.parent < length nodes.old.items }
-    ensures tree { tree_of nodes.new.items ≡ left (tree_of nodes.old.items) at.now }
+    ensures tree { stored_tree nodes.new.items ≡ left (stored_tree nodes.old.items) at.now }
     ensures kept { length nodes.new.items ≡ length nodes.old.items }
 {
     nodes[at.parent as usize].leave(alloc, at.name.as_slice());
@@ -212,16 +212,16 @@ fn write(
     at: u64,
     bytes: &[u8],
 ) -> Result<(), AllocError>
-    ensures ok { OnOk result (tree_of nodes.new.items ≡ set_node (tree_of nodes.old.items) inode (Some (File (written at bytes.now (bytes_of (tree_of nodes.old.items inode)))))) }
-    ensures err { OnErr result (tree_of nodes.new.items ≡ tree_of nodes.old.items) }
+    ensures ok { OnOk result (stored_tree nodes.new.items ≡ set_node (stored_tree nodes.old.items) inode (Some (File (written at bytes.now (bytes_of (stored_tree nodes.old.items inode)))))) }
+    ensures err { OnErr result (stored_tree nodes.new.items ≡ stored_tree nodes.old.items) }
 {
     make_room(nodes, inode)?;
     nodes[inode as usize].write(alloc, at, bytes)
 }
 
 fn resize(alloc: Global, nodes: &mut Vec<PlainNode>, inode: u32, len: u64) -> Result<(), AllocError>
-    ensures ok { OnOk result (tree_of nodes.new.items ≡ set_node (tree_of nodes.old.items) inode (Some (File (resized len (bytes_of (tree_of nodes.old.items inode)))))) }
-    ensures err { OnErr result (tree_of nodes.new.items ≡ tree_of nodes.old.items) }
+    ensures ok { OnOk result (stored_tree nodes.new.items ≡ set_node (stored_tree nodes.old.items) inode (Some (File (resized len (bytes_of (stored_tree nodes.old.items inode)))))) }
+    ensures err { OnErr result (stored_tree nodes.new.items ≡ stored_tree nodes.old.items) }
 {
     make_room(nodes, inode)?;
     nodes[inode as usize].resize(alloc, len)
@@ -229,7 +229,7 @@ fn resize(alloc: Global, nodes: &mut Vec<PlainNode>, inode: u32, len: u64) -> Re
 
 // The inode under a name.
 fn entry_in(nodes: &[PlainNode], at: &Location) -> Option<u32>
-    ensures { result ≡ at_location (tree_of nodes.now) at.now }
+    ensures { result ≡ at_location (stored_tree nodes.now) at.now }
 {
     match nodes.get(at.parent as usize) {
         Some(node) => node.entry(at.name.as_slice()),
@@ -260,7 +260,7 @@ fn is_open_by(rows: &[OwnDescriptors], row: usize, inode: u32) -> bool
 
 /// The lowest number for a new node.
 pub fn lowest_free(nodes: &[PlainNode]) -> Option<u32>
-    ensures { MatchOption result (IsTaken (tree_of nodes.now)) (λ i. IsLowest (tree_of nodes.now) i) }
+    ensures { MatchOption result (IsTaken (stored_tree nodes.now)) (λ i. IsLowest (stored_tree nodes.now) i) }
 {
     for inode in ROOT + 1..MAX_INODE + 1 {
         if is_free(nodes, inode) {
@@ -271,7 +271,7 @@ pub fn lowest_free(nodes: &[PlainNode]) -> Option<u32>
 }
 
 fn is_free(nodes: &[PlainNode], inode: u32) -> bool
-    ensures { IsTrue result ↔ (tree_of nodes.now inode ≡ None) }
+    ensures { IsTrue result ↔ (stored_tree nodes.now inode ≡ None) }
 {
     match nodes.get(inode as usize) {
         Some(node) => node.is_dir().is_none(),

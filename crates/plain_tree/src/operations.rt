@@ -1,7 +1,7 @@
 ghost use Rattle.std.specs.Prelude.{◌≡◌, ◌≢◌, ◌≤◌, ◌<◌, ℕ, [], None, Some, length, OnOk, OnErr, if◌then◌else◌};
 ghost use Rattle.posix_calls.specs.Tree.{File, set_node, set_descriptor, names_of, IsBare};
 ghost use Rattle.posix_calls.specs.Operations.{entered, left, less_unused, less_replaced};
-ghost use Rattle.plain_tree.specs.Plain.{tree_of, held_of, less_put_out, IsInode, IsBareReplaced, IsMovable, HasNumber, with_opened};
+ghost use Rattle.plain_tree.specs.Plain.{stored_tree, held_of, less_put_out, IsInode, IsBareReplaced, IsMovable, HasNumber, with_opened};
 ghost use Rattle.posix_calls.specs.declared.limits.TheConstants.{MAX_NAMES};
 
 use crate::node::PlainNode;
@@ -20,11 +20,11 @@ pub fn make(
 ) -> Result<(), AllocError>
     requires apart { at.parent ≢ inode }
     requires place { IsInode at.parent }
-    requires free { IsBare (tree_of nodes.old inode) }
+    requires free { IsBare (stored_tree nodes.old inode) }
     requires bare { IsBare node }
-    requires few { names_of (tree_of nodes.old) inode ≤ MAX_NAMES }
-    ensures ok { OnOk result (tree_of nodes.new ≡ entered (set_node (tree_of nodes.old) inode node) at inode) }
-    ensures err { OnErr result (tree_of nodes.new ≡ tree_of nodes.old) }
+    requires few { names_of (stored_tree nodes.old) inode ≤ MAX_NAMES }
+    ensures ok { OnOk result (stored_tree nodes.new ≡ entered (set_node (stored_tree nodes.old) inode node) at inode) }
+    ensures err { OnErr result (stored_tree nodes.new ≡ stored_tree nodes.old) }
 {
     nodes.make_room(inode)?;
     nodes.enter(alloc, at, inode)?;
@@ -39,9 +39,9 @@ pub fn empty_if(
     inode: u32,
     empties: bool,
 ) -> Result<(), AllocError>
-    requires { IsBare (tree_of nodes.old inode) }
-    ensures ok { OnOk result (tree_of nodes.new ≡ (if empties then set_node (tree_of nodes.old) inode (Some (File [])) else tree_of nodes.old)) }
-    ensures err { OnErr result (tree_of nodes.new ≡ tree_of nodes.old) }
+    requires { IsBare (stored_tree nodes.old inode) }
+    ensures ok { OnOk result (stored_tree nodes.new ≡ (if empties then set_node (stored_tree nodes.old) inode (Some (File [])) else stored_tree nodes.old)) }
+    ensures err { OnErr result (stored_tree nodes.new ≡ stored_tree nodes.old) }
 {
     if !empties {
         return Ok(());
@@ -59,9 +59,9 @@ pub fn remove_dir(
     inode: u32,
 ) -> Result<(), AllocError>
     requires place { IsInode at.now.parent }
-    requires bare { IsBare (tree_of nodes.old inode) }
-    ensures ok { OnOk result (tree_of nodes.new ≡ set_node (left (tree_of nodes.old) at.now) inode None) }
-    ensures err { OnErr result (tree_of nodes.new ≡ tree_of nodes.old) }
+    requires bare { IsBare (stored_tree nodes.old inode) }
+    ensures ok { OnOk result (stored_tree nodes.new ≡ set_node (left (stored_tree nodes.old) at.now) inode None) }
+    ensures err { OnErr result (stored_tree nodes.new ≡ stored_tree nodes.old) }
 {
     nodes.make_room(at.parent)?;
     nodes.leave(alloc, at);
@@ -78,9 +78,9 @@ pub fn drop_name(
     inode: u32,
 ) -> Result<(), AllocError>
     requires place { IsInode at.now.parent }
-    requires bare { IsBare (tree_of nodes.old inode) }
-    ensures ok { OnOk result (tree_of nodes.new ≡ less_unused (held_of rows.now) (left (tree_of nodes.old) at.now) inode) }
-    ensures err { OnErr result (tree_of nodes.new ≡ tree_of nodes.old) }
+    requires bare { IsBare (stored_tree nodes.old inode) }
+    ensures ok { OnOk result (stored_tree nodes.new ≡ less_unused (held_of rows.now) (left (stored_tree nodes.old) at.now) inode) }
+    ensures err { OnErr result (stored_tree nodes.new ≡ stored_tree nodes.old) }
 {
     nodes.make_room(at.parent)?;
     nodes.leave(alloc, at);
@@ -100,10 +100,10 @@ pub fn move_name(
 ) -> Result<(), AllocError>
     requires from_place { IsInode from.now.parent }
     requires to_place { IsInode to.parent }
-    requires few { names_of (tree_of nodes.old) inode ≤ MAX_NAMES }
-    requires movable { IsMovable (tree_of nodes.old) from.now to inode replaced }
-    ensures ok { OnOk result (tree_of nodes.new ≡ entered (left (less_replaced (held_of rows.now) (tree_of nodes.old) to replaced) from.now) to inode) }
-    ensures err { OnErr result (tree_of nodes.new ≡ tree_of nodes.old) }
+    requires few { names_of (stored_tree nodes.old) inode ≤ MAX_NAMES }
+    requires movable { IsMovable (stored_tree nodes.old) from.now to inode replaced }
+    ensures ok { OnOk result (stored_tree nodes.new ≡ entered (left (less_replaced (held_of rows.now) (stored_tree nodes.old) to replaced) from.now) to inode) }
+    ensures err { OnErr result (stored_tree nodes.new ≡ stored_tree nodes.old) }
 {
     nodes.make_room(from.parent)?;
     nodes.enter(alloc, to, inode)?;
@@ -113,8 +113,8 @@ pub fn move_name(
 }
 
 fn put_out(nodes: &mut PlainNodes, rows: &[OwnDescriptors], replaced: Replaced)
-    requires { IsBareReplaced (tree_of nodes.old) replaced }
-    ensures tree { tree_of nodes.new ≡ less_put_out (held_of rows.now) (tree_of nodes.old) replaced }
+    requires { IsBareReplaced (stored_tree nodes.old) replaced }
+    ensures tree { stored_tree nodes.new ≡ less_put_out (held_of rows.now) (stored_tree nodes.old) replaced }
     ensures kept { length nodes.new ≡ length nodes.old }
 {
     match replaced {

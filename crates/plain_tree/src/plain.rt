@@ -1,11 +1,11 @@
-ghost use Rattle.std.specs.Prelude.{◌≡◌, ◌⊎◌, ◌≤◌, ◌<◌, ℕ, true, Ok, Some, length, option_map, IfOk, OnOk, OnErr, MatchOption, None};
+ghost use Rattle.std.specs.Prelude.{◌≡◌, ◌⊎◌, ◌≤◌, ◌<◌, ℕ, true, false, Ok, Some, length, option_map, IfOk, IfErr, OnOk, OnErr, MatchOption, None};
 ghost use Rattle.std.specs.FinMap as fin;
 ghost use Rattle.posix_calls.specs.Tree.{opening, empty_tree, entries_of};
 ghost use Rattle.posix_calls.specs.Query.{dir_test, view_of, whole};
 ghost use Rattle.posix_calls.specs.Answers.{description_of};
-ghost use Rattle.posix_calls.specs.Operations.{Step, makes, reply_of, state_after, tree_after};
+ghost use Rattle.posix_calls.specs.Operations.{Step, makes, only_tells, reply_of, state_after, tree_after};
 ghost use Rattle.posix_calls.specs.Exact.{IsAnswered, IsGivenUp, IsLowest, IsTaken};
-ghost use Rattle.plain_tree.specs.Plain.{tree_of, held_of, state_of, state_in, IsNoClose, IsDoable, IsDone, IsDropped};
+ghost use Rattle.plain_tree.specs.Plain.{stored_tree, held_of, stored_state, state_in, IsNoClose, IsDoable, IsDone, IsDropped, takes_room};
 ghost use Rattle.posix_calls.specs.declared.call.Reply.TheVariants.{Failed};
 
 use crate::node::PlainNode;
@@ -28,7 +28,7 @@ pub struct PlainTree {
 
 impl Model for PlainTree {
     ghost use Rattle.std.specs.Prelude.{◌≡◌, length};
-    ghost use Rattle.plain_tree.specs.Plain.{Stored, state_in, IsSound};
+    ghost use Rattle.plain_tree.specs.Plain.{Stored, state_in, IsConsistent};
     ghost use Rattle.plain_tree.specs.PlainCode.{stored_code};
 
     ghost Value = { Stored };
@@ -37,13 +37,13 @@ impl Model for PlainTree {
 
     ghost view = { λ p. record { nodes = p.nodes; rows = p.rows.items } };
 
-    ghost invariant = { λ p. (length p.rows.items ≡ 8) × IsSound (state_in p.nodes p.rows.items) };
+    ghost invariant = { λ p. (length p.rows.items ≡ 8) × IsConsistent (state_in p.nodes p.rows.items) };
 }
 
 impl PlainTree {
     /// The empty tree: a root with no entry, of which nothing is open.
     pub fn new(alloc: Global) -> Result<Self, AllocError>
-        ensures { IfOk result (λ tree. state_of tree ≡ opening) }
+        ensures { IfOk result (λ tree. stored_state tree ≡ opening) }
     {
         let nodes = root_alone(alloc)?;
         let rows = no_descriptors(alloc, MAX_CLIENTS)?;
@@ -52,11 +52,12 @@ impl PlainTree {
 
     /// Does what a client asks, and answers it. A client outside 1 to 8 is answered `Invalid`. A new node gets the lowest
     /// inode number from 2 on that is free; where none is free, the call is answered `NoSpace`. `NoMemory` may stand in place of
-    /// any answer. A call that is answered `Failed` leaves the tree and all descriptors as they were.
+    /// any answer to a client's call that takes memory: not of `close`, and of `pread` and `list /` only where there is something to
+    /// give. A call that is answered `Failed` leaves the tree and all descriptors as they were.
     pub fn ask(&mut self, client: u32, call: &Call) -> Reply
-        ensures step { Step (state_of self.old) client call.now result (state_of self.new) }
-        ensures exact { IsAnswered (state_of self.old) client call.now result (state_of self.new) ⊎ IsGivenUp (state_of self.old) client call.now result (state_of self.new) }
-        ensures refused { (errno : Errno) → result ≡ Failed errno → state_of self.new ≡ state_of self.old }
+        ensures step { Step (stored_state self.old) client call.now result (stored_state self.new) }
+        ensures exact { IsAnswered (stored_state self.old) client call.now result (stored_state self.new) ⊎ IsGivenUp (stored_state self.old) client call.now result (stored_state self.new) }
+        ensures refused { (errno : Errno) → result ≡ Failed errno → stored_state self.new ≡ stored_state self.old }
     {
         if client == 0 || client > MAX_CLIENTS {
             return Reply::Failed {
@@ -82,7 +83,7 @@ impl PlainTree {
 
 /// All of the tree is known.
 impl TreeAnswers for PlainTree {
-    ghost part = { λ s. whole (view_of (tree_of s.nodes)) };
+    ghost part = { λ s. whole (view_of (stored_tree s.nodes)) };
 
     fn is_dir(&self, inode: u32) -> Option<Option<bool>> {
         Some(is_dir(self.nodes.as_slice(), inode))
@@ -139,14 +140,14 @@ impl TreeAnswers for PlainTree {
 }
 
 fn is_dir(nodes: &[PlainNode], inode: u32) -> Option<bool>
-    ensures { result ≡ option_map dir_test (tree_of nodes.now inode) }
+    ensures { result ≡ option_map dir_test (stored_tree nodes.now inode) }
 {
     nodes.get(inode as usize)?.is_dir()
 }
 
 fn child(nodes: &[PlainNode], dir: u32, name: &[u8]) -> Option<Child>
-    ensures inode { option_map (λ e. e.inode) result ≡ fin.get (entries_of (tree_of nodes.now dir)) name.now }
-    ensures kind { (e : Child) → result ≡ Some e → e.is_dir ≡ option_map dir_test (tree_of nodes.now e.inode) }
+    ensures inode { option_map (λ e. e.inode) result ≡ fin.get (entries_of (stored_tree nodes.now dir)) name.now }
+    ensures kind { (e : Child) → result ≡ Some e → e.is_dir ≡ option_map dir_test (stored_tree nodes.now e.inode) }
 {
     let inode = nodes.get(dir as usize)?.entry(name)?;
     Some(Child {
@@ -156,7 +157,7 @@ fn child(nodes: &[PlainNode], dir: u32, name: &[u8]) -> Option<Child>
 }
 
 fn describe(nodes: &PlainNodes, inode: u32) -> Option<Description>
-    ensures { result ≡ description_of ((view_of (tree_of nodes.now)).node inode) }
+    ensures { result ≡ description_of ((view_of (stored_tree nodes.now)).node inode) }
 {
     let node = nodes.as_slice().get(inode as usize)?;
     match node.is_dir() {
@@ -172,7 +173,7 @@ fn describe(nodes: &PlainNodes, inode: u32) -> Option<Description>
 }
 
 fn root_alone(alloc: Global) -> Result<PlainNodes, AllocError>
-    ensures { IfOk result (λ nodes. tree_of nodes ≡ empty_tree) }
+    ensures { IfOk result (λ nodes. stored_tree nodes ≡ empty_tree) }
 {
     let mut nodes = PlainNodes::new(alloc);
     nodes.make_room(ROOT)?;
@@ -201,7 +202,7 @@ fn carry_out(
 ) -> Reply
     requires low { 0 < client }
     requires high { client ≤ length rows.old.items }
-    requires doable { IsDoable (tree_of nodes.old) operation }
+    requires doable { IsDoable (stored_tree nodes.old) operation }
     ensures done { IsDone (state_in nodes.old rows.old.items) client operation result (state_in nodes.new rows.new.items) ⊎ IsDropped (state_in nodes.old rows.old.items) operation result (state_in nodes.new rows.new.items) }
     ensures kept { length rows.new.items ≡ length rows.old.items }
 {
@@ -222,7 +223,8 @@ fn change(
 ) -> Reply
     requires low { 0 < client }
     requires high { client ≤ length rows.old.items }
-    requires doable { IsDoable (tree_of nodes.old) operation }
+    requires doable { IsDoable (stored_tree nodes.old) operation }
+    requires changes { only_tells operation ≡ false }
     requires reply { reply ≡ reply_of operation }
     ensures done { IsDone (state_in nodes.old rows.old.items) client operation result (state_in nodes.new rows.new.items) ⊎ IsDropped (state_in nodes.old rows.old.items) operation result (state_in nodes.new rows.new.items) }
     ensures kept { length rows.new.items ≡ length rows.old.items }
@@ -242,7 +244,7 @@ fn change(
 
 // The number of the node that an operation makes; what makes none needs none.
 fn new_inode(nodes: &[PlainNode], operation: &Operation) -> Option<u32>
-    ensures { MatchOption result ((makes operation.now ≡ true) × IsTaken (tree_of nodes.now)) (λ i. makes operation.now ≡ true → IsLowest (tree_of nodes.now) i) }
+    ensures { MatchOption result ((makes operation.now ≡ true) × IsTaken (stored_tree nodes.now)) (λ i. makes operation.now ≡ true → IsLowest (stored_tree nodes.now) i) }
 {
     if operation.makes_node() {
         return lowest_free(nodes);
@@ -261,8 +263,10 @@ fn apply(
 ) -> Result<(), AllocError>
     requires low { 0 < client }
     requires high { client ≤ length rows.old.items }
-    requires doable { IsDoable (tree_of nodes.old) operation }
-    requires lowest { makes operation ≡ true → IsLowest (tree_of nodes.old) new }
+    requires doable { IsDoable (stored_tree nodes.old) operation }
+    requires changes { only_tells operation ≡ false }
+    requires lowest { makes operation ≡ true → IsLowest (stored_tree nodes.old) new }
+    ensures memory { IfErr result (λ _. takes_room operation ≡ true) }
     ensures ok { OnOk result (state_in nodes.new rows.new.items ≡ state_after client new (state_in nodes.old rows.old.items) operation) }
     ensures err { OnErr result (state_in nodes.new rows.new.items ≡ state_in nodes.old rows.old.items) }
     ensures kept { length rows.new.items ≡ length rows.old.items }
@@ -291,10 +295,10 @@ fn apply_to_tree(
     operation: Operation,
 ) -> Result<(), AllocError>
     requires stays { IsNoClose operation }
-    requires doable { IsDoable (tree_of nodes.old) operation }
-    requires lowest { makes operation ≡ true → IsLowest (tree_of nodes.old) new }
-    ensures ok { OnOk result (tree_of nodes.new ≡ tree_after (held_of rows.now) new (tree_of nodes.old) operation) }
-    ensures err { OnErr result (tree_of nodes.new ≡ tree_of nodes.old) }
+    requires doable { IsDoable (stored_tree nodes.old) operation }
+    requires lowest { makes operation ≡ true → IsLowest (stored_tree nodes.old) new }
+    ensures ok { OnOk result (stored_tree nodes.new ≡ tree_after (held_of rows.now) new (stored_tree nodes.old) operation) }
+    ensures err { OnErr result (stored_tree nodes.new ≡ stored_tree nodes.old) }
 {
     match operation {
         Operation::NewDir { at } => make(alloc, nodes, at, new, PlainNode::directory(alloc)),

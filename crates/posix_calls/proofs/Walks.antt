@@ -2,6 +2,8 @@
 use Rattle.std.proofs.Common.{◌≡◌, ℕ, List, [], ◌∷◌, ◌++◌, ◌||◌, Bool, true, false, refl, Option, Some, None, Result, Ok, Err, ap, sym, ◌∙◌, subst, ◌+◌, ◌-◌, ◌<◌, ◌≤◌, length, take, drop, get_or, arith, add-one, drop-cons, suc}
 use Rattle.std.proofs.lemmas.List.{take_more, take_all, drop_all}
 use Rattle.std.specs.Prelude.{option_map}
+use Rattle.std.specs.Result.{IsErrAnd}
+use Rattle.std.proofs.lemmas.Result.{err_from_is_err_and}
 use Rattle.std.specs.List.{list_any}
 use Rattle.posix_calls.specs.declared.errno.Errno.{Errno}
 use Rattle.posix_calls.specs.declared.operation.DecideError.{DecideError}
@@ -12,8 +14,8 @@ use Rattle.posix_calls.specs.declared.operation.Missing.TheVariants as missing
 use Rattle.posix_calls.specs.declared.walk.Landing.{Landing}
 use Rattle.posix_calls.specs.declared.limits.TheConstants.{ROOT}
 use Rattle.posix_calls.specs.Query.{Seen, Query, Gives, Look, ◌>>=◌, Part, Found, Known, Unknown, run_part, run, view_of, seen, dir_test}
-use Rattle.posix_calls.specs.Walk.{Place, root_place, walk, prefix, led, directory, directory_if, entries_seen, is_inode, there}
-use Rattle.posix_calls.specs.Answers.{Tells, entry_in, count_in, last_name, landing_of, landing, place_at, child_at}
+use Rattle.posix_calls.specs.Walk.{Place, root_place, walk, prefix, led, directory, directory_if, entries_seen, is_inode, there, kind_at}
+use Rattle.posix_calls.specs.Answers.{Tells, entry_in, count_in, last_name, landing_of, landing, untold, place_at, child_at}
 use Rattle.posix_calls.proofs.Chain.{then_found, part_bind, part_gives, tells_ok, tells_err, tells_missing, tells_memory, tells_same, bind_stops, gives, look_missing}
 use Rattle.std.specs.FinMap as fin
 use Rattle.posix_calls.specs.Content.{Entries}
@@ -124,7 +126,7 @@ walked_on {p = p} {watched = watched} {dir = dir} {passed = passed} {name = name
 }
 
 -- at its end
-last_is : (p : Part) (watched : Option ℕ) (dir : ℕ) (way : List ℕ) (name : List ℕ) → run_part p (walk dir way (name ∷ []) >>= (λ place. Gives (landing_of watched place))) ≡ run_part {A = Landing} p (Look dir (λ s. Gives (record { parent = dir; inode = entry_in name s; entries = count_in s; passed = is_inode dir watched || list_any (λ d. is_inode d watched) way })))
+last_is : (p : Part) (watched : Option ℕ) (dir : ℕ) (way : List ℕ) (name : List ℕ) → run_part p (walk dir way (name ∷ []) >>= (λ place. Gives (landing_of watched place))) ≡ run_part {A = Landing} p (Look dir (λ s. Gives (record { parent = dir; inode = entry_in name s; entries = count_in s; passed = is_inode dir watched || list_any (λ d. is_inode d watched) way; is_dir = None })))
 unfolding walk ◌>>=◌
 last_is p watched dir way name = refl
 
@@ -133,25 +135,25 @@ pub walked_missing : {C : Type 0} {p : Part} {watched : Option ℕ} {names : Lis
 walked_missing {p = p} {watched = watched} {dir = dir} {last = last} g w lack is = tells_same (w.same ∙ last_is p watched dir w.way last) (look_missing g _ lack is)
 
 -- what is known is where the walk leads
-lands : (p : Part) (dir : ℕ) (name : List ℕ) (passed : Bool) (o : Option ℕ) (n : ℕ) (s : Option (Option Seen)) → option_map (entry_in name) s ≡ Some o → option_map count_in s ≡ Some n → ◌≡◌ {A = Found Landing} (elim s [ None ↦ Unknown (missing.Node dir) | Some a ↦ run_part {A = Landing} p (Gives (record { parent = dir; inode = entry_in name a; entries = count_in a; passed = passed })) ]) (Known (Ok (record { parent = dir; inode = o; entries = n; passed = passed })))
+lands : (p : Part) (dir : ℕ) (name : List ℕ) (passed : Bool) (o : Option ℕ) (n : ℕ) (s : Option (Option Seen)) → option_map (entry_in name) s ≡ Some o → option_map count_in s ≡ Some n → ◌≡◌ {A = Found Landing} (elim s [ None ↦ Unknown (missing.Node dir) | Some a ↦ run_part {A = Landing} p (Gives (record { parent = dir; inode = entry_in name a; entries = count_in a; passed = passed; is_dir = None })) ]) (Known (Ok (record { parent = dir; inode = o; entries = n; passed = passed; is_dir = None })))
 lands p dir name passed o n None e h = absurd (cc)
 lands p dir name passed o n (Some a) e h =
     let at : entry_in name a ≡ o = cc in
     let many : count_in a ≡ n = cc in
-    part_gives {A = Landing} p (record { parent = dir; inode = entry_in name a; entries = count_in a; passed = passed })
-    ∙ ap (λ (z : Option ℕ). Known (Ok (record { parent = dir; inode = z; entries = count_in a; passed = passed }))) at
-    ∙ ap (λ z. Known (Ok (record { parent = dir; inode = o; entries = z; passed = passed }))) many
+    part_gives {A = Landing} p (record { parent = dir; inode = entry_in name a; entries = count_in a; passed = passed; is_dir = None })
+    ∙ ap (λ (z : Option ℕ). Known (Ok (record { parent = dir; inode = z; entries = count_in a; passed = passed; is_dir = None }))) at
+    ∙ ap (λ z. Known (Ok (record { parent = dir; inode = o; entries = z; passed = passed; is_dir = None }))) many
 
-look_lands : (p : Part) (dir : ℕ) (name : List ℕ) (passed : Bool) (o : Option ℕ) (n : ℕ) → option_map (entry_in name) (p.node dir) ≡ Some o → option_map count_in (p.node dir) ≡ Some n → run_part {A = Landing} p (Look dir (λ s. Gives (record { parent = dir; inode = entry_in name s; entries = count_in s; passed = passed }))) ≡ Known (Ok (record { parent = dir; inode = o; entries = n; passed = passed }))
+look_lands : (p : Part) (dir : ℕ) (name : List ℕ) (passed : Bool) (o : Option ℕ) (n : ℕ) → option_map (entry_in name) (p.node dir) ≡ Some o → option_map count_in (p.node dir) ≡ Some n → run_part {A = Landing} p (Look dir (λ s. Gives (record { parent = dir; inode = entry_in name s; entries = count_in s; passed = passed; is_dir = None }))) ≡ Known (Ok (record { parent = dir; inode = o; entries = n; passed = passed; is_dir = None }))
 unfolding run_part
 look_lands p dir name passed o n e h = lands p dir name passed o n (p.node dir) e h
 
-pub walked_lands : {p : Part} {watched : Option ℕ} {names : List (List ℕ)} {dir : ℕ} {passed : Bool} {last : List ℕ} {o : Option ℕ} {n : ℕ} → Walked p watched names dir passed (last ∷ []) → option_map (entry_in last) (p.node dir) ≡ Some o → option_map count_in (p.node dir) ≡ Some n → Tells p (landing watched names) (Ok (record { parent = dir; inode = o; entries = n; passed = passed || is_inode dir watched }))
+pub walked_lands : {p : Part} {watched : Option ℕ} {names : List (List ℕ)} {dir : ℕ} {passed : Bool} {last : List ℕ} {o : Option ℕ} {n : ℕ} → Walked p watched names dir passed (last ∷ []) → option_map (entry_in last) (p.node dir) ≡ Some o → option_map count_in (p.node dir) ≡ Some n → Tells p (landing watched names) (Ok (record { parent = dir; inode = o; entries = n; passed = passed || is_inode dir watched; is_dir = None }))
 walked_lands {p = p} {watched = watched} {dir = dir} {passed = passed} {last = last} {o = o} {n = n} w e h =
-    tells_ok (w.same ∙ last_is p watched dir w.way last ∙ look_lands p dir last (is_inode dir watched || list_any (λ d. is_inode d watched) w.way) o n e h ∙ ap (λ z. Known (Ok (record { parent = dir; inode = o; entries = n; passed = is_inode dir watched || z }))) w.seen ∙ ap (λ z. Known (Ok (record { parent = dir; inode = o; entries = n; passed = z }))) (or_swap (is_inode dir watched) passed))
+    tells_ok (w.same ∙ last_is p watched dir w.way last ∙ look_lands p dir last (is_inode dir watched || list_any (λ d. is_inode d watched) w.way) o n e h ∙ ap (λ z. Known (Ok (record { parent = dir; inode = o; entries = n; passed = is_inode dir watched || z; is_dir = None }))) w.seen ∙ ap (λ z. Known (Ok (record { parent = dir; inode = o; entries = n; passed = z; is_dir = None }))) (or_swap (is_inode dir watched) passed))
 
 -- `/` leads to the root
-pub lands_at_root : (p : Part) (watched : Option ℕ) (names : List (List ℕ)) → length names < 1 → Tells p (landing watched names) (Ok (record { parent = 0; inode = Some ROOT; entries = 0; passed = false }))
+pub lands_at_root : (p : Part) (watched : Option ℕ) (names : List (List ℕ)) → length names < 1 → Tells p (landing watched names) (Ok (record { parent = 0; inode = Some ROOT; entries = 0; passed = false; is_dir = None }))
 unfolding walk ◌>>=◌
 lands_at_root p watched [] short = gives
 lands_at_root p watched (name ∷ names) short = absurd (omega arith)
@@ -247,3 +249,11 @@ bind_place_stops {p = p} watched names f {s = Refused e} h =
 bind_place_stops {p = p} watched names f {s = why.Missing what} h =
     bind_stops f (tells_missing (missing_before p (run_part p (prefix names)) (landing_of watched) what (sym (part_bind p (prefix names) (λ place. Gives (landing_of watched place))) ∙ h.missing what refl)))
 bind_place_stops {p = p} watched names f {s = Memory} h = tells_memory p (prefix names >>= f)
+
+-- an error of a walk, which tells nothing beside
+pub exits_untold : {p : Part} {q : Query Landing} (r : Result Landing DecideError) {s : DecideError} → IsErrAnd r (λ t. t ≡ s) → Tells p q (Err s) → Tells p q (untold r)
+exits_untold {p = p} {q = q} r is h = let e = err_from_is_err_and r is in subst (λ z. Tells p q (untold z)) (sym (e.1 ∙ ap (λ z. Err z) e.2)) h
+
+-- whether there is a directory, where what is there is known
+pub kind_there : {p : Part} {o : Option ℕ} {i : ℕ} {r : Result Bool DecideError} → o ≡ Some i → Tells p (kind_at o) r → Tells p (kind_at (Some i)) r
+kind_there {p = p} {r = r} is h = subst (λ z. Tells p (kind_at z) r) is h

@@ -1,5 +1,5 @@
 -- What someone who knows a part of a tree answers, piece by piece, and how a decision stands to its questions.
-use Rattle.std.specs.Prelude.{◌≡◌, ℕ, List, [], ◌∷◌, map, Option, Some, None, Result, Ok, Err}
+use Rattle.std.specs.Prelude.{◌≡◌, ℕ, List, [], ◌∷◌, map, Bool, Option, Some, None, Result, Ok, Err}
 use Rattle.std.specs.FinMap as fin
 use Rattle.std.specs.List.{list_any}
 use Rattle.posix_calls.specs.Query.{Seen, File, Dir, Query, Gives, Look, ◌>>=◌, Part, Known, Unknown, run_part}
@@ -44,7 +44,7 @@ last_name (name ∷ next ∷ names) = last_name (next ∷ names)
 
 -- what a call needs of a place beside its name, and whether the walk went through the inode that is watched for, where one is
 abbrev pub landing_of : Option ℕ → Place → Landing
-landing_of watched place = record { parent = place.location.parent; inode = place.inode; entries = place.entries; passed = list_any (λ d. is_inode d watched) place.walked }
+landing_of watched place = record { parent = place.location.parent; inode = place.inode; entries = place.entries; passed = list_any (λ d. is_inode d watched) place.walked; is_dir = None }
 
 -- a place by what is kept of it
 abbrev pub place_at : List (List ℕ) → Landing → List ℕ → Place
@@ -53,6 +53,15 @@ place_at names to walked = record { location = record { parent = to.parent; name
 -- that of the place to which the walk along a path leads
 abbrev pub landing : Option ℕ → List (List ℕ) → Query Landing
 landing watched names = prefix names >>= (λ place. Gives (landing_of watched place))
+
+-- a landing as the walk's questions give it, without what an entry told beside
+abbrev pub untold : Result Landing DecideError → Result Landing DecideError
+untold (Err e) = Err e
+untold (Ok to) = Ok (record { parent = to.parent; inode = to.inode; entries = to.entries; passed = to.passed; is_dir = None })
+
+-- what an entry told beside is so
+abbrev pub IsTold : Part → Landing → Type 0
+IsTold p to = (i : ℕ) (is_dir : Bool) → to.inode ≡ Some i → to.is_dir ≡ Some is_dir → p.is_dir i ≡ Some (Some is_dir)
 
 -- the directory under a name of a directory
 abbrev pub child_at : ℕ → List ℕ → Query ℕ

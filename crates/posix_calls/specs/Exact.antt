@@ -1,7 +1,9 @@
 -- Steps of a tree that gives each new node the lowest number that is free.
 use Rattle.std.specs.Prelude.{◌≡◌, ◌≢◌, ◌⊎◌, true, ℕ, ◌<◌, ◌≤◌, None, Ok}
 use Rattle.posix_calls.specs.Tree.{Tree, State}
-use Rattle.posix_calls.specs.Operations.{IsFree, Follows, answer, makes}
+use Rattle.posix_calls.specs.Query.{view_of, whole}
+use Rattle.posix_calls.specs.Memory.{takes_memory}
+use Rattle.posix_calls.specs.Operations.{IsFree, Follows, is_client, answer, makes}
 use Rattle.posix_calls.specs.declared.operation.Operation.{Operation}
 use Rattle.posix_calls.specs.declared.call.Call.{Call}
 use Rattle.posix_calls.specs.declared.call.Reply.{Reply}
@@ -22,6 +24,10 @@ IsTaken t = (i : ℕ) → ROOT < i → i ≤ MAX_INODE → t i ≢ None
 abbrev pub IsAnswered : State → ℕ → Call → Reply → State → Type 0
 IsAnswered old client call r after = (new : ℕ) × ((operation : Operation) → answer old client call ≡ Ok operation → makes operation ≡ true → IsLowest old.tree new) × Follows old client new (answer old client call) r after
 
+-- memory ran out, where the call takes memory
+abbrev pub IsOutOfMemory : State → ℕ → Call → Reply → Type 0
+IsOutOfMemory old client call r = (r ≡ Failed errno.NoMemory) × (is_client client ≡ true) × (takes_memory (whole (view_of old.tree)) (old.descriptors client) call ≡ true)
+
 -- memory ran out, or the inode numbers for the node that the call makes; nothing changed
 abbrev pub IsGivenUp : State → ℕ → Call → Reply → State → Type 0
-IsGivenUp old client call r after = ((r ≡ Failed errno.NoMemory) ⊎ ((r ≡ Failed errno.NoSpace) × ((operation : Operation) × (answer old client call ≡ Ok operation) × (makes operation ≡ true)) × IsTaken old.tree)) × (after ≡ old)
+IsGivenUp old client call r after = (IsOutOfMemory old client call r ⊎ ((r ≡ Failed errno.NoSpace) × ((operation : Operation) × (answer old client call ≡ Ok operation) × (makes operation ≡ true)) × IsTaken old.tree)) × (after ≡ old)

@@ -1,23 +1,35 @@
 -- Which calls take memory when they are decided: for the names on their paths, and for the bytes and names that they carry.
-use Rattle.std.specs.Prelude.{ℕ, ◌+◌, ◌-◌, List, length, min, Bool, false, ◌&&◌, ◌||◌, nat_lt, nat_le, Option, Some, None, is_ok}
+use Rattle.std.specs.Prelude.{ℕ, ◌+◌, ◌-◌, List, length, min, Bool, false, ◌&&◌, ◌||◌, nat_lt, nat_le, Option, Some, None, is_some, Result, Ok, Err, is_ok}
 use Rattle.posix_calls.specs.Path.{reading, comes_to_name}
 use Rattle.posix_calls.specs.Tree.{Own}
 use Rattle.posix_calls.specs.Query.{Seen, Part}
-use Rattle.posix_calls.specs.Walk.{size_seen}
-use Rattle.posix_calls.specs.declared.limits.TheConstants.{MAX_TRANSFER, MAX_FILE}
+use Rattle.posix_calls.specs.Walk.{size_seen, is_root}
+use Rattle.posix_calls.specs.Answers.{count_in}
+use Rattle.posix_calls.specs.declared.limits.TheConstants.{ROOT, MAX_TRANSFER, MAX_FILE}
+use Rattle.posix_calls.specs.declared.errno.Errno.{Errno}
 use Rattle.posix_calls.specs.declared.descriptor.Descriptor.{Descriptor}
 use Rattle.posix_calls.specs.declared.call.Call.{Call}
 use Rattle.posix_calls.specs.declared.call.Call.TheVariants as call
 
--- whether a file is known to have bytes there
-abbrev pub has_bytes : ℕ → ℕ → Option (Option Seen) → Bool
-has_bytes at count None = false
-has_bytes at count (Some s) = nat_lt 0 (min count (size_seen s - at))
+-- whether a directory is known to have a name
+abbrev pub has_names : Option (Option Seen) → Bool
+has_names None = false
+has_names (Some s) = nat_lt 0 (count_in s)
+
+-- whether a file is known to have bytes there, and these are known
+abbrev pub has_bytes : Part → ℕ → ℕ → ℕ → Option (Option Seen) → Bool
+has_bytes p i at count None = false
+has_bytes p i at count (Some s) = nat_lt 0 (min count (size_seen s - at)) && is_some (p.bytes i at (min count (size_seen s - at)))
 
 -- whether a read comes to bytes
 abbrev pub reads_bytes : Part → Option Descriptor → ℕ → ℕ → Bool
 reads_bytes p None at count = false
-reads_bytes p (Some d) at count = d.reads && nat_le count MAX_TRANSFER && has_bytes at count (p.node d.inode)
+reads_bytes p (Some d) at count = d.reads && nat_le count MAX_TRANSFER && has_bytes p d.inode at count (p.node d.inode)
+
+-- whether it is the root that is listed, and it is known to have a name
+abbrev pub lists_root : Part → Result (List (List ℕ)) Errno → Bool
+lists_root p (Err e) = false
+lists_root p (Ok names) = is_root names && has_names (p.node ROOT)
 
 -- whether a write comes to bytes
 abbrev pub writes_bytes : Option Descriptor → ℕ → List ℕ → Bool
@@ -40,5 +52,5 @@ takes_memory p own (call.Rmdir path) = comes_to_name path
 takes_memory p own (call.Link old new) = come_to_names old new
 takes_memory p own (call.Unlink path) = comes_to_name path
 takes_memory p own (call.Rename old new) = come_to_names old new
-takes_memory p own (call.List path) = is_ok (reading path) || comes_to_name path
+takes_memory p own (call.List path) = comes_to_name path || lists_root p (reading path)
 takes_memory p own (call.Stat path) = comes_to_name path

@@ -1,5 +1,5 @@
 // What the calls that take or give a descriptor come to: open, close, pread, pwrite.
-ghost use Rattle.std.specs.Prelude.{◌≡◌, ◌≢◌, ◌<◌, ◌≤◌, ◌&&◌, ◌+◌, ◌^◌, nat_lt, true, false, Some, Err, IfOk};
+ghost use Rattle.std.specs.Prelude.{◌≡◌, ◌≢◌, ◌<◌, ◌≤◌, ◌&&◌, ◌+◌, ◌^◌, nat_lt, is_some, true, false, Some, Err, IfOk};
 ghost use Rattle.posix_calls.specs.Path.{comes_to_name};
 ghost use Rattle.posix_calls.specs.Memory.{reads_bytes, writes_bytes};
 ghost use Rattle.posix_calls.specs.Walk.{is_there, is_root};
@@ -94,7 +94,7 @@ fn open_at<T: TreeAnswers>(
     let descriptor = free_number(own)?;
     let to = prefix(tree, path)?;
     refuse_if(flags.is_taken(to), Errno::Exists)?;
-    let is_dir = kind_at(tree, to.inode)?;
+    let is_dir = kind_at(tree, to)?;
     refuse_if(is_dir, Errno::IsDirectory)?;
     let Some(inode) = to.inode else {
         refuse_if(!flags.create, Errno::NoEntry)?;
@@ -202,7 +202,7 @@ fn bytes_from<T: TreeAnswers>(
     requires some { at + count < 2 ^ 64 }
     requires few { count ≤ MAX_TRANSFER }
     ensures tells { Tells (T.part tree.now) (bytes_from inode at count) result }
-    ensures memory { result ≡ Err Memory → 0 < count }
+    ensures memory { result ≡ Err Memory → (0 < count) × (is_some ((T.part tree.now).bytes inode at count) ≡ true) }
 {
     if count == 0 {
         return Ok(Bytes::from_vec(Vec::new(alloc)));

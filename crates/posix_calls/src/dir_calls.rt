@@ -49,7 +49,7 @@ fn rmdir_at<T: TreeAnswers>(alloc: Global, tree: &T, path: &Path) -> Result<Oper
     refuse_root(path)?;
     let to = prefix(tree, path)?;
     let inode = there(to.inode)?;
-    let is_dir = kind_at(tree, to.inode)?;
+    let is_dir = kind_at(tree, to)?;
     refuse_if(!is_dir, Errno::NotDirectory)?;
     let entries = known(tree.entry_count(inode), Missing::Node { inode })?;
     refuse_if(entries > 0, Errno::NotEmpty)?;

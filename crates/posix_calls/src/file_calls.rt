@@ -27,7 +27,7 @@ pub(crate) fn truncate<T: TreeAnswers>(
     let path = read_path(alloc, bytes)?;
     let to = prefix(tree, &path)?;
     let inode = there(to.inode)?;
-    let is_dir = kind_at(tree, to.inode)?;
+    let is_dir = kind_at(tree, to)?;
     refuse_if(is_dir, Errno::IsDirectory)?;
     refuse_if(len > MAX_FILE, Errno::FileTooBig)?;
     let size = known(tree.file_size(inode), Missing::Node { inode })?;
@@ -59,7 +59,7 @@ fn unlink_at<T: TreeAnswers>(alloc: Global, tree: &T, path: &Path) -> Result<Ope
     refuse_root(path)?;
     let to = prefix(tree, path)?;
     let inode = there(to.inode)?;
-    let is_dir = kind_at(tree, to.inode)?;
+    let is_dir = kind_at(tree, to)?;
     refuse_if(is_dir, Errno::NotPermitted)?;
     let at = location(alloc, to.parent, path)?;
     Ok(Operation::DropName { at, inode })

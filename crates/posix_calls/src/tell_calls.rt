@@ -1,6 +1,9 @@
 // What the calls that only tell come to: list, stat.
-ghost use Rattle.std.specs.Prelude.{◌≡◌, ◌||◌, Err, is_ok, true};
+ghost use Rattle.std.specs.Prelude.{◌≡◌, ◌||◌, Err, true};
 ghost use Rattle.posix_calls.specs.Path.{comes_to_name, reading};
+ghost use Rattle.posix_calls.specs.Walk.{is_root};
+ghost use Rattle.posix_calls.specs.Memory.{has_names, lists_root};
+ghost use Rattle.posix_calls.specs.declared.limits.TheConstants.{ROOT};
 ghost use Rattle.posix_calls.specs.declared.operation.DecideError.TheVariants.{Memory};
 ghost use Rattle.posix_calls.specs.Answers.{Tells};
 ghost use Rattle.posix_calls.specs.Decide.{list_path, list_at, stat};
@@ -19,7 +22,7 @@ pub(crate) fn list<T: TreeAnswers>(
     bytes: &[u8],
 ) -> Result<Operation, DecideError>
     ensures tells { Tells (T.part tree.now) (list_path bytes.now) result }
-    ensures memory { result ≡ Err Memory → (is_ok (reading bytes.now) || comes_to_name bytes.now) ≡ true }
+    ensures memory { result ≡ Err Memory → (comes_to_name bytes.now || lists_root (T.part tree.now) (reading bytes.now)) ≡ true }
 {
     let path = read_path(alloc, bytes)?;
     list_at(alloc, tree, &path)
@@ -27,11 +30,12 @@ pub(crate) fn list<T: TreeAnswers>(
 
 // What follows once the path is read.
 fn list_at<T: TreeAnswers>(alloc: Global, tree: &T, path: &Path) -> Result<Operation, DecideError>
-    ensures { Tells (T.part tree.now) (list_at path.now) result }
+    ensures tells { Tells (T.part tree.now) (list_at path.now) result }
+    ensures memory { result ≡ Err Memory → is_root path.now ≡ true → has_names ((T.part tree.now).node ROOT) ≡ true }
 {
     let to = prefix(tree, path)?;
     let inode = there(to.inode)?;
-    let is_dir = kind_at(tree, to.inode)?;
+    let is_dir = kind_at(tree, to)?;
     refuse_if(!is_dir, Errno::NotDirectory)?;
     let answer = tree.names(alloc, inode)?;
     let names = known(answer, Missing::Node { inode })?;

@@ -1,6 +1,7 @@
-ghost use Rattle.std.specs.Prelude.{◌≡◌, Bool, Some, None, option_map, IfOk, IfErr};
+ghost use Rattle.std.specs.Prelude.{◌≡◌, Bool, Some, None, option_map, is_some, true, IfOk, IfErr};
 ghost use Rattle.posix_calls.specs.Query.{Part};
 ghost use Rattle.posix_calls.specs.Answers.{entry_in, count_in, listed_in, description_of};
+ghost use Rattle.posix_calls.specs.Memory.{has_names};
 ghost use Rattle.posix_calls.specs.Walk.{names_seen, size_seen};
 ghost use Rattle.posix_calls.specs.declared.operation.DecideError.TheVariants as why;
 
@@ -40,9 +41,10 @@ pub trait TreeAnswers {
     fn entry_count(&self, dir: u32) -> Option<u32>
         ensures { result ≡ option_map count_in ((part self.now).node dir) };
 
-    /// The names in a directory, in the order of their bytes.
+    /// The names in a directory, in the order of their bytes. Memory is wanted where it is known to have a name, and else not.
     fn names(&self, alloc: Global, dir: u32) -> Result<Option<Names>, AllocError>
-        ensures { IfOk result (λ names. names ≡ option_map listed_in ((part self.now).node dir)) };
+        ensures names { IfOk result (λ names. names ≡ option_map listed_in ((part self.now).node dir)) }
+        ensures memory { IfErr result (λ _. has_names ((part self.now).node dir) ≡ true) };
 
     /// How many bytes a file has.
     fn file_size(&self, inode: u32) -> Option<u64>
@@ -52,7 +54,8 @@ pub trait TreeAnswers {
     fn file_names(&self, inode: u32) -> Option<u32>
         ensures { result ≡ option_map names_seen ((part self.now).node inode) };
 
-    /// Up to `count` bytes of a file from an offset on; fewer where the file ends before.
+    /// Up to `count` bytes of a file from an offset on; fewer where the file ends before. Memory is wanted where they are known,
+    /// and else not.
     fn read(
         &self,
         alloc: Global,
@@ -60,7 +63,8 @@ pub trait TreeAnswers {
         at: u64,
         count: u64,
     ) -> Result<Option<Bytes>, AllocError>
-        ensures { IfOk result (λ bytes. bytes ≡ (part self.now).bytes inode at count) };
+        ensures bytes { IfOk result (λ bytes. bytes ≡ (part self.now).bytes inode at count) }
+        ensures memory { IfErr result (λ _. is_some ((part self.now).bytes inode at count) ≡ true) };
 
     /// What there is to say of an inode; `Some(None)` where nothing stands at it.
     fn describe(&self, inode: u32) -> Option<Option<Description>>

@@ -2,7 +2,7 @@
 ghost use Rattle.std.specs.Prelude.{◌≡◌, ◌≢◌, ◌==◌, ◌&&◌, not, ℕ, List, [], Err, true, false};
 ghost use Rattle.posix_calls.specs.Memory.{come_to_names};
 ghost use Rattle.posix_calls.specs.declared.operation.DecideError.TheVariants.{Memory};
-ghost use Rattle.posix_calls.specs.Answers.{Tells, place_at};
+ghost use Rattle.posix_calls.specs.Answers.{Tells, IsTold, place_at};
 ghost use Rattle.posix_calls.specs.Walk.{is_full, is_root};
 ghost use Rattle.posix_calls.specs.Decide.{link, link_at, rename, rename_at, replacing};
 
@@ -43,7 +43,7 @@ fn link_at<T: TreeAnswers>(
 {
     let from = prefix(tree, old_path)?;
     let inode = there(from.inode)?;
-    let is_dir = kind_at(tree, from.inode)?;
+    let is_dir = kind_at(tree, from)?;
     refuse_if(is_dir, Errno::NotPermitted)?;
     let to = prefix(tree, new_path)?;
     refuse_if(to.is_there(), Errno::Exists)?;
@@ -68,6 +68,7 @@ fn replaced<T: TreeAnswers>(
     to: Landing,
     old_dir: bool,
 ) -> Result<Replaced, DecideError>
+    requires { IsTold (T.part tree.now) to }
     ensures tells { (a b : List (List ℕ)) (v w : List ℕ) → Tells (T.part tree.now) (replacing (place_at a from v) (place_at b to w) old_dir to.inode) result }
     ensures memory { result ≢ Err Memory }
 {
@@ -75,7 +76,7 @@ fn replaced<T: TreeAnswers>(
         refuse_if(missing_room(from, to), Errno::NoSpace)?;
         return Ok(Replaced::Nothing);
     };
-    let new_dir = kind_at(tree, Some(inode))?;
+    let new_dir = kind_at(tree, to)?;
     refuse_if(old_dir & !new_dir, Errno::NotDirectory)?;
     refuse_if(!old_dir & new_dir, Errno::IsDirectory)?;
     if !new_dir {
@@ -121,7 +122,7 @@ fn rename_at<T: TreeAnswers>(
             answer: Reply::Done,
         });
     }
-    let is_dir = kind_at(tree, from.inode)?;
+    let is_dir = kind_at(tree, from)?;
     let replaced = replaced(tree, from, to, is_dir)?;
     let old_location = location(alloc, from.parent, old_path)?;
     let new_location = location(alloc, to.parent, new_path)?;

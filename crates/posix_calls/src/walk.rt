@@ -2,8 +2,9 @@
 ghost use Rattle.std.specs.Prelude.{◌≡◌, ◌≢◌, Bool, Some, None, Ok, Err, true, false, IfOk, IfErr, nat_le, option_map};
 ghost use Rattle.posix_calls.specs.Path.{comes_to_name, reading};
 ghost use Rattle.posix_calls.specs.Query.{Part};
+ghost use Rattle.posix_calls.specs.declared.tree_answers.Child.{Child};
 ghost use Rattle.posix_calls.specs.Walk.{said, kind_at, there, is_root, is_there, is_inode};
-ghost use Rattle.posix_calls.specs.Answers.{Tells, last_name, landing, child_at};
+ghost use Rattle.posix_calls.specs.Answers.{Tells, IsTold, last_name, landing, untold, child_at};
 ghost use Rattle.posix_calls.specs.declared.operation.DecideError.TheVariants as why;
 ghost use Rattle.posix_calls.specs.declared.operation.DecideError.TheVariants.{Refused, Memory};
 ghost use Rattle.posix_calls.specs.declared.operation.Missing.TheVariants as missing;
@@ -16,14 +17,15 @@ use crate::path::Path;
 use crate::tree_answers::{Child, TreeAnswers, known};
 use std::alloc::Global;
 
-// Where a path leads: the directory of its last name, the inode there, and how many entries that directory has; and whether
-// the walk went through the inode that it was to watch for.
+// Where a path leads: the directory of its last name, the inode there, and how many entries that directory has; whether the walk
+// went through the inode that it was to watch for; and whether a directory is there, where the entry told it.
 #[derive(Clone, Copy, Debug, PartialEq, Eq)]
 pub struct Landing {
     pub parent: u32,
     pub inode: Option<u32>,
     pub entries: u32,
     pub passed: bool,
+    pub is_dir: Option<bool>,
 }
 
 // This error, where the test holds.
@@ -57,15 +59,16 @@ pub(crate) fn read_path(alloc: Global, bytes: &[u8]) -> Result<Path, DecideError
     Ok(Path::read(alloc, bytes)?)
 }
 
-// Whether there is a directory.
-pub(crate) fn kind_at<T: TreeAnswers>(tree: &T, inode: Option<u32>) -> Result<bool, DecideError>
-    ensures tells { Tells (T.part tree.now) (kind_at inode) result }
+// Whether there is a directory where a path leads.
+pub(crate) fn kind_at<T: TreeAnswers>(tree: &T, to: Landing) -> Result<bool, DecideError>
+    requires { IsTold (T.part tree.now) to }
+    ensures tells { Tells (T.part tree.now) (kind_at to.inode) result }
     ensures memory { result ≢ Err Memory }
 {
-    let Some(inode) = inode else {
+    let Some(inode) = to.inode else {
         return Ok(false);
     };
-    let answer = known(tree.is_dir(inode), Missing::Node { inode })?;
+    let answer = kind_of(tree, inode, to.is_dir)?;
     Ok(answer.unwrap_or(false))
 }
 
@@ -83,6 +86,7 @@ pub(crate) fn is_inode(inode: u32, at: Option<u32>) -> bool
 pub(crate) fn there(inode: Option<u32>) -> Result<u32, DecideError>
     ensures tells { (p : Part) → Tells p (there inode) result }
     ensures memory { result ≢ Err Memory }
+    ensures there { IfOk result (λ i. inode ≡ Some i) }
 {
     match inode {
         Some(inode) => Ok(inode),
@@ -92,14 +96,17 @@ pub(crate) fn there(inode: Option<u32>) -> Result<u32, DecideError>
     }
 }
 
-// Whether a child is a directory, by its entry or else by what is known of it.
-fn kind_of<T: TreeAnswers>(tree: &T, child: Child) -> Result<Option<bool>, DecideError>
-    requires { (is_dir : Bool) → child.is_dir ≡ Some is_dir → (T.part tree.now).is_dir child.inode ≡ Some (Some is_dir) }
-    ensures known { IfOk result (λ o. (T.part tree.now).is_dir child.inode ≡ Some o) }
-    ensures missing { IfErr result (λ error. (error ≡ why.Missing (missing.Node child.inode)) × ((T.part tree.now).is_dir child.inode ≡ None)) }
+// Whether an inode is a directory, by what an entry told or else by what is known of it.
+fn kind_of<T: TreeAnswers>(
+    tree: &T,
+    inode: u32,
+    told: Option<bool>,
+) -> Result<Option<bool>, DecideError>
+    requires { (is_dir : Bool) → told ≡ Some is_dir → (T.part tree.now).is_dir inode ≡ Some (Some is_dir) }
+    ensures known { IfOk result (λ o. (T.part tree.now).is_dir inode ≡ Some o) }
+    ensures missing { IfErr result (λ error. (error ≡ why.Missing (missing.Node inode)) × ((T.part tree.now).is_dir inode ≡ None)) }
 {
-    let inode = child.inode;
-    match child.is_dir {
+    match told {
         Some(is_dir) => Ok(Some(is_dir)),
         None => known(tree.is_dir(inode), Missing::Node { inode }),
     }
@@ -116,7 +123,7 @@ fn child_at<T: TreeAnswers>(tree: &T, dir: u32, name: &[u8]) -> Result<u32, Deci
             errno: Errno::NoEntry,
         });
     };
-    let answer = kind_of(tree, child)?;
+    let answer = kind_of(tree, child.inode, child.is_dir)?;
     match answer {
         Some(true) => Ok(child.inode),
         Some(false) => Err(DecideError::Refused {
@@ -128,12 +135,29 @@ fn child_at<T: TreeAnswers>(tree: &T, dir: u32, name: &[u8]) -> Result<u32, Deci
     }
 }
 
-fn inode_of(child: Option<Child>) -> Option<u32>
-    ensures { result ≡ option_map (λ e. e.inode) child }
+// The end of a walk at an entry of a directory.
+fn landing_at(parent: u32, child: Option<Child>, entries: u32, passed: bool) -> Landing
+    ensures parent { result.parent ≡ parent }
+    ensures inode { result.inode ≡ option_map (λ e. e.inode) child }
+    ensures entries { result.entries ≡ entries }
+    ensures passed { result.passed ≡ passed }
+    ensures told { (is_dir : Bool) → result.is_dir ≡ Some is_dir → (e : Child) × (child ≡ Some e) × (e.is_dir ≡ Some is_dir) }
 {
     match child {
-        Some(child) => Some(child.inode),
-        None => None,
+        Some(child) => Landing {
+            parent,
+            inode: Some(child.inode),
+            entries,
+            passed,
+            is_dir: child.is_dir,
+        },
+        None => Landing {
+            parent,
+            inode: None,
+            entries,
+            passed,
+            is_dir: None,
+        },
     }
 }
 
@@ -143,7 +167,8 @@ pub(crate) fn walk<T: TreeAnswers>(
     path: &Path,
     watched: Option<u32>,
 ) -> Result<Landing, DecideError>
-    ensures tells { Tells (T.part tree.now) (landing watched path.now) result }
+    ensures tells { Tells (T.part tree.now) (landing watched path.now) (untold result) }
+    ensures told { IfOk result (λ to. IsTold (T.part tree.now) to) }
     ensures memory { result ≢ Err Memory }
     ensures root { IfOk result (λ to. is_root path.now ≡ true → to.inode ≡ Some ROOT) }
 {
@@ -153,6 +178,7 @@ pub(crate) fn walk<T: TreeAnswers>(
             inode: Some(ROOT),
             entries: 0,
             passed: false,
+            is_dir: None,
         });
     };
     let mut dir = ROOT;
@@ -167,17 +193,13 @@ pub(crate) fn walk<T: TreeAnswers>(
     )?;
     let entries = known(tree.entry_count(dir), Missing::Node { inode: dir })?;
     passed |= is_inode(dir, watched);
-    Ok(Landing {
-        parent: dir,
-        inode: inode_of(child),
-        entries,
-        passed,
-    })
+    Ok(landing_at(dir, child, entries, passed))
 }
 
 // Walks along a path to the parent of its last name.
 pub(crate) fn prefix<T: TreeAnswers>(tree: &T, path: &Path) -> Result<Landing, DecideError>
-    ensures tells { Tells (T.part tree.now) (landing None path.now) result }
+    ensures tells { Tells (T.part tree.now) (landing None path.now) (untold result) }
+    ensures told { IfOk result (λ to. IsTold (T.part tree.now) to) }
     ensures memory { result ≢ Err Memory }
     ensures root { IfOk result (λ to. is_root path.now ≡ true → to.inode ≡ Some ROOT) }
 {

@@ -1,11 +1,32 @@
 // The runs of the programs.
 use crate::known::run_known;
 use crate::row::Row;
-use std::io::BufReader;
+use posix_calls::Errno;
+use std::io::{BufReader, Write};
 use workload_cli::{run_first, run_sh};
 
 // The script comes by so few bytes at a time, so that lines are cut everywhere.
 const AT_A_TIME: usize = 7;
+
+const ERRORS: [Errno; 17] = [
+    Errno::Again,
+    Errno::BadDescriptor,
+    Errno::Busy,
+    Errno::Exists,
+    Errno::FileTooBig,
+    Errno::Invalid,
+    Errno::IoError,
+    Errno::IsDirectory,
+    Errno::TooManyOpen,
+    Errno::TooManyLinks,
+    Errno::NameTooLong,
+    Errno::NoEntry,
+    Errno::NoMemory,
+    Errno::NoSpace,
+    Errno::NotDirectory,
+    Errno::NotEmpty,
+    Errno::NotPermitted,
+];
 
 /// How a run ended, and what it printed.
 #[derive(Drop)]
@@ -25,6 +46,7 @@ pub fn run(row: &Row<'_>) -> Ran {
     match row.words.first().copied().unwrap_or("") {
         "strata_first" => first(row, &mut ran),
         "known" => known(row, &mut ran),
+        "errors" => print_errors(&mut ran.out),
         _ => shell(row, &mut ran),
     }
     ran
@@ -32,6 +54,13 @@ pub fn run(row: &Row<'_>) -> Ran {
 
 fn first(row: &Row<'_>, ran: &mut Ran) {
     ran.status = run_first(row.alloc, &row.words, &mut ran.out, &mut ran.err);
+}
+
+// The name of each error, as it is displayed.
+fn print_errors(out: &mut Vec<u8>) {
+    for errno in ERRORS {
+        let _ = writeln!(out, "{errno}");
+    }
 }
 
 fn known(row: &Row<'_>, ran: &mut Ran) {

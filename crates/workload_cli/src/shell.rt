@@ -2,10 +2,10 @@
 ghost use Rattle.std.specs.Prelude.{◌≡◌, ◌⊎◌, IfOk};
 ghost use Rattle.posix_calls.specs.Tree.{opening};
 ghost use Rattle.posix_calls.specs.Exact.{IsAnswered, IsGivenUp};
-ghost use Rattle.plain_tree.specs.Plain.{state_of};
+ghost use Rattle.plain_tree.specs.Plain.{stored_state};
 ghost use Rattle.script_lines.specs.Lines.{understood};
 ghost use Rattle.script_lines.specs.Seen.{asked};
-ghost use Rattle.workload_cli.specs.Answering.{IsAnswerTo};
+ghost use Rattle.workload_cli.specs.Answering.{IsAnswerTo, IsUnbuilt};
 
 use crate::run_error::RunError;
 use crate::script::answer::{Answer, write_answer};
@@ -135,7 +135,7 @@ struct Shell {
 
 impl Shell {
     fn new(alloc: Global) -> Result<Self, RunError>
-        ensures { IfOk result (λ shell. state_of shell.tree ≡ opening) }
+        ensures { IfOk result (λ shell. stored_state shell.tree ≡ opening) }
     {
         let tree = PlainTree::new(alloc)?;
         Ok(Shell { alloc, tree })
@@ -143,7 +143,7 @@ impl Shell {
 
     // What a line is answered; none where it can't be read.
     fn answer(&mut self, line: &[u8]) -> Option<Answer>
-        ensures { IsAnswerTo (state_of self.old.tree) (understood line.now) result (state_of self.new.tree) }
+        ensures { IsAnswerTo (stored_state self.old.tree) (understood line.now) result (stored_state self.new.tree) }
     {
         match read_line(line) {
             None => None,
@@ -154,7 +154,7 @@ impl Shell {
 
     // What a client's call is answered. Where there is no memory to build it, the tree is not asked.
     fn ask(&mut self, client: u32, call: &CallText<'_>) -> Reply
-        ensures { IsAnswered (state_of self.old.tree) client (asked call.now) result (state_of self.new.tree) ⊎ IsGivenUp (state_of self.old.tree) client (asked call.now) result (state_of self.new.tree) }
+        ensures { (IsAnswered (stored_state self.old.tree) client (asked call.now) result (stored_state self.new.tree) ⊎ IsGivenUp (stored_state self.old.tree) client (asked call.now) result (stored_state self.new.tree)) ⊎ IsUnbuilt (stored_state self.old.tree) result (stored_state self.new.tree) }
     {
         match call.to_call(self.alloc) {
             Ok(call) => self.tree.ask(client, &call),

@@ -26,6 +26,8 @@ pub struct Beside {
     /// How many inodes the last call was decided by, and by how many units it might raise the graph.
     pub decided: usize,
     pub growth: u32,
+    /// The blocks that the last call asked for.
+    pub blocks: Vec<Missing>,
     /// Whether the graph and the tree differed, or what they promise was not so, or a line could not be asked.
     pub is_wrong: bool,
 }
@@ -45,6 +47,7 @@ impl Beside {
             owns,
             decided: 0,
             growth: 0,
+            blocks: Vec::new(alloc),
             is_wrong: false,
         })
     }
@@ -62,6 +65,7 @@ impl Beside {
     /// What a client's call is answered by the graph, and also by the tree.
     pub fn ask(&mut self, client: u32, call: &Call) -> Option<Reply> {
         self.growth = 0;
+        self.blocks.clear();
         self.part.forget();
         let reply = self.answer(client, call);
         self.compare(client, call, &reply);
@@ -99,12 +103,19 @@ impl Beside {
     // What is lacked becomes known.
     fn learn(&mut self, why: DecideError) {
         let is_learned = match why {
-            DecideError::Missing {
-                what: Missing::Node { inode },
-            } => self.part.learn(inode).is_ok(),
+            DecideError::Missing { what } => self.learn_missing(what),
             _ => false,
         };
         self.expect(is_learned);
+    }
+
+    fn learn_missing(&mut self, what: Missing) -> bool {
+        match what {
+            Missing::Node { inode } => self.part.learn(inode).is_ok(),
+            Missing::Blocks { inode, .. } => {
+                self.part.learn_bytes(inode).is_ok() && self.blocks.push(what).is_ok()
+            }
+        }
     }
 
     fn answer_by(&mut self, client: u32, operation: Operation) -> Option<Reply> {

@@ -8,8 +8,8 @@ use std::alloc::Global;
 use std::io::Write;
 
 /// Answers each line of a script from just the nodes that its client asks for, and compares graph and tree after it. Prints the
-/// reply, the inodes by which the call was decided, those that were known once it was recorded, and the units by which it might
-/// raise the graph. The line `draw N` asks N calls that are drawn, and prints how many of them were not refused.
+/// reply, the inodes by which the call was decided, those that were known once it was recorded, the units by which it might
+/// raise the graph, and the blocks that it asked for. The line `draw N` asks N calls that are drawn, and prints how many of them were not refused.
 ///
 /// Answers the status: 0 at the end, 1 where something differs or a line can't be read.
 pub fn run_known(alloc: Global, script: &[u8], out: &mut Vec<u8>) -> u8 {
@@ -46,10 +46,14 @@ fn print(beside: &Beside, reply: &Reply, out: &mut Vec<u8>) {
     let known = beside.part.known();
     let decided = known.get(..beside.decided).unwrap_or(&[]);
     let growth = beside.growth;
-    let _ = writeln!(
+    let _ = write!(
         out,
         "{reply:?}; by {decided:?}; recorded by {known:?}; grows {growth}"
     );
+    for blocks in &beside.blocks {
+        let _ = write!(out, "; asks for {blocks:?}");
+    }
+    let _ = writeln!(out, "");
 }
 
 // What a line is answered, if it is a call.

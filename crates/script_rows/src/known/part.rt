@@ -8,13 +8,14 @@ use graph_answers::GraphAnswers;
 use posix_calls::{Bytes, Child, Description, Names, ROOT, TreeAnswers};
 use std::alloc::{AllocError, Global};
 
-/// A plain graph, and which inodes of it are known: whole, or only as to what they are. That the root is a directory is known
-/// always.
+/// A plain graph, and which inodes of it are known: whole, the bytes of which, or only as to what they are. That the root is a
+/// directory is known always.
 #[derive(Drop)]
 pub struct KnownPart {
     pub graph: PlainGraph,
     nodes: Vec<u32>,
     kinds: Vec<u32>,
+    read: Vec<u32>,
 }
 
 impl KnownPart {
@@ -24,6 +25,7 @@ impl KnownPart {
             graph,
             nodes: Vec::new(alloc),
             kinds: Vec::new(alloc),
+            read: Vec::new(alloc),
         }
     }
 
@@ -31,6 +33,7 @@ impl KnownPart {
     pub fn forget(&mut self) {
         self.nodes.clear();
         self.kinds.clear();
+        self.read.clear();
     }
 
     /// An inode becomes known, and of its entries what they are.
@@ -42,6 +45,12 @@ impl KnownPart {
                 self.kinds.push(entry.value.inode())?;
             }
         }
+        Ok(())
+    }
+
+    /// The bytes of a file become known.
+    pub fn learn_bytes(&mut self, inode: u32) -> Result<(), AllocError> {
+        self.read.push(inode)?;
         Ok(())
     }
 
@@ -64,7 +73,7 @@ fn is_among(inode: u32, known: &[u32]) -> bool
 }
 
 impl TreeAnswers for KnownPart {
-    ghost part = { λ r. part_of (graph_of r.graph) r.nodes.items r.kinds.items };
+    ghost part = { λ r. part_of (graph_of r.graph) r.nodes.items r.kinds.items r.read.items };
 
     fn is_dir(&self, inode: u32) -> Option<Option<bool>> {
         if inode == ROOT || is_among(inode, &self.kinds) {
@@ -121,7 +130,7 @@ impl TreeAnswers for KnownPart {
         at: u64,
         count: u64,
     ) -> Result<Option<Bytes>, AllocError> {
-        if is_among(inode, &self.nodes) {
+        if is_among(inode, &self.read) {
             return self.whole().read(alloc, inode, at, count);
         }
         Ok(None)

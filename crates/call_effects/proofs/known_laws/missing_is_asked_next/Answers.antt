@@ -3,7 +3,7 @@ use Rattle.posix_calls.proofs.Parts.{missing_is_left}
 use Rattle.call_effects.specs.Known.{part_of}
 use Rattle.call_effects.proofs.Changes.{fair_of}
 use Rattle.call_effects.proofs.KnownLooks.{call_looks}
-use Rattle.call_effects.proofs.KnownReads.{call_reads_next, call_blocks}
+use Rattle.call_effects.proofs.KnownReads.{call_reads_next, call_blocks, call_blocks_few}
 use Rattle.call_effects.proofs.KnownSteps.{missing_there, blocks_missing_there, effects_missing_there, growth_missing_there}
 use Rattle.call_effects.proofs.KnownMissing.{missing_no_copy}
 use Rattle.call_effects.proofs.KnownNodes.{effects_miss_nodes, growth_misses_nodes}
@@ -41,3 +41,6 @@ returns-clause-growth_there c = growth_missing_there
 
 pub returns-clause-growth : goal.returns-clause-growth
 returns-clause-growth c = growth_misses_nodes
+
+pub returns-clause-few_blocks : goal.returns-clause-few_blocks
+returns-clause-few_blocks c = call_blocks_few

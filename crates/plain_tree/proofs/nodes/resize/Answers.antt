@@ -2,11 +2,11 @@ use Rattle.std.proofs.Common.{Some}
 use Rattle.std.proofs.lemmas.Result.{on_ok_weaker}
 use Rattle.posix_calls.specs.Content.{resized}
 use Rattle.posix_calls.specs.Tree.{File, bytes_of}
-use Rattle.plain_tree.specs.Plain.{tree_of}
+use Rattle.plain_tree.specs.Plain.{stored_tree}
 use Rattle.plain_tree.proofs.Slots.{tree_written}
 use Rattle.plain_tree.proofs.nodes.resize.Goals as goal
 
 pub returns-clause-ok : goal.returns-clause-ok
 returns-clause-ok c =
     on_ok_weaker c.resize.result
-    (λ e. tree_written c.make_room.new.nodes.items (tree_of c.args.nodes.now.items) c.args.inode (λ o. Some (File (resized c.args.len (bytes_of o)))) c.index_mut.result.now c.resize.new.self c.in_ok-make_room.ensures.room c.make_room.ensures.tree c.index_mut.ensures.value e) c.resize.ensures.ok
+    (λ e. tree_written c.make_room.new.nodes.items (stored_tree c.args.nodes.now.items) c.args.inode (λ o. Some (File (resized c.args.len (bytes_of o)))) c.index_mut.result.now c.resize.new.self c.in_ok-make_room.ensures.room c.make_room.ensures.tree c.index_mut.ensures.value e) c.resize.ensures.ok

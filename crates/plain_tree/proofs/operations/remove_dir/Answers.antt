@@ -1,13 +1,13 @@
 use Rattle.std.proofs.Common.{None, subst, sym, ap, ◌∙◌}
 use Rattle.posix_calls.specs.Tree.{Tree, set_node, IsBare}
 use Rattle.posix_calls.specs.Operations.{left}
-use Rattle.plain_tree.specs.Plain.{tree_of}
+use Rattle.plain_tree.specs.Plain.{stored_tree}
 use Rattle.plain_tree.proofs.Tallies.{bare_left}
 use Rattle.plain_tree.proofs.operations.remove_dir.Goals as goal
 
 pub clear-requires : goal.clear-requires
 clear-requires c =
-    subst (λ (t : Tree). IsBare (t c.args.inode)) (sym (c.leave.ensures.tree ∙ ap (λ (t : Tree). left t c.args.at.now) c.make_room.ensures.tree)) (bare_left (tree_of c.args.nodes.now) c.args.at.now c.args.inode c.requires.bare)
+    subst (λ (t : Tree). IsBare (t c.args.inode)) (sym (c.leave.ensures.tree ∙ ap (λ (t : Tree). left t c.args.at.now) c.make_room.ensures.tree)) (bare_left (stored_tree c.args.nodes.now) c.args.at.now c.args.inode c.requires.bare)
 
 pub returns-clause-ok : goal.returns-clause-ok
 returns-clause-ok c =

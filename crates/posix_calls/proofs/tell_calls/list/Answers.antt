@@ -8,4 +8,4 @@ returns-in_err-path-clause-tells g c = exits c.from_residual.ensures.1 (bind_sto
 
 pub returns-clause-tells : goal.returns-clause-tells
 unfolding list_path
-returns-clause-tells g c = bind_gives _ (c.in_ok-path.ensures.tells _) c.list_at.ensures
+returns-clause-tells g c = bind_gives _ (c.in_ok-path.ensures.tells _) c.list_at.ensures.tells

@@ -7,20 +7,20 @@ use Rattle.posix_calls.specs.declared.operation.Operation.TheVariants as operati
 use Rattle.posix_calls.specs.declared.call.Reply.TheVariants as reply
 use Rattle.posix_calls.proofs.tell_calls.list_at.Goals as goal
 
-pub returns-in_err-to : goal.returns-in_err-to
-returns-in_err-to g c = exits c.from_residual.ensures.1 (bind_place_stops None c.args.path.now _ c.in_err-to.ensures.tells)
+pub returns-in_err-to-clause-tells : goal.returns-in_err-to-clause-tells
+returns-in_err-to-clause-tells g c = exits c.from_residual.ensures.1 (bind_place_stops None c.args.path.now _ c.in_err-to.ensures.tells)
 
-pub returns-in_err-inode : goal.returns-in_err-inode
-returns-in_err-inode g c = exits c.from_residual-in_err-inode.ensures.1 (bind_place None c.args.path.now _ c.in_ok-to.ensures.tells (λ to_walked to_seen. bind_stops _ (c.in_err-inode.ensures.tells _)))
+pub returns-in_err-inode-clause-tells : goal.returns-in_err-inode-clause-tells
+returns-in_err-inode-clause-tells g c = exits c.from_residual-in_err-inode.ensures.1 (bind_place None c.args.path.now _ c.in_ok-to.ensures.tells (λ to_walked to_seen. bind_stops _ (c.in_err-inode.ensures.tells _)))
 
-pub returns-in_err-is_dir : goal.returns-in_err-is_dir
-returns-in_err-is_dir g c = exits c.from_residual-in_err-is_dir.ensures.1 (bind_place None c.args.path.now _ c.in_ok-to.ensures.tells (λ to_walked to_seen. bind_gives _ (c.in_ok-inode.ensures.tells _) (bind_stops _ c.in_err-is_dir.ensures.tells)))
+pub returns-in_err-is_dir-clause-tells : goal.returns-in_err-is_dir-clause-tells
+returns-in_err-is_dir-clause-tells g c = exits c.from_residual-in_err-is_dir.ensures.1 (bind_place None c.args.path.now _ c.in_ok-to.ensures.tells (λ to_walked to_seen. bind_gives _ (c.in_ok-inode.ensures.tells _) (bind_stops _ c.in_err-is_dir.ensures.tells)))
 
-pub returns-in_err-refuse_if : goal.returns-in_err-refuse_if
-returns-in_err-refuse_if g c = exits c.from_residual-in_err-refuse_if.ensures.1 (bind_place None c.args.path.now _ c.in_ok-to.ensures.tells (λ to_walked to_seen. bind_gives _ (c.in_ok-inode.ensures.tells _) (bind_gives _ c.in_ok-is_dir.ensures.tells (fails _ _ c.in_err-refuse_if.ensures.refused.0 (c.in_err-refuse_if.ensures.refused.1)))))
+pub returns-in_err-refuse_if-clause-tells : goal.returns-in_err-refuse_if-clause-tells
+returns-in_err-refuse_if-clause-tells g c = exits c.from_residual-in_err-refuse_if.ensures.1 (bind_place None c.args.path.now _ c.in_ok-to.ensures.tells (λ to_walked to_seen. bind_gives _ (c.in_ok-inode.ensures.tells _) (bind_gives _ c.in_ok-is_dir.ensures.tells (fails _ _ c.in_err-refuse_if.ensures.refused.0 (c.in_err-refuse_if.ensures.refused.1)))))
 
-pub returns-in_err-names : goal.returns-in_err-names
-returns-in_err-names g c = exits c.from_residual-in_err-names.ensures.1 (bind_place None c.args.path.now _ c.in_ok-to.ensures.tells (λ to_walked to_seen. bind_gives _ (c.in_ok-inode.ensures.tells _) (bind_gives _ c.in_ok-is_dir.ensures.tells (passes _ _ (c.in_ok-refuse_if.ensures.clear) (bind_look_missing _ entries_seen listed_in _ c.in_err-names.ensures.missing.0 (sym c.in_ok-answer.ensures ∙ c.in_err-names.ensures.missing.1))))))
+pub returns-in_err-names-clause-tells : goal.returns-in_err-names-clause-tells
+returns-in_err-names-clause-tells g c = exits c.from_residual-in_err-names.ensures.1 (bind_place None c.args.path.now _ c.in_ok-to.ensures.tells (λ to_walked to_seen. bind_gives _ (c.in_ok-inode.ensures.tells _) (bind_gives _ c.in_ok-is_dir.ensures.tells (passes _ _ (c.in_ok-refuse_if.ensures.clear) (bind_look_missing _ entries_seen listed_in _ c.in_err-names.ensures.missing.0 (sym c.in_ok-answer.ensures.names ∙ c.in_err-names.ensures.missing.1))))))
 
-pub returns : goal.returns
-returns g c = (bind_place None c.args.path.now _ c.in_ok-to.ensures.tells (λ to_walked to_seen. bind_gives _ (c.in_ok-inode.ensures.tells _) (bind_gives _ c.in_ok-is_dir.ensures.tells (passes _ _ (c.in_ok-refuse_if.ensures.clear) (bind_look _ entries_seen listed_in _ (sym c.in_ok-answer.ensures ∙ c.in_ok-names.ensures.known) (λ s is. gives_as (ap (λ z. operation.Tell (reply.Listed z)) is)))))))
+pub returns-clause-tells : goal.returns-clause-tells
+returns-clause-tells g c = (bind_place None c.args.path.now _ c.in_ok-to.ensures.tells (λ to_walked to_seen. bind_gives _ (c.in_ok-inode.ensures.tells _) (bind_gives _ c.in_ok-is_dir.ensures.tells (passes _ _ (c.in_ok-refuse_if.ensures.clear) (bind_look _ entries_seen listed_in _ (sym c.in_ok-answer.ensures.names ∙ c.in_ok-names.ensures.known) (λ s is. gives_as (ap (λ z. operation.Tell (reply.Listed z)) is)))))))

@@ -1,4 +1,4 @@
-use Rattle.std.proofs.Common.{◌≡◌, Option, Some, None, Bool, false, refl, sym, ◌∙◌}
+use Rattle.std.proofs.Common.{◌≡◌, Option, Some, None, Bool, false, refl}
 use Rattle.std.specs.Option.{unwrap_or}
 use Rattle.posix_calls.specs.Walk.{is_true}
 use Rattle.posix_calls.proofs.Chain.{exits, gives, is_dir_known, is_dir_missing}
@@ -8,11 +8,14 @@ pub returns-in_default-clause-tells : goal.returns-in_default-clause-tells
 returns-in_default-clause-tells g c = rw c.in_default.is gives
 
 pub returns-in_err-answer-clause-tells : goal.returns-in_err-answer-clause-tells
-returns-in_err-answer-clause-tells g c = rw c.in-Some.is (exits c.from_residual.ensures.1 (is_dir_missing c.in_err-answer.ensures.missing.0 (sym c.is_dir.ensures ∙ c.in_err-answer.ensures.missing.1)))
+returns-in_err-answer-clause-tells g c = rw c.in-Some.is (exits c.from_residual.ensures.1 (is_dir_missing c.in_err-answer.ensures.missing.0 c.in_err-answer.ensures.missing.1))
 
 true_or : (o : Option Bool) → unwrap_or o false ≡ is_true o
 true_or None = refl
 true_or (Some b) = refl
 
 pub returns-clause-tells : goal.returns-clause-tells
-returns-clause-tells g c = rw (c.in-Some.is, c.unwrap_or.ensures, true_or c.in_ok-answer.answer) (is_dir_known (sym c.is_dir.ensures ∙ c.in_ok-answer.ensures.known) gives)
+returns-clause-tells g c = rw (c.in-Some.is, c.unwrap_or.ensures, true_or c.in_ok-answer.answer) (is_dir_known c.in_ok-answer.ensures.known gives)
+
+pub kind_of-requires : goal.kind_of-requires
+kind_of-requires g c = λ is_dir told. c.requires c.in-Some.inode is_dir c.in-Some.is told

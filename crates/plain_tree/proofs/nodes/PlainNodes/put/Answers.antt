@@ -1,10 +1,10 @@
 use Rattle.std.proofs.Common.{List, Option, subst, sym}
 use Rattle.posix_calls.specs.Tree.{Node, IsBare}
-use Rattle.plain_tree.specs.Plain.{tree_of}
+use Rattle.plain_tree.specs.Plain.{stored_tree}
 use Rattle.plain_tree.proofs.Tallies.{counted_set}
 use Rattle.plain_tree.proofs.nodes.PlainNodes.put.Goals as goal
 
 pub invariant_of-self : goal.invariant_of-self
 invariant_of-self c =
     counted_set c.self.inside.counts.items c.self.inside.nodes.items c.put_node.new.nodes.items c.args.inode c.args.node c.self.invariant c.put_node.ensures.tree
-    (subst (λ (nodes : List (Option Node)). IsBare (tree_of nodes c.args.inode)) (sym c.self.view_is) c.requires.before) c.requires.after
+    (subst (λ (nodes : List (Option Node)). IsBare (stored_tree nodes c.args.inode)) (sym c.self.view_is) c.requires.before) c.requires.after
