@@ -5,6 +5,7 @@
 #![tactic(auto)]
 
 mod data_words;
+mod directory_rows;
 mod graph_rows;
 mod journal_rows;
 mod layout_rows;

@@ -1,5 +1,6 @@
 // The rows of the table.
 use crate::data_words::Input;
+use crate::directory_rows::tell_directory;
 use crate::graph_rows::tell_graph;
 use crate::journal_rows::tell_journal;
 use crate::layout_rows::{tell_geometry, tell_structure};
@@ -132,6 +133,7 @@ fn tell(kind: &str, input: &mut Input<'_>, out: &mut Text) {
         "payload" => tell_payload(input, out),
         "graph" => tell_graph(input, out),
         "geometry" => tell_geometry(input, out),
+        "whole-directory" => tell_directory(input, out),
         "journal" => tell_journal(input, out),
         "region" => tell_region(input, out),
         _ => tell_structure(kind, input, out),
