@@ -7,7 +7,7 @@ use Rattle.file_graph.specs.Units.{growth}
 use Rattle.call_effects.specs.Wholes.{state_of}
 use Rattle.call_effects.proofs.KnownUnits.{planned_units}
 use Rattle.call_effects.proofs.Rises.{growth_local}
-use Rattle.world_facts.specs.Logs.{after_records, is_written, is_touched, units_in, ArePaid}
+use Rattle.world_facts.specs.Logs.{after_records, is_written, is_touched, units_in, IsPaid, ArePaid, NamesNone, NameNone}
 use Rattle.world_facts.specs.World.{Begun, Client, Account, World, undigested, records_of, change_of, log_of, whole, held, tree_of, moved}
 use Rattle.world_facts.specs.Standing.{IsPending, Stands}
 use Rattle.world_facts.specs.Invariant.{Holds}
@@ -16,7 +16,8 @@ use Rattle.world_facts.proofs.Records.{either, both, append_nil, front_written, 
 use Rattle.world_facts.proofs.Owners.{whole_at}
 use Rattle.world_facts.proofs.Idle.{none_some}
 use Rattle.world_facts.proofs.Facts.{owned, writing_holds}
-use Rattle.world_facts.proofs.Paid.{paid_front, paid_join}
+use Rattle.world_facts.proofs.Along.{along_front, along_join}
+use Rattle.world_facts.proofs.Nameless.{nameless_same, planned_names_none}
 use Rattle.world_facts.proofs.Moved.{quiet, booked_same, before_less, after_less, whole_same, held_same}
 
 -- a client's step that changes neither its records nor what it has open
@@ -57,7 +58,17 @@ module _ (w : World) (c : ℕ) (b : Begun) (h : Holds w) (can : CanBegin w c b) 
       omega (arith, same, units)
 
   log_paid : ArePaid w.kernel.shared (log_of w c ++ (b.change ∷ []))
-  log_paid = paid_join (log_of w c) (b.change ∷ []) w.kernel.shared (paid_front (log_of w c) (change_of old.begun) w.kernel.shared s.logged.paid) (grown, tt)
+  log_paid = along_join IsPaid (log_of w c) (b.change ∷ []) w.kernel.shared (along_front IsPaid (log_of w c) (change_of old.begun) w.kernel.shared s.logged.paid) (grown, tt)
+
+  log_unnamed : NameNone w.kernel.shared (log_of w c ++ (b.change ∷ []))
+  log_unnamed = along_join NamesNone (log_of w c) (b.change ∷ []) w.kernel.shared (along_front NamesNone (log_of w c) (change_of old.begun) w.kernel.shared s.logged.unnamed)
+      (nameless_same (b.change ∷ []) (whole w) (after_records w.kernel.shared (log_of w c)) (λ i e. own_view i (one_written i e)) (planned_names_none old.knows (whole w) (held w) b.call b.new b.operation b.change.effects h.sound (h.agrees c can.client) can.planned, tt))
+    where
+      one_written : (i : ℕ) → is_written i (b.change ∷ []) ≡ true → is_touched i b.change ≡ true
+      one_written i e = elim (either (is_touched i b.change)) [
+        | inl there ↦ there
+        | inr off ↦ both (is_written i (b.change ∷ [])) e (ap (λ x. x || false) off)
+      ]
 
   pub begun_holds : Holds (begun w c b)
   begun_holds =
@@ -71,7 +82,7 @@ module _ (w : World) (c : ℕ) (b : Begun) (h : Holds w) (can : CanBegin w c b) 
       (record {
         number = s.number;
         marked = s.marked;
-        logged = record { leased = log_leased; paid = log_paid };
+        logged = record { leased = log_leased; paid = log_paid; unnamed = log_unnamed };
         units = omega (arith, were, before, after, enough);
         numbered = s.numbered;
         leased = s.leased;
@@ -112,7 +123,8 @@ module _ (w : World) (c : ℕ) (b : Begun) (h : Holds w) (is : IsBegun w c b) wh
         marked = stood.marked;
         logged = record {
           leased = λ i e. stood.logged.leased i (front_written i (log_of w c) (change_of was.begun) (sym (ap (is_written i) (append_nil (log_of w c))) ∙ e));
-          paid = subst (λ rs. ArePaid w.kernel.shared rs) (sym (append_nil (log_of w c))) (paid_front (log_of w c) (change_of was.begun) w.kernel.shared stood.logged.paid);
+          paid = subst (λ rs. ArePaid w.kernel.shared rs) (sym (append_nil (log_of w c))) (along_front IsPaid (log_of w c) (change_of was.begun) w.kernel.shared stood.logged.paid);
+          unnamed = subst (λ rs. NameNone w.kernel.shared rs) (sym (append_nil (log_of w c))) (along_front NamesNone (log_of w c) (change_of was.begun) w.kernel.shared stood.logged.unnamed);
         };
         units = omega (arith, were, before, after);
         numbered = stood.numbered;

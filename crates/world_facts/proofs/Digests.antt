@@ -11,7 +11,7 @@ use Rattle.file_graph.specs.Units.{charge}
 use Rattle.log_record.specs.declared.format.Record.{Record}
 use Rattle.call_effects.specs.Wholes.{IsSound, state_of}
 use Rattle.call_effects.specs.Known.{Agrees}
-use Rattle.world_facts.specs.Logs.{after_records, is_written, is_made_in, IsMadeOnce, units_in, ArePaid}
+use Rattle.world_facts.specs.Logs.{after_records, is_written, is_made_in, IsMadeOnce, units_in, IsPaid, ArePaid, NamesNone, NameNone}
 use Rattle.world_facts.specs.World.{Client, Account, World, undigested, records_of, change_of, log_of, all_of, whole, held, tree_of, at}
 use Rattle.world_facts.specs.Standing.{IsBooked, Stands}
 use Rattle.world_facts.specs.Invariant.{Holds}
@@ -19,7 +19,9 @@ use Rattle.world_facts.specs.KernelSteps.{CanDigest, digested}
 use Rattle.world_facts.proofs.Records.{either, both, records_stay, front_unwritten, rest_written, units_append}
 use Rattle.world_facts.proofs.Owners.{digested_whole}
 use Rattle.world_facts.proofs.Made.{records_none, front_unmade, rest_made, rest_unmade, once_rest, once_apart, made_append}
-use Rattle.world_facts.proofs.Paid.{paid_same, paid_rest, paid_front, charge_records}
+use Rattle.world_facts.proofs.Along.{along_rest, along_front}
+use Rattle.world_facts.proofs.Paid.{paid_same, charge_records}
+use Rattle.world_facts.proofs.Nameless.{nameless_same}
 use Rattle.world_facts.proofs.Facts.{apart_logs, written_alone}
 use Rattle.world_facts.proofs.Facts as facts
 use Rattle.world_facts.proofs.Moved.{holds_moved, booked_moved, units_moved, log_there, log_else, held_same}
@@ -112,7 +114,7 @@ module _ (w : World) (c : ℕ) (first rest : List Record) (h : Holds w) (can : C
   fits =
       let sums : sum_up_to 8 (λ d. (at w.kernel.accounts c after d).units) + account.units ≡ sum_up_to 8 (λ d. (w.kernel.accounts d).units) + (account.units - units_in first) = units_moved w c shared after p h can.client in
       let before : charge w.kernel.shared + sum_up_to 8 (λ d. (w.kernel.accounts d).units) ≤ w.kernel.capacity = h.booked.fits in
-      let risen : charge shared ≤ charge w.kernel.shared + units_in first = charge_records first w.kernel.shared (paid_front first (later ++ change_of p.begun) w.kernel.shared paid_all) in
+      let risen : charge shared ≤ charge w.kernel.shared + units_in first = charge_records first w.kernel.shared (along_front IsPaid first (later ++ change_of p.begun) w.kernel.shared paid_all) in
       let were : account.units ≡ p.spare + (units_in first + units_in (later ++ change_of p.begun)) = units_were in
       omega (arith, sums, before, risen, were)
 
@@ -160,7 +162,8 @@ module _ (w : World) (c : ℕ) (first rest : List Record) (h : Holds w) (can : C
     marked = record { low = (let low : p.past ≤ account.mark = past_low in omega (arith, low)); high = (let low : p.past ≤ account.mark = past_low in let l : length p.sealed ≡ (account.mark - p.past) + (length first + length rest) = lengths in omega (arith, low, l)); away = s.marked.away };
     logged = record {
       leased = λ i e. s.logged.leased i (ap (is_written i) all_was ∙ rest_written i first (later ++ change_of p.begun) (ap (is_written i) (sym all_is) ∙ e));
-      paid = subst (λ rs. ArePaid shared rs) (sym all_is) (paid_rest first (later ++ change_of p.begun) w.kernel.shared paid_all);
+      paid = subst (λ rs. ArePaid shared rs) (sym all_is) (along_rest IsPaid first (later ++ change_of p.begun) w.kernel.shared paid_all);
+      unnamed = subst (λ rs. NameNone shared rs) (sym all_is) (along_rest NamesNone first (later ++ change_of p.begun) w.kernel.shared (subst (λ rs. NameNone w.kernel.shared rs) all_was s.logged.unnamed));
     };
     units = (let were : account.units ≡ p.spare + (units_in first + units_in (later ++ change_of p.begun)) = units_were in let now : units_in (records_of after p) ≡ units_in (later ++ change_of p.begun) = ap units_in all_is in omega (arith, were, now));
     numbered = record {
@@ -184,7 +187,7 @@ module _ (w : World) (c : ℕ) (first rest : List Record) (h : Holds w) (can : C
       (λ d is_d other. let x = h.stands d is_d in record {
         number = x.number;
         marked = x.marked;
-        logged = record { leased = x.logged.leased; paid = paid_same (all_of w d) w.kernel.shared shared (λ i e. beside d i is_d other e) x.logged.paid };
+        logged = record { leased = x.logged.leased; paid = paid_same (all_of w d) w.kernel.shared shared (λ i e. beside d i is_d other e) x.logged.paid; unnamed = nameless_same (all_of w d) w.kernel.shared shared (λ i e. beside d i is_d other e) x.logged.unnamed };
         units = x.units;
         numbered = x.numbered;
         leased = x.leased;

@@ -9,7 +9,7 @@ use Rattle.file_graph.specs.Units.{charge}
 use Rattle.call_effects.specs.Settled.{nobody}
 use Rattle.call_effects.specs.Wholes.{IsSound, state_of}
 use Rattle.log_record.specs.declared.format.Record.{Record}
-use Rattle.world_facts.specs.Logs.{after_clients, is_written, ArePaid, units_in, is_made_in, IsMadeOnce}
+use Rattle.world_facts.specs.Logs.{after_clients, is_written, ArePaid, NameNone, units_in, is_made_in, IsMadeOnce}
 use Rattle.world_facts.specs.World.{records_of, whole, held, tree_of}
 use Rattle.world_facts.specs.Standing.{Stands}
 use Rattle.world_facts.specs.Invariant.{Holds}
@@ -45,6 +45,7 @@ idle_stands g c past = record {
   logged = record {
     leased = λ i e. absurd (false≢true (sym (ap (is_written i) (empty past)) ∙ e));
     paid = subst (ArePaid g) (sym (empty past)) tt;
+    unnamed = subst (NameNone g) (sym (empty past)) tt;
   };
   units = let nothing : units_in (records_of (idle_account past) (idle_client c past)) ≡ 0 = ap units_in (empty past) in omega (arith, nothing);
   numbered = record { made = λ i e. absurd (false≢true (sym (ap (is_made_in i) (nothing_left (past - past))) ∙ e)); once = λ i. subst (IsMadeOnce i) (sym (nothing_left (past - past))) tt; granted = λ i e. e; unused = λ i e. absurd (false≢true e) };

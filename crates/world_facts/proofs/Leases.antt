@@ -54,7 +54,7 @@ module _ (w : World) (c i : ℕ) (h : Holds w) (is_c : is_client c ≡ true) whe
       (record {
         number = s.number;
         marked = s.marked;
-        logged = record { leased = λ j e. in_rest (j == i) ((w.clients c).writes j) (s.logged.leased j e); paid = s.logged.paid };
+        logged = record { leased = λ j e. in_rest (j == i) ((w.clients c).writes j) (s.logged.leased j e); paid = s.logged.paid; unnamed = s.logged.unnamed };
         units = s.units;
         numbered = s.numbered;
         leased = record { copies = λ j copy e. writer_holds j (s.leased.copies j copy e); blocks = λ j b bytes e. writer_holds j (s.leased.blocks j b bytes e) };
@@ -129,6 +129,7 @@ module _ (w : World) (c i : ℕ) (h : Holds w) (can : CanGive w c i) where
         logged = record {
           leased = λ j e. still (w.clients c).writes j (λ same. both (is_written j (records_of (w.kernel.accounts c) (w.clients c))) e (ap (λ x. is_written x (records_of (w.kernel.accounts c) (w.clients c))) same ∙ giver_clean)) ∙ stood.logged.leased j e;
           paid = stood.logged.paid;
+          unnamed = stood.logged.unnamed;
         };
         units = stood.units;
         numbered = stood.numbered;

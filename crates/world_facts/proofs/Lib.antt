@@ -3,8 +3,10 @@ pub mod Owners
 pub mod Idle
 pub mod Moved
 pub mod Facts
+pub mod Along
 pub mod Paid
 pub mod Made
+pub mod Nameless
 pub mod Begins
 pub mod Knowing
 pub mod Replies

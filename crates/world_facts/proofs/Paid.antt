@@ -1,5 +1,5 @@
 -- A record's growth is the same wherever it is measured, so what is paid at the call is paid at the digest.
-use Rattle.std.proofs.Common.{◌≡◌, ℕ, ◌+◌, ◌≤◌, true, List, [], ◌∷◌, ◌++◌, subst, arith}
+use Rattle.std.proofs.Common.{◌≡◌, ℕ, ◌+◌, ◌≤◌, true, List, [], ◌∷◌, subst, arith}
 use Rattle.file_graph.specs.Graph.{Graph, after_effects}
 use Rattle.file_graph.specs.Units.{charge, growth}
 use Rattle.file_graph.proofs.Touches.{alone, charge_rises}
@@ -15,18 +15,6 @@ paid_same (r ∷ rs) g h same paid = (
   subst (λ n. n ≤ r.units) (growth_local g h r.effects (λ i e. same i (in_first (is_touched i r) (is_written i rs) e))) paid.0,
   paid_same rs (after_effects g r.effects) (after_effects h r.effects) (λ i e. alone g h r.effects i (same i (in_rest (is_touched i r) (is_written i rs) e))) paid.1,
 )
-
-pub paid_rest : (rs ss : List Record) (g : Graph) → ArePaid g (rs ++ ss) → ArePaid (after_records g rs) ss
-paid_rest [] ss g paid = paid
-paid_rest (r ∷ rs) ss g paid = paid_rest rs ss (after_effects g r.effects) paid.1
-
-pub paid_front : (rs ss : List Record) (g : Graph) → ArePaid g (rs ++ ss) → ArePaid g rs
-paid_front [] ss g paid = tt
-paid_front (r ∷ rs) ss g paid = (paid.0, paid_front rs ss (after_effects g r.effects) paid.1)
-
-pub paid_join : (rs ss : List Record) (g : Graph) → ArePaid g rs → ArePaid (after_records g rs) ss → ArePaid g (rs ++ ss)
-paid_join [] ss g front rest = rest
-paid_join (r ∷ rs) ss g front rest = (front.0, paid_join rs ss (after_effects g r.effects) front.1 rest)
 
 -- What records are charged is at most their units.
 pub charge_records : (rs : List Record) (g : Graph) → ArePaid g rs → charge (after_records g rs) ≤ charge g + units_in rs

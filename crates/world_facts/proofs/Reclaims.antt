@@ -6,7 +6,7 @@ use Rattle.posix_calls.specs.Tree.{Own, sum_up_to, any_up_to, refers_to, has_ope
 use Rattle.posix_calls.specs.Operations.{is_client}
 use Rattle.posix_calls.specs.declared.descriptor.Descriptor.{Descriptor}
 use Rattle.posix_calls.proofs.Sums.{same_if, there_if, any_is}
-use Rattle.file_graph.specs.Graph.{Graph, set_node, cost, after_effects, is_among, touches}
+use Rattle.file_graph.specs.Graph.{Graph, FileBody, set_node, cost, after_effects, is_among, touches}
 use Rattle.file_graph.specs.Units.{charge, rise, growth}
 use Rattle.file_graph.specs.declared.effect.Effect.{Effect}
 use Rattle.file_graph.proofs.Touches.{alone}
@@ -15,7 +15,7 @@ use Rattle.call_effects.specs.Wholes.{IsSound, state_of}
 use Rattle.call_effects.specs.Fits.{IsUnusedFile}
 use Rattle.call_effects.specs.Known.{Agrees}
 use Rattle.call_effects.proofs.Unused.{same_state, sound_still, agrees_still}
-use Rattle.world_facts.specs.Logs.{is_made, is_made_in, ArePaid}
+use Rattle.world_facts.specs.Logs.{is_made, is_made_in, ArePaid, IsNameless, NamesNone}
 use Rattle.world_facts.specs.World.{Begun, World, change_of, log_of, all_of, whole, held, tree_of}
 use Rattle.world_facts.specs.Invariant.{Holds}
 use Rattle.world_facts.specs.KernelSteps.{CanReclaim, reclaimed}
@@ -23,6 +23,8 @@ use Rattle.world_facts.proofs.Records.{either, both, or_first, or_rest, records_
 use Rattle.world_facts.proofs.Owners.{client_is, owner_of, whole_at}
 use Rattle.world_facts.proofs.Idle.{none_some}
 use Rattle.world_facts.proofs.Made.{effects_none, clients_none, unmade_append}
+use Rattle.world_facts.proofs.Along.{along_front}
+use Rattle.world_facts.proofs.Nameless.{through, nameless_less}
 use Rattle.world_facts.proofs.Facts.{apart_logs, makes_granted}
 
 sums_below : (n : ℕ) (f g : ℕ → ℕ) → ((c : ℕ) → f c ≤ g c) → sum_up_to n f ≤ sum_up_to n g
@@ -94,6 +96,13 @@ open_pinned w i h unpinned = elim (either (any_up_to 8 (λ c. has_open (held w c
         let own : (w.clients c).knows.own (n.k - 1) ≡ Some o.0 = sym (ap (λ b. cond b ((w.clients c).knows.own (n.k - 1)) None) is_c) ∙ o.1 in
         both ((w.kernel.accounts c).pins i) ((h.stands c is_c).pinned.booked i (subst (λ j. (w.clients c).pins j ≡ true) o.2 ((h.stands c is_c).pinned.opened (n.k - 1) o.0 own))) (unpinned c is_c)
 
+-- a file of the shared graph that has no name there has none in the whole
+pub nameless_whole : (w : World) (i : ℕ) → Holds w → IsNameless (w.kernel.shared i) → IsNameless (whole w i)
+nameless_whole w i h file =
+    let o = owner_of (log_of w) i (apart_logs w h) in
+    let none = along_front NamesNone (log_of w o.0) (change_of (w.clients o.0).begun) w.kernel.shared ((h.stands o.0 o.1.client).logged.unnamed) in
+    subst IsNameless (sym (whole_at (log_of w) w.kernel.shared o.0 i o.1)) (through (log_of w o.0) w.kernel.shared i none file)
+
 module _ (w : World) (i : ℕ) (h : Holds w) (can : CanReclaim w i) where
   abbrev shared : Graph
   shared = set_node w.kernel.shared i None
@@ -106,7 +115,7 @@ module _ (w : World) (i : ℕ) (h : Holds w) (can : CanReclaim w i) where
 
   unbooked : (d : ℕ) → is_client d ≡ true → (w.kernel.accounts d).numbers i ≡ false
   unbooked d is_d = elim (either ((w.kernel.accounts d).numbers i)) [
-    | inl there ↦ none_some can.node (sym (h.booked.free d i is_d there) ∙ can.there)
+    | inl there ↦ none_some (record { names = 0; body = FileBody can.file.bytes }) (sym (h.booked.free d i is_d there) ∙ can.file.is)
     | inr clean ↦ clean
   ]
 
@@ -147,7 +156,7 @@ module _ (w : World) (i : ℕ) (h : Holds w) (can : CanReclaim w i) where
       ]
 
   unused : IsUnusedFile (whole w) (held w) i
-  unused = record { bytes = can.bytes; is = can.unnamed; closed = open_pinned w i h can.unpinned }
+  unused = let file = nameless_whole w i h can.file in record { bytes = file.bytes; is = file.is; closed = open_pinned w i h can.unpinned }
 
   pub reclaimed_tree : tree_of (reclaimed w i) ≡ tree_of w
   reclaimed_tree = ap (λ g. state_of g (held w)) reclaimed_whole ∙ same_state (whole w) (held w) i unused
@@ -166,7 +175,7 @@ module _ (w : World) (i : ℕ) (h : Holds w) (can : CanReclaim w i) where
         stands = λ c is_c. let s = h.stands c is_c in record {
           number = s.number;
           marked = s.marked;
-          logged = record { leased = s.logged.leased; paid = paid_less i (all_of w c) w.kernel.shared shared gone else_same (all_unmade c is_c) s.logged.paid };
+          logged = record { leased = s.logged.leased; paid = paid_less i (all_of w c) w.kernel.shared shared gone else_same (all_unmade c is_c) s.logged.paid; unnamed = nameless_less i (all_of w c) w.kernel.shared shared gone else_same (all_unmade c is_c) s.logged.unnamed };
           units = s.units;
           numbered = s.numbered;
           leased = s.leased;

@@ -15,7 +15,7 @@ use Rattle.call_effects.specs.Known.{Knowledge, Agrees, IsPlanned}
 use Rattle.call_effects.proofs.Settled.{closed_sound, settled_state}
 use Rattle.call_effects.proofs.KnownSteps.{planned_step, planned_sound}
 use Rattle.call_effects.proofs.KnownAfter.{other_agrees}
-use Rattle.world_facts.specs.Logs.{after_records, after_clients, after_each, is_written, is_touched, units_in, ArePaid, AreApart, IsDistinct, IsOrder}
+use Rattle.world_facts.specs.Logs.{after_records, after_clients, after_each, is_written, is_touched, units_in, IsPaid, ArePaid, AreApart, IsDistinct, IsOrder}
 use Rattle.world_facts.specs.World.{Begun, World, change_of, records_of, log_of, all_of, holds, whole, held, tree_of, at}
 use Rattle.world_facts.specs.Invariant.{Holds}
 use Rattle.world_facts.specs.Outcome.{Unfinished, AreSomeOf}
@@ -23,7 +23,8 @@ use Rattle.world_facts.specs.Stop.{Leaves, stored, begun_calls, Stores}
 use Rattle.world_facts.proofs.Records.{either, both, in_first, in_rest, append_nil, front_written, rest_written, units_append}
 use Rattle.world_facts.proofs.Owners.{nobody as nobody_writes, is_low, is_high, client_is, ended_whole, first_in, among_rest}
 use Rattle.world_facts.proofs.Facts.{apart_all, apart_less, granted_alone}
-use Rattle.world_facts.proofs.Paid.{paid_same, paid_front, charge_records}
+use Rattle.world_facts.proofs.Along.{along_front}
+use Rattle.world_facts.proofs.Paid.{paid_same, charge_records}
 
 -- ---- all clients, in an order
 
@@ -196,7 +197,7 @@ module _ (w : World) (logs : ℕ → List Record) (h : Holds w) (left : Leaves w
 
   pub stop_paid : (c : ℕ) → is_client c ≡ true → ArePaid w.kernel.shared (logs c)
   stop_paid c is_c = elim (left c is_c) [
-    | inl none ↦ subst (λ rs. ArePaid w.kernel.shared rs) (sym none) (paid_front (log_of w c) (change_of (w.clients c).begun) w.kernel.shared (h.stands c is_c).logged.paid)
+    | inl none ↦ subst (λ rs. ArePaid w.kernel.shared rs) (sym none) (along_front IsPaid (log_of w c) (change_of (w.clients c).begun) w.kernel.shared (h.stands c is_c).logged.paid)
     | inr all ↦ subst (λ rs. ArePaid w.kernel.shared rs) (sym all) (h.stands c is_c).logged.paid
   ]
 

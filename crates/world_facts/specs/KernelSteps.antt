@@ -1,10 +1,10 @@
 -- The steps of the shared graph, each with when it may be taken.
-use Rattle.std.specs.Prelude.{◌≡◌, ℕ, ◌+◌, ◌-◌, List, ◌++◌, length, drop, true, false, ◌&&◌, not, Some, None}
+use Rattle.std.specs.Prelude.{◌≡◌, ℕ, ◌+◌, ◌-◌, List, ◌++◌, length, drop, true, false, ◌&&◌, not, None}
 use Rattle.posix_calls.specs.Operations.{is_client}
-use Rattle.file_graph.specs.Graph.{Node, FileBody, set_node}
+use Rattle.file_graph.specs.Graph.{set_node}
 use Rattle.log_record.specs.declared.format.Record.{Record}
-use Rattle.world_facts.specs.Logs.{after_records, is_made_in, units_in}
-use Rattle.world_facts.specs.World.{World, whole, moved}
+use Rattle.world_facts.specs.Logs.{after_records, is_made_in, units_in, IsNameless}
+use Rattle.world_facts.specs.World.{World, moved}
 
 -- ---- records are digested
 
@@ -20,11 +20,8 @@ digested w c first = moved w c (after_records w.kernel.shared first) (record (w.
 -- ---- a file is reclaimed
 
 pub record CanReclaim (w : World) (i : ℕ) : Type 0 where
-  -- it stands in the shared graph, it has no name in the whole, and nobody has pinned it
-  pub node : Node
-  pub there : w.kernel.shared i ≡ Some node
-  pub bytes : List ℕ
-  pub unnamed : whole w i ≡ Some (record { names = 0; body = FileBody bytes })
+  -- it stands in the shared graph and has no name there, and nobody has pinned it
+  pub file : IsNameless (w.kernel.shared i)
   pub unpinned : (c : ℕ) → is_client c ≡ true → (w.kernel.accounts c).pins i ≡ false
 
 abbrev pub reclaimed : World → ℕ → World

@@ -1,7 +1,7 @@
 -- What lists of records make of a graph, what they touch, which nodes they make, and the units that they have.
-use Rattle.std.specs.Prelude.{◌≡◌, ◌≢◌, ℕ, zero, suc, ◌+◌, ◌≤◌, List, [], ◌∷◌, Bool, true, false, ◌==◌, ◌||◌}
+use Rattle.std.specs.Prelude.{◌≡◌, ◌≢◌, ℕ, zero, suc, ◌+◌, ◌≤◌, List, [], ◌∷◌, Bool, true, false, ◌==◌, ◌||◌, Option, Some}
 use Rattle.posix_calls.specs.Operations.{is_client}
-use Rattle.file_graph.specs.Graph.{Graph, after_effects, touches, is_among}
+use Rattle.file_graph.specs.Graph.{Graph, Node, FileBody, after_effects, touches, is_among}
 use Rattle.file_graph.specs.Units.{growth}
 use Rattle.file_graph.specs.declared.effect.Effect.{Effect}
 use Rattle.file_graph.specs.declared.effect.Effect.TheVariants as effect
@@ -56,10 +56,29 @@ abbrev pub units_in : List Record → ℕ
 units_in [] = 0
 units_in (r ∷ rs) = r.units + units_in rs
 
+-- each of these records is so over the graph after those before it
+abbrev pub Along : (Graph → Record → Type 0) → Graph → List Record → Type 0
+Along IsSo g [] = Unit {0}
+Along IsSo g (r ∷ rs) = IsSo g r × Along IsSo (after_effects g r.effects) rs
+
 -- no record raises what it touches by more than its units
+abbrev pub IsPaid : Graph → Record → Type 0
+IsPaid g r = growth g r.effects ≤ r.units
+
 abbrev pub ArePaid : Graph → List Record → Type 0
-ArePaid g [] = Unit {0}
-ArePaid g (r ∷ rs) = (growth g r.effects ≤ r.units) × ArePaid (after_effects g r.effects) rs
+ArePaid g rs = Along IsPaid g rs
+
+-- a file that has no name
+pub record IsNameless (o : Option Node) : Type 0 where
+  pub bytes : List ℕ
+  pub is : o ≡ Some (record { names = 0; body = FileBody bytes })
+
+-- no record gives a name to a file that has none
+abbrev pub NamesNone : Graph → Record → Type 0
+NamesNone g r = (i : ℕ) → IsNameless (g i) → IsNameless (after_effects g r.effects i)
+
+abbrev pub NameNone : Graph → List Record → Type 0
+NameNone g rs = Along NamesNone g rs
 
 -- no inode is written by records of two clients
 abbrev pub AreApart : (ℕ → List Record) → Type 0

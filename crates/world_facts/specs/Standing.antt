@@ -10,7 +10,7 @@ use Rattle.file_graph.specs.Units.{charge}
 use Rattle.log_record.specs.declared.format.Record.{Record}
 use Rattle.call_effects.specs.NodeView.{NodeView}
 use Rattle.call_effects.specs.Known.{Knowledge, IsPlanned}
-use Rattle.world_facts.specs.Logs.{is_written, is_made_in, IsMadeOnce, units_in, ArePaid}
+use Rattle.world_facts.specs.Logs.{is_written, is_made_in, IsMadeOnce, units_in, ArePaid, NameNone}
 use Rattle.world_facts.specs.World.{Begun, Region, Away, Client, Account, Kernel, undigested, records_of, holds}
 
 -- ---- one client's part beside the kernel's
@@ -21,10 +21,11 @@ pub record IsMarked (mark past : ℕ) (sealed : List Record) (other : Region) : 
   pub high : mark ≤ past + length sealed
   pub away : (other ≡ Away) ⊎ (sealed ≡ [])
 
--- every record touches only what the client holds for writing, and has the units for what it raises
+-- every record touches only what the client holds for writing, has the units for what it raises, and names no file that has no name
 pub record IsLogged (g : Graph) (writes : ℕ → Bool) (records : List Record) : Type 0 where
   pub leased : (i : ℕ) → is_written i records ≡ true → writes i ≡ true
   pub paid : ArePaid g records
+  pub unnamed : NameNone g records
 
 -- a number is in the book until the record that makes its node is digested, and no two records make a node of it
 pub record IsNumbered (book numbers : ℕ → Bool) (log : List Record) : Type 0 where

@@ -5,6 +5,7 @@ ghost use Rattle.posix_calls.specs.Operations.{is_client};
 ghost use Rattle.posix_calls.specs.declared.descriptor.Descriptor.{Descriptor};
 ghost use Rattle.file_graph.specs.Graph.{set_node, after_effects};
 ghost use Rattle.log_record.specs.declared.format.Record.{Record};
+ghost use Rattle.world_facts.specs.Logs.{IsNameless};
 ghost use Rattle.world_facts.specs.World.{Begun, World, whole, tree_of};
 ghost use Rattle.world_facts.specs.ClientSteps.{IsBegun, replied};
 ghost use Rattle.world_facts.specs.KernelSteps.{CanDigest, digested, CanReclaim, reclaimed};
@@ -18,8 +19,14 @@ pub fn records_may_be_digested()
     ensures tree { (w : World) (c : ℕ) (first rest : List Record) → Holds w → CanDigest w c first rest → tree_of (digested w c first) ≡ tree_of w }
 {}
 
-/// A file of the shared graph that has no name in the whole, and that nobody has pinned, is reclaimed, also where a client has a
-/// lease on it or a copy.
+/// A file that has no name in the shared graph has none in the whole: no call gives a name to a file that has none, so no record that
+/// is not digested does.
+pub fn nameless_file_stays_nameless()
+    ensures { (w : World) (i : ℕ) → Holds w → IsNameless (w.kernel.shared i) → IsNameless (whole w i) }
+{}
+
+/// A file that has no name in the shared graph, and that nobody has pinned, is reclaimed, also where a client has a lease on it or a
+/// copy, or has records that are not digested.
 pub fn unused_file_may_be_reclaimed()
     ensures holds { (w : World) (i : ℕ) → Holds w → CanReclaim w i → Holds (reclaimed w i) }
     ensures whole { (w : World) (i : ℕ) → Holds w → CanReclaim w i → whole (reclaimed w i) ≡ set_node (whole w) i None }

@@ -32,8 +32,8 @@ pub use call_laws::{
     call_without_a_record_is_a_step, failed_client_leaves_the_tree,
 };
 pub use kernel_laws::{
-    digest_leaves_begun_calls, open_file_is_not_reclaimed, records_may_be_digested,
-    unused_file_may_be_reclaimed,
+    digest_leaves_begun_calls, nameless_file_stays_nameless, open_file_is_not_reclaimed,
+    records_may_be_digested, unused_file_may_be_reclaimed,
 };
 pub use lease_laws::{
     copy_may_be_fetched, lease_may_be_given, read_lease_may_be_taken, write_lease_may_be_taken,
