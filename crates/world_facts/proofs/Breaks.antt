@@ -1,4 +1,4 @@
--- What goes wrong in small worlds that break one part of the invariant each.
+-- What goes wrong in small worlds that break one part of the invariant each: logs over a graph.
 use Rattle.std.proofs.Common.{◌≡◌, ◌≢◌, ◌==◌, Bool, true, false, [], ◌∷◌, refl, Some, None, Option, ◌-◌, ap, sym, ◌∙◌, lit≤}
 use Rattle.std.specs.Prelude.{option_map, IsSome, is_some}
 use Rattle.std.proofs.lemmas.Bool.{false≢true}
@@ -6,8 +6,8 @@ use Rattle.posix_calls.specs.Tree.{State, refers_to, has_open, is_open}
 use Rattle.posix_calls.proofs.Sums.{any_there}
 use Rattle.file_graph.specs.Graph.{Graph, Node, set_node}
 use Rattle.call_effects.specs.Wholes.{state_of, keep, tree_node}
-use Rattle.world_facts.specs.Logs.{after_records, after_each, AreApart, IsMadeOnce}
-use Rattle.world_facts.specs.Broken.{both_counting, one_file, making, dropping, one_open}
+use Rattle.world_facts.specs.Logs.{after_records, after_each, AreApart, IsMadeOnce, NameNone}
+use Rattle.world_facts.specs.Broken.{both_counting, one_file, making, dropping, one_open, naming}
 
 -- ---- a record that touches what its client doesn't hold
 
@@ -21,6 +21,10 @@ counts_three (Some n) = n.names == 3
 pub order_seen : after_each both_counting one_file (1 ∷ 2 ∷ []) ≢ after_each both_counting one_file (2 ∷ 1 ∷ [])
 unfolding counts_three
 order_seen e = false≢true (sym (ap (λ (g : Graph). counts_three (g 2)) e))
+
+counts_one : Option Node → Bool
+counts_one None = false
+counts_one (Some n) = n.names == 1
 
 -- ---- a number that is used twice
 
@@ -41,3 +45,15 @@ opened = any_there 8 1 (λ c. has_open (one_open c) 2) (lit≤ tt) (lit≤ tt) (
 
 pub seen_gone : state_of (set_node one_file 2 None) one_open ≢ state_of one_file one_open
 seen_gone e = false≢true (ap (λ (s : State). is_some (s.tree 2)) e ∙ ap (λ b. is_some (option_map tree_node (keep b (one_file 2)))) opened)
+
+-- ---- a name for a file that has none
+
+pub names_it : NameNone one_file (naming ∷ []) → ⊥
+unfolding counts_one
+names_it none = let named = none.0 2 (record { bytes = []; is = refl }) in false≢true (sym (ap counts_one named.is))
+
+pub named_there : IsSome (after_records one_file (naming ∷ []) 2)
+named_there = refl
+
+pub named_gone : after_records (set_node one_file 2 None) (naming ∷ []) 2 ≡ None
+named_gone = refl

@@ -1,5 +1,5 @@
 -- A client that is gone is buried: the whole stays, and what it had open is closed.
-use Rattle.std.proofs.Common.{◌≡◌, ◌≢◌, inl, inr, ℕ, ◌+◌, ◌-◌, ◌≤◌, cond, true, refl, Some, None, ap, sym, ◌∙◌, subst, arith}
+use Rattle.std.proofs.Common.{◌≡◌, ◌≢◌, inl, inr, ℕ, ◌+◌, ◌-◌, ◌≤◌, cond, true, refl, Some, None, ap, sym, ◌∙◌, arith}
 use Rattle.std.proofs.lemmas.Bool.{false≢true}
 use Rattle.std.proofs.lemmas.Bool.Decides.{eqb_tells}
 use Rattle.posix_calls.specs.Tree.{Own, Descriptors, with_own, sum_up_to}
@@ -15,7 +15,7 @@ use Rattle.world_facts.specs.Invariant.{Holds}
 use Rattle.world_facts.specs.Opening.{knows_nothing, idle_client, idle_account}
 use Rattle.world_facts.specs.Burial.{CanBury, buried}
 use Rattle.world_facts.proofs.Idle.{none_some, idle_stands, nothing_left}
-use Rattle.world_facts.proofs.Moved.{holds_moved, units_moved, whole_same, held_moved}
+use Rattle.world_facts.proofs.Moved.{both_same, holds_moved, units_moved, whole_same, held_moved}
 use Rattle.world_facts.proofs.Books.{booked_fewer}
 
 abbrev pub nothing_open : Own
@@ -60,9 +60,6 @@ module _ (w : World) (c : ℕ) (h : Holds w) (can : CanBury w c) where
   held_is : held (buried w c) ≡ with_own (held w) c nothing_open
   held_is = held_moved w c w.kernel.shared left grave can.client
 
-  both_same : (Q : Graph → Descriptors → Type 0) → Q (whole w) (with_own (held w) c nothing_open) → Q (whole (buried w c)) (held (buried w c))
-  both_same Q q = subst (λ g. Q g (held (buried w c))) (sym whole_is) (subst (λ o. Q (whole w) o) (sym held_is) q)
-
   fits : charge w.kernel.shared + sum_up_to 8 (λ d. (at w.kernel.accounts c left d).units) ≤ w.kernel.capacity
   fits =
       let sums : sum_up_to 8 (λ d. (at w.kernel.accounts c left d).units) + (w.kernel.accounts c).units ≡ sum_up_to 8 (λ d. (w.kernel.accounts d).units) + 0 = units_moved w c w.kernel.shared left grave h can.client in
@@ -87,8 +84,8 @@ module _ (w : World) (c : ℕ) (h : Holds w) (can : CanBury w c) where
       (λ d is_d other. h.stands d is_d)
       (λ d is_d other i e. absurd (false≢true e))
       (λ d is_d other i e. refl)
-      (both_same (λ g o. IsSound g o) (less_open (whole w) (held w) c h.sound))
-      (both_same (λ g o. Agrees (knows_nothing c) g o) (record {
+      (both_same (λ g o. IsSound g o) whole_is held_is (less_open (whole w) (held w) c h.sound))
+      (both_same (λ g o. Agrees (knows_nothing c) g o) whole_is held_is (record {
         client = can.client;
         own = λ n. there_if c None (held w c n);
         back = whole w;
@@ -97,7 +94,7 @@ module _ (w : World) (c : ℕ) (h : Holds w) (can : CanBury w c) where
         blocks = λ i b bytes e. none_some bytes e;
         granted = λ i e. absurd (false≢true e);
       }))
-      (λ d is_d other. both_same (λ g o. Agrees (w.clients d).knows g o) (others d is_d other))
+      (λ d is_d other. both_same (λ g o. Agrees (w.clients d).knows g o) whole_is held_is (others d is_d other))
 
   pub buried_tree : tree_of (buried w c) ≡ state_of (whole w) (with_own (held w) c nothing_open)
   buried_tree = ap (λ g. state_of g (held (buried w c))) whole_is ∙ ap (λ o. state_of (whole w) o) held_is

@@ -4,7 +4,7 @@ use Rattle.std.specs.Prelude.{◌&&◌, not}
 use Rattle.std.proofs.lemmas.Bool.{false≢true}
 use Rattle.std.proofs.lemmas.List.{take-append-drop, length-append, length-drop, length-take-le}
 use Rattle.std.proofs.Math.Seq.{drop-append-add, drop-append_seam}
-use Rattle.posix_calls.specs.Tree.{sum_up_to, Descriptors}
+use Rattle.posix_calls.specs.Tree.{sum_up_to}
 use Rattle.posix_calls.specs.Operations.{is_client}
 use Rattle.file_graph.specs.Graph.{Graph}
 use Rattle.file_graph.specs.Units.{charge}
@@ -24,7 +24,7 @@ use Rattle.world_facts.proofs.Paid.{paid_same, charge_records}
 use Rattle.world_facts.proofs.Nameless.{nameless_same}
 use Rattle.world_facts.proofs.Facts.{apart_logs, written_alone}
 use Rattle.world_facts.proofs.Facts as facts
-use Rattle.world_facts.proofs.Moved.{holds_moved, booked_moved, units_moved, log_there, log_else, held_same}
+use Rattle.world_facts.proofs.Moved.{both_same, holds_moved, booked_moved, units_moved, log_there, log_else, held_same}
 
 -- what is left after more is passed over
 drop_more : {A : Type 0} (m n : ℕ) (xs : List A) → m ≤ length xs → drop (m + n) xs ≡ drop n (drop m xs)
@@ -98,9 +98,6 @@ module _ (w : World) (c : ℕ) (first rest : List Record) (h : Holds w) (can : C
 
   pub digested_tree : tree_of (digested w c first) ≡ tree_of w
   digested_tree = ap (λ g. state_of g (held (digested w c first))) digest_keeps ∙ ap (λ o. state_of (whole w) o) open_same
-
-  same_both : (Q : Graph → Descriptors → Type 0) → Q (whole w) (held w) → Q (whole (digested w c first)) (held (digested w c first))
-  same_both Q q = subst (λ g. Q g (held (digested w c first))) (sym digest_keeps) (subst (λ o. Q (whole w) o) (sym open_same) q)
 
   -- ---- units
 
@@ -196,6 +193,6 @@ module _ (w : World) (c : ℕ) (first rest : List Record) (h : Holds w) (can : C
       })
       (λ d is_d other. h.beside c d can.client is_d other)
       (λ d is_d other. h.beside d c is_d can.client (λ same. other (sym same)))
-      (same_both (λ g o. IsSound g o) h.sound)
-      (same_both (λ g o. Agrees p.knows g o) (h.agrees c can.client))
-      (λ d is_d other. same_both (λ g o. Agrees (w.clients d).knows g o) (h.agrees d is_d))
+      (both_same (λ g o. IsSound g o) digest_keeps open_same h.sound)
+      (both_same (λ g o. Agrees p.knows g o) digest_keeps open_same (h.agrees c can.client))
+      (λ d is_d other. both_same (λ g o. Agrees (w.clients d).knows g o) digest_keeps open_same (h.agrees d is_d))

@@ -22,3 +22,4 @@ pub mod Burials
 pub mod Breaks
 pub mod Walks
 pub mod Besides
+pub mod BrokenWorlds

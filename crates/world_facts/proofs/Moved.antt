@@ -15,6 +15,10 @@ use Rattle.world_facts.specs.Invariant.{Holds}
 use Rattle.world_facts.proofs.Records.{either, both}
 use Rattle.world_facts.proofs.Owners.{is_low, is_high}
 
+-- what is said of a graph and descriptors is so of others that are the same
+pub both_same : (Q : Graph → Descriptors → Type 0) {g h : Graph} {d e : Descriptors} → h ≡ g → e ≡ d → Q g d → Q h e
+both_same Q {g} {h} {d} {e} graph held q = subst (λ x. Q x e) (sym graph) (subst (λ o. Q g o) (sym held) q)
+
 -- ---- what holds of the client that moved and of the others
 
 pub each : {A : Type 0} (f : ℕ → A) (c : ℕ) (x : A) (Q : ℕ → A → Type 0) → Q c x → ((d : ℕ) → d ≢ c → Q d (f d)) → (d : ℕ) → Q d (at f c x d)
@@ -138,12 +142,9 @@ module _ (w : World) (c : ℕ) (g : Graph) (a : Account) (p : Client) (h : Holds
       let same : whole (moved w c g a p) ≡ whole w = whole_same w c g a p log shared in
       let open_same : held (moved w c g a p) ≡ held w = held_same w c g a p own in
       holds_moved booked stands (λ d is_d other. subst (λ s. Stands s (w.kernel.accounts d) d (w.clients d)) (sym shared) (h.stands d is_d)) before after
-      (still (λ s o. IsSound s o) same open_same h.sound)
-      (still (λ s o. Agrees p.knows s o) same open_same agrees)
-      (λ d is_d other. still (λ s o. Agrees (w.clients d).knows s o) same open_same (h.agrees d is_d))
-    where
-      still : (Q : Graph → Descriptors → Type 0) → whole (moved w c g a p) ≡ whole w → held (moved w c g a p) ≡ held w → Q (whole w) (held w) → Q (whole (moved w c g a p)) (held (moved w c g a p))
-      still Q same open_same q = subst (λ s. Q s (held (moved w c g a p))) (sym same) (subst (λ o. Q (whole w) o) (sym open_same) q)
+      (both_same (λ s o. IsSound s o) same open_same h.sound)
+      (both_same (λ s o. Agrees p.knows s o) same open_same agrees)
+      (λ d is_d other. both_same (λ s o. Agrees (w.clients d).knows s o) same open_same (h.agrees d is_d))
 
 -- ---- steps of a client alone
 

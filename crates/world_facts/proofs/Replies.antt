@@ -1,7 +1,7 @@
 -- A call is answered: the tree moves by its step.
 use Rattle.std.proofs.Common.{◌≡◌, ◌≢◌, inl, inr, ℕ, ◌+◌, ◌-◌, ◌==◌, ◌||◌, true, false, List, [], ◌∷◌, ◌++◌, drop, refl, None, Err, ap, sym, ◌∙◌, subst, append_assoc}
 use Rattle.std.proofs.lemmas.Bool.{false≢true, eqb-true, eq-eqb}
-use Rattle.posix_calls.specs.Tree.{Descriptors, with_own}
+use Rattle.posix_calls.specs.Tree.{with_own}
 use Rattle.posix_calls.specs.Query.{Known, run_part}
 use Rattle.posix_calls.specs.Decide.{decide}
 use Rattle.posix_calls.specs.Operations.{is_client, makes, own_after, reply_of, Step}
@@ -9,7 +9,7 @@ use Rattle.posix_calls.specs.declared.call.Call.{Call}
 use Rattle.posix_calls.specs.declared.call.Reply.TheVariants as reply
 use Rattle.posix_calls.specs.declared.errno.Errno.{Errno}
 use Rattle.posix_calls.specs.declared.operation.Operation.{Operation}
-use Rattle.file_graph.specs.Graph.{Graph, after_effects, is_among, touches}
+use Rattle.file_graph.specs.Graph.{after_effects, is_among, touches}
 use Rattle.file_graph.specs.declared.effect.Effect.{Effect}
 use Rattle.call_effects.specs.Wholes.{IsSound, state_of}
 use Rattle.call_effects.specs.Known.{Agrees, IsPlanned, part_of, knows_after}
@@ -25,7 +25,7 @@ use Rattle.world_facts.proofs.Idle.{none_some}
 use Rattle.world_facts.proofs.Made.{unmade_append, once_more}
 use Rattle.world_facts.proofs.Facts.{apart_all, apart_less, makes_granted}
 use Rattle.world_facts.proofs.Knowing.{pinned_after, granted_before, granted_apart, planned_sound_after, own_agrees_after, others_agree_after, leased_after}
-use Rattle.world_facts.proofs.Moved.{holds_moved, booked_same, before_less, after_less, whole_same, held_moved, log_there, log_else}
+use Rattle.world_facts.proofs.Moved.{both_same, holds_moved, booked_same, before_less, after_less, whole_same, held_moved, log_there, log_else}
 
 -- a step of what a client knows is one of the tree
 module _ (w : World) (c : ℕ) (h : Holds w) (is_c : is_client c ≡ true) where
@@ -54,9 +54,6 @@ module _ (w : World) (c : ℕ) (call : Call) (new : ℕ) (operation : Operation)
   touches_none : (i : ℕ) → is_among i (touches []) ≡ true → (w.clients c).writes i ≡ true
   touches_none i e = absurd (false≢true e)
 
-  same_both : (Q : Graph → Descriptors → Type 0) → Q (whole w) (with_own (held w) c (own_after new (w.clients c).knows.own operation)) → Q (whole (answered w c new operation)) (held (answered w c new operation))
-  same_both Q q = subst (λ s. Q s (held (answered w c new operation))) (sym told_whole) (subst (λ o. Q (whole w) o) (sym told_held) q)
-
   pub answered_holds : Holds (answered w c new operation)
   answered_holds =
       let s = h.stands c can.client in
@@ -74,12 +71,12 @@ module _ (w : World) (c : ℕ) (call : Call) (new : ℕ) (operation : Operation)
       })
       (λ d is_d other. h.stands d is_d)
       (before_less w c told h can.client (λ i e. e)) (after_less w c told h can.client (λ i e. e))
-      (same_both (λ g o. IsSound g o) (planned_sound_after w c h can.client call new operation [] can.planned touches_none))
-      (same_both (λ g o. Agrees (knows_after (w.clients c).knows new operation []) g o) (own_agrees_after w c h can.client call new operation [] can.planned touches_none))
-      (λ d is_d other. same_both (λ g o. Agrees (w.clients d).knows g o) (others_agree_after w c h can.client call new operation [] can.planned touches_none d is_d other))
+      (both_same (λ g o. IsSound g o) told_whole told_held (planned_sound_after w c h can.client call new operation [] can.planned touches_none))
+      (both_same (λ g o. Agrees (knows_after (w.clients c).knows new operation []) g o) told_whole told_held (own_agrees_after w c h can.client call new operation [] can.planned touches_none))
+      (λ d is_d other. both_same (λ g o. Agrees (w.clients d).knows g o) told_whole told_held (others_agree_after w c h can.client call new operation [] can.planned touches_none d is_d other))
 
   pub answered_step : Step (tree_of w) c call (reply_of operation) (tree_of (answered w c new operation))
-  answered_step = same_both (λ g o. Step (tree_of w) c call (reply_of operation) (state_of g o)) (known_step w c h can.client call new operation [] can.planned)
+  answered_step = both_same (λ g o. Step (tree_of w) c call (reply_of operation) (state_of g o)) told_whole told_held (known_step w c h can.client call new operation [] can.planned)
 
 -- ---- with its record
 
@@ -130,8 +127,8 @@ module _ (w : World) (c : ℕ) (b : Begun) (h : Holds w) (is : IsBegun w c b) wh
   pub replied_whole : whole (replied w c b) ≡ after_effects (whole w) b.change.effects
   replied_whole = λ t i. appended_whole (log_of w) (log_of (replied w c b)) w.kernel.shared c (b.change ∷ []) is.client logs_apart new_log (log_else w c w.kernel.shared account logged) i t
 
-  after_both : (Q : Graph → Descriptors → Type 0) → Q (after_effects (whole w) b.change.effects) (with_own (held w) c (own_after b.new was.knows.own b.operation)) → Q (whole (replied w c b)) (held (replied w c b))
-  after_both Q q = subst (λ g. Q g (held (replied w c b))) (sym replied_whole) (subst (λ o. Q (after_effects (whole w) b.change.effects) o) (sym (held_moved w c w.kernel.shared account logged is.client)) q)
+  held_is : held (replied w c b) ≡ with_own (held w) c (own_after b.new was.knows.own b.operation)
+  held_is = held_moved w c w.kernel.shared account logged is.client
 
   -- the number of the new node is used up
   numbered : IsNumbered account.numbers logged.knows.granted (undigested account logged)
@@ -173,9 +170,9 @@ module _ (w : World) (c : ℕ) (b : Begun) (h : Holds w) (is : IsBegun w c b) wh
       })
       (λ d is_d other. h.stands d is_d)
       (before_less w c logged h is.client (λ i e. e)) (after_less w c logged h is.client (λ i e. e))
-      (after_both (λ g o. IsSound g o) (planned_sound_after w c h is.client b.call b.new b.operation b.change.effects planned leased))
-      (after_both (λ g o. Agrees logged.knows g o) (own_agrees_after w c h is.client b.call b.new b.operation b.change.effects planned leased))
-      (λ d is_d other. after_both (λ g o. Agrees (w.clients d).knows g o) (others_agree_after w c h is.client b.call b.new b.operation b.change.effects planned leased d is_d other))
+      (both_same (λ g o. IsSound g o) replied_whole held_is (planned_sound_after w c h is.client b.call b.new b.operation b.change.effects planned leased))
+      (both_same (λ g o. Agrees logged.knows g o) replied_whole held_is (own_agrees_after w c h is.client b.call b.new b.operation b.change.effects planned leased))
+      (λ d is_d other. both_same (λ g o. Agrees (w.clients d).knows g o) replied_whole held_is (others_agree_after w c h is.client b.call b.new b.operation b.change.effects planned leased d is_d other))
 
   pub replied_step : Step (tree_of w) c b.call (reply_of b.operation) (tree_of (replied w c b))
-  replied_step = after_both (λ g o. Step (tree_of w) c b.call (reply_of b.operation) (state_of g o)) (known_step w c h is.client b.call b.new b.operation b.change.effects planned)
+  replied_step = both_same (λ g o. Step (tree_of w) c b.call (reply_of b.operation) (state_of g o)) replied_whole held_is (known_step w c h is.client b.call b.new b.operation b.change.effects planned)

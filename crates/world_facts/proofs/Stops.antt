@@ -12,7 +12,7 @@ use Rattle.file_graph.specs.Units.{charge}
 use Rattle.log_record.specs.declared.format.Record.{Record}
 use Rattle.call_effects.specs.Wholes.{IsSound, state_of}
 use Rattle.call_effects.specs.Known.{Knowledge, Agrees, IsPlanned}
-use Rattle.call_effects.proofs.Settled.{closed_sound, settled_state}
+use Rattle.call_effects.proofs.Settled.{closed_sound, settled_state, settled_well_formed}
 use Rattle.call_effects.proofs.KnownSteps.{planned_step, planned_sound}
 use Rattle.call_effects.proofs.KnownAfter.{other_agrees}
 use Rattle.world_facts.specs.Logs.{after_records, after_clients, after_each, is_written, is_touched, units_in, IsPaid, ArePaid, AreApart, IsDistinct, IsOrder}
@@ -239,6 +239,7 @@ module _ (w : World) (logs : ℕ → List Record) (h : Holds w) (left : Leaves w
       let sound : IsSound (stored w logs) ends.last = subst (λ g. IsSound g ends.last) (sym stored_is) ends.sound in
       record {
         sound = closed_sound (stored w logs) ends.last sound;
+        well_formed = settled_well_formed (stored w logs) ends.last sound;
         outcome = record {
           more = ends.turns;
           last = state_of (stored w logs) ends.last;

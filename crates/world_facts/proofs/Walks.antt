@@ -76,7 +76,7 @@ none_seen = len_seen fin.empty ∙ fin.len-empty order (ℕ × Kind)
 counted : run_part (part_of k) (units_asked walked.mkdir_a.operation) ≡ Known (Ok 2)
 counted = simp parts (ap (λ n. Known (Ok (min (directory_units 0 + (directory_units (n + 1) - directory_units n)) 4294967295))) none_seen)
 
-planned : IsPlanned k walked.mkdir_a.call 2 walked.mkdir_a.operation walked.mkdir_a.change.effects
+pub planned : IsPlanned k walked.mkdir_a.call 2 walked.mkdir_a.operation walked.mkdir_a.change.effects
 planned = record { comes = comes; effects = simp parts refl; number = λ m. refl }
 
 -- ---- up to the call

@@ -1,10 +1,18 @@
 -- Small worlds that break one part of the invariant each.
-use Rattle.std.specs.Prelude.{ℕ, List, [], ◌∷◌, true, ◌==◌, ◌&&◌, Some, None, if◌then◌else◌}
+use Rattle.std.specs.Prelude.{ℕ, List, [], ◌∷◌, Bool, true, ◌==◌, ◌&&◌, Some, None, if◌then◌else◌}
 use Rattle.posix_calls.specs.Tree.{Descriptors}
-use Rattle.file_graph.specs.Graph.{Graph, FileBody}
+use Rattle.file_graph.specs.Graph.{Graph, FileBody, fresh}
 use Rattle.file_graph.specs.declared.effect.Kind.TheVariants as kind
 use Rattle.file_graph.specs.declared.effect.Effect.TheVariants as effect
+use Rattle.file_graph.specs.Units.{charge}
 use Rattle.log_record.specs.declared.format.Record.{Record}
+use Rattle.call_effects.specs.NodeView.{view_at}
+use Rattle.call_effects.specs.Known.{with_copy}
+use Rattle.world_facts.specs.World.{Begun, Away, World, moved}
+use Rattle.world_facts.specs.Opening.{knows_nothing, idle_client, idle_account, idle_world}
+use Rattle.world_facts.specs.ClientSteps.{with_client, begun}
+use Rattle.world_facts.specs.BookSteps.{number_granted}
+use Rattle.world_facts.specs.Walk as walked
 
 -- ---- two clients whose records count the names of one file
 
@@ -30,3 +38,42 @@ dropping = record { units = 0; effects = effect.Drop 2 ∷ [] }
 
 abbrev pub one_open : Descriptors
 one_open c n = if c == 1 && n == 0 then Some (record { inode = 2; reads = true; writes = true }) else None
+
+-- ---- a client's record gives a name to a file that has none
+
+abbrev pub naming : Record
+naming = record { units = 0; effects = effect.Names 2 1 ∷ [] }
+
+-- ---- a mark past its records, once the call of the walk is answered
+
+abbrev pub marked_past : World
+marked_past = moved walked.made 1 walked.made.kernel.shared (record (walked.made.kernel.accounts 1) { mark = 1 }) (walked.made.clients 1)
+
+-- ---- a number in two hands, while the call of the walk makes a node of it
+
+abbrev pub granted_twice : World
+granted_twice = number_granted walked.making 2 2
+
+-- ---- another client has a copy of the root while the call of the walk changes it, and these leases
+
+abbrev pub watching : (ℕ → Bool) → World
+watching reads = with_client walked.making 2 (record (idle_client 2 0) { knows = with_copy (knows_nothing 2) 1 (view_at fresh 1); reads = reads })
+
+abbrev pub root_alone : ℕ → Bool
+root_alone i = i == 1
+
+-- ---- the call of the walk begins a record that is not the call's
+
+abbrev pub half : Begun
+half = record { call = walked.mkdir_a.call; new = 2; operation = walked.mkdir_a.operation; change = record { units = 2; effects = effect.Make 2 kind.Directory ∷ [] } }
+
+abbrev pub misbegun : World
+misbegun = begun walked.ready 1 half
+
+-- ---- a record that raises the graph, and no unit for it in the book; the root alone fills the capacity
+
+abbrev pub unpaid : Record
+unpaid = record { units = 0; effects = effect.Make 2 kind.File ∷ [] }
+
+abbrev pub overdrawn : Record → World
+overdrawn r = moved (idle_world (charge fresh) fresh) 1 fresh (record (idle_account 0) { numbers = λ i. i == 2 }) (record (idle_client 1 0) { sealed = r ∷ []; other = Away; writes = λ i. i == 2 })

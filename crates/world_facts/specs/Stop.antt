@@ -1,6 +1,7 @@
 -- What a stop stores.
 use Rattle.std.specs.Prelude.{◌≡◌, ◌⊎◌, ℕ, ◌≤◌, List, [], ◌++◌, true, option_map}
 use Rattle.posix_calls.specs.Operations.{is_client}
+use Rattle.posix_calls.specs.WellFormed.{IsWellFormed}
 use Rattle.posix_calls.specs.declared.limits.TheConstants.{MAX_CLIENTS}
 use Rattle.file_graph.specs.Graph.{Graph}
 use Rattle.file_graph.specs.Units.{charge}
@@ -23,9 +24,10 @@ stored w logs = after_clients logs w.kernel.shared MAX_CLIENTS
 abbrev pub begun_calls : World → Unfinished
 begun_calls w c = option_map (λ b. b.call) (w.clients c).begun
 
--- what is stored is sound without descriptors, and fits; once it is settled, its state is the tree after some of the begun calls
+-- what is stored is sound without descriptors, and fits; once it is settled, its state is well-formed, and is the tree after some of the begun calls
 pub record Stores (w : World) (logs : ℕ → List Record) : Type 0 where
   pub sound : IsSound (stored w logs) nobody
+  pub well_formed : IsWellFormed (state_of (settled_graph (stored w logs)) nobody)
   pub outcome : IsOutcome (tree_of w) [] (begun_calls w) (state_of (settled_graph (stored w logs)) nobody)
   -- no inode is written by the records of two clients, and each client's are paid for over the shared graph
   pub apart : AreApart logs

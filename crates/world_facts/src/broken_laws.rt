@@ -1,10 +1,17 @@
 //! What goes wrong in small worlds that break one part of the invariant each.
 
-ghost use Rattle.std.specs.Prelude.{◌≡◌, ◌≢◌, ℕ, [], ◌∷◌, None, IsSome};
-ghost use Rattle.file_graph.specs.Graph.{Graph, set_node};
-ghost use Rattle.call_effects.specs.Wholes.{state_of};
-ghost use Rattle.world_facts.specs.Logs.{after_records, after_each, AreApart, IsMadeOnce};
-ghost use Rattle.world_facts.specs.Broken.{both_counting, one_file, making, dropping, one_open};
+ghost use Rattle.std.specs.Prelude.{◌≡◌, ◌≢◌, ℕ, ◌+◌, [], ◌∷◌, Bool, false, None, IsSome};
+ghost use Rattle.file_graph.specs.Graph.{Graph, fresh, set_node};
+ghost use Rattle.call_effects.specs.Known.{Agrees};
+ghost use Rattle.call_effects.specs.Wholes.{IsSound, state_of};
+ghost use Rattle.world_facts.specs.Logs.{after_records, after_each, units_in, AreApart, IsMadeOnce, ArePaid, NameNone};
+ghost use Rattle.world_facts.specs.World.{all_of, records_of, whole, held, holds, tree_of};
+ghost use Rattle.world_facts.specs.Standing.{IsMarked, IsLeased, IsPending, IsBooked, IsBeside};
+ghost use Rattle.world_facts.specs.ClientSteps.{IsBegun, replied};
+ghost use Rattle.world_facts.specs.RegionSteps.{CanSeal, sealed};
+ghost use Rattle.world_facts.specs.KernelSteps.{CanDigest, digested};
+ghost use Rattle.world_facts.specs.Walk.{mkdir_a, made};
+ghost use Rattle.world_facts.specs.Broken.{both_counting, one_file, making, dropping, one_open, naming, marked_past, granted_twice, watching, root_alone, half, misbegun, unpaid, overdrawn};
 
 /// Where two clients write one inode, which takes a lease that one of them doesn't hold, the order of their digests is seen.
 pub fn writing_without_a_lease_is_seen()
@@ -23,4 +30,69 @@ pub fn number_used_twice_is_free_between()
 /// Where a file is open that nobody has pinned, its reclaim is seen.
 pub fn reclaim_of_an_open_file_is_seen()
     ensures { state_of (set_node one_file 2 None) one_open ≢ state_of one_file one_open }
+{}
+
+/// Where a record that is not digested gives a name to a file that has none, its reclaim is seen: what the record names is gone.
+pub fn reclaim_of_a_file_to_be_named_is_seen()
+    ensures broken { NameNone one_file (naming ∷ []) → ⊥ }
+    ensures named { IsSome (after_records one_file (naming ∷ []) 2) }
+    ensures gone { after_records (set_node one_file 2 None) (naming ∷ []) 2 ≡ None }
+{}
+
+/// Where a mark stands past the sealed records, the undigested ones are the same for now; but once the region is sealed, its record
+/// counts as digested, and an answered call is lost.
+pub fn mark_past_its_records_loses_a_call()
+    ensures broken { IsMarked (marked_past.kernel.accounts 1).mark (marked_past.clients 1).past (marked_past.clients 1).sealed (marked_past.clients 1).other → ⊥ }
+    ensures same { (c : ℕ) → all_of marked_past c ≡ all_of made c }
+    ensures can { CanSeal marked_past 1 }
+    ensures lost { tree_of (sealed marked_past 1) ≢ tree_of marked_past }
+{}
+
+/// Where a number is in two hands, one client's answer leaves the other with a number at which a node stands.
+pub fn number_in_two_hands_is_taken()
+    ensures broken { IsBooked granted_twice.kernel → ⊥ }
+    ensures begun { IsBegun granted_twice 1 mkdir_a }
+    ensures known { Agrees (granted_twice.clients 2).knows (whole granted_twice) (held granted_twice) }
+    ensures taken { Agrees ((replied granted_twice 1 mkdir_a).clients 2).knows (whole (replied granted_twice 1 mkdir_a)) (held (replied granted_twice 1 mkdir_a)) → ⊥ }
+{}
+
+/// A copy that a client keeps without a lease is right for now, and stale after another client's answer.
+pub fn copy_without_a_lease_goes_stale()
+    ensures broken { IsLeased (holds ((watching (λ i. false)).clients 2)) ((watching (λ i. false)).clients 2).knows → ⊥ }
+    ensures begun { IsBegun (watching (λ i. false)) 1 mkdir_a }
+    ensures known { Agrees ((watching (λ i. false)).clients 2).knows (whole (watching (λ i. false))) (held (watching (λ i. false))) }
+    ensures stale { Agrees ((replied (watching (λ i. false)) 1 mkdir_a).clients 2).knows (whole (replied (watching (λ i. false)) 1 mkdir_a)) (held (replied (watching (λ i. false)) 1 mkdir_a)) → ⊥ }
+{}
+
+/// So is one under a lease for reading, where another client holds the inode for writing beside it.
+pub fn copy_beside_a_writer_goes_stale()
+    ensures broken { IsBeside ((watching root_alone).clients 1) ((watching root_alone).clients 2) → ⊥ }
+    ensures leased { IsLeased (holds ((watching root_alone).clients 2)) ((watching root_alone).clients 2).knows }
+    ensures begun { IsBegun (watching root_alone) 1 mkdir_a }
+    ensures known { Agrees ((watching root_alone).clients 2).knows (whole (watching root_alone)) (held (watching root_alone)) }
+    ensures stale { Agrees ((replied (watching root_alone) 1 mkdir_a).clients 2).knows (whole (replied (watching root_alone) 1 mkdir_a)) (held (replied (watching root_alone) 1 mkdir_a)) → ⊥ }
+{}
+
+/// Where a begun record is not that of its call, the whole is not sound once it is answered.
+pub fn record_of_no_call_breaks_the_whole()
+    ensures broken { IsPending (misbegun.clients 1).knows (misbegun.clients 1).pins half → ⊥ }
+    ensures begun { IsBegun misbegun 1 half }
+    ensures unsound { IsSound (whole (replied misbegun 1 half)) (held (replied misbegun 1 half)) → ⊥ }
+{}
+
+/// Where a record has no units for what it raises, its digest passes the capacity.
+pub fn unpaid_record_passes_the_capacity()
+    ensures broken { ArePaid fresh (unpaid ∷ []) → ⊥ }
+    ensures booked { IsBooked (overdrawn unpaid).kernel }
+    ensures can { CanDigest (overdrawn unpaid) 1 (unpaid ∷ []) [] }
+    ensures passed { IsBooked (digested (overdrawn unpaid) 1 (unpaid ∷ [])).kernel → ⊥ }
+{}
+
+/// So does that of a record whose units are not in the book.
+pub fn unbooked_units_pass_the_capacity()
+    ensures broken { ((overdrawn making).kernel.accounts 1).units ≢ ((overdrawn making).clients 1).spare + units_in (records_of ((overdrawn making).kernel.accounts 1) ((overdrawn making).clients 1)) }
+    ensures paid { ArePaid fresh (making ∷ []) }
+    ensures booked { IsBooked (overdrawn making).kernel }
+    ensures can { CanDigest (overdrawn making) 1 (making ∷ []) [] }
+    ensures passed { IsBooked (digested (overdrawn making) 1 (making ∷ [])).kernel → ⊥ }
 {}

@@ -1,0 +1,216 @@
+-- What goes wrong in small worlds that break one part of the invariant each: a step of such a world.
+use Rattle.std.proofs.Common.{◌≡◌, ◌≢◌, inl, inr, ℕ, ◌+◌, ◌<◌, ◌≤◌, ◌==◌, ◌||◌, cond, Bool, true, false, [], ◌∷◌, refl, Some, None, Option, ap, sym, ◌∙◌, arith}
+use Rattle.std.specs.Prelude.{is_some}
+use Rattle.std.specs.FinMap as fin
+use Rattle.std.proofs.lemmas.Bool.{false≢true, eqb-true}
+use Rattle.std.proofs.lemmas.Bool.Decides.{eqb_tells}
+use Rattle.posix_calls.specs.Tree.{State, sum_up_to}
+use Rattle.posix_calls.proofs.Sums.{all_zero, one_changes}
+use Rattle.file_graph.specs.Graph.{Graph, fresh, cost, after_effects, touches, is_among}
+use Rattle.file_graph.specs.Units.{charge, growth, rise}
+use Rattle.file_graph.proofs.Touches.{untouched, charge_rises}
+use Rattle.log_record.specs.declared.format.Record.{Record}
+use Rattle.call_effects.specs.Known.{Agrees}
+use Rattle.call_effects.specs.NodeView.{NodeView, FileView, DirView, view_at}
+use Rattle.call_effects.specs.Wholes.{IsSound}
+use Rattle.world_facts.specs.Logs.{after_clients, units_in, ArePaid}
+use Rattle.world_facts.specs.World.{Account, Kernel, all_of, records_of, whole, held, holds, tree_of, at}
+use Rattle.world_facts.specs.Opening.{idle_account}
+use Rattle.world_facts.specs.Standing.{IsMarked, IsLeased, IsPending, IsBooked, IsBeside}
+use Rattle.world_facts.specs.ClientSteps.{IsBegun, replied}
+use Rattle.world_facts.specs.RegionSteps.{CanSeal, sealed}
+use Rattle.world_facts.specs.KernelSteps.{CanDigest, digested}
+use Rattle.world_facts.specs.Walk.{mkdir_a, made}
+use Rattle.world_facts.specs.Broken.{making, marked_past, granted_twice, watching, root_alone, half, misbegun, unpaid, overdrawn}
+use Rattle.world_facts.proofs.Idle.{none_some}
+use Rattle.world_facts.proofs.Moved.{each, each_client}
+use Rattle.world_facts.proofs.Walks.{planned}
+
+-- ---- a mark past its records
+
+pub past_broken : IsMarked (marked_past.kernel.accounts 1).mark (marked_past.clients 1).past (marked_past.clients 1).sealed (marked_past.clients 1).other → ⊥
+past_broken is = let high : 1 ≤ 0 = is.high in absurd (omega (arith, high))
+
+pub past_same : (c : ℕ) → all_of marked_past c ≡ all_of made c
+past_same = each_client made 1 made.kernel.shared (record (made.kernel.accounts 1) { mark = 1 }) (made.clients 1) (λ d b q. records_of b q ≡ all_of made d) refl (λ d other. refl)
+
+pub past_sealed : CanSeal marked_past 1
+past_sealed = record { client = refl; idle = refl; ready = refl; empty = refl }
+
+pub past_lost : tree_of (sealed marked_past 1) ≢ tree_of marked_past
+unfolding after_clients
+past_lost e = false≢true (ap (λ (s : State). is_some (s.tree 2)) e)
+
+-- ---- a number in two hands
+
+pub twice_broken : IsBooked granted_twice.kernel → ⊥
+twice_broken is = false≢true (sym (is.alone 1 2 2 refl refl (λ e. false≢true (ap (λ n. n == 1) e)) refl))
+
+pub twice_begun : IsBegun granted_twice 1 mkdir_a
+twice_begun = record { client = refl; there = refl }
+
+pub twice_known : Agrees (granted_twice.clients 2).knows (whole granted_twice) (held granted_twice)
+unfolding after_clients
+twice_known = record {
+  client = refl;
+  own = λ n. refl;
+  back = whole granted_twice;
+  put_back = λ i. inl refl;
+  copies = λ i copy e. none_some copy e;
+  blocks = λ i b bytes e. none_some bytes e;
+  granted = λ i e. elim (eqb_tells i 2) [
+    | inl same ↦ let two = same.1 in record { low = omega (arith, two); high = omega (arith, two); none = ap (whole granted_twice) same.1 }
+    | inr off ↦ absurd (false≢true (sym (ap (λ b. b || false) off.0) ∙ e))
+  ];
+}
+
+pub twice_taken : Agrees ((replied granted_twice 1 mkdir_a).clients 2).knows (whole (replied granted_twice 1 mkdir_a)) (held (replied granted_twice 1 mkdir_a)) → ⊥
+unfolding after_clients
+twice_taken agrees = let free = agrees.granted 2 refl in false≢true (sym (ap is_some free.none))
+
+-- ---- a stale copy
+
+pub watching_begun : (reads : ℕ → Bool) → IsBegun (watching reads) 1 mkdir_a
+watching_begun reads = record { client = refl; there = refl }
+
+pub watching_known : (reads : ℕ → Bool) → Agrees ((watching reads).clients 2).knows (whole (watching reads)) (held (watching reads))
+unfolding after_clients
+watching_known reads = record {
+  client = refl;
+  own = λ n. refl;
+  back = whole (watching reads);
+  put_back = λ i. inl refl;
+  copies = λ i copy e. elim (eqb_tells i 1) [
+    | inl same ↦
+        let there : Some (view_at fresh 1) ≡ Some copy = sym (ap (λ b. cond b (Some (view_at fresh 1)) None) same.0) ∙ e in
+        let one : view_at fresh 1 ≡ copy = cc in
+        ap (view_at (whole (watching reads))) same.1 ∙ one
+    | inr off ↦ none_some copy (sym (ap (λ b. cond b (Some (view_at fresh 1)) None) off.0) ∙ e)
+  ];
+  blocks = λ i b bytes e. none_some bytes e;
+  granted = λ i e. absurd (false≢true e);
+}
+
+-- whether a directory has the entry `a`
+has_a : Option NodeView → Bool
+has_a None = false
+has_a (Some (FileView names size)) = false
+has_a (Some (DirView names entries)) = is_some (fin.get entries (97 ∷ []))
+
+none_before : has_a (view_at fresh 1) ≡ false
+unfolding has_a
+none_before = simp fin.gets refl
+
+one_after : has_a (view_at (after_effects fresh mkdir_a.change.effects) 1) ≡ true
+unfolding has_a
+one_after = simp fin.gets refl
+
+pub watching_stale : (reads : ℕ → Bool) → Agrees ((replied (watching reads) 1 mkdir_a).clients 2).knows (whole (replied (watching reads) 1 mkdir_a)) (held (replied (watching reads) 1 mkdir_a)) → ⊥
+unfolding after_clients
+watching_stale reads agrees = elim (agrees.put_back 1) [
+  | inl same ↦
+      let copied = agrees.copies 1 (view_at fresh 1) refl in
+      let now : view_at (after_effects fresh mkdir_a.change.effects) 1 ≡ view_at fresh 1 = sym (view_of (replied_graph reads) agrees.back same) ∙ copied in
+      false≢true (sym none_before ∙ sym (ap has_a now) ∙ one_after)
+  | inr gone ↦ false≢true (sym (ap is_some gone.nothing))
+]
+  where
+    replied_graph : (ℕ → Bool) → Graph
+    replied_graph reads = whole (replied (watching reads) 1 mkdir_a)
+
+    view_of : (g back : Graph) → back 1 ≡ g 1 → view_at back 1 ≡ view_at g 1
+    view_of g back same = ap (λ o. view_at (λ i. o) 1) same
+
+pub unleased : IsLeased (holds ((watching (λ i. false)).clients 2)) ((watching (λ i. false)).clients 2).knows → ⊥
+unleased is = false≢true (is.copies 1 (view_at fresh 1) refl)
+
+pub beside_broken : IsBeside ((watching root_alone).clients 1) ((watching root_alone).clients 2) → ⊥
+beside_broken apart = false≢true (sym (apart 1 refl))
+
+pub root_leased : IsLeased (holds ((watching root_alone).clients 2)) ((watching root_alone).clients 2).knows
+root_leased = record {
+  copies = λ i copy e. elim (eqb_tells i 1) [
+    | inl same ↦ ap (λ b. b || false) same.0
+    | inr off ↦ none_some copy (sym (ap (λ b. cond b (Some (view_at fresh 1)) None) off.0) ∙ e)
+  ];
+  blocks = λ i b bytes e. none_some bytes e;
+}
+
+-- ---- a record of no call
+
+pub half_broken : IsPending (misbegun.clients 1).knows (misbegun.clients 1).pins half → ⊥
+half_broken is = let clash = sym planned.effects ∙ is.planned.effects in cc
+
+pub half_begun : IsBegun misbegun 1 half
+half_begun = record { client = refl; there = refl }
+
+pub half_unsound : IsSound (whole (replied misbegun 1 half)) (held (replied misbegun 1 half)) → ⊥
+unfolding after_clients
+half_unsound sound = false≢true (ap (λ n. n == 1) (sound.counts.one_name 2 refl))
+
+-- ---- a digest that passes the capacity
+
+off_two : (j : ℕ) → j ≢ 2 → is_among j (touches unpaid.effects) ≡ false
+off_two j other = elim (eqb_tells 2 j) [ inl same ↦ absurd (other (sym same.1)) | inr off ↦ ap (λ b. b || false) off.0 ]
+
+one_more : charge (after_effects fresh unpaid.effects) ≡ charge fresh + 1
+unfolding charge
+one_more =
+    let changed : sum_up_to 1024 (λ i. cost (after_effects fresh unpaid.effects i)) + 0 ≡ sum_up_to 1024 (λ i. cost (fresh i)) + 1 =
+    one_changes 1024 (λ i. cost (fresh i)) (λ i. cost (after_effects fresh unpaid.effects i)) 2 (omega arith) (omega arith) (λ j other. ap cost (untouched fresh unpaid.effects j (off_two j other))) in
+    omega (arith, changed)
+
+pub unpaid_broken : ArePaid fresh (unpaid ∷ []) → ⊥
+unpaid_broken paid =
+    let none : growth fresh unpaid.effects ≤ 0 = paid.0 in
+    let risen : charge (after_effects fresh unpaid.effects) ≤ charge fresh + growth fresh unpaid.effects = charge_rises fresh unpaid.effects in
+    let more : charge (after_effects fresh unpaid.effects) ≡ charge fresh + 1 = one_more in
+    absurd (omega (arith, none, risen, more))
+
+one_grown : growth fresh making.effects ≤ 1
+unfolding growth
+one_grown =
+    let nothing : sum_up_to 1024 (λ i. 0) ≡ 0 = all_zero 1024 (λ i. 0) (λ i. refl) in
+    let changed : sum_up_to 1024 (λ i. cond (is_among i (touches making.effects)) (rise fresh (after_effects fresh making.effects) i) 0) + 0 ≡ sum_up_to 1024 (λ i. 0) + 1 =
+    one_changes 1024 (λ i. 0) (λ i. cond (is_among i (touches making.effects)) (rise fresh (after_effects fresh making.effects) i) 0) 2 (omega arith) (omega arith) (λ j other. ap (λ b. cond b (rise fresh (after_effects fresh making.effects) j) 0) (off_two j other)) in
+    omega (arith, nothing, changed)
+
+pub making_paid : ArePaid fresh (making ∷ [])
+making_paid = (one_grown, tt)
+
+pub unbooked : ((overdrawn making).kernel.accounts 1).units ≢ ((overdrawn making).clients 1).spare + units_in (records_of ((overdrawn making).kernel.accounts 1) ((overdrawn making).clients 1))
+unbooked e = false≢true (sym (ap (λ n. n == 0) e))
+
+pub over_digests : (r : Record) → CanDigest (overdrawn r) 1 (r ∷ []) []
+over_digests r = record { client = refl; split = refl }
+
+abbrev numbered : Account
+numbered = record (idle_account 0) { numbers = λ i. i == 2 }
+
+-- what is so of an account with the number 2 and of one without a number
+each_account : (Q : ℕ → Account → Type 0) → Q 1 numbered → ((d : ℕ) → d ≢ 1 → Q d (idle_account 0)) → (d : ℕ) → Q d (at (λ c. idle_account 0) 1 numbered d)
+each_account Q own others d = each (λ c. idle_account 0) 1 numbered Q own others d
+
+pub over_booked : (r : Record) → IsBooked (overdrawn r).kernel
+over_booked r = record {
+  free = λ c i is_c. each_account (λ d a. a.numbers i ≡ true → fresh i ≡ None) (λ e. ap fresh (eqb-true i 2 e)) (λ d other e. absurd (false≢true e)) c;
+  range = λ c i is_c. each_account (λ d a. a.numbers i ≡ true → (1 < i) × (i ≤ 1024)) (λ e. let two = eqb-true i 2 e in (omega (arith, two), omega (arith, two))) (λ d other e. absurd (false≢true e)) c;
+  alone = λ c d i is_c is_d other e.
+      let one : c ≡ 1 = each_account (λ d a. a.numbers i ≡ true → d ≡ 1) (λ e. refl) (λ d other e. absurd (false≢true e)) c e in
+      each_account (λ d a. d ≢ 1 → a.numbers i ≡ false) (λ off. absurd (off refl)) (λ d off again. refl) d (λ same. other (same ∙ sym one));
+  fits =
+      let none : sum_up_to 8 (λ c. ((overdrawn r).kernel.accounts c).units) ≡ 0 = all_zero 8 (λ c. ((overdrawn r).kernel.accounts c).units) (λ c. each_account (λ d a. a.units ≡ 0) refl (λ d other. refl) c) in
+      let exact : charge (overdrawn r).kernel.shared ≡ (overdrawn r).kernel.capacity = refl in
+      omega (arith, none, exact);
+}
+
+too_much : (k : Kernel) → k.capacity ≡ charge fresh → charge k.shared ≡ charge fresh + 1 → IsBooked k → ⊥
+too_much k capacity more is =
+    let fits : charge k.shared + sum_up_to 8 (λ c. (k.accounts c).units) ≤ k.capacity = is.fits in
+    absurd (omega (arith, fits, capacity, more))
+
+pub unpaid_passed : IsBooked (digested (overdrawn unpaid) 1 (unpaid ∷ [])).kernel → ⊥
+unpaid_passed = too_much (digested (overdrawn unpaid) 1 (unpaid ∷ [])).kernel refl one_more
+
+pub unbooked_passed : IsBooked (digested (overdrawn making) 1 (making ∷ [])).kernel → ⊥
+unbooked_passed = too_much (digested (overdrawn making) 1 (making ∷ [])).kernel refl one_more

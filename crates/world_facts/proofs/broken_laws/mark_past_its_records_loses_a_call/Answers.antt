@@ -1,0 +1,14 @@
+use Rattle.world_facts.proofs.BrokenWorlds.{past_broken, past_same, past_sealed, past_lost}
+use Rattle.world_facts.proofs.broken_laws.mark_past_its_records_loses_a_call.Goals as goal
+
+pub returns-clause-broken : goal.returns-clause-broken
+returns-clause-broken c = past_broken
+
+pub returns-clause-same : goal.returns-clause-same
+returns-clause-same c = past_same
+
+pub returns-clause-can : goal.returns-clause-can
+returns-clause-can c = past_sealed
+
+pub returns-clause-lost : goal.returns-clause-lost
+returns-clause-lost c = past_lost

@@ -1,0 +1,14 @@
+use Rattle.world_facts.proofs.BrokenWorlds.{twice_broken, twice_begun, twice_known, twice_taken}
+use Rattle.world_facts.proofs.broken_laws.number_in_two_hands_is_taken.Goals as goal
+
+pub returns-clause-broken : goal.returns-clause-broken
+returns-clause-broken c = twice_broken
+
+pub returns-clause-begun : goal.returns-clause-begun
+returns-clause-begun c = twice_begun
+
+pub returns-clause-known : goal.returns-clause-known
+returns-clause-known c = twice_known
+
+pub returns-clause-taken : goal.returns-clause-taken
+returns-clause-taken c = twice_taken
