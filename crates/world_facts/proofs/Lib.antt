@@ -23,3 +23,4 @@ pub mod Breaks
 pub mod Walks
 pub mod Besides
 pub mod BrokenWorlds
+pub mod UnlinkWalks

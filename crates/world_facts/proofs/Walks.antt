@@ -53,11 +53,11 @@ abbrev answered : {A X : Type 0} → Missing → Option X → (X → Found A) �
 answered what None f = Unknown what
 answered what (Some x) f = f x
 
-part_is_dir : {A : Type 0} (p : Part) (i : ℕ) (next : Option Bool → Query A) → run_part p (IsDir i next) ≡ answered (missing.Node i) (p.is_dir i) (λ o. run_part p (next o))
+pub part_is_dir : {A : Type 0} (p : Part) (i : ℕ) (next : Option Bool → Query A) → run_part p (IsDir i next) ≡ answered (missing.Node i) (p.is_dir i) (λ o. run_part p (next o))
 unfolding run_part
 part_is_dir {A = A} p i next = elim (p.is_dir i) as (λ o. ◌≡◌ {A = Found A} (elim o [ None ↦ Unknown (missing.Node i) | Some a ↦ run_part p (next a) ]) (answered (missing.Node i) o (λ o. run_part p (next o)))) [ None ↦ refl | Some a ↦ refl ]
 
-part_look : {A : Type 0} (p : Part) (i : ℕ) (next : Option Seen → Query A) → run_part p (Look i next) ≡ answered (missing.Node i) (p.node i) (λ o. run_part p (next o))
+pub part_look : {A : Type 0} (p : Part) (i : ℕ) (next : Option Seen → Query A) → run_part p (Look i next) ≡ answered (missing.Node i) (p.node i) (λ o. run_part p (next o))
 unfolding run_part
 part_look {A = A} p i next = elim (p.node i) as (λ o. ◌≡◌ {A = Found A} (elim o [ None ↦ Unknown (missing.Node i) | Some a ↦ run_part p (next a) ]) (answered (missing.Node i) o (λ o. run_part p (next o)))) [ None ↦ refl | Some a ↦ refl ]
 
@@ -70,7 +70,7 @@ comes : run_part (part_of k) (mkdir (47 ∷ 97 ∷ [])) ≡ Known (Ok (NewDir (r
 unfolding mkdir walk
 comes = simp (parts, lists, fin.gets) refl
 
-none_seen : fin.len (without_kinds fin.empty) ≡ 0
+pub none_seen : fin.len (without_kinds fin.empty) ≡ 0
 none_seen = len_seen fin.empty ∙ fin.len-empty order (ℕ × Kind)
 
 counted : run_part (part_of k) (units_asked walked.mkdir_a.operation) ≡ Known (Ok 2)
@@ -117,7 +117,7 @@ ready_holds = fetched_holds walked.holding 1 1 holding_holds can_fetch
 
 -- ---- the call
 
-held_both : (i : ℕ) → is_touched i walked.mkdir_a.change ≡ true → (i == 2 || (i == 1 || false)) ≡ true
+pub held_both : (i : ℕ) → is_touched i walked.mkdir_a.change ≡ true → (i == 2 || (i == 1 || false)) ≡ true
 held_both i e = elim (eqb_tells i 2) [
   | inl there ↦ ap (λ b. b || (i == 1 || false)) there.0
   | inr off ↦ elim (eqb_tells i 1) [

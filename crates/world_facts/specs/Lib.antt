@@ -11,5 +11,6 @@ pub mod Outcome
 pub mod RegionSteps
 pub mod Standing
 pub mod Stop
+pub mod UnlinkWalk
 pub mod Walk
 pub mod World

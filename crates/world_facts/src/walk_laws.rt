@@ -4,10 +4,14 @@ ghost use Rattle.std.specs.Prelude.{◌≡◌};
 ghost use Rattle.posix_calls.specs.Tree.{opening};
 ghost use Rattle.posix_calls.specs.Operations.{Step};
 ghost use Rattle.posix_calls.specs.declared.call.Reply.TheVariants.{Done};
+ghost use Rattle.world_facts.specs.Logs.{IsNameless};
 ghost use Rattle.world_facts.specs.World.{log_of, all_of, tree_of};
 ghost use Rattle.world_facts.specs.Invariant.{Holds};
 ghost use Rattle.world_facts.specs.Stop.{Stores};
 ghost use Rattle.world_facts.specs.Walk.{mkdir_a, making, made, passed};
+ghost use Rattle.posix_calls.specs.declared.call.Reply.TheVariants.{Opened};
+ghost use Rattle.world_facts.specs.KernelSteps.{CanReclaim};
+ghost use Rattle.world_facts.specs.UnlinkWalk as unlink_walk;
 
 /// From a format on, client 1 gets units and a number, takes two leases, fetches the root and begins `mkdir /a`: the tree is the empty
 /// one still, and a stop stores that, or that after the call. Its answer is the call's step. Then its region is sealed, digested and
@@ -20,4 +24,18 @@ pub fn small_world_walks()
     ensures stopped_with { Stores making (all_of making) }
     ensures passed { Holds passed }
     ensures same { tree_of passed ≡ tree_of made }
+{}
+
+/// From the same world on, client 1 pins the number, opens `/a` with it, and unlinks `/a` while it is open. Both records are digested:
+/// the file has no name in the shared graph, and can't be reclaimed, for it is open. After the close and without the pin it is.
+pub fn small_world_unlinks_an_open_file()
+    ensures opened { Step (tree_of unlink_walk.opening) 1 unlink_walk.open_a.call (Opened 0) (tree_of unlink_walk.opened) }
+    ensures unlinked { Step (tree_of unlink_walk.unlinking) 1 unlink_walk.unlink_a.call Done (tree_of unlink_walk.unlinked) }
+    ensures kept { Holds unlink_walk.kept }
+    ensures nameless { IsNameless (unlink_walk.kept.kernel.shared 2) }
+    ensures pinned { CanReclaim unlink_walk.kept 2 → ⊥ }
+    ensures closed { Step (tree_of unlink_walk.kept) 1 unlink_walk.close_0 Done (tree_of unlink_walk.closed) }
+    ensures can { CanReclaim unlink_walk.released 2 }
+    ensures reclaimed { Holds unlink_walk.emptied }
+    ensures unseen { tree_of unlink_walk.emptied ≡ tree_of unlink_walk.released }
 {}
