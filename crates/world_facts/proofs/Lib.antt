@@ -24,3 +24,4 @@ pub mod Walks
 pub mod Besides
 pub mod BrokenWorlds
 pub mod UnlinkWalks
+pub mod PairWalks

@@ -91,7 +91,7 @@ opened_step = replied_step walked.opening 1 walked.open_a opening_holds opening_
 can_fetch : CanFetch walked.opened 1 2
 can_fetch = record { client = refl; leased = refl; missing = inl refl; clear = λ none. absurd (false≢true (sym (ap is_some none))) }
 
-known_holds : Holds walked.known
+pub known_holds : Holds walked.known
 known_holds = fetched_holds walked.opened 1 2 opened_holds can_fetch
 
 unlink_comes : run_part (part_of (walked.known.clients 1).knows) (unlink (47 ∷ 97 ∷ [])) ≡ Known (Ok walked.unlink_a.operation)

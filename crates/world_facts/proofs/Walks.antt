@@ -117,6 +117,9 @@ ready_holds = fetched_holds walked.holding 1 1 holding_holds can_fetch
 
 -- ---- the call
 
+pub apart : (i j : ℕ) → i ≢ j → (j == i) ≡ false
+apart i j off = elim (eqb_tells j i) [ inl same ↦ absurd (off (sym same.1)) | inr other ↦ other.0 ]
+
 pub held_both : (i : ℕ) → is_touched i walked.mkdir_a.change ≡ true → (i == 2 || (i == 1 || false)) ≡ true
 held_both i e = elim (eqb_tells i 2) [
   | inl there ↦ ap (λ b. b || (i == 1 || false)) there.0
@@ -126,9 +129,6 @@ held_both i e = elim (eqb_tells i 2) [
   ]
 ]
   where
-    apart : (i j : ℕ) → i ≢ j → (j == i) ≡ false
-    apart i j off = elim (eqb_tells j i) [ inl same ↦ absurd (off (sym same.1)) | inr other ↦ other.0 ]
-
     untouched : (i : ℕ) → i ≢ 2 → i ≢ 1 → (2 == i || (1 == i || (2 == i || false))) ≡ false
     untouched i off away = ap (λ b. b || (1 == i || (b || false))) (apart i 2 off) ∙ ap (λ b. b || false) (apart i 1 away)
 

@@ -8,6 +8,7 @@ pub mod LeaseSteps
 pub mod Logs
 pub mod Opening
 pub mod Outcome
+pub mod PairWalk
 pub mod RegionSteps
 pub mod Standing
 pub mod Stop

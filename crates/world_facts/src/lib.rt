@@ -47,4 +47,6 @@ pub use order_laws::clients_records_commute;
 pub use part_laws::{one_part_may_move, quiet_part_may_move};
 pub use region_laws::{region_may_be_sealed, region_may_be_taken_back, region_may_be_wiped};
 pub use stop_laws::stop_stores_an_outcome;
-pub use walk_laws::{small_world_unlinks_an_open_file, small_world_walks};
+pub use walk_laws::{
+    small_world_of_two_clients, small_world_unlinks_an_open_file, small_world_walks,
+};

@@ -1,17 +1,20 @@
-//! A small world's walk, computed by the definitions: each step's premises are met.
+//! Walks of small worlds, computed by the definitions: each step's premises are met.
 
-ghost use Rattle.std.specs.Prelude.{◌≡◌};
+ghost use Rattle.std.specs.Prelude.{◌≡◌, [], ◌∷◌, Bool, Some, is_some, if◌then◌else◌};
 ghost use Rattle.posix_calls.specs.Tree.{opening};
 ghost use Rattle.posix_calls.specs.Operations.{Step};
-ghost use Rattle.posix_calls.specs.declared.call.Reply.TheVariants.{Done};
+ghost use Rattle.posix_calls.specs.declared.call.Reply.TheVariants.{Done, Opened, Wrote};
+ghost use Rattle.file_graph.specs.Graph.{file_bytes};
 ghost use Rattle.world_facts.specs.Logs.{IsNameless};
 ghost use Rattle.world_facts.specs.World.{log_of, all_of, tree_of};
 ghost use Rattle.world_facts.specs.Invariant.{Holds};
-ghost use Rattle.world_facts.specs.Stop.{Stores};
-ghost use Rattle.world_facts.specs.Walk.{mkdir_a, making, made, passed};
-ghost use Rattle.posix_calls.specs.declared.call.Reply.TheVariants.{Opened};
+ghost use Rattle.world_facts.specs.ClientSteps.{IsBegun, replied};
+ghost use Rattle.world_facts.specs.LeaseSteps.{CanGive};
 ghost use Rattle.world_facts.specs.KernelSteps.{CanReclaim};
+ghost use Rattle.world_facts.specs.Stop.{Stores, stored};
+ghost use Rattle.world_facts.specs.Walk.{mkdir_a, making, made, passed};
 ghost use Rattle.world_facts.specs.UnlinkWalk as unlink_walk;
+ghost use Rattle.world_facts.specs.PairWalk as pair_walk;
 
 /// From a format on, client 1 gets units and a number, takes two leases, fetches the root and begins `mkdir /a`: the tree is the empty
 /// one still, and a stop stores that, or that after the call. Its answer is the call's step. Then its region is sealed, digested and
@@ -38,4 +41,19 @@ pub fn small_world_unlinks_an_open_file()
     ensures can { CanReclaim unlink_walk.released 2 }
     ensures reclaimed { Holds unlink_walk.emptied }
     ensures unseen { tree_of unlink_walk.emptied ≡ tree_of unlink_walk.released }
+{}
+
+/// With the file open, client 1 has its record digested and gives the root to client 2, which begins `mkdir /b`; client 1 begins a
+/// write. A stop has four outcomes, one for each choice of the two records. Then client 1 is answered and its record digested while
+/// the other call is begun, whose answer is a step still.
+pub fn small_world_of_two_clients()
+    ensures given { CanGive pair_walk.back 1 1 }
+    ensures begun { Holds pair_walk.two }
+    ensures stopped { (first second : Bool) → Stores pair_walk.two (pair_walk.left first second) }
+    ensures byte { (first second : Bool) → file_bytes (stored pair_walk.two (pair_walk.left first second) 2) ≡ Some (if first then 7 ∷ [] else []) }
+    ensures directory { (first second : Bool) → is_some (stored pair_walk.two (pair_walk.left first second) 3) ≡ second }
+    ensures written { Step (tree_of pair_walk.two) 1 pair_walk.write_7.call (Wrote 1) (tree_of (replied pair_walk.two 1 pair_walk.write_7)) }
+    ensures beside { Holds pair_walk.beside }
+    ensures still { IsBegun pair_walk.beside 2 pair_walk.mkdir_b }
+    ensures made { Step (tree_of pair_walk.beside) 2 pair_walk.mkdir_b.call Done (tree_of pair_walk.made) }
 {}
