@@ -16,13 +16,13 @@ use Rattle.call_effects.specs.Wholes.{IsSound}
 use Rattle.world_facts.specs.Logs.{after_clients, units_in, ArePaid}
 use Rattle.world_facts.specs.World.{Account, Kernel, all_of, records_of, whole, held, holds, tree_of, at}
 use Rattle.world_facts.specs.Opening.{idle_account}
-use Rattle.world_facts.specs.Standing.{IsMarked, IsLeased, IsPending, IsBooked, IsBeside}
+use Rattle.world_facts.specs.Standing.{IsMarked, IsLeased, IsPending, IsBooked, IsBeside, Stands}
 use Rattle.world_facts.specs.ClientSteps.{IsBegun, replied}
 use Rattle.world_facts.specs.RegionSteps.{CanSeal, sealed}
 use Rattle.world_facts.specs.KernelSteps.{CanDigest, digested}
 use Rattle.world_facts.specs.Walk.{mkdir_a, made}
 use Rattle.world_facts.specs.Broken.{making, marked_past, granted_twice, watching, root_alone, half, misbegun, unpaid, overdrawn}
-use Rattle.world_facts.proofs.Idle.{none_some}
+use Rattle.world_facts.proofs.Idle.{none_some, idle_stands}
 use Rattle.world_facts.proofs.Moved.{each, each_client}
 use Rattle.world_facts.proofs.Walks.{planned}
 
@@ -135,6 +135,12 @@ root_leased = record {
   ];
   blocks = λ i b bytes e. none_some bytes e;
 }
+
+-- all else holds of it
+pub watching_stands : Stands (watching root_alone).kernel.shared ((watching root_alone).kernel.accounts 2) 2 ((watching root_alone).clients 2)
+watching_stands =
+    let idle = idle_stands fresh 2 0 in
+    record { number = refl; marked = idle.marked; logged = idle.logged; units = idle.units; numbered = idle.numbered; leased = root_leased; pinned = idle.pinned; pending = λ b e. none_some b e }
 
 -- ---- a record of no call
 

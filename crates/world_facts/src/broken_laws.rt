@@ -6,7 +6,7 @@ ghost use Rattle.call_effects.specs.Known.{Agrees};
 ghost use Rattle.call_effects.specs.Wholes.{IsSound, state_of};
 ghost use Rattle.world_facts.specs.Logs.{after_records, after_each, units_in, AreApart, IsMadeOnce, ArePaid, NameNone};
 ghost use Rattle.world_facts.specs.World.{all_of, records_of, whole, held, holds, tree_of};
-ghost use Rattle.world_facts.specs.Standing.{IsMarked, IsLeased, IsPending, IsBooked, IsBeside};
+ghost use Rattle.world_facts.specs.Standing.{IsMarked, IsLeased, IsPending, IsBooked, IsBeside, Stands};
 ghost use Rattle.world_facts.specs.ClientSteps.{IsBegun, replied};
 ghost use Rattle.world_facts.specs.RegionSteps.{CanSeal, sealed};
 ghost use Rattle.world_facts.specs.KernelSteps.{CanDigest, digested};
@@ -67,7 +67,7 @@ pub fn copy_without_a_lease_goes_stale()
 /// So is one under a lease for reading, where another client holds the inode for writing beside it.
 pub fn copy_beside_a_writer_goes_stale()
     ensures broken { IsBeside ((watching root_alone).clients 1) ((watching root_alone).clients 2) → ⊥ }
-    ensures leased { IsLeased (holds ((watching root_alone).clients 2)) ((watching root_alone).clients 2).knows }
+    ensures stands { Stands (watching root_alone).kernel.shared ((watching root_alone).kernel.accounts 2) 2 ((watching root_alone).clients 2) }
     ensures begun { IsBegun (watching root_alone) 1 mkdir_a }
     ensures known { Agrees ((watching root_alone).clients 2).knows (whole (watching root_alone)) (held (watching root_alone)) }
     ensures stale { Agrees ((replied (watching root_alone) 1 mkdir_a).clients 2).knows (whole (replied (watching root_alone) 1 mkdir_a)) (held (replied (watching root_alone) 1 mkdir_a)) → ⊥ }
