@@ -6,34 +6,39 @@ ghost use Rattle.batch_journal.specs.Images.{image_for};
 ghost use Rattle.batch_journal.specs.Blocks.{AreJournaled};
 ghost use Rattle.layout.specs.Places.{Sizes};
 
-use crate::doubles::{after_stop, failing, rest_of, stopping};
+use crate::doubles::{Hurt, SetupError, after_stop, failing, stopping};
 use batch_journal::{Batch, Journal, JournalError};
 use layout::{Geometry, Super};
 use std::alloc::{AllocError, Global};
 use std::test::Fail;
-use tier_device::{Fill, Media, MemMedia, StopMedia, Tier};
+use tier_device::{Fill, Media, MemMedia, Tier};
 
 // A medium of 2 units with 2, 512 and 0 data blocks, all zero but for the superblock. The node pool ends before block 3,368.
-fn medium(alloc: Global) -> Result<MemMedia, Fail>
+fn medium(alloc: Global) -> Result<MemMedia, SetupError>
     ensures { IfOk result IsAtRest }
 {
-    let Some(geometry) = Geometry::new(2, 2, 512, 0) else {
-        return Err("no such media".into());
-    };
-    let mut fast = filled(alloc, 0)?;
-    Super { geometry }.encode(&mut fast);
-    fast.resize(3_370 * 4_096, 0)?;
+    let fast = fast_tier(alloc)?;
     let size = 512 * 4_096;
     let block = vec![in alloc; 0u8; size]?;
     Ok(MemMedia::of_bytes(alloc, fast, block, Vec::new(alloc))?)
 }
 
-fn reopened<M: Media + Drop>(alloc: Global, media: M) -> Result<Journal<M>, JournalError>
+fn fast_tier(alloc: Global) -> Result<Vec<u8>, SetupError> {
+    let Some(geometry) = Geometry::new(2, 2, 512, 0) else {
+        return Err(SetupError::Sizes);
+    };
+    let mut fast = filled(alloc, 0)?;
+    Super { geometry }.encode(&mut fast);
+    fast.resize(3_370 * 4_096, 0)?;
+    Ok(fast)
+}
+
+fn reopened<M: Media + Drop>(alloc: Global, media: M) -> Result<Journal<M>, SetupError>
     requires { AtRest (M.seen media) (M.left media (M.moment media)) Fast }
 {
     match Journal::reopen(alloc, media) {
         Ok(journal) => Ok(journal),
-        Err((error, _media)) => Err(error),
+        Err((error, _media)) => Err(SetupError::Journal(error)),
     }
 }
 
@@ -47,32 +52,41 @@ fn filled(alloc: Global, byte: u8) -> Result<Vec<u8>, AllocError>
 
 // Writes the images of blocks 33 and 292, each of one byte.
 fn commit_two<M: Media>(alloc: Global, journal: &mut Journal<M>) -> Result<(), JournalError> {
-    let batch = match two(alloc) {
-        Ok(batch) => batch,
-        Err(_) => return Err(JournalError::Memory),
-    };
-    journal.commit(&batch)
+    match two(alloc) {
+        Ok(batch) => journal.commit(&batch),
+        Err(_) => Err(JournalError::Memory),
+    }
 }
 
 fn two(alloc: Global) -> Result<Batch, AllocError>
     ensures places { IfOk result (λ b. (g : Sizes) → AreJournaled g b) }
     ensures named { IfOk result (λ b. image_for 0 b ≡ None) }
 {
+    let first = filled(alloc, 0x61)?;
+    let second = filled(alloc, 0x62)?;
     let mut batch = Batch::new(alloc)?;
-    batch.push(33, &filled(alloc, 0x61)?)?;
-    batch.push(292, &filled(alloc, 0x62)?)?;
+    batch.push(33, &first)?;
+    batch.push(292, &second)?;
     Ok(batch)
 }
 
 // The first and the last byte of blocks 33 and 292.
 fn ends<M: Media>(alloc: Global, journal: &mut Journal<M>) -> Result<[u8; 4], JournalError> {
-    let mut block = match filled(alloc, 7) {
-        Ok(block) => block,
-        Err(_) => return Err(JournalError::Memory),
-    };
-    journal.image(33, &mut block)?;
+    match filled(alloc, 7) {
+        Ok(mut block) => ends_through(journal, &mut block),
+        Err(_) => Err(JournalError::Memory),
+    }
+}
+
+fn ends_through<M: Media>(
+    journal: &mut Journal<M>,
+    block: &mut [u8],
+) -> Result<[u8; 4], JournalError>
+    requires { length block.old ≡ 4096 }
+{
+    journal.image(33, block)?;
     let marks = (block[0], block[4_095]);
-    journal.image(292, &mut block)?;
+    journal.image(292, block)?;
     Ok([marks.0, marks.1, block[0], block[4_095]])
 }
 
@@ -83,14 +97,33 @@ const AFTER: [u8; 4] = [0x61, 0x61, 0x62, 0x62];
 // It is short, so that it can be run with each of its allocations failing in turn.
 #[test]
 fn two_images_are_read_again(rt: HostRuntime) -> Result<(), Fail> {
-    let alloc = rt.alloc();
-    let mut journal = reopened(alloc, medium(alloc)?)?;
+    assert!(rt; is_read_again(rt.alloc())?);
+    Ok(())
+}
+
+fn is_read_again(alloc: Global) -> Result<bool, SetupError> {
+    let media = medium(alloc)?;
+    let (before, media) = committed(alloc, media)?;
+    let rest = after_stop(&media)?;
+    Ok(before == BEFORE && ends_in(alloc, rest)? == AFTER)
+}
+
+// The medium after the commit, and the same bytes before it.
+fn committed<M: Media + Drop>(alloc: Global, media: M) -> Result<([u8; 4], M), SetupError>
+    requires { AtRest (M.seen media) (M.left media (M.moment media)) Fast }
+{
+    let mut journal = reopened(alloc, media)?;
     let before = ends(alloc, &mut journal)?;
     commit_two(alloc, &mut journal)?;
-    let rest = after_stop(&journal.into_media())?;
-    let mut journal = reopened(alloc, rest)?;
-    assert!(rt; before == BEFORE && ends(alloc, &mut journal)? == AFTER);
-    Ok(())
+    Ok((before, journal.into_media()))
+}
+
+// The same bytes of a medium that is opened.
+fn ends_in<M: Media + Drop>(alloc: Global, media: M) -> Result<[u8; 4], SetupError>
+    requires { AtRest (M.seen media) (M.left media (M.moment media)) Fast }
+{
+    let mut journal = reopened(alloc, media)?;
+    Ok(ends(alloc, &mut journal)?)
 }
 
 // The gate is opened by call 3 and kept by call 4; until then no fill but an open gate's lets the batch be seen.
@@ -102,24 +135,36 @@ fn expected(call: u64, fill: Fill) -> [u8; 4] {
     }
 }
 
-// The journal of a medium that stops within its call of this number.
-fn stopping_journal(alloc: Global, call: u64, fill: Fill) -> Result<Journal<StopMedia>, Fail>
+// Whether a commit of two images fails just where one of its nine calls is stopped in, and leaves what is expected.
+fn stops(alloc: Global, call: u64, fill: Fill) -> Result<bool, SetupError>
     requires { 1 ≤ call }
 {
     let media = stopping(medium(alloc)?, call, fill);
-    Ok(reopened(alloc, media)?)
+    let (done, failed, left) = commit_and_stop(alloc, media, fill)?;
+    Ok(left == expected(call, fill) && done == (call == 10) && failed == (call < 10))
 }
 
-// Whether a commit of two images fails just where one of its nine calls is stopped in, and leaves what is expected.
-fn stops(alloc: Global, call: u64, fill: Fill) -> Result<bool, Fail>
-    requires { 1 ≤ call }
+// Whether a commit is answered, whether it leaves the journal failed, and what is left after the stop.
+fn commit_and_stop<D: Hurt>(
+    alloc: Global,
+    media: D,
+    fill: Fill,
+) -> Result<(bool, bool, [u8; 4]), SetupError>
+    requires { AtRest (D.seen media) (D.left media (D.moment media)) Fast }
 {
-    let mut journal = stopping_journal(alloc, call, fill)?;
+    let mut journal = reopened(alloc, media)?;
     let done = commit_two(alloc, &mut journal).is_ok();
     let failed = journal.has_failed();
-    let mut journal = reopened(alloc, rest_of(journal.into_media(), fill)?)?;
-    let left = ends(alloc, &mut journal)? == expected(call, fill);
-    Ok(left && done == (call == 10) && failed == (call < 10))
+    Ok((done, failed, ends_left(alloc, journal, fill)?))
+}
+
+fn ends_left<D: Hurt>(
+    alloc: Global,
+    journal: Journal<D>,
+    fill: Fill,
+) -> Result<[u8; 4], SetupError> {
+    let media = journal.into_media().left_by_stop(fill)?;
+    ends_in(alloc, media)
 }
 
 #[test]
@@ -133,20 +178,34 @@ fn a_stop_at_each_call_leaves_the_blocks_before_or_after(rt: HostRuntime) -> Res
 }
 
 // Whether a commit whose call of this number fails leaves the journal failed, and what a stop then leaves is as expected.
-fn fails(alloc: Global, call: u64) -> Result<bool, Fail>
+fn fails(alloc: Global, call: u64) -> Result<bool, SetupError>
     requires { 1 ≤ call }
 {
-    let mut journal = reopened(alloc, failing(medium(alloc)?, call))?;
+    let media = failing(medium(alloc)?, call);
+    let (has_failed, left) = fail_and_stop(alloc, media, Fill::Byte(0xa5))?;
+    Ok(has_failed && left == expected(call, Fill::Byte(0xa5)))
+}
+
+fn fail_and_stop<D: Hurt>(
+    alloc: Global,
+    media: D,
+    fill: Fill,
+) -> Result<(bool, [u8; 4]), SetupError>
+    requires { AtRest (D.seen media) (D.left media (D.moment media)) Fast }
+{
+    let mut journal = reopened(alloc, media)?;
+    let has_failed = stays_failed(alloc, &mut journal);
+    Ok((has_failed, ends_left(alloc, journal, fill)?))
+}
+
+fn stays_failed<M: Media>(alloc: Global, journal: &mut Journal<M>) -> bool {
     let fault = Err(JournalError::DeviceFault);
     let answers = [
-        commit_two(alloc, &mut journal),
-        commit_two(alloc, &mut journal),
+        commit_two(alloc, journal),
+        commit_two(alloc, journal),
         journal.fence(Tier::Block),
     ];
-    let rest = journal.into_media().into_inner();
-    let mut journal = reopened(alloc, after_stop(&rest)?)?;
-    let left = ends(alloc, &mut journal)? == expected(call, Fill::Byte(0xa5));
-    Ok(left && answers == [fault, fault, fault])
+    answers == [fault, fault, fault]
 }
 
 // A failed write is done, and a failed fence keeps nothing: what a stop then leaves is told by the same table.
@@ -159,29 +218,40 @@ fn a_failed_call_fails_the_journal_until_it_is_reopened(rt: HostRuntime) -> Resu
 }
 
 // Writes the last data block of two tiers, of which the fast one is fenced.
-fn write_data<M: Media>(alloc: Global, journal: &mut Journal<M>) -> Result<(), Fail> {
+fn write_data<M: Media>(alloc: Global, journal: &mut Journal<M>) -> Result<(), SetupError> {
+    let data = filled(alloc, 5)?;
     let geometry = journal.geometry();
     if geometry.data_first(Tier::Fast) > 3_369
         || geometry.tier_blocks(Tier::Fast) < 3_370
         || geometry.tier_blocks(Tier::Block) < 512
     {
-        return Err("other sizes".into());
+        return Err(SetupError::Sizes);
     }
-    let data = filled(alloc, 5)?;
     journal.write(Tier::Fast, 3_369, &data)?;
     journal.fence(Tier::Fast)?;
     journal.write(Tier::Block, 511, &data)?;
     Ok(())
 }
 
-#[test]
-fn data_is_kept_by_a_fence_of_its_tier(rt: HostRuntime) -> Result<(), Fail> {
-    let alloc = rt.alloc();
-    let mut journal = stopping_journal(alloc, 4, Fill::Old)?;
+// What a stop leaves of a medium to which they were written.
+fn write_and_stop<D: Hurt>(alloc: Global, media: D) -> Result<MemMedia, SetupError>
+    requires { AtRest (D.seen media) (D.left media (D.moment media)) Fast }
+{
+    let mut journal = reopened(alloc, media)?;
     write_data(alloc, &mut journal)?;
-    let rest = rest_of(journal.into_media(), Fill::Old)?;
+    journal.into_media().left_by_stop(Fill::Old)
+}
+
+fn is_kept_by_its_fence(alloc: Global) -> Result<bool, SetupError> {
+    let media = stopping(medium(alloc)?, 4, Fill::Old);
+    let rest = write_and_stop(alloc, media)?;
     let fast = rest.bytes(Tier::Fast).get(3_369 * 4_096).copied();
     let block = rest.bytes(Tier::Block).get(511 * 4_096).copied();
-    assert!(rt; fast == Some(5) && block == Some(0));
+    Ok(fast == Some(5) && block == Some(0))
+}
+
+#[test]
+fn data_is_kept_by_a_fence_of_its_tier(rt: HostRuntime) -> Result<(), Fail> {
+    assert!(rt; is_kept_by_its_fence(rt.alloc())?);
     Ok(())
 }

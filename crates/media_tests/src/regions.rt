@@ -4,13 +4,13 @@ ghost use Rattle.tier_device.specs.declared.media.Tier.TheVariants.{Fast};
 ghost use Rattle.tier_device.specs.Media.{AtRest};
 ghost use Rattle.tier_device.specs.Memory.{IsAtRest};
 
-use crate::doubles::{failing_with, rest_of, stopping_with};
+use crate::doubles::{Hurt, SetupError};
 use file_graph::{Effect, Effects};
 use log_record::Record;
 use posix_calls::Bytes;
 use std::alloc::{AllocError, Global};
 use std::test::Fail;
-use tier_device::{Fill, Media, MemMedia, Trip};
+use tier_device::{FaultMedia, Fill, Media, MemMedia, StopMedia, Trip};
 use update_log::{REGION_SIZE, Region, RegionError, Stage};
 
 // A medium of a region's size, all zero.
@@ -22,27 +22,27 @@ fn medium(alloc: Global) -> Result<MemMedia, AllocError>
     Ok(MemMedia::of_bytes(alloc, zeros, Vec::new(alloc), Vec::new(alloc))?)
 }
 
-fn reopened<M: Media + Drop>(alloc: Global, media: M) -> Result<Region<M>, RegionError>
+fn reopened<M: Media + Drop>(alloc: Global, media: M) -> Result<Region<M>, SetupError>
     requires { AtRest (M.seen media) (M.left media (M.moment media)) Fast }
 {
     match Region::reopen(alloc, media) {
         Ok(region) => Ok(region),
-        Err((error, _media)) => Err(error),
+        Err((error, _media)) => Err(SetupError::Region(error)),
     }
 }
 
 // The record of a write of so many bytes.
 fn write(alloc: Global, count: usize) -> Result<Record, AllocError> {
     let bytes = Bytes::from_vec(vec![in alloc; 7u8; count]?);
-    let effect = Effect::Bytes {
+    let effects = [Effect::Bytes {
         inode: 2,
         at: 0,
         bytes,
-    };
-    let mut effects = Vec::new(alloc);
-    effects.push(effect)?;
-    let effects = Effects::from_vec(effects);
-    Ok(Record { units: 1, effects })
+    }];
+    Ok(Record {
+        units: 1,
+        effects: Effects::from_vec(Vec::from_array(alloc, effects)?),
+    })
 }
 
 // Appends the record of a write of so many bytes, where one may be begun.
@@ -71,50 +71,83 @@ fn append_to_both<M: Media>(
 }
 
 // How many records stand in a medium.
-fn count_in(alloc: Global, media: MemMedia) -> Result<usize, RegionError>
-    requires { IsAtRest media }
+fn count_in<M: Media + Drop>(alloc: Global, media: M) -> Result<usize, SetupError>
+    requires { AtRest (M.seen media) (M.left media (M.moment media)) Fast }
 {
     let mut region = reopened(alloc, media)?;
     Ok(region.records()?.len())
 }
 
-// Of two regions whose media stop together, within this call of both: whether each append is answered, and how many records
-// there are after the stop.
-fn after_stop_of_both(alloc: Global, call: u64, fill: Fill) -> Result<([bool; 2], [usize; 2]), Fail>
+// How many a region holds after its stop.
+fn count_left<D: Hurt>(alloc: Global, region: Region<D>, fill: Fill) -> Result<usize, SetupError> {
+    let media = region.into_media().left_by_stop(fill)?;
+    count_in(alloc, media)
+}
+
+// An empty region whose medium is hurt where the trip ends.
+fn opened<D: Hurt>(alloc: Global, trip: &Trip, fill: Fill) -> Result<Region<D>, SetupError> {
+    let trip = trip.share()?;
+    let media = medium(alloc)?;
+    reopened(alloc, D::where_trip_ends(media, trip, fill))
+}
+
+// What comes of two appends: which are answered, and how many records each region holds after the stop.
+#[derive(Clone, Copy, PartialEq)]
+struct Outcome {
+    answered: [bool; 2],
+    records: [usize; 2],
+}
+
+// Of two regions whose media are hurt within this call of both.
+fn append_twice<D: Hurt>(alloc: Global, call: u64, fill: Fill) -> Result<Outcome, SetupError>
     requires { 1 ≤ call }
 {
     let trip = Trip::new(alloc)?;
-    let mut first = reopened(alloc, stopping_with(medium(alloc)?, trip.share()?, fill))?;
-    let mut second = reopened(alloc, stopping_with(medium(alloc)?, trip.share()?, fill))?;
-    trip.arm(call);
-    let answered = append_to_both(alloc, &mut first, &mut second);
-    let first = rest_of(first.into_media(), fill)?;
-    let second = rest_of(second.into_media(), fill)?;
-    Ok((
-        answered,
-        [count_in(alloc, first)?, count_in(alloc, second)?],
-    ))
+    let mut first = opened::<D>(alloc, &trip, fill)?;
+    let (answered, second) = append_beside(alloc, &mut first, &trip, call, fill)?;
+    let records = [count_left(alloc, first, fill)?, second];
+    Ok(Outcome { answered, records })
 }
 
-// The same where that call fails, and nothing else does until both stop between two calls.
-fn after_failure_of_one(
+// Appends to that region and to another beside it, and counts what the other holds after its stop.
+fn append_beside<D: Hurt>(
+    alloc: Global,
+    first: &mut Region<D>,
+    trip: &Trip,
+    call: u64,
+    fill: Fill,
+) -> Result<([bool; 2], usize), SetupError>
+    requires { 1 ≤ call }
+{
+    let mut second = opened::<D>(alloc, trip, fill)?;
+    trip.arm(call);
+    let answered = append_to_both(alloc, first, &mut second);
+    Ok((answered, count_left(alloc, second, fill)?))
+}
+
+// Whether a stop in this call leaves these numbers of records, and a failure of it those, where nothing fails after it until both
+// regions stop between two calls.
+fn shows(
     alloc: Global,
     call: u64,
     fill: Fill,
-) -> Result<([bool; 2], [usize; 2]), Fail>
-    requires { 1 ≤ call }
-{
-    let trip = Trip::new(alloc)?;
-    let mut first = reopened(alloc, failing_with(medium(alloc)?, trip.share()?))?;
-    let mut second = reopened(alloc, failing_with(medium(alloc)?, trip.share()?))?;
-    trip.arm(call);
-    let answered = append_to_both(alloc, &mut first, &mut second);
-    let first = first.into_media().into_inner().after_stop(fill)?;
-    let second = second.into_media().into_inner().after_stop(fill)?;
-    Ok((
-        answered,
-        [count_in(alloc, first)?, count_in(alloc, second)?],
-    ))
+    where_stopped: [usize; 2],
+    where_failed: [usize; 2],
+) -> Result<bool, SetupError> {
+    if call < 1 {
+        return Ok(false);
+    }
+    let stopped = append_twice::<StopMedia>(alloc, call, fill)?;
+    let failed = append_twice::<FaultMedia<MemMedia>>(alloc, call, fill)?;
+    let as_stopped = Outcome {
+        answered: [4 < call, 8 < call],
+        records: where_stopped,
+    };
+    let as_failed = Outcome {
+        answered: [4 < call, call <= 4 || 8 < call],
+        records: where_failed,
+    };
+    Ok(stopped == as_stopped && failed == as_failed)
 }
 
 const OLD: Fill = Fill::Old;
@@ -128,59 +161,66 @@ const SHUT: Fill = Fill::Byte(0x17);
 
 // Calls 1 to 4 are the first append's, 5 to 8 the second's; the third of each opens the gate. After the numbers of records
 // where both stop come those where one call fails, after which the other region goes on.
+const ROWS: [(u64, Fill, [usize; 2], [usize; 2]); 14] = [
+    (1, OPENED, [0, 0], [0, 1]),
+    (2, OPENED, [0, 0], [0, 1]),
+    (3, OLD, [0, 0], [0, 1]),
+    (3, SHUT, [0, 0], [0, 1]),
+    (3, NEW, [1, 0], [1, 1]),
+    (4, OLD, [0, 0], [0, 1]),
+    (4, OPENED, [1, 0], [1, 1]),
+    (5, OPENED, [1, 0], [1, 0]),
+    (6, NEW, [1, 0], [1, 0]),
+    (7, SHUT, [1, 0], [1, 0]),
+    (7, OPENED, [1, 1], [1, 1]),
+    (8, OLD, [1, 0], [1, 0]),
+    (8, NEW, [1, 1], [1, 1]),
+    (9, OLD, [1, 1], [1, 1]),
+];
+
 #[test]
 fn an_append_leaves_its_record_or_not(rt: HostRuntime) -> Result<(), Fail> {
-    let table = [
-        (1, OPENED, [0, 0], [0, 1]),
-        (2, OPENED, [0, 0], [0, 1]),
-        (3, OLD, [0, 0], [0, 1]),
-        (3, SHUT, [0, 0], [0, 1]),
-        (3, NEW, [1, 0], [1, 1]),
-        (4, OLD, [0, 0], [0, 1]),
-        (4, OPENED, [1, 0], [1, 1]),
-        (5, OPENED, [1, 0], [1, 0]),
-        (6, NEW, [1, 0], [1, 0]),
-        (7, SHUT, [1, 0], [1, 0]),
-        (7, OPENED, [1, 1], [1, 1]),
-        (8, OLD, [1, 0], [1, 0]),
-        (8, NEW, [1, 1], [1, 1]),
-        (9, OLD, [1, 1], [1, 1]),
-    ];
-    for (call, fill, stopped, failed) in table {
-        let row = call;
-        let answered = [4 < row, 8 < row];
-        let answered_beside = [4 < row, row <= 4 || 8 < row];
+    for (call, fill, stopped, failed) in ROWS {
         assert!(rt;
-            1 <= row && after_stop_of_both(rt.alloc(), row, fill)? == (answered, stopped),
-            "a stop in call {row}"
-        );
-        assert!(rt;
-            1 <= row && after_failure_of_one(rt.alloc(), row, fill)? == (answered_beside, failed),
-            "a failure of call {row}"
+            shows(rt.alloc(), call, fill, stopped, failed)?,
+            "call {call}"
         );
     }
     Ok(())
 }
 
-// Why an append of so many bytes is refused once three writes of 65,536 stand there.
-fn fourth(alloc: Global, count: usize) -> Result<Option<RegionError>, Fail> {
-    let mut region = reopened(alloc, medium(alloc)?)?;
+// Whether an append of so many bytes is refused, as the region is full, once three writes of 65,536 stand there.
+fn fourth_is_refused(alloc: Global, count: usize) -> Result<bool, SetupError> {
+    let media = medium(alloc)?;
+    is_refused_behind_three(alloc, media, count)
+}
+
+fn is_refused_behind_three<M: Media + Drop>(
+    alloc: Global,
+    media: M,
+    count: usize,
+) -> Result<bool, SetupError>
+    requires { AtRest (M.seen media) (M.left media (M.moment media)) Fast }
+{
+    let mut region = reopened(alloc, media)?;
     for _ in 0..3 {
         append(alloc, &mut region, 65_536)?;
     }
-    Ok(append(alloc, &mut region, count).err())
+    match append(alloc, &mut region, count) {
+        Ok(()) => Ok(false),
+        Err(RegionError::RegionFull) => Ok(true),
+        Err(error) => Err(SetupError::Region(error)),
+    }
 }
 
 // 16 bytes of header, 27 around the bytes of each write, and the next gate: 65,411 more bytes fit.
 #[test]
 fn a_region_is_full_to_the_byte(rt: HostRuntime) -> Result<(), Fail> {
-    let table = [
-        (65_536, Some(RegionError::RegionFull)),
-        (65_412, Some(RegionError::RegionFull)),
-        (65_411, None),
-    ];
-    for (count, wanted) in table {
-        assert!(rt; fourth(rt.alloc(), count)? == wanted, "{count} bytes");
+    for (count, is_full) in [(65_536, true), (65_412, true), (65_411, false)] {
+        assert!(rt;
+            fourth_is_refused(rt.alloc(), count)? == is_full,
+            "{count} bytes"
+        );
     }
     Ok(())
 }

@@ -1,5 +1,0 @@
-use Rattle.tier_device.specs.declared.media.Tier.TheVariants.{Fast}
-use Rattle.media_tests.proofs.journals.stopping_journal.Goals as goal
-
-pub reopened-requires : goal.reopened-requires
-reopened-requires c = c.stopping-media.ensures Fast
