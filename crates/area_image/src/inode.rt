@@ -33,6 +33,7 @@ pub fn read_inode<M: Media>(
     ensures slot { IfOk result (λ x. slot_read journal.old.geometry (store_of (M.seen journal.old.media)) inode ≡ Some x.slot) }
     ensures runs { IfOk result (λ x. (t : Tier) → runs_read journal.old.geometry (store_of (M.seen journal.old.media)) inode t ≡ Some (runs_in x.trees t)) }
     ensures damaged { IfErr result (λ e. OnDamage e (IsDamaged journal.old.geometry (store_of (M.seen journal.old.media)))) }
+    ensures own { IfErr result (λ e. OnDamage e (IsPartDamage journal.old.geometry (store_of (M.seen journal.old.media)) inode)) }
     ensures looks { Looks M.moment M.seen M.left M.faults journal.old journal.new result }
 {
     match read_parts(alloc, journal, inode) {

@@ -1,12 +1,12 @@
 // The marks as they are read.
-ghost use Rattle.std.specs.Prelude.{◌≡◌, Some, None, IfOk, IfErr};
+ghost use Rattle.std.specs.Prelude.{◌≡◌, ◌≢◌, Some, None, IfOk, IfErr};
 ghost use Rattle.layout.specs.declared.error.What.TheVariants as what;
 ghost use Rattle.layout.specs.declared.places.TheConstants.{MARKS_BLOCK};
 ghost use Rattle.layout.specs.Marks.{marks_of};
 ghost use Rattle.area_image.specs.Store.{store_of, marks};
 ghost use Rattle.area_image.specs.Damage.{OnDamage, IsMarksDamage};
 ghost use Rattle.area_image.specs.Looks.{Looks};
-ghost use Rattle.area_image.specs.declared.error.AreaError.TheVariants.{Damaged};
+ghost use Rattle.area_image.specs.declared.error.AreaError.TheVariants.{Damaged, Memory};
 
 use crate::error::AreaError;
 use crate::reading::{blank_block, read_block};
@@ -18,6 +18,7 @@ use tier_device::{Media, Tier};
 pub fn read_marks<M: Media>(journal: &mut Journal<M>) -> Result<Marks, AreaError>
     ensures marks { IfOk result (λ m. marks (store_of (M.seen journal.old.media)) ≡ Some m) }
     ensures damaged { IfErr result (λ e. OnDamage e (IsMarksDamage (store_of (M.seen journal.old.media)))) }
+    ensures only { IfErr result (λ e. e ≢ Memory) }
     ensures looks { Looks M.moment M.seen M.left M.faults journal.old journal.new result }
 {
     let mut bytes = blank_block();

@@ -30,6 +30,7 @@ pub fn read_block<M: Media>(
     requires inside { block < tier_blocks journal.old.geometry tier }
     requires home { tier ≡ Fast → is_home block ≡ true }
     ensures bytes { OnOk result (out.new ≡ store_of (M.seen journal.old.media) tier block) }
+    ensures refused { OnErr result (out.new ≡ out.old) }
     ensures looks { Looks M.moment M.seen M.left M.faults journal.old journal.new result }
     ensures only { IfErr result (λ e. e ≡ DeviceFault) }
 {
@@ -50,6 +51,7 @@ fn read_home<M: Media>(
     requires inside { block < tier_blocks journal.old.geometry Fast }
     requires home { is_home block ≡ true }
     ensures bytes { OnOk result (out.new ≡ home (M.seen journal.old.media Fast) block) }
+    ensures refused { OnErr result (out.new ≡ out.old) }
     ensures looks { Looks M.moment M.seen M.left M.faults journal.old journal.new result }
     ensures only { IfErr result (λ e. e ≡ DeviceFault) }
 {
@@ -69,6 +71,7 @@ fn read_data<M: Media>(
     requires size { length out.old ≡ BLOCK }
     requires inside { block < tier_blocks journal.old.geometry tier }
     ensures bytes { OnOk result (out.new ≡ block_of (M.seen journal.old.media tier) block) }
+    ensures refused { OnErr result (out.new ≡ out.old) }
     ensures looks { Looks M.moment M.seen M.left M.faults journal.old journal.new result }
     ensures only { IfErr result (λ e. e ≡ DeviceFault) }
 {
@@ -88,6 +91,7 @@ pub fn read_slot_bytes<M: Media>(
     requires low { 1 ≤ inode }
     requires high { inode ≤ MAX_INODE }
     ensures bytes { OnOk result (out.new ≡ slot_bytes (store_of (M.seen journal.old.media)) inode) }
+    ensures refused { OnErr result (out.new ≡ out.old) }
     ensures looks { Looks M.moment M.seen M.left M.faults journal.old journal.new result }
     ensures only { IfErr result (λ e. e ≡ DeviceFault) }
 {

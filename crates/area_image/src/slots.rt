@@ -1,5 +1,5 @@
 // Slots as they are read.
-ghost use Rattle.std.specs.Prelude.{◌≡◌, ◌≤◌, ◌+◌, ◌-◌, ◌/◌, ℕ, Some, None, true, length, IfOk, IfErr};
+ghost use Rattle.std.specs.Prelude.{◌≡◌, ◌≢◌, ◌≤◌, ◌+◌, ◌-◌, ◌/◌, ℕ, Some, None, true, length, IfOk, IfErr};
 ghost use Rattle.tier_device.specs.declared.media.Tier.{Tier};
 ghost use Rattle.layout.specs.declared.error.What.TheVariants as what;
 ghost use Rattle.layout.specs.declared.places.TheConstants.{SLOT_SIZE, BLOCK};
@@ -91,6 +91,7 @@ pub fn read_slot<M: Media>(journal: &mut Journal<M>, inode: u32) -> Result<Slot,
     ensures slot { IfOk result (λ x. slot_read journal.old.geometry (store_of (M.seen journal.old.media)) inode ≡ Some x) }
     ensures fits { IfOk result (λ x. fits_slot journal.old.geometry x ≡ true) }
     ensures damaged { IfErr result (λ e. OnDamage e (λ w block. (w ≡ what.Slot) × (block ≡ slot_block inode) × (slot_read journal.old.geometry (store_of (M.seen journal.old.media)) inode ≡ None))) }
+    ensures only { IfErr result (λ e. e ≢ Memory) }
     ensures looks { Looks M.moment M.seen M.left M.faults journal.old journal.new result }
 {
     let mut bytes = blank();
