@@ -8,10 +8,10 @@ use Rattle.call_effects.specs.Wholes.{state_of}
 use Rattle.call_effects.proofs.KnownUnits.{planned_units}
 use Rattle.call_effects.proofs.Rises.{growth_local}
 use Rattle.world_facts.specs.Logs.{after_records, is_written, is_touched, units_in, IsPaid, ArePaid, NamesNone, NameNone}
-use Rattle.world_facts.specs.World.{Begun, Client, Account, World, undigested, records_of, change_of, log_of, whole, held, tree_of, moved}
-use Rattle.world_facts.specs.Standing.{IsPending, Stands}
+use Rattle.world_facts.specs.World.{Begun, Status, Client, Account, World, undigested, records_of, change_of, log_of, whole, held, tree_of, moved}
+use Rattle.world_facts.specs.Standing.{is_settled, IsPending, Stands}
 use Rattle.world_facts.specs.Invariant.{Holds}
-use Rattle.world_facts.specs.ClientSteps.{CanBegin, begun, IsBegun, given_up, failed}
+use Rattle.world_facts.specs.ClientSteps.{CanBegin, begun, IsBegun, given_up, with_client}
 use Rattle.world_facts.proofs.Records.{either, both, append_nil, front_written, written_append, or_neither, units_append}
 use Rattle.world_facts.proofs.Owners.{whole_at}
 use Rattle.world_facts.proofs.Idle.{none_some}
@@ -81,7 +81,9 @@ module _ (w : World) (c : ℕ) (b : Begun) (h : Holds w) (can : CanBegin w c b) 
       (booked_same w c (record old { begun = Some b; spare = old.spare - b.change.units }) h can.client)
       (record {
         number = s.number;
+        left = record { closed = s.left.closed; idle = λ e. both (is_settled old.status) e (ap is_settled can.alive) };
         marked = s.marked;
+        starts = record { records = s.starts.records; idle = λ e. both old.ready can.ready e };
         logged = record { leased = log_leased; paid = log_paid; unnamed = log_unnamed };
         units = omega (arith, were, before, after, enough);
         numbered = s.numbered;
@@ -120,7 +122,9 @@ module _ (w : World) (c : ℕ) (b : Begun) (h : Holds w) (is : IsBegun w c b) wh
       quiet w c w.kernel.shared its less h is.client refl refl refl (booked_same w c less h is.client)
       (record {
         number = stood.number;
+        left = record { closed = stood.left.closed; idle = λ e. refl };
         marked = stood.marked;
+        starts = record { records = stood.starts.records; idle = λ e. refl };
         logged = record {
           leased = λ i e. stood.logged.leased i (front_written i (log_of w c) (change_of was.begun) (sym (ap (is_written i) (append_nil (log_of w c))) ∙ e));
           paid = subst (λ rs. ArePaid w.kernel.shared rs) (sym (append_nil (log_of w c))) (along_front IsPaid (log_of w c) (change_of was.begun) w.kernel.shared stood.logged.paid);
@@ -137,13 +141,17 @@ module _ (w : World) (c : ℕ) (b : Begun) (h : Holds w) (is : IsBegun w c b) wh
   pub given_up_tree : tree_of (given_up w c b) ≡ tree_of w
   given_up_tree = tree_same w c w.kernel.shared its less refl refl refl
 
-module _ (w : World) (c : ℕ) (h : Holds w) (is_c : is_client c ≡ true) where
-  pub failed_holds : Holds (failed w c)
-  failed_holds =
-      let x = h.stands c is_c in
-      quiet w c w.kernel.shared (w.kernel.accounts c) (record (w.clients c) { failed = true }) h is_c refl refl refl (booked_same w c (record (w.clients c) { failed = true }) h is_c)
-      (record { number = x.number; marked = x.marked; logged = x.logged; units = x.units; numbered = x.numbered; leased = x.leased; pinned = x.pinned; pending = x.pending })
-      (before_less w c (record (w.clients c) { failed = true }) h is_c (λ i e. e)) (after_less w c (record (w.clients c) { failed = true }) h is_c (λ i e. e)) (h.agrees c is_c)
+-- a client that is not settled has become of another status
+module _ (w : World) (c : ℕ) (status : Status) (h : Holds w) (is_c : is_client c ≡ true) (going : is_settled status ≡ false) where
+  abbrev turned : Client
+  turned = record (w.clients c) { status = status }
 
-  pub failed_tree : tree_of (failed w c) ≡ tree_of w
-  failed_tree = tree_same w c w.kernel.shared (w.kernel.accounts c) (record (w.clients c) { failed = true }) refl refl refl
+  pub turned_holds : Holds (with_client w c turned)
+  turned_holds =
+      let x = h.stands c is_c in
+      quiet w c w.kernel.shared (w.kernel.accounts c) turned h is_c refl refl refl (booked_same w c turned h is_c)
+      (record { number = x.number; left = record { closed = λ e. both (is_settled status) e going; idle = λ e. both (is_settled status) e going }; marked = x.marked; starts = x.starts; logged = x.logged; units = x.units; numbered = x.numbered; leased = x.leased; pinned = x.pinned; pending = x.pending })
+      (before_less w c turned h is_c (λ i e. e)) (after_less w c turned h is_c (λ i e. e)) (h.agrees c is_c)
+
+  pub turned_tree : tree_of (with_client w c turned) ≡ tree_of w
+  turned_tree = tree_same w c w.kernel.shared (w.kernel.accounts c) turned refl refl refl

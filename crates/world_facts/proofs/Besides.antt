@@ -1,5 +1,5 @@
 -- What the kernel does beside a begun call, and beside an open file.
-use Rattle.std.proofs.Common.{◌≡◌, ℕ, true, List, Some, ap, ◌∙◌}
+use Rattle.std.proofs.Common.{◌≡◌, ℕ, true, List, Some, ap, sym, ◌∙◌}
 use Rattle.posix_calls.specs.Operations.{is_client}
 use Rattle.posix_calls.specs.declared.descriptor.Descriptor.{Descriptor}
 use Rattle.file_graph.specs.Graph.{after_effects}
@@ -15,7 +15,7 @@ use Rattle.world_facts.proofs.Replies.{replied_whole}
 
 module _ (w : World) (c d : ℕ) (b : Begun) (first rest : List Record) (h : Holds w) (is : IsBegun w c b) (can : CanDigest w d first rest) where
   pub begun_still : IsBegun (digested w d first) c b
-  begun_still = record { client = is.client; there = ap (λ (f : ℕ → Client). (f c).begun) (at_same w.clients d) ∙ is.there }
+  begun_still = record { client = is.client; there = ap (λ (f : ℕ → Client). (f c).begun) (at_same w.clients d) ∙ is.there; known = λ e. is.known (sym (ap (λ (f : ℕ → Client). (f c).status) (at_same w.clients d)) ∙ e) }
 
   pub replied_beside : whole (replied (digested w d first) c b) ≡ after_effects (whole w) b.change.effects
   replied_beside = replied_whole (digested w d first) c b (digested_holds w d first rest h can) begun_still ∙ ap (λ g. after_effects g b.change.effects) (digest_keeps w d first rest h can)

@@ -77,7 +77,7 @@ module _ (w : World) (c units : ℕ) (h : Holds w) (is_c : is_client c ≡ true)
       let were : account.units ≡ old.spare + units_in (records_of account old) = s.units in
       quiet w c w.kernel.shared richer (record old { spare = old.spare + units }) h is_c refl refl refl
       (booked_fewer w c richer (record old { spare = old.spare + units }) h is_c (λ i e. e) (omega (arith, sums, enough)))
-      (record { number = s.number; marked = s.marked; logged = s.logged; units = omega (arith, were); numbered = s.numbered; leased = s.leased; pinned = s.pinned; pending = s.pending })
+      (record { number = s.number; left = s.left; marked = s.marked; starts = s.starts; logged = s.logged; units = omega (arith, were); numbered = s.numbered; leased = s.leased; pinned = s.pinned; pending = s.pending })
       (before_less w c (record old { spare = old.spare + units }) h is_c (λ i e. e)) (after_less w c (record old { spare = old.spare + units }) h is_c (λ i e. e)) (h.agrees c is_c)
 
   pub units_granted_tree : tree_of (units_granted w c units) ≡ tree_of w
@@ -90,7 +90,7 @@ module _ (w : World) (c units : ℕ) (h : Holds w) (is_c : is_client c ≡ true)
       let were : account.units ≡ old.spare + units_in (records_of account old) = s.units in
       quiet w c w.kernel.shared poorer (record old { spare = old.spare - units }) h is_c refl refl refl
       (booked_fewer w c poorer (record old { spare = old.spare - units }) h is_c (λ i e. e) (omega (arith, sums, fits)))
-      (record { number = s.number; marked = s.marked; logged = s.logged; units = omega (arith, were, enough); numbered = s.numbered; leased = s.leased; pinned = s.pinned; pending = s.pending })
+      (record { number = s.number; left = s.left; marked = s.marked; starts = s.starts; logged = s.logged; units = omega (arith, were, enough); numbered = s.numbered; leased = s.leased; pinned = s.pinned; pending = s.pending })
       (before_less w c (record old { spare = old.spare - units }) h is_c (λ i e. e)) (after_less w c (record old { spare = old.spare - units }) h is_c (λ i e. e)) (h.agrees c is_c)
 
   pub units_returned_tree : tree_of (units_returned w c units) ≡ tree_of w
@@ -137,7 +137,9 @@ module _ (w : World) (c i : ℕ) (h : Holds w) (is_c : is_client c ≡ true) whe
       (fits_same w c with_it h is_c refl))
       (record {
         number = stood.number;
+        left = stood.left;
         marked = stood.marked;
+        starts = stood.starts;
         logged = stood.logged;
         units = stood.units;
         numbered = record {
@@ -188,7 +190,9 @@ module _ (w : World) (c i : ℕ) (h : Holds w) (can : CanReturn w c i) where
       (booked_fewer w c without_it without_number h can.client (λ j e. (of_without book.numbers i j e).1) (fits_same w c without_it h can.client refl))
       (record {
         number = has.number;
+        left = has.left;
         marked = has.marked;
+        starts = has.starts;
         logged = has.logged;
         units = has.units;
         numbered = record {
@@ -223,7 +227,9 @@ module _ (w : World) (c i : ℕ) (h : Holds w) (is_c : is_client c ≡ true) whe
       (booked_fewer w c pin_book pinner h is_c (λ j e. e) (fits_same w c pin_book h is_c refl))
       (record {
         number = x.number;
+        left = x.left;
         marked = x.marked;
+        starts = x.starts;
         logged = x.logged;
         units = x.units;
         numbered = x.numbered;
@@ -256,7 +262,9 @@ module _ (w : World) (c i : ℕ) (h : Holds w) (can : CanUnpin w c i) where
       (booked_fewer w c drop_book dropper h can.client (λ j e. e) (fits_same w c drop_book h can.client refl))
       (record {
         number = x.number;
+        left = x.left;
         marked = x.marked;
+        starts = x.starts;
         logged = x.logged;
         units = x.units;
         numbered = x.numbered;

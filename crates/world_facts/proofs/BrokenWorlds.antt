@@ -35,7 +35,7 @@ pub past_same : (c : ℕ) → all_of marked_past c ≡ all_of made c
 past_same = each_client made 1 made.kernel.shared (record (made.kernel.accounts 1) { mark = 1 }) (made.clients 1) (λ d b q. records_of b q ≡ all_of made d) refl (λ d other. refl)
 
 pub past_sealed : CanSeal marked_past 1
-past_sealed = record { client = refl; idle = refl; ready = refl; empty = refl }
+past_sealed = record { client = refl; idle = refl; some = λ e. absurd (cc); back = λ e. absurd (cc) }
 
 pub past_lost : tree_of (sealed marked_past 1) ≢ tree_of marked_past
 unfolding after_clients
@@ -47,7 +47,7 @@ pub twice_broken : IsBooked granted_twice.kernel → ⊥
 twice_broken is = false≢true (sym (is.alone 1 2 2 refl refl (λ e. false≢true (ap (λ n. n == 1) e)) refl))
 
 pub twice_begun : IsBegun granted_twice 1 mkdir_a
-twice_begun = record { client = refl; there = refl }
+twice_begun = record { client = refl; there = refl; known = λ e. absurd (cc) }
 
 pub twice_known : Agrees (granted_twice.clients 2).knows (whole granted_twice) (held granted_twice)
 unfolding after_clients
@@ -71,7 +71,7 @@ twice_taken agrees = let free = agrees.granted 2 refl in false≢true (sym (ap i
 -- ---- a stale copy
 
 pub watching_begun : (reads : ℕ → Bool) → IsBegun (watching reads) 1 mkdir_a
-watching_begun reads = record { client = refl; there = refl }
+watching_begun reads = record { client = refl; there = refl; known = λ e. absurd (cc) }
 
 pub watching_known : (reads : ℕ → Bool) → Agrees ((watching reads).clients 2).knows (whole (watching reads)) (held (watching reads))
 unfolding after_clients
@@ -140,7 +140,7 @@ root_leased = record {
 pub watching_stands : Stands (watching root_alone).kernel.shared ((watching root_alone).kernel.accounts 2) 2 ((watching root_alone).clients 2)
 watching_stands =
     let idle = idle_stands fresh 2 0 in
-    record { number = refl; marked = idle.marked; logged = idle.logged; units = idle.units; numbered = idle.numbered; leased = root_leased; pinned = idle.pinned; pending = λ b e. none_some b e }
+    record { number = refl; left = record { closed = λ e. absurd (false≢true e); idle = λ e. absurd (false≢true e) }; marked = idle.marked; starts = idle.starts; logged = idle.logged; units = idle.units; numbered = idle.numbered; leased = root_leased; pinned = idle.pinned; pending = λ b e. none_some b e }
 
 -- ---- a record of no call
 
@@ -148,7 +148,7 @@ pub half_broken : IsPending (misbegun.clients 1).knows (misbegun.clients 1).pins
 half_broken is = let clash = sym planned.effects ∙ is.planned.effects in cc
 
 pub half_begun : IsBegun misbegun 1 half
-half_begun = record { client = refl; there = refl }
+half_begun = record { client = refl; there = refl; known = λ e. absurd (cc) }
 
 pub half_unsound : IsSound (whole (replied misbegun 1 half)) (held (replied misbegun 1 half)) → ⊥
 unfolding after_clients

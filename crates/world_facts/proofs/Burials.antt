@@ -1,5 +1,5 @@
--- A client that is gone is buried: the whole stays, and what it had open is closed.
-use Rattle.std.proofs.Common.{◌≡◌, ◌≢◌, inl, inr, ℕ, ◌+◌, ◌-◌, ◌≤◌, cond, true, refl, Some, None, ap, sym, ◌∙◌, arith}
+-- A client that died departs, is buried, and its seat is taken again: the whole stays, and what it had open is closed.
+use Rattle.std.proofs.Common.{◌≡◌, ◌≢◌, inl, inr, ℕ, ◌+◌, ◌-◌, ◌≤◌, cond, true, false, refl, Some, None, ap, sym, ◌∙◌, subst, arith}
 use Rattle.std.proofs.lemmas.Bool.{false≢true}
 use Rattle.std.proofs.lemmas.Bool.Decides.{eqb_tells}
 use Rattle.posix_calls.specs.Tree.{Own, Descriptors, with_own, sum_up_to}
@@ -8,21 +8,25 @@ use Rattle.posix_calls.specs.declared.descriptor.Descriptor.{Descriptor}
 use Rattle.posix_calls.proofs.Sums.{same_if, there_if}
 use Rattle.file_graph.specs.Graph.{Graph}
 use Rattle.file_graph.specs.Units.{charge}
+use Rattle.call_effects.specs.Settled.{without_client}
 use Rattle.call_effects.specs.Wholes.{IsSound, state_of}
-use Rattle.call_effects.specs.Known.{Agrees}
-use Rattle.world_facts.specs.World.{Client, Account, World, undigested, log_of, whole, held, tree_of, at}
+use Rattle.call_effects.specs.Known.{Knowledge, Agrees}
+use Rattle.world_facts.specs.World.{Alive, Settled, Buried, Client, Account, World, undigested, log_of, whole, held, tree_of, at}
 use Rattle.world_facts.specs.Invariant.{Holds}
 use Rattle.world_facts.specs.Opening.{knows_nothing, idle_client, idle_account}
-use Rattle.world_facts.specs.Burial.{CanBury, buried}
+use Rattle.world_facts.specs.Standing.{Stands, is_settled}
+use Rattle.world_facts.specs.Burial.{CanDepart, departed, CanBury, buried, CanJoin, joined}
+use Rattle.world_facts.proofs.Records.{both}
 use Rattle.world_facts.proofs.Idle.{none_some, idle_stands, nothing_left}
-use Rattle.world_facts.proofs.Moved.{both_same, holds_moved, units_moved, whole_same, held_moved}
+use Rattle.world_facts.proofs.Begins.{tree_same, turned_holds, turned_tree}
+use Rattle.world_facts.proofs.Moved.{both_same, holds_moved, quiet, booked_same, before_less, after_less, units_moved, whole_same, held_moved}
 use Rattle.world_facts.proofs.Books.{booked_fewer}
 
-abbrev pub nothing_open : Own
+abbrev nothing_open : Own
 nothing_open n = None
 
 -- a sound graph stays sound where one client has nothing open
-less_open : (g : Graph) (held : Descriptors) (c : ℕ) → IsSound g held → IsSound g (with_own held c nothing_open)
+less_open : (g : Graph) (held : Descriptors) (c : ℕ) → IsSound g held → IsSound g (without_client held c)
 less_open g held c sound = record {
   typed = record {
     kinds = sound.typed.kinds;
@@ -35,38 +39,46 @@ less_open g held c sound = record {
   reached = sound.reached;
 }
   where
-    was : (d n : ℕ) (o : Descriptor) → with_own held c nothing_open d n ≡ Some o → held d n ≡ Some o
+    was : (d n : ℕ) (o : Descriptor) → without_client held c d n ≡ Some o → held d n ≡ Some o
     was d n o e = elim (eqb_tells d c) [
       | inl same ↦ none_some o (sym (ap (λ b. cond b None (held d n)) same.0) ∙ e)
       | inr off ↦ sym (ap (λ b. cond b None (held d n)) off.0) ∙ e
     ]
 
-module _ (w : World) (c : ℕ) (h : Holds w) (can : CanBury w c) where
-  abbrev mark : ℕ
-  mark = (w.kernel.accounts c).mark
+-- ---- departed
 
-  abbrev left : Account
-  left = idle_account mark
+module _ (w : World) (c : ℕ) (h : Holds w) (can : CanDepart w c) where
+  abbrev account : Account
+  account = w.kernel.accounts c
 
-  abbrev grave : Client
-  grave = idle_client c mark
+  abbrev leaver : Client
+  leaver = record (w.clients c) { knows = record (w.clients c).knows { own = λ n. None }; status = Settled }
 
-  log_same : undigested left grave ≡ log_of w c
-  log_same = nothing_left (mark - mark) ∙ sym can.digested
+  whole_stays : whole (departed w c) ≡ whole w
+  whole_stays = whole_same w c w.kernel.shared account leaver refl refl
 
-  whole_is : whole (buried w c) ≡ whole w
-  whole_is = whole_same w c w.kernel.shared left grave log_same refl
+  held_is : held (departed w c) ≡ without_client (held w) c
+  held_is = held_moved w c w.kernel.shared account leaver can.client
 
-  held_is : held (buried w c) ≡ with_own (held w) c nothing_open
-  held_is = held_moved w c w.kernel.shared left grave can.client
+  s : Stands w.kernel.shared account c (w.clients c)
+  s = h.stands c can.client
 
-  fits : charge w.kernel.shared + sum_up_to 8 (λ d. (at w.kernel.accounts c left d).units) ≤ w.kernel.capacity
-  fits =
-      let sums : sum_up_to 8 (λ d. (at w.kernel.accounts c left d).units) + (w.kernel.accounts c).units ≡ sum_up_to 8 (λ d. (w.kernel.accounts d).units) + 0 = units_moved w c w.kernel.shared left grave h can.client in
-      let before : charge w.kernel.shared + sum_up_to 8 (λ d. (w.kernel.accounts d).units) ≤ w.kernel.capacity = h.booked.fits in
-      omega (arith, sums, before)
+  departed_stands : Stands w.kernel.shared account c leaver
+  departed_stands = record {
+    number = s.number;
+    left = record { closed = λ e n. refl; idle = λ e. can.idle };
+    marked = s.marked;
+    starts = s.starts;
+    logged = s.logged;
+    units = s.units;
+    numbered = s.numbered;
+    leased = record { copies = s.leased.copies; blocks = s.leased.blocks };
+    pinned = record { opened = λ n o e. none_some o e; booked = s.pinned.booked };
+    pending = λ b e. none_some b (sym can.idle ∙ e);
+  }
 
-  others : (d : ℕ) → is_client d ≡ true → d ≢ c → Agrees (w.clients d).knows (whole w) (with_own (held w) c nothing_open)
+  -- another client has open what it had
+  others : (d : ℕ) → is_client d ≡ true → d ≢ c → Agrees (w.clients d).knows (whole w) (without_client (held w) c)
   others d is_d other = let known = h.agrees d is_d in record {
     client = known.client;
     own = λ n. same_if ((w.clients d).knows.client) c None (held w (w.clients d).knows.client n) (λ same. other (sym (h.stands d is_d).number ∙ same)) ∙ known.own n;
@@ -77,24 +89,101 @@ module _ (w : World) (c : ℕ) (h : Holds w) (can : CanBury w c) where
     granted = known.granted;
   }
 
-  pub buried_holds : Holds (buried w c)
-  buried_holds = holds_moved w c w.kernel.shared left grave h can.client
-      (booked_fewer w c left grave h can.client (λ i e. absurd (false≢true e)) fits)
-      (idle_stands w.kernel.shared c mark)
+  itself : Agrees leaver.knows (whole w) (without_client (held w) c)
+  itself = let known = h.agrees c can.client in record {
+    client = known.client;
+    own = λ n. ap (λ d. without_client (held w) c d n) s.number ∙ there_if c None (held w c n);
+    back = known.back;
+    put_back = known.put_back;
+    copies = known.copies;
+    blocks = known.blocks;
+    granted = known.granted;
+  }
+
+  pub departed_holds : Holds (departed w c)
+  departed_holds = holds_moved w c w.kernel.shared account leaver h can.client
+      (booked_same w c leaver h can.client)
+      departed_stands
       (λ d is_d other. h.stands d is_d)
+      (before_less w c leaver h can.client (λ i e. e)) (after_less w c leaver h can.client (λ i e. e))
+      (both_same (λ g o. IsSound g o) whole_stays held_is (less_open (whole w) (held w) c h.sound))
+      (both_same (λ g o. Agrees leaver.knows g o) whole_stays held_is itself)
+      (λ d is_d other. both_same (λ g o. Agrees (w.clients d).knows g o) whole_stays held_is (others d is_d other))
+
+  pub departed_tree : tree_of (departed w c) ≡ state_of (whole w) (without_client (held w) c)
+  departed_tree = ap (λ g. state_of g (held (departed w c))) whole_stays ∙ ap (λ o. state_of (whole w) o) held_is
+
+-- ---- buried
+
+module _ (w : World) (c : ℕ) (h : Holds w) (can : CanBury w c) where
+  abbrev mark : ℕ
+  mark = (w.kernel.accounts c).mark
+
+  abbrev empty : Account
+  empty = idle_account mark
+
+  abbrev grave : Client
+  grave = record (idle_client c mark) { other = (w.clients c).other; ready = (w.clients c).ready; status = Buried }
+
+  log_same : undigested empty grave ≡ log_of w c
+  log_same = nothing_left (mark - mark) ∙ sym can.digested
+
+  stood : Stands w.kernel.shared (w.kernel.accounts c) c (w.clients c)
+  stood = h.stands c can.client
+
+  had_closed : (n : ℕ) → (w.clients c).knows.own n ≡ None
+  had_closed n = stood.left.closed (ap is_settled can.settled) n
+
+  own_same : grave.knows.own ≡ (w.clients c).knows.own
+  own_same = λ t n. sym (had_closed n) t
+
+  fits : charge w.kernel.shared + sum_up_to 8 (λ d. (at w.kernel.accounts c empty d).units) ≤ w.kernel.capacity
+  fits =
+      let sums : sum_up_to 8 (λ d. (at w.kernel.accounts c empty d).units) + (w.kernel.accounts c).units ≡ sum_up_to 8 (λ d. (w.kernel.accounts d).units) + 0 = units_moved w c w.kernel.shared empty grave h can.client in
+      let before : charge w.kernel.shared + sum_up_to 8 (λ d. (w.kernel.accounts d).units) ≤ w.kernel.capacity = h.booked.fits in
+      omega (arith, sums, before)
+
+  nothing_known : Agrees (knows_nothing c) (whole w) (held w)
+  nothing_known = record {
+    client = can.client;
+    own = λ n. ap (λ b. cond b ((w.clients c).knows.own n) None) can.client ∙ had_closed n;
+    back = whole w;
+    put_back = λ i. inl refl;
+    copies = λ i copy e. none_some copy e;
+    blocks = λ i b bytes e. none_some bytes e;
+    granted = λ i e. absurd (false≢true e);
+  }
+
+  buried_stands : Stands w.kernel.shared empty c grave
+  buried_stands = let idle = idle_stands w.kernel.shared c mark in record {
+    number = idle.number;
+    left = record { closed = λ e n. refl; idle = λ e. refl };
+    marked = record { low = idle.marked.low; high = idle.marked.high; some = λ away. absurd (can.back away); none = λ other. refl };
+    starts = record { records = λ e. refl; idle = λ e. refl };
+    logged = idle.logged;
+    units = idle.units;
+    numbered = idle.numbered;
+    leased = idle.leased;
+    pinned = idle.pinned;
+    pending = idle.pending;
+  }
+
+  pub buried_holds : Holds (buried w c)
+  buried_holds = quiet w c w.kernel.shared empty grave h can.client refl log_same own_same
+      (booked_fewer w c empty grave h can.client (λ i e. absurd (false≢true e)) fits)
+      buried_stands
       (λ d is_d other i e. absurd (false≢true e))
       (λ d is_d other i e. refl)
-      (both_same (λ g o. IsSound g o) whole_is held_is (less_open (whole w) (held w) c h.sound))
-      (both_same (λ g o. Agrees (knows_nothing c) g o) whole_is held_is (record {
-        client = can.client;
-        own = λ n. there_if c None (held w c n);
-        back = whole w;
-        put_back = λ i. inl refl;
-        copies = λ i copy e. none_some copy e;
-        blocks = λ i b bytes e. none_some bytes e;
-        granted = λ i e. absurd (false≢true e);
-      }))
-      (λ d is_d other. both_same (λ g o. Agrees (w.clients d).knows g o) whole_is held_is (others d is_d other))
+      nothing_known
 
-  pub buried_tree : tree_of (buried w c) ≡ state_of (whole w) (with_own (held w) c nothing_open)
-  buried_tree = ap (λ g. state_of g (held (buried w c))) whole_is ∙ ap (λ o. state_of (whole w) o) held_is
+  pub buried_tree : tree_of (buried w c) ≡ tree_of w
+  buried_tree = tree_same w c w.kernel.shared empty grave log_same refl own_same
+
+-- ---- joined
+
+module _ (w : World) (c : ℕ) (h : Holds w) (can : CanJoin w c) where
+  pub joined_holds : Holds (joined w c)
+  joined_holds = turned_holds w c Alive h can.client refl
+
+  pub joined_tree : tree_of (joined w c) ≡ tree_of w
+  joined_tree = turned_tree w c Alive h can.client refl

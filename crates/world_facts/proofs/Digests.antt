@@ -156,7 +156,9 @@ module _ (w : World) (c : ℕ) (first rest : List Record) (h : Holds w) (can : C
   own : Stands shared after c p
   own = record {
     number = s.number;
-    marked = record { low = (let low : p.past ≤ account.mark = past_low in omega (arith, low)); high = (let low : p.past ≤ account.mark = past_low in let l : length p.sealed ≡ (account.mark - p.past) + (length first + length rest) = lengths in omega (arith, low, l)); away = s.marked.away };
+    left = s.left;
+    marked = record { low = (let low : p.past ≤ account.mark = past_low in omega (arith, low)); high = (let low : p.past ≤ account.mark = past_low in let l : length p.sealed ≡ (account.mark - p.past) + (length first + length rest) = lengths in omega (arith, low, l)); some = s.marked.some; none = s.marked.none };
+    starts = s.starts;
     logged = record {
       leased = λ i e. s.logged.leased i (ap (is_written i) all_was ∙ rest_written i first (later ++ change_of p.begun) (ap (is_written i) (sym all_is) ∙ e));
       paid = subst (λ rs. ArePaid shared rs) (sym all_is) (along_rest IsPaid first (later ++ change_of p.begun) w.kernel.shared paid_all);
@@ -183,7 +185,9 @@ module _ (w : World) (c : ℕ) (first rest : List Record) (h : Holds w) (can : C
   digested_holds = holds_moved w c shared after p h can.client book own
       (λ d is_d other. let x = h.stands d is_d in record {
         number = x.number;
+        left = x.left;
         marked = x.marked;
+        starts = x.starts;
         logged = record { leased = x.logged.leased; paid = paid_same (all_of w d) w.kernel.shared shared (λ i e. beside d i is_d other e) x.logged.paid; unnamed = nameless_same (all_of w d) w.kernel.shared shared (λ i e. beside d i is_d other e) x.logged.unnamed };
         units = x.units;
         numbered = x.numbered;

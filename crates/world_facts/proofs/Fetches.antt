@@ -88,7 +88,7 @@ module _ (w : World) (c i : ℕ) (h : Holds w) (can : CanFetch w c i) where
 
   pub fetched_holds : Holds (fetched w c i)
   fetched_holds = quiet w c w.kernel.shared (w.kernel.accounts c) p h can.client refl refl refl (booked_same w c p h can.client)
-      (record { number = s.number; marked = s.marked; logged = s.logged; units = s.units; numbered = s.numbered; leased = record { copies = held_copy; blocks = s.leased.blocks }; pinned = s.pinned; pending = pending })
+      (record { number = s.number; left = s.left; marked = s.marked; starts = s.starts; logged = s.logged; units = s.units; numbered = s.numbered; leased = record { copies = held_copy; blocks = s.leased.blocks }; pinned = s.pinned; pending = pending })
       (before_less w c p h can.client (λ j e. e)) (after_less w c p h can.client (λ j e. e)) agrees
 
   pub fetched_tree : tree_of (fetched w c i) ≡ tree_of w
@@ -136,7 +136,9 @@ module _ (w : World) (c i first count names : ℕ) (bytes : List ℕ) (h : Holds
   blocks_fetched_hold = quiet w c w.kernel.shared (w.kernel.accounts c) reader h can.client refl refl refl (booked_same w c reader h can.client)
       (record {
         number = stood.number;
+        left = stood.left;
         marked = stood.marked;
+        starts = stood.starts;
         logged = stood.logged;
         units = stood.units;
         numbered = stood.numbered;

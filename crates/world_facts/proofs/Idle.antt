@@ -41,7 +41,9 @@ nothing_left (suc k) = refl
 pub idle_stands : (g : Graph) (c past : ℕ) → Stands g (idle_account past) c (idle_client c past)
 idle_stands g c past = record {
   number = refl;
-  marked = record { low = omega arith; high = omega arith; away = inr refl };
+  left = record { closed = λ e n. refl; idle = λ e. refl };
+  marked = record { low = omega arith; high = omega arith; some = λ e. absurd (cc); none = λ other. refl };
+  starts = record { records = λ e. refl; idle = λ e. refl };
   logged = record {
     leased = λ i e. absurd (false≢true (sym (ap (is_written i) (empty past)) ∙ e));
     paid = subst (ArePaid g) (sym (empty past)) tt;

@@ -39,7 +39,7 @@ use Rattle.world_facts.proofs.Replies.{replied_holds, replied_step}
 use Rattle.world_facts.proofs.Leases.{write_taken_holds, given_holds}
 use Rattle.world_facts.proofs.Fetches.{fetched_holds}
 use Rattle.world_facts.proofs.Books.{units_granted_hold, units_returned_hold, number_granted_holds}
-use Rattle.world_facts.proofs.Regions.{sealed_holds, taken_back_holds, wiped_holds}
+use Rattle.world_facts.proofs.Regions.{sealed_holds, taken_back_holds, other_wiped_holds}
 use Rattle.world_facts.proofs.Digests.{digested_holds}
 use Rattle.world_facts.proofs.Stops.{stop_stores}
 use Rattle.world_facts.proofs.Walks.{part_is_dir, part_look, apart}
@@ -79,7 +79,7 @@ three_holds = write_taken_holds walked.granted 2 3 granted_holds refl three_unhe
 -- ---- client 1's record is digested, and the root passed on
 
 kept_holds : Holds walked.kept
-kept_holds = digested_holds (sealed walked.held_three 1) 1 (opened.open_a.change ∷ []) [] (sealed_holds walked.held_three 1 three_holds (record { client = refl; idle = refl; ready = refl; empty = refl })) (record { client = refl; split = refl })
+kept_holds = digested_holds (sealed walked.held_three 1) 1 (opened.open_a.change ∷ []) [] (sealed_holds walked.held_three 1 three_holds (record { client = refl; idle = refl; some = λ e. absurd (cc); back = λ e. absurd (cc) })) (record { client = refl; split = refl })
 
 back_holds : Holds walked.back
 back_holds = taken_back_holds walked.kept 1 kept_holds (record { client = refl; away = refl; digested = refl })
@@ -129,7 +129,9 @@ held_both i e = elim (eqb_tells i 1) [
 can_make : CanBegin walked.ready 2 walked.mkdir_b
 can_make = record {
   client = refl;
+  alive = refl;
   idle = refl;
+  ready = refl;
   planned = record { comes = mkdir_comes; effects = simp parts refl; number = λ m. refl };
   counted = mkdir_counted;
   leased = held_both;
@@ -147,7 +149,9 @@ write_comes = simp parts refl
 can_write : CanBegin walked.one 1 walked.write_7
 can_write = record {
   client = refl;
+  alive = refl;
   idle = refl;
+  ready = refl;
   planned = record { comes = write_comes; effects = simp parts refl; number = λ m. absurd (false≢true m) };
   counted = simp parts refl;
   leased = λ i e. elim (eqb_tells i 2) [
@@ -186,16 +190,16 @@ made_if false false = refl
 -- ---- a digest beside the begun call
 
 written_holds : Holds walked.written
-written_holds = wiped_holds (replied walked.two 1 walked.write_7) 1 (replied_holds walked.two 1 walked.write_7 two_hold (record { client = refl; there = refl })) (record { client = refl; back = refl; empty = refl })
+written_holds = other_wiped_holds (replied walked.two 1 walked.write_7) 1 (replied_holds walked.two 1 walked.write_7 two_hold (record { client = refl; there = refl; known = λ e. absurd (cc) })) refl refl
 
 pub written_step : Step (tree_of walked.two) 1 walked.write_7.call (Wrote 1) (tree_of (replied walked.two 1 walked.write_7))
-written_step = replied_step walked.two 1 walked.write_7 two_hold (record { client = refl; there = refl })
+written_step = replied_step walked.two 1 walked.write_7 two_hold (record { client = refl; there = refl; known = λ e. absurd (cc) })
 
 pub beside_holds : Holds walked.beside
-beside_holds = digested_holds (sealed walked.written 1) 1 (walked.write_7.change ∷ []) [] (sealed_holds walked.written 1 written_holds (record { client = refl; idle = refl; ready = refl; empty = refl })) (record { client = refl; split = refl })
+beside_holds = digested_holds (sealed walked.written 1) 1 (walked.write_7.change ∷ []) [] (sealed_holds walked.written 1 written_holds (record { client = refl; idle = refl; some = λ e. absurd (cc); back = λ e. absurd (cc) })) (record { client = refl; split = refl })
 
 pub still_begun : IsBegun walked.beside 2 walked.mkdir_b
-still_begun = record { client = refl; there = refl }
+still_begun = record { client = refl; there = refl; known = λ e. absurd (cc) }
 
 pub made_step : Step (tree_of walked.beside) 2 walked.mkdir_b.call Done (tree_of walked.made)
 made_step = replied_step walked.beside 2 walked.mkdir_b beside_holds still_begun

@@ -174,7 +174,9 @@ module _ (w : World) (i : ℕ) (h : Holds w) (can : CanReclaim w i) where
         };
         stands = λ c is_c. let s = h.stands c is_c in record {
           number = s.number;
+          left = s.left;
           marked = s.marked;
+          starts = s.starts;
           logged = record { leased = s.logged.leased; paid = paid_less i (all_of w c) w.kernel.shared shared gone else_same (all_unmade c is_c) s.logged.paid; unnamed = nameless_less i (all_of w c) w.kernel.shared shared gone else_same (all_unmade c is_c) s.logged.unnamed };
           units = s.units;
           numbered = s.numbered;

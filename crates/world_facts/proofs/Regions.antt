@@ -1,14 +1,15 @@
 -- A region is sealed, comes back and is wiped: the records that are not digested stay.
-use Rattle.std.proofs.Common.{◌≡◌, inl, inr, ℕ, ◌+◌, ◌-◌, ◌≤◌, true, List, [], ◌++◌, length, drop, refl, ap, sym, ◌∙◌, subst, arith}
+use Rattle.std.proofs.Common.{◌≡◌, ℕ, ◌+◌, ◌-◌, ◌≤◌, Bool, true, false, List, [], ◌++◌, length, drop, refl, ap, sym, ◌∙◌, subst, arith}
+use Rattle.std.proofs.lemmas.Bool.{false≢true}
 use Rattle.std.proofs.Math.ListN.{drop_of_length-le}
 use Rattle.posix_calls.specs.Operations.{is_client}
 use Rattle.log_record.specs.declared.format.Record.{Record}
 use Rattle.world_facts.specs.Logs.{units_in}
-use Rattle.world_facts.specs.World.{Region, Ready, Away, Back, Client, World, records_of, change_of, log_of, tree_of}
-use Rattle.world_facts.specs.Standing.{IsMarked, IsLogged, IsNumbered, Stands}
+use Rattle.world_facts.specs.World.{Region, Wiped, Away, Back, Client, World, records_of, change_of, log_of, tree_of}
+use Rattle.world_facts.specs.Standing.{IsMarked, StartsWiped, IsLogged, IsNumbered, Stands}
 use Rattle.world_facts.specs.Invariant.{Holds}
 use Rattle.world_facts.specs.ClientSteps.{with_client}
-use Rattle.world_facts.specs.RegionSteps.{CanSeal, sealed, CanTakeBack, taken_back, CanWipe, wiped}
+use Rattle.world_facts.specs.RegionSteps.{CanSeal, sealed, CanTakeBack, taken_back, is_wiped, CanWipeOther, other_wiped, CanWipeCurrent, current_wiped}
 use Rattle.world_facts.proofs.Records.{append_nil}
 use Rattle.world_facts.proofs.Begins.{tree_same}
 use Rattle.world_facts.proofs.Moved.{quiet, booked_same, before_less, after_less}
@@ -24,10 +25,10 @@ nothing_sealed : (n : ℕ) (sealed current : List Record) → length sealed ≤ 
 nothing_sealed n sealed current low = ap (λ rs. rs ++ current) (drop_of_length-le sealed low)
 
 -- The regions of a client are other ones, with the same undigested records.
-module _ (w : World) (c : ℕ) (h : Holds w) (is_c : is_client c ≡ true) (past : ℕ) (newly current : List Record) (other : Region)
-    (log : drop ((w.kernel.accounts c).mark - past) newly ++ current ≡ log_of w c) (marked : IsMarked (w.kernel.accounts c).mark past newly other) where
+module _ (w : World) (c : ℕ) (h : Holds w) (is_c : is_client c ≡ true) (past : ℕ) (newly current : List Record) (other : Region) (ready : Bool)
+    (log : drop ((w.kernel.accounts c).mark - past) newly ++ current ≡ log_of w c) (marked : IsMarked (w.kernel.accounts c).mark past newly other) (starts : StartsWiped ready current (w.clients c).begun) where
   abbrev p : Client
-  p = record (w.clients c) { past = past; sealed = newly; current = current; other = other }
+  p = record (w.clients c) { past = past; sealed = newly; current = current; other = other; ready = ready }
 
   s : Stands w.kernel.shared (w.kernel.accounts c) c (w.clients c)
   s = h.stands c is_c
@@ -39,7 +40,9 @@ module _ (w : World) (c : ℕ) (h : Holds w) (is_c : is_client c ≡ true) (past
   regions_hold = quiet w c w.kernel.shared (w.kernel.accounts c) p h is_c refl log refl (booked_same w c p h is_c)
       (record {
         number = s.number;
+        left = s.left;
         marked = marked;
+        starts = starts;
         logged = subst (λ rs. IsLogged w.kernel.shared (w.clients c).writes rs) (sym all) s.logged;
         units = s.units ∙ ap (λ rs. (w.clients c).spare + units_in rs) (sym all);
         numbered = subst (λ rs. IsNumbered (w.kernel.accounts c).numbers (w.clients c).knows.granted rs) (sym log) s.numbered;
@@ -58,24 +61,33 @@ module _ (w : World) (c : ℕ) (h : Holds w) (can : CanSeal w c) where
   marks : IsMarked (w.kernel.accounts c).mark (w.clients c).past (w.clients c).sealed (w.clients c).other
   marks = (h.stands c can.client).marked
 
+  none_sealed : length (w.clients c).sealed ≡ 0
+  none_sealed = ap length (marks.none can.back)
+
   at_past : (w.kernel.accounts c).mark ≡ (w.clients c).past
   at_past = let low : (w.clients c).past ≤ (w.kernel.accounts c).mark = marks.low in
       let high : (w.kernel.accounts c).mark ≤ (w.clients c).past + length (w.clients c).sealed = marks.high in
-      let none : length (w.clients c).sealed ≡ 0 = ap length can.empty in
+      let none : length (w.clients c).sealed ≡ 0 = none_sealed in
       omega (arith, low, high, none)
 
   log_sealed : drop ((w.kernel.accounts c).mark - (w.clients c).past) (w.clients c).current ++ [] ≡ log_of w c
   log_sealed = none_yet (w.kernel.accounts c).mark (w.clients c).past (w.clients c).current at_past
-      ∙ sym (nothing_sealed ((w.kernel.accounts c).mark - (w.clients c).past) (w.clients c).sealed (w.clients c).current (let none : length (w.clients c).sealed ≡ 0 = ap length can.empty in omega (arith, none)))
+      ∙ sym (nothing_sealed ((w.kernel.accounts c).mark - (w.clients c).past) (w.clients c).sealed (w.clients c).current (let none : length (w.clients c).sealed ≡ 0 = none_sealed in omega (arith, none)))
 
   still_marked : IsMarked (w.kernel.accounts c).mark (w.clients c).past (w.clients c).current Away
-  still_marked = record { low = marks.low; high = (let e : (w.kernel.accounts c).mark ≡ (w.clients c).past = at_past in omega (arith, e)); away = inl refl }
+  still_marked = record { low = marks.low; high = (let e : (w.kernel.accounts c).mark ≡ (w.clients c).past = at_past in omega (arith, e)); some = λ e. can.some; none = λ other. absurd (other refl) }
+
+  abbrev other : Region
+  other = (w.clients c).other
+
+  nothing_yet : StartsWiped (is_wiped other) [] (w.clients c).begun
+  nothing_yet = record { records = λ e. refl; idle = λ e. can.idle }
 
   pub sealed_holds : Holds (sealed w c)
-  sealed_holds = regions_hold w c h can.client (w.clients c).past (w.clients c).current [] Away log_sealed still_marked
+  sealed_holds = regions_hold w c h can.client (w.clients c).past (w.clients c).current [] Away (is_wiped other) log_sealed still_marked nothing_yet
 
   pub sealed_tree : tree_of (sealed w c) ≡ tree_of w
-  sealed_tree = regions_tree w c h can.client (w.clients c).past (w.clients c).current [] Away log_sealed still_marked
+  sealed_tree = regions_tree w c h can.client (w.clients c).past (w.clients c).current [] Away (is_wiped other) log_sealed still_marked nothing_yet
 
 -- ---- back
 
@@ -83,27 +95,48 @@ module _ (w : World) (c : ℕ) (h : Holds w) (can : CanTakeBack w c) where
   abbrev mark : ℕ
   mark = (w.kernel.accounts c).mark
 
+  starts : StartsWiped (w.clients c).ready (w.clients c).current (w.clients c).begun
+  starts = (h.stands c can.client).starts
+
   log_back : drop (mark - mark) [] ++ (w.clients c).current ≡ log_of w c
   log_back = nothing_sealed (mark - mark) [] (w.clients c).current (omega arith)
       ∙ sym (nothing_sealed (mark - (w.clients c).past) (w.clients c).sealed (w.clients c).current (let e : mark ≡ (w.clients c).past + length (w.clients c).sealed = can.digested in omega (arith, e)))
 
   back_marked : IsMarked mark mark [] Back
-  back_marked = record { low = omega arith; high = omega arith; away = inr refl }
+  back_marked = record { low = omega arith; high = omega arith; some = λ e. absurd (cc); none = λ other. refl }
 
   pub taken_back_holds : Holds (taken_back w c)
-  taken_back_holds = regions_hold w c h can.client mark [] (w.clients c).current Back log_back back_marked
+  taken_back_holds = regions_hold w c h can.client mark [] (w.clients c).current Back (w.clients c).ready log_back back_marked starts
 
   pub taken_back_tree : tree_of (taken_back w c) ≡ tree_of w
-  taken_back_tree = regions_tree w c h can.client mark [] (w.clients c).current Back log_back back_marked
+  taken_back_tree = regions_tree w c h can.client mark [] (w.clients c).current Back (w.clients c).ready log_back back_marked starts
 
 -- ---- wiped
 
-module _ (w : World) (c : ℕ) (h : Holds w) (can : CanWipe w c) where
-  m : IsMarked (w.kernel.accounts c).mark (w.clients c).past (w.clients c).sealed (w.clients c).other
-  m = (h.stands c can.client).marked
+module _ (w : World) (c : ℕ) (h : Holds w) (is_c : is_client c ≡ true) where
+  abbrev cleaner : Client
+  cleaner = w.clients c
 
-  pub wiped_holds : Holds (wiped w c)
-  wiped_holds = regions_hold w c h can.client (w.clients c).past (w.clients c).sealed (w.clients c).current Ready refl (record { low = m.low; high = m.high; away = inr can.empty })
+  was_marked : IsMarked (w.kernel.accounts c).mark cleaner.past cleaner.sealed cleaner.other
+  was_marked = (h.stands c is_c).marked
 
-  pub wiped_tree : tree_of (wiped w c) ≡ tree_of w
-  wiped_tree = regions_tree w c h can.client (w.clients c).past (w.clients c).sealed (w.clients c).current Ready refl (record { low = m.low; high = m.high; away = inr can.empty })
+  started : StartsWiped cleaner.ready cleaner.current cleaner.begun
+  started = (h.stands c is_c).starts
+
+  beside : cleaner.other ≡ Back → IsMarked (w.kernel.accounts c).mark cleaner.past cleaner.sealed Wiped
+  beside back = record { low = was_marked.low; high = was_marked.high; some = λ e. absurd (cc); none = λ other. was_marked.none (λ e. let clash : Back ≡ Away = sym back ∙ e in cc) }
+
+  written : StartsWiped true cleaner.current cleaner.begun
+  written = record { records = λ e. absurd (false≢true (sym e)); idle = λ e. absurd (false≢true (sym e)) }
+
+  pub other_wiped_holds : cleaner.other ≡ Back → Holds (other_wiped w c)
+  other_wiped_holds back = regions_hold w c h is_c cleaner.past cleaner.sealed cleaner.current Wiped cleaner.ready refl (beside back) started
+
+  pub other_wiped_tree : cleaner.other ≡ Back → tree_of (other_wiped w c) ≡ tree_of w
+  other_wiped_tree back = regions_tree w c h is_c cleaner.past cleaner.sealed cleaner.current Wiped cleaner.ready refl (beside back) started
+
+  pub current_wiped_holds : Holds (current_wiped w c)
+  current_wiped_holds = regions_hold w c h is_c cleaner.past cleaner.sealed cleaner.current cleaner.other true refl was_marked written
+
+  pub current_wiped_tree : tree_of (current_wiped w c) ≡ tree_of w
+  current_wiped_tree = regions_tree w c h is_c cleaner.past cleaner.sealed cleaner.current cleaner.other true refl was_marked written

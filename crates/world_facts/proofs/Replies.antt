@@ -16,7 +16,7 @@ use Rattle.call_effects.specs.Known.{Agrees, IsPlanned, part_of, knows_after}
 use Rattle.call_effects.proofs.KnownSteps.{planned_step, refused_step}
 use Rattle.world_facts.specs.Logs.{is_written, is_touched, is_made, is_made_in, units_in, ArePaid, NameNone, AreApart}
 use Rattle.world_facts.specs.World.{Begun, Client, Account, World, undigested, records_of, change_of, log_of, all_of, whole, held, tree_of}
-use Rattle.world_facts.specs.Standing.{IsNumbered, Stands}
+use Rattle.world_facts.specs.Standing.{is_settled, IsNumbered, Stands}
 use Rattle.world_facts.specs.Invariant.{Holds}
 use Rattle.world_facts.specs.ClientSteps.{CanAnswer, answered, IsBegun, replied}
 use Rattle.world_facts.proofs.Records.{either, both, append_nil, front_written, rest_written, in_first}
@@ -61,7 +61,9 @@ module _ (w : World) (c : ℕ) (call : Call) (new : ℕ) (operation : Operation)
       (booked_same w c told h can.client)
       (record {
         number = s.number;
+        left = record { closed = λ e. both (is_settled (w.clients c).status) e (ap is_settled can.alive); idle = λ e. can.idle };
         marked = s.marked;
+        starts = s.starts;
         logged = s.logged;
         units = s.units;
         numbered = record { made = s.numbered.made; once = s.numbered.once; granted = λ i e. s.numbered.granted i (granted_before (w.clients c).knows new i operation [] e); unused = λ i e. s.numbered.unused i (granted_before (w.clients c).knows new i operation [] e) };
@@ -160,7 +162,9 @@ module _ (w : World) (c : ℕ) (b : Begun) (h : Holds w) (is : IsBegun w c b) wh
       (booked_same w c logged h is.client)
       (record {
         number = s.number;
+        left = record { closed = λ e. none_some b (sym (s.left.idle e) ∙ is.there); idle = λ e. refl };
         marked = s.marked;
+        starts = record { records = λ e. none_some b (sym (s.starts.idle e) ∙ is.there); idle = λ e. refl };
         logged = record { leased = λ i e. s.logged.leased i (ap (is_written i) (sym all_same) ∙ e); paid = subst (λ rs. ArePaid w.kernel.shared rs) (sym all_same) s.logged.paid; unnamed = subst (λ rs. NameNone w.kernel.shared rs) (sym all_same) s.logged.unnamed };
         units = s.units ∙ ap (λ rs. was.spare + units_in rs) (sym all_same);
         numbered = numbered;

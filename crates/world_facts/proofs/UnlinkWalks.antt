@@ -66,7 +66,9 @@ open_counted = simp parts (ap (λ n. Known (Ok (min (file_units 0 + (directory_u
 can_open : CanBegin walked.ready 1 walked.open_a
 can_open = record {
   client = refl;
+  alive = refl;
   idle = refl;
+  ready = refl;
   planned = record { comes = open_comes; effects = simp parts refl; number = λ m. refl };
   counted = open_counted;
   leased = held_both;
@@ -78,7 +80,7 @@ opening_holds : Holds walked.opening
 opening_holds = begun_holds walked.ready 1 walked.open_a start_holds can_open
 
 opening_begun : IsBegun walked.opening 1 walked.open_a
-opening_begun = record { client = refl; there = refl }
+opening_begun = record { client = refl; there = refl; known = λ e. absurd (cc) }
 
 pub opened_holds : Holds walked.opened
 opened_holds = replied_holds walked.opening 1 walked.open_a opening_holds opening_begun
@@ -101,7 +103,9 @@ unlink_comes = simp (parts, lists, fin.gets) refl
 can_unlink : CanBegin walked.known 1 walked.unlink_a
 can_unlink = record {
   client = refl;
+  alive = refl;
   idle = refl;
+  ready = refl;
   planned = record { comes = unlink_comes; effects = simp parts refl; number = λ m. absurd (false≢true m) };
   counted = simp parts refl;
   leased = λ i e. held_both i (wider i e);
@@ -116,7 +120,7 @@ unlinking_holds : Holds walked.unlinking
 unlinking_holds = begun_holds walked.known 1 walked.unlink_a known_holds can_unlink
 
 unlinking_begun : IsBegun walked.unlinking 1 walked.unlink_a
-unlinking_begun = record { client = refl; there = refl }
+unlinking_begun = record { client = refl; there = refl; known = λ e. absurd (cc) }
 
 pub unlinked_holds : Holds walked.unlinked
 unlinked_holds = replied_holds walked.unlinking 1 walked.unlink_a unlinking_holds unlinking_begun
@@ -127,7 +131,7 @@ unlinked_step = replied_step walked.unlinking 1 walked.unlink_a unlinking_holds 
 -- ---- digested
 
 pub kept_holds : Holds walked.kept
-kept_holds = digested_holds (sealed walked.unlinked 1) 1 (walked.open_a.change ∷ walked.unlink_a.change ∷ []) [] (sealed_holds walked.unlinked 1 unlinked_holds (record { client = refl; idle = refl; ready = refl; empty = refl })) (record { client = refl; split = refl })
+kept_holds = digested_holds (sealed walked.unlinked 1) 1 (walked.open_a.change ∷ walked.unlink_a.change ∷ []) [] (sealed_holds walked.unlinked 1 unlinked_holds (record { client = refl; idle = refl; some = λ e. absurd (cc); back = λ e. absurd (cc) })) (record { client = refl; split = refl })
 
 pub kept_nameless : IsNameless (walked.kept.kernel.shared 2)
 kept_nameless = record { bytes = []; is = refl }
@@ -145,6 +149,7 @@ close_comes = simp parts refl
 can_close : CanAnswer walked.kept 1 walked.close_0 0 walked.closing
 can_close = record {
   client = refl;
+  alive = refl;
   idle = refl;
   planned = record { comes = close_comes; effects = simp parts refl; number = λ m. absurd (false≢true m) };
   pinned = λ what e. none_some what e;

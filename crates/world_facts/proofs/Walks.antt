@@ -135,7 +135,9 @@ held_both i e = elim (eqb_tells i 2) [
 can_begin : CanBegin walked.ready 1 walked.mkdir_a
 can_begin = record {
   client = refl;
+  alive = refl;
   idle = refl;
+  ready = refl;
   planned = planned;
   counted = counted;
   leased = held_both;
@@ -147,7 +149,7 @@ pub making_holds : Holds walked.making
 making_holds = begun_holds walked.ready 1 walked.mkdir_a ready_holds can_begin
 
 pub is_begun : IsBegun walked.making 1 walked.mkdir_a
-is_begun = record { client = refl; there = refl }
+is_begun = record { client = refl; there = refl; known = λ e. absurd (cc) }
 
 made_holds : Holds walked.made
 made_holds = replied_holds walked.making 1 walked.mkdir_a making_holds is_begun
@@ -155,7 +157,7 @@ made_holds = replied_holds walked.making 1 walked.mkdir_a making_holds is_begun
 -- ---- digested, and passed on
 
 handed_holds : Holds walked.handed
-handed_holds = sealed_holds walked.made 1 made_holds (record { client = refl; idle = refl; ready = refl; empty = refl })
+handed_holds = sealed_holds walked.made 1 made_holds (record { client = refl; idle = refl; some = λ e. absurd (cc); back = λ e. absurd (cc) })
 
 kept_holds : Holds walked.kept
 kept_holds = digested_holds walked.handed 1 (walked.mkdir_a.change ∷ []) [] handed_holds (record { client = refl; split = refl })
@@ -193,7 +195,7 @@ passed_tree =
     ∙ given_tree walked.back 1 2 back_holds can_give
     ∙ taken_back_tree walked.kept 1 kept_holds (record { client = refl; away = refl; digested = refl })
     ∙ digested_tree walked.handed 1 (walked.mkdir_a.change ∷ []) [] handed_holds (record { client = refl; split = refl })
-    ∙ sealed_tree walked.made 1 made_holds (record { client = refl; idle = refl; ready = refl; empty = refl })
+    ∙ sealed_tree walked.made 1 made_holds (record { client = refl; idle = refl; some = λ e. absurd (cc); back = λ e. absurd (cc) })
 
 -- a stop while the call is begun leaves its record or not
 pub stopped_without : Stores walked.making (log_of walked.making)

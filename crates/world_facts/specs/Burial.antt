@@ -1,14 +1,36 @@
--- A client that is gone is buried, once its call is settled and its records are digested.
-use Rattle.std.specs.Prelude.{◌≡◌, ℕ, [], true, None}
+-- What becomes of a client that died, and of its seat, each step with when it may be taken.
+use Rattle.std.specs.Prelude.{◌≡◌, ◌≢◌, ℕ, [], true, None}
 use Rattle.posix_calls.specs.Operations.{is_client}
-use Rattle.world_facts.specs.World.{World, log_of, moved}
+use Rattle.world_facts.specs.World.{Alive, Dead, Settled, Buried, Wiped, Away, World, log_of, moved}
+use Rattle.world_facts.specs.ClientSteps.{with_client}
 use Rattle.world_facts.specs.Opening.{idle_client, idle_account}
 
+-- its begun call, if there was one, was found whole or gone; what it had open is closed
+pub record CanDepart (w : World) (c : ℕ) : Type 0 where
+  pub client : is_client c ≡ true
+  pub dead : (w.clients c).status ≡ Dead
+  pub idle : (w.clients c).begun ≡ None
+
+abbrev pub departed : World → ℕ → World
+departed w c = with_client w c (record (w.clients c) { knows = record (w.clients c).knows { own = λ n. None }; status = Settled })
+
+-- its records are digested, and no region of it is away
 pub record CanBury (w : World) (c : ℕ) : Type 0 where
   pub client : is_client c ≡ true
-  pub settled : (w.clients c).begun ≡ None
+  pub settled : (w.clients c).status ≡ Settled
   pub digested : log_of w c ≡ []
+  pub back : (w.clients c).other ≢ Away
 
--- what it had open is closed, and nothing is left of it but its mark
+-- nothing is left of it but its mark and its regions
 abbrev pub buried : World → ℕ → World
-buried w c = moved w c w.kernel.shared (idle_account (w.kernel.accounts c).mark) (idle_client c (w.kernel.accounts c).mark)
+buried w c = moved w c w.kernel.shared (idle_account (w.kernel.accounts c).mark) (record (idle_client c (w.kernel.accounts c).mark) { other = (w.clients c).other; ready = (w.clients c).ready; status = Buried })
+
+-- a new client takes its seat, once both regions are wiped
+pub record CanJoin (w : World) (c : ℕ) : Type 0 where
+  pub client : is_client c ≡ true
+  pub buried : (w.clients c).status ≡ Buried
+  pub other : (w.clients c).other ≡ Wiped
+  pub ready : (w.clients c).ready ≡ true
+
+abbrev pub joined : World → ℕ → World
+joined w c = with_client w c (record (w.clients c) { status = Alive })

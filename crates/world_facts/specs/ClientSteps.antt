@@ -1,5 +1,5 @@
 -- The steps of a client's call, each with when it may be taken.
-use Rattle.std.specs.Prelude.{◌≡◌, ℕ, ◌+◌, ◌-◌, ◌≤◌, [], ◌∷◌, ◌++◌, true, Some, None, Ok}
+use Rattle.std.specs.Prelude.{◌≡◌, ◌≢◌, ◌⊎◌, ℕ, ◌+◌, ◌-◌, ◌≤◌, [], ◌∷◌, ◌++◌, true, Some, None, Ok}
 use Rattle.posix_calls.specs.Query.{Known, run_part}
 use Rattle.posix_calls.specs.Operations.{is_client}
 use Rattle.posix_calls.specs.declared.call.Call.{Call}
@@ -7,7 +7,7 @@ use Rattle.posix_calls.specs.declared.operation.Operation.{Operation}
 use Rattle.call_effects.specs.Records.{units_asked}
 use Rattle.call_effects.specs.Known.{IsPlanned, part_of, knows_after}
 use Rattle.world_facts.specs.Logs.{is_touched}
-use Rattle.world_facts.specs.World.{Begun, Client, World, moved}
+use Rattle.world_facts.specs.World.{Begun, Alive, Failed, Dead, Client, World, moved}
 use Rattle.world_facts.specs.Standing.{OpensPinned}
 
 -- the world with another part of a client
@@ -18,6 +18,7 @@ with_client w c p = moved w c w.kernel.shared (w.kernel.accounts c) p
 
 pub record CanAnswer (w : World) (c : ℕ) (call : Call) (new : ℕ) (operation : Operation) : Type 0 where
   pub client : is_client c ≡ true
+  pub alive : (w.clients c).status ≡ Alive
   pub idle : (w.clients c).begun ≡ None
   pub planned : IsPlanned (w.clients c).knows call new operation []
   pub pinned : OpensPinned (w.clients c).pins new operation
@@ -29,7 +30,9 @@ answered w c new operation = with_client w c (record (w.clients c) { knows = kno
 
 pub record CanBegin (w : World) (c : ℕ) (b : Begun) : Type 0 where
   pub client : is_client c ≡ true
+  pub alive : (w.clients c).status ≡ Alive
   pub idle : (w.clients c).begun ≡ None
+  pub ready : (w.clients c).ready ≡ true
   -- by what the client knows
   pub planned : IsPlanned (w.clients c).knows b.call b.new b.operation b.change.effects
   pub counted : run_part (part_of (w.clients c).knows) (units_asked b.operation) ≡ Known (Ok b.change.units)
@@ -43,9 +46,11 @@ begun w c b = with_client w c (record (w.clients c) { begun = Some b; spare = (w
 
 -- ---- what becomes of it
 
+-- where the device failed it is never known
 pub record IsBegun (w : World) (c : ℕ) (b : Begun) : Type 0 where
   pub client : is_client c ≡ true
   pub there : (w.clients c).begun ≡ Some b
+  pub known : (w.clients c).status ≢ Failed
 
 -- the record is in the log, and the call is answered; or it is found there once its client is gone
 abbrev pub replied : World → ℕ → Begun → World
@@ -55,6 +60,18 @@ replied w c b = with_client w c (record (w.clients c) { begun = None; current = 
 abbrev pub given_up : World → ℕ → Begun → World
 given_up w c b = with_client w c (record (w.clients c) { begun = None; spare = (w.clients c).spare + b.change.units })
 
--- the device fails, or the client dies: whether the begun record is in the log is not known
+-- the device fails in a step of the client, or as its call is settled
+pub record CanFail (w : World) (c : ℕ) : Type 0 where
+  pub client : is_client c ≡ true
+  pub running : ((w.clients c).status ≡ Alive) ⊎ ((w.clients c).status ≡ Dead)
+
 abbrev pub failed : World → ℕ → World
-failed w c = with_client w c (record (w.clients c) { failed = true })
+failed w c = with_client w c (record (w.clients c) { status = Failed })
+
+-- the client dies
+pub record CanDie (w : World) (c : ℕ) : Type 0 where
+  pub client : is_client c ≡ true
+  pub alive : (w.clients c).status ≡ Alive
+
+abbrev pub died : World → ℕ → World
+died w c = with_client w c (record (w.clients c) { status = Dead })

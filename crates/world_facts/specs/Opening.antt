@@ -1,8 +1,8 @@
 -- The world that a format makes.
-use Rattle.std.specs.Prelude.{ℕ, [], false, None}
+use Rattle.std.specs.Prelude.{ℕ, [], true, false, None}
 use Rattle.file_graph.specs.Graph.{Graph, fresh}
 use Rattle.call_effects.specs.Known.{Knowledge}
-use Rattle.world_facts.specs.World.{Client, Account, World, Ready}
+use Rattle.world_facts.specs.World.{Client, Account, World, Wiped, Alive}
 
 -- a client that has nothing open, no copy and no number
 abbrev pub knows_nothing : ℕ → Knowledge
@@ -15,13 +15,14 @@ idle_client c past = record {
   past = past;
   sealed = [];
   current = [];
-  other = Ready;
+  other = Wiped;
+  ready = true;
   begun = None;
   reads = λ i. false;
   writes = λ i. false;
   spare = 0;
   pins = λ i. false;
-  failed = false;
+  status = Alive;
 }
 
 -- the account of such a client

@@ -1,5 +1,5 @@
 -- What holds of one client's part beside the kernel's, and of two clients' parts.
-use Rattle.std.specs.Prelude.{◌≡◌, ◌≢◌, ◌⊎◌, ℕ, ◌+◌, ◌<◌, ◌≤◌, List, [], length, Bool, true, false, Option, Some, None}
+use Rattle.std.specs.Prelude.{◌≡◌, ◌≢◌, ℕ, ◌+◌, ◌<◌, ◌≤◌, List, [], length, Bool, true, false, Option, Some, None}
 use Rattle.posix_calls.specs.Tree.{Own, sum_up_to}
 use Rattle.posix_calls.specs.Operations.{is_client, opens}
 use Rattle.posix_calls.specs.declared.descriptor.Descriptor.{Descriptor}
@@ -11,15 +11,21 @@ use Rattle.log_record.specs.declared.format.Record.{Record}
 use Rattle.call_effects.specs.NodeView.{NodeView}
 use Rattle.call_effects.specs.Known.{Knowledge, IsPlanned}
 use Rattle.world_facts.specs.Logs.{is_written, is_made_in, IsMadeOnce, units_in, ArePaid, NameNone}
-use Rattle.world_facts.specs.World.{Begun, Region, Away, Client, Account, Kernel, undigested, records_of, holds}
+use Rattle.world_facts.specs.World.{Begun, Region, Away, Status, Settled, Buried, Client, Account, Kernel, undigested, records_of, holds}
 
 -- ---- one client's part beside the kernel's
 
--- the mark stands within the region that was sealed, if there is one
+-- the mark stands within the region that was sealed, if there is one: that is away, and has a record
 pub record IsMarked (mark past : ℕ) (sealed : List Record) (other : Region) : Type 0 where
   pub low : past ≤ mark
   pub high : mark ≤ past + length sealed
-  pub away : (other ≡ Away) ⊎ (sealed ≡ [])
+  pub some : other ≡ Away → sealed ≢ []
+  pub none : other ≢ Away → sealed ≡ []
+
+-- a region that is not wiped has no record, and none is begun in it
+pub record StartsWiped (ready : Bool) (current : List Record) (begun : Option Begun) : Type 0 where
+  pub records : ready ≡ false → current ≡ []
+  pub idle : ready ≡ false → begun ≡ None
 
 -- every record touches only what the client holds for writing, has the units for what it raises, and names no file that has no name
 pub record IsLogged (g : Graph) (writes : ℕ → Bool) (records : List Record) : Type 0 where
@@ -53,10 +59,22 @@ pub record IsPending (k : Knowledge) (pins : ℕ → Bool) (b : Begun) : Type 0 
   pub planned : IsPlanned k b.call b.new b.operation b.change.effects
   pub pinned : OpensPinned pins b.new b.operation
 
+-- whether a client's call is settled for good
+abbrev pub is_settled : Status → Bool
+is_settled Settled = true
+is_settled Buried = true
+is_settled _ = false
+
+-- whose call is settled has nothing open, and no call begun
+pub record HasLeft (status : Status) (own : Own) (begun : Option Begun) : Type 0 where
+  pub closed : is_settled status ≡ true → (n : ℕ) → own n ≡ None
+  pub idle : is_settled status ≡ true → begun ≡ None
+
 -- all that holds of one client's part beside the kernel's
 pub record Stands (g : Graph) (a : Account) (c : ℕ) (p : Client) : Type 0 where
   pub number : p.knows.client ≡ c
   pub marked : IsMarked a.mark p.past p.sealed p.other
+  pub starts : StartsWiped p.ready p.current p.begun
   pub logged : IsLogged g p.writes (records_of a p)
   -- the book has the units of its records and the spare ones
   pub units : a.units ≡ p.spare + units_in (records_of a p)
@@ -64,6 +82,7 @@ pub record Stands (g : Graph) (a : Account) (c : ℕ) (p : Client) : Type 0 wher
   pub leased : IsLeased (holds p) p.knows
   pub pinned : IsPinned a.pins p.pins p.knows.own
   pub pending : (b : Begun) → p.begun ≡ Some b → IsPending p.knows p.pins b
+  pub left : HasLeft p.status p.knows.own p.begun
 
 -- ---- the kernel's part
 

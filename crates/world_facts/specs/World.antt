@@ -18,11 +18,19 @@ pub record Begun : Type 0 where
   pub operation : Operation
   pub change : Record
 
--- where the region is that a client does not write: ready to be written, sealed and handed over, or back and not wiped yet
+-- where the region is that a client does not write: wiped, sealed and handed over, or back and not wiped yet
 pub data Region : Type 0 where
-  Ready : Region
+  Wiped : Region
   Away : Region
   Back : Region
+
+-- what has become of a client: its region's device failed, or it died, its begun call was settled, and it was buried
+pub data Status : Type 0 where
+  Alive : Status
+  Failed : Status
+  Dead : Status
+  Settled : Status
+  Buried : Status
 
 -- a client's part
 pub record Client : Type 0 where
@@ -34,6 +42,8 @@ pub record Client : Type 0 where
   pub sealed : List Record
   pub current : List Record
   pub other : Region
+  -- whether the region that it writes is wiped, as it has to be before a record
+  pub ready : Bool
   -- its call that has begun a record and is not answered
   pub begun : Option Begun
   -- the inodes that it holds for reading and for writing
@@ -43,8 +53,7 @@ pub record Client : Type 0 where
   pub spare : ℕ
   -- the inodes that it has pinned
   pub pins : ℕ → Bool
-  -- whether its region's device failed, or it died
-  pub failed : Bool
+  pub status : Status
 
 -- what the kernel's book has of a client
 pub record Account : Type 0 where

@@ -11,7 +11,7 @@ ghost use Rattle.posix_calls.specs.declared.operation.Operation.{Operation};
 ghost use Rattle.file_graph.specs.Graph.{after_effects};
 ghost use Rattle.call_effects.specs.Known.{part_of};
 ghost use Rattle.world_facts.specs.World.{Begun, World, whole, tree_of};
-ghost use Rattle.world_facts.specs.ClientSteps.{CanAnswer, answered, CanBegin, begun, IsBegun, replied, given_up, failed};
+ghost use Rattle.world_facts.specs.ClientSteps.{CanAnswer, answered, CanBegin, begun, IsBegun, replied, given_up, CanFail, failed};
 ghost use Rattle.world_facts.specs.Invariant.{Holds};
 
 /// A call that a client answers without a record, by what it knows, is one step of the tree; one that it refuses by what it knows,
@@ -44,8 +44,8 @@ pub fn begun_call_may_be_given_up()
     ensures tree { (w : World) (c : ℕ) (b : Begun) → Holds w → IsBegun w c b → tree_of (given_up w c b) ≡ tree_of w }
 {}
 
-/// Where the device of a client's region fails, or the client dies, the tree stays; a begun call stays begun.
+/// Where the device of a client's region fails, the tree stays; a begun call stays begun, and nobody learns what became of it.
 pub fn failed_client_leaves_the_tree()
-    ensures holds { (w : World) (c : ℕ) → Holds w → is_client c ≡ true → Holds (failed w c) }
-    ensures tree { (w : World) (c : ℕ) → Holds w → is_client c ≡ true → tree_of (failed w c) ≡ tree_of w }
+    ensures holds { (w : World) (c : ℕ) → Holds w → CanFail w c → Holds (failed w c) }
+    ensures tree { (w : World) (c : ℕ) → Holds w → CanFail w c → tree_of (failed w c) ≡ tree_of w }
 {}

@@ -30,7 +30,9 @@ pub use broken_laws::{
     unbooked_units_pass_the_capacity, unpaid_record_passes_the_capacity,
     writing_without_a_lease_is_seen,
 };
-pub use burial_laws::gone_client_may_be_buried;
+pub use burial_laws::{
+    buried_seat_may_be_taken, client_may_die, dead_client_may_depart, departed_client_may_be_buried,
+};
 pub use call_laws::{
     begun_call_is_a_step, begun_call_leaves_the_tree, begun_call_may_be_given_up,
     call_without_a_record_is_a_step, failed_client_leaves_the_tree,

@@ -1,5 +1,5 @@
 use Rattle.world_facts.proofs.Burials.{buried_holds, buried_tree}
-use Rattle.world_facts.proofs.burial_laws.gone_client_may_be_buried.Goals as goal
+use Rattle.world_facts.proofs.burial_laws.departed_client_may_be_buried.Goals as goal
 
 pub returns-clause-holds : goal.returns-clause-holds
 returns-clause-holds c = buried_holds
