@@ -72,7 +72,7 @@ module _ (w : World) (c : ℕ) (b : Begun) (h : Holds w) (can : CanBegin w c b) 
 
   pub begun_holds : Holds (begun w c b)
   begun_holds =
-      let were : account.units ≡ old.spare + units_in (records_of account old) = s.units in
+      let were : old.spare + units_in (records_of account old) ≤ account.units = s.units in
       let before : units_in (records_of account old) ≡ units_in (log_of w c) = ap units_in (idle_records account old can.idle) in
       let after : units_in (log_of w c ++ (b.change ∷ [])) ≡ units_in (log_of w c) + (b.change.units + 0) = units_append (log_of w c) (b.change ∷ []) in
       let enough : b.change.units ≤ old.spare = can.enough in
@@ -116,7 +116,7 @@ module _ (w : World) (c : ℕ) (b : Begun) (h : Holds w) (is : IsBegun w c b) wh
 
   pub given_up_holds : Holds (given_up w c b)
   given_up_holds =
-      let were : its.units ≡ was.spare + units_in (records_of its was) = stood.units in
+      let were : was.spare + units_in (records_of its was) ≤ its.units = stood.units in
       let before : units_in (records_of its was) ≡ units_in (log_of w c) + (b.change.units + 0) = ap units_in records_were ∙ units_append (log_of w c) (b.change ∷ []) in
       let after : units_in (log_of w c ++ []) ≡ units_in (log_of w c) = ap units_in (append_nil (log_of w c)) in
       quiet w c w.kernel.shared its less h is.client refl refl refl (booked_same w c less h is.client)

@@ -46,7 +46,7 @@ module _ (w : World) (c : ℕ) (a : Account) (p : Client) (h : Holds w) (is_c : 
   booked_fewer fits = booked_moved w c w.kernel.shared a p h is_c (λ i e. h.booked.free c i is_c (fewer i e)) (λ d i is_d other e. h.booked.free d i is_d e) (λ i e. h.booked.range c i is_c (fewer i e)) (λ d i is_d other e. h.booked.alone c d i is_c is_d other (fewer i e)) fits
 
 -- the same units
-fits_same : (w : World) (c : ℕ) (a : Account) (h : Holds w) → is_client c ≡ true → a.units ≡ (w.kernel.accounts c).units → charge w.kernel.shared + sum_up_to 8 (λ d. (at w.kernel.accounts c a d).units) ≤ w.kernel.capacity
+pub fits_same : (w : World) (c : ℕ) (a : Account) (h : Holds w) → is_client c ≡ true → a.units ≡ (w.kernel.accounts c).units → charge w.kernel.shared + sum_up_to 8 (λ d. (at w.kernel.accounts c a d).units) ≤ w.kernel.capacity
 fits_same w c a h is_c same =
     let sums : sum_up_to 8 (λ d. (at w.kernel.accounts c a d).units) + (w.kernel.accounts c).units ≡ sum_up_to 8 (λ d. (w.kernel.accounts d).units) + a.units = units_moved w c w.kernel.shared a (w.clients c) h is_c in
     let fits : charge w.kernel.shared + sum_up_to 8 (λ d. (w.kernel.accounts d).units) ≤ w.kernel.capacity = h.booked.fits in
@@ -74,7 +74,7 @@ module _ (w : World) (c units : ℕ) (h : Holds w) (is_c : is_client c ≡ true)
   units_granted_hold room =
       let sums : sum_up_to 8 (λ d. (at w.kernel.accounts c richer d).units) + account.units ≡ sum_up_to 8 (λ d. (w.kernel.accounts d).units) + (account.units + units) = units_moved w c w.kernel.shared richer old h is_c in
       let enough : charge w.kernel.shared + (sum_up_to 8 (λ d. (w.kernel.accounts d).units) + units) ≤ w.kernel.capacity = room in
-      let were : account.units ≡ old.spare + units_in (records_of account old) = s.units in
+      let were : old.spare + units_in (records_of account old) ≤ account.units = s.units in
       quiet w c w.kernel.shared richer (record old { spare = old.spare + units }) h is_c refl refl refl
       (booked_fewer w c richer (record old { spare = old.spare + units }) h is_c (λ i e. e) (omega (arith, sums, enough)))
       (record { number = s.number; left = s.left; marked = s.marked; starts = s.starts; logged = s.logged; units = omega (arith, were); numbered = s.numbered; leased = s.leased; pinned = s.pinned; pending = s.pending })
@@ -87,7 +87,7 @@ module _ (w : World) (c units : ℕ) (h : Holds w) (is_c : is_client c ≡ true)
   units_returned_hold enough =
       let sums : sum_up_to 8 (λ d. (at w.kernel.accounts c poorer d).units) + account.units ≡ sum_up_to 8 (λ d. (w.kernel.accounts d).units) + (account.units - units) = units_moved w c w.kernel.shared poorer old h is_c in
       let fits : charge w.kernel.shared + sum_up_to 8 (λ d. (w.kernel.accounts d).units) ≤ w.kernel.capacity = h.booked.fits in
-      let were : account.units ≡ old.spare + units_in (records_of account old) = s.units in
+      let were : old.spare + units_in (records_of account old) ≤ account.units = s.units in
       quiet w c w.kernel.shared poorer (record old { spare = old.spare - units }) h is_c refl refl refl
       (booked_fewer w c poorer (record old { spare = old.spare - units }) h is_c (λ i e. e) (omega (arith, sums, fits)))
       (record { number = s.number; left = s.left; marked = s.marked; starts = s.starts; logged = s.logged; units = omega (arith, were, enough); numbered = s.numbered; leased = s.leased; pinned = s.pinned; pending = s.pending })

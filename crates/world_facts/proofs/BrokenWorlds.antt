@@ -184,8 +184,8 @@ one_grown =
 pub making_paid : ArePaid fresh (making ∷ [])
 making_paid = (one_grown, tt)
 
-pub unbooked : ((overdrawn making).kernel.accounts 1).units ≢ ((overdrawn making).clients 1).spare + units_in (records_of ((overdrawn making).kernel.accounts 1) ((overdrawn making).clients 1))
-unbooked e = false≢true (sym (ap (λ n. n == 0) e))
+pub unbooked : ((overdrawn making).clients 1).spare + units_in (records_of ((overdrawn making).kernel.accounts 1) ((overdrawn making).clients 1)) ≤ ((overdrawn making).kernel.accounts 1).units → ⊥
+unbooked few = let one : 1 ≤ 0 = few in absurd (omega (arith, one))
 
 pub over_digests : (r : Record) → CanDigest (overdrawn r) 1 (r ∷ []) []
 over_digests r = record { client = refl; split = refl }

@@ -104,15 +104,15 @@ module _ (w : World) (c : ℕ) (first rest : List Record) (h : Holds w) (can : C
   paid_all : ArePaid w.kernel.shared (first ++ (later ++ change_of p.begun))
   paid_all = subst (λ rs. ArePaid w.kernel.shared rs) all_was s.logged.paid
 
-  units_were : account.units ≡ p.spare + (units_in first + units_in (later ++ change_of p.begun))
-  units_were = s.units ∙ ap (λ n. p.spare + n) (ap units_in all_was ∙ units_append first (later ++ change_of p.begun))
+  units_were : p.spare + (units_in first + units_in (later ++ change_of p.begun)) ≤ account.units
+  units_were = subst (λ n. p.spare + n ≤ account.units) (ap units_in all_was ∙ units_append first (later ++ change_of p.begun)) s.units
 
   fits : charge shared + sum_up_to 8 (λ d. (at w.kernel.accounts c after d).units) ≤ w.kernel.capacity
   fits =
       let sums : sum_up_to 8 (λ d. (at w.kernel.accounts c after d).units) + account.units ≡ sum_up_to 8 (λ d. (w.kernel.accounts d).units) + (account.units - units_in first) = units_moved w c shared after p h can.client in
       let before : charge w.kernel.shared + sum_up_to 8 (λ d. (w.kernel.accounts d).units) ≤ w.kernel.capacity = h.booked.fits in
       let risen : charge shared ≤ charge w.kernel.shared + units_in first = charge_records first w.kernel.shared (along_front IsPaid first (later ++ change_of p.begun) w.kernel.shared paid_all) in
-      let were : account.units ≡ p.spare + (units_in first + units_in (later ++ change_of p.begun)) = units_were in
+      let were : p.spare + (units_in first + units_in (later ++ change_of p.begun)) ≤ account.units = units_were in
       omega (arith, sums, before, risen, were)
 
   -- ---- numbers
@@ -164,7 +164,7 @@ module _ (w : World) (c : ℕ) (first rest : List Record) (h : Holds w) (can : C
       paid = subst (λ rs. ArePaid shared rs) (sym all_is) (along_rest IsPaid first (later ++ change_of p.begun) w.kernel.shared paid_all);
       unnamed = subst (λ rs. NameNone shared rs) (sym all_is) (along_rest NamesNone first (later ++ change_of p.begun) w.kernel.shared (subst (λ rs. NameNone w.kernel.shared rs) all_was s.logged.unnamed));
     };
-    units = (let were : account.units ≡ p.spare + (units_in first + units_in (later ++ change_of p.begun)) = units_were in let now : units_in (records_of after p) ≡ units_in (later ++ change_of p.begun) = ap units_in all_is in omega (arith, were, now));
+    units = (let were : p.spare + (units_in first + units_in (later ++ change_of p.begun)) ≤ account.units = units_were in let now : units_in (records_of after p) ≡ units_in (later ++ change_of p.begun) = ap units_in all_is in omega (arith, were, now));
     numbered = record {
       made = λ i e. let there : is_made_in i later ≡ true = ap (is_made_in i) (sym log_is) ∙ e in to_still i (s.numbered.made i (ap (is_made_in i) log_was ∙ rest_made i first later there)) (not_first i there);
       once = λ i. subst (λ rs. IsMadeOnce i rs) (sym log_is) (once_rest i first later (once_now i));

@@ -13,6 +13,7 @@ pub mod Replies
 pub mod Leases
 pub mod Regions
 pub mod Books
+pub mod Halves
 pub mod Fetches
 pub mod Digests
 pub mod Stops

@@ -44,7 +44,7 @@ module _ (w : World) (c : ℕ) (h : Holds w) (is_c : is_client c ≡ true) (past
         marked = marked;
         starts = starts;
         logged = subst (λ rs. IsLogged w.kernel.shared (w.clients c).writes rs) (sym all) s.logged;
-        units = s.units ∙ ap (λ rs. (w.clients c).spare + units_in rs) (sym all);
+        units = subst (λ rs. (w.clients c).spare + units_in rs ≤ (w.kernel.accounts c).units) (sym all) s.units;
         numbered = subst (λ rs. IsNumbered (w.kernel.accounts c).numbers (w.clients c).knows.granted rs) (sym log) s.numbered;
         leased = s.leased;
         pinned = s.pinned;

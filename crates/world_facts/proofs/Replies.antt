@@ -1,5 +1,5 @@
 -- A call is answered: the tree moves by its step.
-use Rattle.std.proofs.Common.{◌≡◌, ◌≢◌, inl, inr, ℕ, ◌+◌, ◌-◌, ◌==◌, ◌||◌, true, false, List, [], ◌∷◌, ◌++◌, drop, refl, None, Err, ap, sym, ◌∙◌, subst, append_assoc}
+use Rattle.std.proofs.Common.{◌≡◌, ◌≢◌, inl, inr, ℕ, ◌+◌, ◌-◌, ◌≤◌, ◌==◌, ◌||◌, true, false, List, [], ◌∷◌, ◌++◌, drop, refl, None, Err, ap, sym, ◌∙◌, subst, append_assoc}
 use Rattle.std.proofs.lemmas.Bool.{false≢true, eqb-true, eq-eqb}
 use Rattle.posix_calls.specs.Tree.{with_own}
 use Rattle.posix_calls.specs.Query.{Known, run_part}
@@ -166,7 +166,7 @@ module _ (w : World) (c : ℕ) (b : Begun) (h : Holds w) (is : IsBegun w c b) wh
         marked = s.marked;
         starts = record { records = λ e. none_some b (sym (s.starts.idle e) ∙ is.there); idle = λ e. refl };
         logged = record { leased = λ i e. s.logged.leased i (ap (is_written i) (sym all_same) ∙ e); paid = subst (λ rs. ArePaid w.kernel.shared rs) (sym all_same) s.logged.paid; unnamed = subst (λ rs. NameNone w.kernel.shared rs) (sym all_same) s.logged.unnamed };
-        units = s.units ∙ ap (λ rs. was.spare + units_in rs) (sym all_same);
+        units = subst (λ rs. was.spare + units_in rs ≤ account.units) (sym all_same) s.units;
         numbered = numbered;
         leased = leased_after w c h is.client b.call b.new b.operation b.change.effects planned leased;
         pinned = pinned_after account.pins was.pins was.knows.own b.new b.operation s.pinned (s.pending b is.there).pinned;

@@ -203,7 +203,7 @@ module _ (w : World) (logs : ℕ → List Record) (h : Holds w) (left : Leaves w
 
   stop_units : (c : ℕ) → is_client c ≡ true → units_in (logs c) ≤ (w.kernel.accounts c).units
   stop_units c is_c =
-      let were : (w.kernel.accounts c).units ≡ (w.clients c).spare + units_in (records_of (w.kernel.accounts c) (w.clients c)) = (h.stands c is_c).units in
+      let were : (w.clients c).spare + units_in (records_of (w.kernel.accounts c) (w.clients c)) ≤ (w.kernel.accounts c).units = (h.stands c is_c).units in
       let parts : units_in (records_of (w.kernel.accounts c) (w.clients c)) ≡ units_in (log_of w c) + units_in (change_of (w.clients c).begun) = units_append (log_of w c) (change_of (w.clients c).begun) in
       elim (left c is_c) [
         | inl none ↦ let e : units_in (logs c) ≡ units_in (log_of w c) = ap units_in none in omega (arith, were, parts, e)

@@ -76,8 +76,8 @@ pub record Stands (g : Graph) (a : Account) (c : ℕ) (p : Client) : Type 0 wher
   pub marked : IsMarked a.mark p.past p.sealed p.other
   pub starts : StartsWiped p.ready p.current p.begun
   pub logged : IsLogged g p.writes (records_of a p)
-  -- the book has the units of its records and the spare ones
-  pub units : a.units ≡ p.spare + units_in (records_of a p)
+  -- the book has the units of its records and the spare ones, and those that are on their way to it or back
+  pub units : p.spare + units_in (records_of a p) ≤ a.units
   pub numbered : IsNumbered a.numbers p.knows.granted (undigested a p)
   pub leased : IsLeased (holds p) p.knows
   pub pinned : IsPinned a.pins p.pins p.knows.own

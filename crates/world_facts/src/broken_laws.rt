@@ -1,6 +1,6 @@
 //! What goes wrong in small worlds that break one part of the invariant each.
 
-ghost use Rattle.std.specs.Prelude.{◌≡◌, ◌≢◌, ℕ, ◌+◌, [], ◌∷◌, Bool, false, None, IsSome};
+ghost use Rattle.std.specs.Prelude.{◌≡◌, ◌≢◌, ℕ, ◌+◌, ◌≤◌, [], ◌∷◌, Bool, false, None, IsSome};
 ghost use Rattle.file_graph.specs.Graph.{Graph, fresh, set_node};
 ghost use Rattle.call_effects.specs.Known.{Agrees};
 ghost use Rattle.call_effects.specs.Wholes.{IsSound, state_of};
@@ -90,7 +90,7 @@ pub fn unpaid_record_passes_the_capacity()
 
 /// So does that of a record whose units are not in the book.
 pub fn unbooked_units_pass_the_capacity()
-    ensures broken { ((overdrawn making).kernel.accounts 1).units ≢ ((overdrawn making).clients 1).spare + units_in (records_of ((overdrawn making).kernel.accounts 1) ((overdrawn making).clients 1)) }
+    ensures broken { ((overdrawn making).clients 1).spare + units_in (records_of ((overdrawn making).kernel.accounts 1) ((overdrawn making).clients 1)) ≤ ((overdrawn making).kernel.accounts 1).units → ⊥ }
     ensures paid { ArePaid fresh (making ∷ []) }
     ensures booked { IsBooked (overdrawn making).kernel }
     ensures can { CanDigest (overdrawn making) 1 (making ∷ []) [] }

@@ -9,6 +9,7 @@ mod book_laws;
 mod broken_laws;
 mod burial_laws;
 mod call_laws;
+mod half_laws;
 mod kernel_laws;
 mod lease_laws;
 mod opening_laws;
@@ -37,6 +38,7 @@ pub use call_laws::{
     begun_call_is_a_step, begun_call_leaves_the_tree, begun_call_may_be_given_up,
     call_without_a_record_is_a_step, failed_client_leaves_the_tree,
 };
+pub use half_laws::{number_may_be_on_its_way, pin_may_be_on_its_way, units_may_be_on_their_way};
 pub use kernel_laws::{
     digest_leaves_begun_calls, nameless_file_stays_nameless, open_file_is_not_reclaimed,
     records_may_be_digested, unused_file_may_be_reclaimed,
