@@ -1,11 +1,11 @@
--- The entries of a directory, as the entries of one block change.
-use Rattle.std.proofs.Common.{◌≡◌, ◌≢◌, inl, inr, ℕ, ◌/◌, ◌%◌, ◌<◌, List, length, refl, sym, ◌∙◌, ap, subst, arith}
-use Rattle.std.proofs.lemmas.Bool.{cases_eq}
-use Rattle.std.proofs.lemmas.List.{get_or-set_same, get_or-set_other, length-set}
+-- The entries of a directory, as the entries of one block or two change.
+use Rattle.std.proofs.Common.{◌≡◌, ◌≢◌, ◌⊎◌, inl, inr, ℕ, ◌+◌, ◌-◌, ◌*◌, ◌/◌, ◌%◌, ◌≤◌, ◌<◌, List, [], ◌∷◌, ◌++◌, length, take, get_or, refl, sym, ◌∙◌, ap, subst, arith}
+use Rattle.std.proofs.lemmas.Bool.{cases_eq, cases_lt}
+use Rattle.std.proofs.lemmas.List.{get_or-set_same, get_or-set_other, length-set, length-take, length-append, get_or-take, get_or_append_left, get_or_push}
 use Rattle.layout.specs.declared.directory.DirEntry.{DirEntry}
-use Rattle.layout.specs.Directory.{EntryList, AreEntries, listed, no_entry, entry_of, with_entry}
-use Rattle.tree_blocks.specs.Inode.{Blocks, plain, entry_at, entries_in, blocks_for, IsDirectoryBlock, IsDirectory}
-use Rattle.tree_blocks.specs.After.{IsEntered}
+use Rattle.layout.specs.Directory.{EntryList, AreEntries, listed, no_entry, entry_of, with_entry, with_last, without_entry, without_last}
+use Rattle.tree_blocks.specs.Inode.{Blocks, Entry, plain, entry_at, entries_in, blocks_for, IsAbsent, IsDirectoryBlock, IsDirectory}
+use Rattle.tree_blocks.specs.After.{IsEntered, IsTakenOut}
 
 -- an entry by the list of its block
 pub entry_is : (b : Blocks) (e : ℕ) (v : EntryList) → listed (b (e / 56)) ≡ v → entry_at b e ≡ plain (entry_of v (e % 56))
@@ -50,6 +50,30 @@ module _ (b c : Blocks) (place : ℕ) (x : DirEntry) (others : (k : ℕ) → k �
   set_beside e off =
       entry_beside b c place (with_entry (listed (b (place / 56))) (place % 56) x) others is e (λ at. set_other (listed (b (place / 56))) (place % 56) (e % 56) x (λ same. off (omega (arith, at, same))))
 
+-- ---- one entry more, behind the last
+
+module _ (b c : Blocks) (n : ℕ) (v : EntryList) (x : DirEntry) (others : (k : ℕ) → k ≢ n / 56 → c k ≡ b k) (is : listed (c (n / 56)) ≡ with_last v x)
+    (long : length v.entries ≡ n % 56) (before : (i : ℕ) → i < n % 56 → entry_of v i ≡ entry_of (listed (b (n / 56))) i) where
+  pub last_there : entry_at c n ≡ plain x
+  last_there = entry_there b c n (with_last v x) others is ∙ ap plain (get_or_push v.entries x no_entry (n % 56) long)
+
+  pub last_beside : (e : ℕ) → e < n → entry_at c e ≡ entry_at b e
+  last_beside e lt = entry_beside b c n (with_last v x) others is e (λ at.
+      let low : e % 56 < n % 56 = omega (arith, at, lt) in
+      get_or_append_left v.entries (x ∷ []) no_entry (e % 56) (omega (arith, long, low)) ∙ before (e % 56) low)
+
+-- ---- the last entry takes the place of another
+
+pub less_same : (v : EntryList) (j : ℕ) → j < length v.entries - 1 → entry_of (without_last v) j ≡ entry_of v j
+less_same v j lt = get_or-take (length v.entries - 1) v.entries j no_entry lt
+
+pub taken_there : (v : EntryList) (i : ℕ) → i < length v.entries - 1 → entry_of (without_entry v i) i ≡ entry_of v (length v.entries - 1)
+taken_there v i lt =
+    get_or-take (length v.entries - 1) _ i no_entry lt ∙ get_or-set_same v.entries i (entry_of v (length v.entries - 1)) no_entry (omega (arith, lt))
+
+pub taken_other : (v : EntryList) (i j : ℕ) → j ≢ i → j < length v.entries - 1 → entry_of (without_entry v i) j ≡ entry_of v j
+taken_other v i j off lt = get_or-take (length v.entries - 1) _ j no_entry lt ∙ get_or-set_other v.entries i j (entry_of v (length v.entries - 1)) no_entry off
+
 -- ---- the blocks of a directory
 
 -- a part of a directory stays one where it has as many entries as before
@@ -86,3 +110,29 @@ module _ (owner n : ℕ) (b : Blocks) (is : IsDirectory owner n b) where
           })
       | inr off ↦ part_stays owner n n k (b k) (c k) (others k off) refl (is.parts k low)
     ]
+
+  -- ---- one entry more
+
+  module _ (c : Blocks) (v : EntryList) (x : DirEntry) (others : (k : ℕ) → k ≢ n / 56 → c k ≡ b k) (entries : AreEntries (c (n / 56))) (now : listed (c (n / 56)) ≡ with_last v x)
+      (long : length v.entries ≡ n % 56) (by : v.owner ≡ owner) where
+    pub parts_more : (k : ℕ) → k < blocks_for (n + 1) → IsDirectoryBlock owner (n + 1) k (c k)
+    parts_more k low = elim (cases_eq k (n / 56)) [
+      | inl here ↦ subst (λ j. IsDirectoryBlock owner (n + 1) j (c j)) (sym here) (record {
+        entries = entries;
+        owner_is = ap (λ l. l.owner) now ∙ by;
+        count_is =
+            let one : length (v.entries ++ x ∷ []) ≡ n % 56 + 1 = omega (arith, length-append v.entries (x ∷ []), long) in
+            let all : n % 56 + 1 ≡ entries_in (n + 1) (n / 56) = omega arith in
+            ap (λ l. length l.entries) now ∙ one ∙ all;
+      })
+      | inr off ↦
+          let full : entries_in n k ≡ entries_in (n + 1) k = omega (arith, low, off) in
+          part_stays owner n (n + 1) k (b k) (c k) (others k off) full (is.parts k (omega (arith, low, off)))
+    ]
+
+    pub is_more : ((i : ℕ) → i < n % 56 → entry_of v i ≡ entry_of (listed (b (n / 56))) i) → IsAbsent x.name (entry_at b) n → IsEntered n (plain x) n (entry_at b) (n + 1) (entry_at c)
+    is_more before absent = record {
+      at_name = inr (refl, absent, refl);
+      there = last_there b c n v x others now long before;
+      others = λ e below off. last_beside b c n v x others now long before e below;
+    }

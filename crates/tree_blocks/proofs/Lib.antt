@@ -1,8 +1,10 @@
 pub mod Alike
 pub mod Directories
+pub mod Distinct
 pub mod Edited
 pub mod Entering
 pub mod Files
 pub mod Finding
 pub mod Held
+pub mod Leaving
 pub mod Lists

@@ -1,16 +1,20 @@
--- Blocks of a directory in a list, of which one is written.
-use Rattle.std.proofs.Common.{◌≡◌, ◌≢◌, ℕ, ◌/◌, ◌%◌, ◌<◌, List, [], length, get_or, set, refl, sym, ◌∙◌, ap, subst, Option, Some, None}
-use Rattle.std.specs.Prelude.{IfSome, IfNone, slice_get}
-use Rattle.std.proofs.lemmas.List.{get_or-set_same, get_or-set_other, get_or_default}
+-- Blocks of a directory in a list, of which one is written or put behind the others.
+use Rattle.std.proofs.Common.{◌≡◌, ◌≢◌, ◌⊎◌, inl, inr, ℕ, ◌+◌, ◌-◌, ◌*◌, ◌/◌, ◌%◌, ◌≤◌, ◌<◌, List, [], ◌∷◌, ◌++◌, length, get_or, set, take, drop, true, refl, sym, ◌∙◌, ap, subst, arith, Option, Some, None}
+use Rattle.std.specs.Prelude.{IfSome, IfNone, slice_get, is_some}
+use Rattle.std.specs.List.{position}
+use Rattle.std.proofs.lemmas.Bool.{cases_eq, cases_lt}
+use Rattle.std.proofs.lemmas.List.{get_or-set_same, get_or-set_other, length-set, length-append, get_or_append_left, get_or_push, get_or_past, get_or_default}
+use Rattle.std.proofs.Math.Seq.{take-append_seam}
 use Rattle.std.proofs.lemmas.Option.{slice_get-get_or}
 use Rattle.file_graph.specs.declared.effect.Kind.{Kind}
 use Rattle.layout.specs.declared.directory.DirEntry.{DirEntry}
-use Rattle.layout.specs.Directory.{AreEntries, listed, no_entry, entry_of, with_target}
-use Rattle.tree_blocks.specs.Inode.{Blocks, entry_at, IsDirectory}
+use Rattle.layout.specs.Directory.{EntryList, AreEntries, listed, no_entry, entry_of, with_target, with_last}
+use Rattle.tree_blocks.specs.Inode.{Blocks, plain, entry_at, blocks_for, IsAbsent, IsDirectory}
 use Rattle.tree_blocks.specs.After.{IsEntered}
-use Rattle.tree_blocks.specs.Directory.{numbered}
+use Rattle.tree_blocks.specs.Directory.{numbered, HaveOneMore}
 use Rattle.tree_blocks.proofs.Entering.{distinct_entered}
-use Rattle.tree_blocks.proofs.Held.{entry_is, is_set, parts_set}
+use Rattle.tree_blocks.proofs.Finding.{has, none_found}
+use Rattle.tree_blocks.proofs.Held.{entry_is, part_of, within_part, is_set, parts_set, parts_more, is_more}
 
 pub some_weaker : {A : Type 0} (P Q : A → Type 0) (o : Option A) → ((x : A) → P x → Q x) → IfSome o P → IfSome o Q
 some_weaker P Q None f h = h
@@ -35,6 +39,22 @@ some_is x y e = cc
 
 pub got : (es : List DirEntry) (i : ℕ) (x : DirEntry) → i < length es → slice_get es i ≡ Some x → x ≡ get_or es i no_entry
 got es i x lt is = some_is x (get_or es i no_entry) (sym is ∙ slice_get-get_or es i no_entry lt)
+
+-- a part that was lent whole is there again
+pub written_back : (n : ℕ) (new old : List (List ℕ)) → length new ≡ n → take n (new ++ drop (length new) old) ≡ new
+written_back n new old long = ap (λ k. take k (new ++ drop (length new) old)) (sym long) ∙ take-append_seam new (drop (length new) old)
+
+-- where a name is absent, each block has none of it
+pub absent_in : (owner n : ℕ) (b : Blocks) → IsDirectory owner n b → (name : List ℕ) → IsAbsent name (entry_at b) n → n % 56 ≢ 0 → position (has name) (listed (b (n / 56))).entries ≡ None
+absent_in owner n b is name absent room =
+    let long : length (listed (b (n / 56))).entries ≡ n % 56 = let c = (is.parts (n / 56) (omega (arith, room))).count_is in omega (arith, c, room) in
+    none_found name (listed (b (n / 56))).entries (λ i lt same.
+    let e : ℕ = 56 * (n / 56) + i in
+    let small : i < n % 56 = omega (arith, lt, long) in
+    let block : e / 56 ≡ n / 56 = omega (arith, small) in
+    let index : e % 56 ≡ i = omega (arith, small) in
+    absent e (omega (arith, small))
+    (ap (λ x. x.0) (entry_is b e (listed (b (n / 56))) (ap (λ k. listed (b k)) block)) ∙ ap (λ j. (entry_of (listed (b (n / 56))) j).name) index ∙ same))
 
 module _ (owner n : ℕ) (bs : List (List ℕ)) (is : IsDirectory owner n (numbered bs)) (w : List ℕ) (entries : AreEntries w) where
   -- ---- an entry leads elsewhere
@@ -66,3 +86,36 @@ module _ (owner n : ℕ) (bs : List (List ℕ)) (is : IsDirectory owner n (numbe
       parts = parts_set owner n (numbered bs) is c place lt x others (subst AreEntries (sym here) entries) listed_so;
       distinct = distinct_entered place (entry_at (numbered bs)) n is.distinct ((entry_at (numbered bs) place).0, (inode, kind)) n (entry_at c) set_entered;
     }
+
+  -- ---- one entry more
+
+  module _ (long : length bs ≡ blocks_for n) (x : DirEntry) (absent : IsAbsent x.name (entry_at (numbered bs)) n) where
+    -- from any list of the last block to the directory
+    more : (new : List (List ℕ)) (v : EntryList) → ((k : ℕ) → k ≢ n / 56 → numbered new k ≡ numbered bs k) → numbered new (n / 56) ≡ w → listed w ≡ with_last v x → length v.entries ≡ n % 56 → v.owner ≡ owner
+        → ((i : ℕ) → i < n % 56 → entry_of v i ≡ entry_of (listed (numbered bs (n / 56))) i) → length new ≡ blocks_for (n + 1) → HaveOneMore owner n (plain x) bs new
+    more new v others here now count by before size =
+        let kept : AreEntries (numbered new (n / 56)) = subst AreEntries (sym here) entries in
+        let shown : listed (numbered new (n / 56)) ≡ with_last v x = ap listed here ∙ now in
+        let entered = is_more owner n (numbered bs) is (numbered new) v x others kept shown count by before absent in
+        record {
+          long = size;
+          directory = record { parts = parts_more owner n (numbered bs) is (numbered new) v x others kept shown count by; distinct = distinct_entered n (entry_at (numbered bs)) n is.distinct (plain x) (n + 1) (entry_at (numbered new)) entered };
+          entered = entered;
+          others = others;
+        }
+
+    pub more_filled : n % 56 ≢ 0 → listed w ≡ with_last (listed (numbered bs (n / 56))) x → HaveOneMore owner n (plain x) bs (set bs (n / 56) w)
+    more_filled room now =
+        let part = is.parts (n / 56) (omega (arith, room)) in
+        let count = part.count_is in
+        more (set bs (n / 56) w) (listed (numbered bs (n / 56))) (λ k off. get_or-set_other bs (n / 56) k w [] off) (get_or-set_same bs (n / 56) w [] (omega (arith, long, room))) now
+        (omega (arith, count, room)) part.owner_is (λ i lt. refl) (omega (arith, length-set bs (n / 56) w, long, room))
+
+    pub more_opened : n % 56 ≡ 0 → listed w ≡ record { owner = owner; entries = x ∷ [] } → HaveOneMore owner n (plain x) bs (bs ++ w ∷ [])
+    more_opened full now =
+        let end : length bs ≡ n / 56 = omega (arith, long, full) in
+        more (bs ++ w ∷ []) (record { owner = owner; entries = [] }) (λ k off. beside k off (cases_lt k (n / 56))) (get_or_push bs w [] (n / 56) end) now (sym full) refl (λ i lt. absurd (omega (arith, lt, full)))
+        (omega (arith, length-append bs (w ∷ []), long, full)) where
+          beside : (k : ℕ) → k ≢ n / 56 → (k < n / 56) ⊎ (n / 56 ≤ k) → numbered (bs ++ w ∷ []) k ≡ numbered bs k
+          beside k off (inl lt) = get_or_append_left bs (w ∷ []) [] k (omega (arith, lt, long, full))
+          beside k off (inr ge) = get_or_past (bs ++ w ∷ []) k [] (omega (arith, length-append bs (w ∷ []), ge, off, long, full)) ∙ sym (get_or_past bs k [] (omega (arith, ge, long, full)))

@@ -1,8 +1,10 @@
 -- A directory in memory.
-use Rattle.std.specs.Prelude.{◌≡◌, ℕ, ◌≤◌, List, [], length, get_or, true}
+use Rattle.std.specs.Prelude.{◌≡◌, ◌≢◌, ℕ, ◌+◌, ◌-◌, ◌/◌, ◌≤◌, List, [], length, get_or, true}
 use Rattle.posix_calls.specs.declared.limits.TheConstants.{MAX_ENTRIES}
 use Rattle.layout.specs.Places.{is_inode}
+use Rattle.layout.specs.declared.directory.TheConstants.{MAX_IN_BLOCK}
 use Rattle.tree_blocks.specs.Inode.{Blocks, Entry, entry_at, blocks_for, IsDirectory}
+use Rattle.tree_blocks.specs.After.{IsEntered, IsTakenOut}
 
 -- its inode, how many entries it has, and its blocks
 pub record EntryBlocks : Type 0 where
@@ -24,3 +26,15 @@ pub record IsHeld (d : EntryBlocks) : Type 0 where
   pub few : d.count ≤ MAX_ENTRIES
   pub long : length d.blocks ≡ blocks_for d.count
   pub directory : IsDirectory d.owner d.count (numbered d.blocks)
+
+-- the blocks of a directory of so many entries with one more behind them
+pub record HaveOneMore (owner count : ℕ) (e : Entry) (old new : List (List ℕ)) : Type 0 where
+  pub long : length new ≡ blocks_for (count + 1)
+  pub directory : IsDirectory owner (count + 1) (numbered new)
+  pub entered : IsEntered count e count (entry_at (numbered old)) (count + 1) (entry_at (numbered new))
+  pub others : (k : ℕ) → k ≢ count / MAX_IN_BLOCK → numbered new k ≡ numbered old k
+
+-- the blocks of a directory of which the last entry stands at the place of another, and not behind the others; `last` is its number
+pub record HaveOneLess (owner last place : ℕ) (old new : Blocks) : Type 0 where
+  pub directory : IsDirectory owner last new
+  pub taken : IsTakenOut place (last + 1) (entry_at old) last (entry_at new)

@@ -1,4 +1,4 @@
-ghost use Rattle.std.specs.Prelude.{◌≡◌, ◌≢◌, ◌≤◌, ◌<◌, ◌/◌, ◌-◌, ℕ, [], length, get_or, true, IfOk, IfErr, IfNone, IfSome, OnOk, OnErr};
+ghost use Rattle.std.specs.Prelude.{◌≡◌, ◌≢◌, ◌≤◌, ◌<◌, ◌/◌, ◌%◌, ◌+◌, ◌-◌, ◌↔◌, ℕ, [], length, get_or, true, IfOk, IfErr, IfNone, IfSome, OnOk, OnErr};
 ghost use Rattle.posix_calls.specs.declared.limits.TheConstants.{MAX_ENTRIES};
 ghost use Rattle.layout.specs.Places.{is_inode};
 ghost use Rattle.layout.specs.Lent.{owned};
@@ -8,10 +8,12 @@ ghost use Rattle.tree_blocks.specs.Inode.{plain, IsAbsent};
 ghost use Rattle.tree_blocks.specs.After.{IsEntered, IsTakenOut};
 ghost use Rattle.tree_blocks.specs.Directory.{EntryBlocks, IsHeld, numbered, entries_of};
 
-use crate::entry_blocks::find_in;
+use crate::entry_blocks::{add_to, find_in, take_from};
+use crate::error::EnterError;
 use file_graph::Kind;
 use layout::{BLOCK, DirEntries, EntryRef, MAX_IN_BLOCK, set_target};
-use std::alloc::Global;
+use posix_calls::MAX_ENTRIES;
+use std::alloc::{AllocError, Global};
 use std::marker::Model;
 
 /// A directory in memory: its blocks, one behind the other. Entry n stands in block n / 56 at place n % 56.
@@ -108,5 +110,72 @@ impl Directory {
             inode,
             kind,
         );
+    }
+
+    /// Enters an entry, which leads to an inode by a name: over the entry of its name, or else behind the last one. It answers the number of the entry; no block but
+    /// the one in which that stands changes. `Full` where no entry has the name and there are as many as a directory may have; `Memory` where a block more was wanted.
+    /// The directory stays as it was then.
+    pub fn enter(&mut self, entry: EntryRef<'_>) -> Result<usize, EnterError>
+        requires { fits_entry (owned entry) ≡ true }
+        ensures entered { IfOk result (λ number. IsEntered number (plain (owned entry.entry)) self.old.count (entries_of self.old) self.new.count (entries_of self.new)) }
+        ensures owner { self.new.owner ≡ self.old.owner }
+        ensures others { IfOk result (λ number. (k : ℕ) → k ≢ number / MAX_IN_BLOCK → numbered self.new.blocks k ≡ numbered self.old.blocks k) }
+        ensures full { result ≡ Err EnterError.Full ↔ (IsAbsent entry.entry.name.now (entries_of self.old) self.old.count × (self.old.count ≡ MAX_ENTRIES)) }
+        ensures memory { result ≡ Err EnterError.Memory → IsAbsent entry.entry.name.now (entries_of self.old) self.old.count × (self.old.count % MAX_IN_BLOCK ≡ 0) }
+        ensures refused { OnErr result (self.new ≡ self.old) }
+    {
+        if let Some(number) = self.find(entry.name) {
+            self.set_target(number, entry.inode, entry.kind);
+            return Ok(number);
+        }
+        if self.count == MAX_ENTRIES as usize {
+            return Err(EnterError::Full);
+        }
+        self.add(entry)?;
+        Ok(self.count - 1)
+    }
+
+    // Puts an entry behind the last one.
+    fn add(&mut self, entry: EntryRef<'_>) -> Result<(), AllocError>
+        requires fits { fits_entry (owned entry) ≡ true }
+        requires new { IsAbsent entry.name.now (entries_of self.old) self.old.count }
+        requires room { self.old.count < MAX_ENTRIES }
+        ensures added { OnOk result (IsEntered self.old.count (plain (owned entry.entry)) self.old.count (entries_of self.old) self.new.count (entries_of self.new)) }
+        ensures count { OnOk result (self.new.count ≡ self.old.count + 1) }
+        ensures owner { self.new.owner ≡ self.old.owner }
+        ensures others { (k : ℕ) → k ≢ self.old.count / MAX_IN_BLOCK → numbered self.new.blocks k ≡ numbered self.old.blocks k }
+        ensures refused { OnErr result (self.new ≡ self.old) }
+        ensures memory { OnErr result (self.old.count % MAX_IN_BLOCK ≡ 0) }
+    {
+        add_to(self.alloc, &mut self.blocks, self.owner, self.count, entry)?;
+        self.count += 1;
+        Ok(())
+    }
+
+    /// Takes the entry of a name out; the last entry stands in its place then, and a block that has none any more goes. It answers the number that the entry had,
+    /// or `None` where no entry has the name, and nothing has changed then. No block changes but the one where it stood and the last one.
+    pub fn take_out(&mut self, name: &[u8]) -> Option<usize>
+        ensures taken { IfSome result (λ number. IsTakenOut number self.old.count (entries_of self.old) self.new.count (entries_of self.new)) }
+        ensures named { IfSome result (λ number. (entries_of self.old number).0 ≡ name.now) }
+        ensures owner { self.new.owner ≡ self.old.owner }
+        ensures others { IfSome result (λ number. (k : ℕ) → k ≢ number / MAX_IN_BLOCK → k ≢ (self.old.count - 1) / MAX_IN_BLOCK → numbered self.new.blocks k ≡ numbered self.old.blocks k) }
+        ensures absent { IfNone result (IsAbsent name.now (entries_of self.old) self.old.count) }
+        ensures stays { IfNone result (self.new ≡ self.old) }
+    {
+        let number = self.find(name)?;
+        self.remove(number);
+        Some(number)
+    }
+
+    // Takes the entry of a number out.
+    fn remove(&mut self, number: usize)
+        requires { number < self.old.count }
+        ensures taken { IsTakenOut number self.old.count (entries_of self.old) self.new.count (entries_of self.new) }
+        ensures owner { self.new.owner ≡ self.old.owner }
+        ensures others { (k : ℕ) → k ≢ number / MAX_IN_BLOCK → k ≢ (self.old.count - 1) / MAX_IN_BLOCK → numbered self.new.blocks k ≡ numbered self.old.blocks k }
+    {
+        let last = self.count - 1;
+        take_from(&mut self.blocks, number, last);
+        self.count = last;
     }
 }

@@ -1,11 +1,18 @@
 //! Blocks of entries, one behind the other.
 
-ghost use Rattle.std.specs.Prelude.{◌≡◌, ◌≢◌, ◌<◌, ◌/◌, ◌%◌, ℕ, length, IfNone, IfSome};
-ghost use Rattle.layout.specs.Directory.{AreEntries, listed, entry_of};
+ghost use Rattle.std.specs.Prelude.{◌≡◌, ◌≢◌, ◌≤◌, ◌<◌, ◌/◌, ◌%◌, ◌+◌, ◌*◌, ◌-◌, ◌^◌, ℕ, [], ◌∷◌, length, get_or, true, IfNone, IfSome, OnOk, OnErr, vec_capacity};
+ghost use Rattle.layout.specs.Places.{is_inode};
+ghost use Rattle.layout.specs.Lent.{owned};
+ghost use Rattle.layout.specs.Directory.{AreEntries, listed, fits_entry, are_distinct, with_entry, without_last, entry_of};
 ghost use Rattle.layout.specs.declared.directory.TheConstants.{MAX_IN_BLOCK};
-ghost use Rattle.tree_blocks.specs.Directory.{numbered};
+ghost use Rattle.tree_blocks.specs.Inode.{plain, entry_at, blocks_for, IsAbsent, IsDirectory};
+ghost use Rattle.tree_blocks.specs.Directory.{numbered, HaveOneMore, HaveOneLess};
 
-use layout::{BLOCK, DirEntries, MAX_IN_BLOCK};
+use layout::{
+    BLOCK, DirBlock, DirEntries, EntryRef, MAX_IN_BLOCK, add_entry, remove_last, set_entry,
+    take_entry,
+};
+use std::alloc::{AllocError, Global};
 
 // The number of the entry of a name.
 pub fn find_in(blocks: &[[u8; BLOCK]], name: &[u8]) -> Option<usize>
@@ -19,4 +26,122 @@ pub fn find_in(blocks: &[[u8; BLOCK]], name: &[u8]) -> Option<usize>
         }
     }
     None
+}
+
+// A block of one entry.
+pub fn first_of(alloc: Global, owner: u32, entry: EntryRef<'_>) -> [u8; BLOCK]
+    requires owner { is_inode owner ≡ true }
+    requires fits { fits_entry (owned entry) ≡ true }
+    ensures entries { AreEntries result }
+    ensures listed { listed result ≡ record { owner = owner; entries = owned entry.entry ∷ [] } }
+{
+    let mut block = blank_of(alloc, owner);
+    add_entry(&mut block, entry);
+    block
+}
+
+// A block of no entry.
+fn blank_of(alloc: Global, owner: u32) -> [u8; BLOCK]
+    requires { is_inode owner ≡ true }
+    ensures entries { AreEntries result }
+    ensures listed { listed result ≡ record { owner = owner; entries = [] } }
+{
+    let mut block = [0; BLOCK];
+    DirBlock::new(owner, Vec::new(alloc)).encode(&mut block);
+    block
+}
+
+// Writes the last entry of one block over an entry of another before it, and takes it out of its own.
+pub fn move_last(blocks: &mut [[u8; BLOCK]], to: usize, index: usize, from: usize)
+    requires order { to < from }
+    requires room { from < length blocks.old }
+    requires target { AreEntries (numbered blocks.old to) }
+    requires source { AreEntries (numbered blocks.old from) }
+    requires inside { index < length (listed (numbered blocks.old to)).entries }
+    requires some { 0 < length (listed (numbered blocks.old from)).entries }
+    requires distinct { are_distinct (with_entry (listed (numbered blocks.old to)) index (entry_of (listed (numbered blocks.old from)) (length (listed (numbered blocks.old from)).entries - 1))).entries ≡ true }
+    ensures target { AreEntries (numbered blocks.new to) }
+    ensures source { AreEntries (numbered blocks.new from) }
+    ensures moved { listed (numbered blocks.new to) ≡ with_entry (listed (numbered blocks.old to)) index (entry_of (listed (numbered blocks.old from)) (length (listed (numbered blocks.old from)).entries - 1)) }
+    ensures left { listed (numbered blocks.new from) ≡ without_last (listed (numbered blocks.old from)) }
+    ensures others { (k : ℕ) → k ≢ to → k ≢ from → numbered blocks.new k ≡ numbered blocks.old k }
+    ensures long { length blocks.new ≡ length blocks.old }
+{
+    let source = blocks[from];
+    let entries = DirEntries::known(&source);
+    let last = entries.entry(entries.len() - 1);
+    set_entry(&mut blocks[to], index, last);
+    remove_last(&mut blocks[from]);
+}
+
+// Puts an entry behind so many others.
+pub fn add_to(
+    alloc: Global,
+    blocks: &mut Vec<[u8; BLOCK]>,
+    owner: u32,
+    count: usize,
+    entry: EntryRef<'_>,
+) -> Result<(), AllocError>
+    requires owner { is_inode owner ≡ true }
+    requires fits { fits_entry (owned entry) ≡ true }
+    requires long { length blocks.old.items ≡ blocks_for count }
+    requires directory { IsDirectory owner count (numbered blocks.old.items) }
+    requires new { IsAbsent entry.name.now (entry_at (numbered blocks.old.items)) count }
+    ensures more { OnOk result (HaveOneMore owner count (plain (owned entry.entry)) blocks.old.items blocks.new.items) }
+    ensures err { OnErr result (blocks.new.items ≡ blocks.old.items) }
+    ensures memory { OnErr result ((count % MAX_IN_BLOCK ≡ 0) × (vec_capacity blocks.old ≤ length blocks.old.items)) }
+    ensures capacity { vec_capacity blocks.old ≤ vec_capacity blocks.new }
+{
+    if count % MAX_IN_BLOCK != 0 {
+        fill_block(blocks, count, entry);
+        return Ok(());
+    }
+    blocks.push(first_of(alloc, owner, entry))?;
+    Ok(())
+}
+
+// Puts an entry behind the others into the last block.
+pub fn fill_block(blocks: &mut [[u8; BLOCK]], count: usize, entry: EntryRef<'_>)
+    requires fits { fits_entry (owned entry) ≡ true }
+    requires long { length blocks.old ≡ blocks_for count }
+    requires directory { (owner : ℕ) × IsDirectory owner count (numbered blocks.old) }
+    requires new { IsAbsent entry.name.now (entry_at (numbered blocks.old)) count }
+    requires room { count % MAX_IN_BLOCK ≢ 0 }
+    ensures more { (owner : ℕ) → IsDirectory owner count (numbered blocks.old) → HaveOneMore owner count (plain (owned entry.entry)) blocks.old blocks.new }
+{
+    add_entry(&mut blocks[count / MAX_IN_BLOCK], entry);
+}
+
+// Puts the last entry at the place of another, which may be itself, and nothing at its own.
+pub fn put_last_at(blocks: &mut [[u8; BLOCK]], place: usize, last: usize)
+    requires inside { place ≤ last }
+    requires small { last < 2 ^ 32 }
+    requires long { length blocks.old ≡ blocks_for (last + 1) }
+    requires directory { (owner : ℕ) × IsDirectory owner (last + 1) (numbered blocks.old) }
+    ensures less { (owner : ℕ) → IsDirectory owner (last + 1) (numbered blocks.old) → HaveOneLess owner last place (numbered blocks.old) (numbered blocks.new) }
+    ensures others { (k : ℕ) → k ≢ place / MAX_IN_BLOCK → k ≢ last / MAX_IN_BLOCK → numbered blocks.new k ≡ numbered blocks.old k }
+    ensures long { length blocks.new ≡ length blocks.old }
+{
+    let to = place / MAX_IN_BLOCK;
+    let from = last / MAX_IN_BLOCK;
+    if to == from {
+        take_entry(&mut blocks[to], place % MAX_IN_BLOCK);
+    } else {
+        move_last(blocks, to, place % MAX_IN_BLOCK, from);
+    }
+}
+
+// Takes an entry out, in whose place the last one stands then, and the block that has none any more.
+pub fn take_from(blocks: &mut Vec<[u8; BLOCK]>, place: usize, last: usize)
+    requires inside { place ≤ last }
+    requires small { last < 2 ^ 32 }
+    requires long { length blocks.old.items ≡ blocks_for (last + 1) }
+    requires directory { (owner : ℕ) × IsDirectory owner (last + 1) (numbered blocks.old.items) }
+    ensures less { (owner : ℕ) → IsDirectory owner (last + 1) (numbered blocks.old.items) → HaveOneLess owner last place (numbered blocks.old.items) (numbered blocks.new.items) }
+    ensures others { (k : ℕ) → k ≢ place / MAX_IN_BLOCK → k ≢ last / MAX_IN_BLOCK → numbered blocks.new.items k ≡ numbered blocks.old.items k }
+    ensures long { length blocks.new.items ≡ blocks_for last }
+    ensures capacity { vec_capacity blocks.new ≡ vec_capacity blocks.old }
+{
+    put_last_at(blocks, place, last);
+    blocks.truncate(last.div_ceil(MAX_IN_BLOCK));
 }

@@ -7,8 +7,10 @@
 mod after;
 mod directory;
 mod entry_blocks;
+mod error;
 mod reading;
 
 pub use after::{entries_change_by_name, inode_after_is_node_after, inodes_after_are_graph_after};
 pub use directory::Directory;
+pub use error::EnterError;
 pub use reading::{alike_inodes_are_one_node, nodes_are_read_by_place};
