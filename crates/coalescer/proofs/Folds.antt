@@ -1,0 +1,28 @@
+-- Effects one after the other, as a loop adds them.
+use Rattle.std.proofs.Common.{◌≡◌, List, [], ◌∷◌, ◌++◌, refl, ℕ, suc, ◌+◌, ◌<◌, length, take, get_or, ap, ◌∙◌, arith}
+use Rattle.std.proofs.Math.Seq.{take-suc}
+use Rattle.std.proofs.lemmas.List.Concat.{flat_map-append}
+use Rattle.std.proofs.lemmas.List.{append-nil}
+use Rattle.file_graph.specs.declared.effect.Effect.{Effect}
+use Rattle.graph_change.specs.Change.{Changes, with_effect, with_effects}
+use Rattle.log_record.specs.declared.format.Record.{Record}
+use Rattle.coalescer.specs.Records.{effects_of}
+
+pub with_more : (cs : Changes) (es fs : List Effect) → with_effects cs (es ++ fs) ≡ with_effects (with_effects cs es) fs
+with_more cs [] fs = refl
+with_more cs (e ∷ es) fs = with_more (with_effect e cs) es fs
+
+pub take_next : {A : Type 0} (xs : List A) (i : ℕ) (d : A) → i < length xs → take (i + 1) xs ≡ take i xs ++ get_or xs i d ∷ []
+take_next xs i d lt = let e : i + 1 ≡ suc i = omega arith in ap (λ k. take k xs) e ∙ take-suc xs i d lt
+
+-- with the next effect of a list
+pub next_effect : (cs : Changes) (es : List Effect) (i : ℕ) (d : Effect) → i < length es → with_effects cs (take (i + 1) es) ≡ with_effect (get_or es i d) (with_effects cs (take i es))
+next_effect cs es i d lt = ap (with_effects cs) (take_next es i d lt) ∙ with_more cs (take i es) (get_or es i d ∷ [])
+
+-- the effects with those of one more record
+pub one_record : (rs : List Record) (r : Record) → effects_of (rs ++ r ∷ []) ≡ effects_of rs ++ r.effects
+one_record rs r = flat_map-append (λ (x : Record). x.effects) rs (r ∷ []) ∙ ap (λ es. effects_of rs ++ es) (append-nil r.effects)
+
+-- with the next record of a list
+pub next_record : (rs : List Record) (i : ℕ) (d : Record) → i < length rs → effects_of (take (i + 1) rs) ≡ effects_of (take i rs) ++ (get_or rs i d).effects
+next_record rs i d lt = ap effects_of (take_next rs i d lt) ∙ one_record (take i rs) (get_or rs i d)

@@ -1,0 +1,4 @@
+mod Counted
+mod Counts
+mod Folds
+mod Runs

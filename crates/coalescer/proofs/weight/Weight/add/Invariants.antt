@@ -1,0 +1,7 @@
+use Rattle.std.proofs.Common.{List, ◌++◌, take}
+use Rattle.file_graph.specs.declared.effect.Effect.{Effect}
+use Rattle.coalescer.specs.Counted.{Weighs}
+use Rattle.coalescer.proofs.weight.Weight.add.Given as goal
+
+abbrev pub invariant-loop-effect : goal.invariant-loop-effect
+invariant-loop-effect l = (es : List Effect) → Weighs es l.fn.self → Weighs (es ++ take l.effect-index l.logged.effects) l.self

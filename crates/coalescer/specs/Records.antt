@@ -1,0 +1,9 @@
+-- What records hold.
+use Rattle.std.specs.Prelude.{List}
+use Rattle.std.specs.List.{flat_map}
+use Rattle.file_graph.specs.declared.effect.Effect.{Effect}
+use Rattle.log_record.specs.declared.format.Record.{Record}
+
+-- the effects of records, in their order
+abbrev pub effects_of : List Record → List Effect
+effects_of rs = flat_map (λ r. r.effects) rs

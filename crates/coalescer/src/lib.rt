@@ -1,0 +1,19 @@
+//! From the records of a log to one change of many inodes.
+//!
+//! `coalesce` makes of a list of records the change that their effects come to, in which each inode and each block of a file stands at most
+//! once, so that what was overwritten never reaches the shared media. What it makes of a graph, also of one that is no tree of files,
+//! is what the records make of it, one after the other.
+//!
+//! A batch of the shared media takes so many records of a list at once: `longest_run` counts them by their weight, which is a matter of the
+//! records alone (`specs/Weight.antt`).
+//!
+//! A record costs by its bytes and its effects, and by the logarithm of what the records before it touch.
+#![tactic(auto)]
+
+mod records;
+mod run;
+mod weight;
+
+pub use records::{add_record, coalesce};
+pub use run::longest_run;
+pub use weight::{CHUNK_BLOCKS, CHUNK_IMAGES};

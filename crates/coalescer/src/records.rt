@@ -1,0 +1,36 @@
+ghost use Rattle.std.specs.Prelude.{◌≡◌, IfOk, OnOk};
+ghost use Rattle.graph_change.specs.Change.{Coalesces, with_effects};
+ghost use Rattle.graph_change.specs.View.{changes_of};
+ghost use Rattle.coalescer.specs.Records.{effects_of};
+
+use graph_change::GraphChange;
+use log_record::Record;
+use std::alloc::{AllocError, Global};
+
+/// What the effects of these records come to, one after the other: a change that makes of every graph what they make of it, of the inodes
+/// that they are on and no others, and of no block of a file that they leave alone. Each inode stands in it once, and so does each block.
+/// A write that would end past all numbers finds no memory; a record that has a spelling holds none.
+pub fn coalesce(alloc: Global, records: &[Record]) -> Result<GraphChange, AllocError>
+    ensures { IfOk result (λ change. Coalesces (effects_of records.now) (changes_of change)) }
+{
+    let mut change = GraphChange::new(alloc);
+    for logged in records {
+        add_record(alloc, &mut change, logged)?;
+    }
+    Ok(change)
+}
+
+/// Adds the effects of a record behind those that are in the change. Where there is no memory for it, nothing is said of what is left: it
+/// is to be dropped.
+pub fn add_record(
+    alloc: Global,
+    change: &mut GraphChange,
+    logged: &Record,
+) -> Result<(), AllocError>
+    ensures { OnOk result (changes_of change.new ≡ with_effects (changes_of change.old) logged.now.effects) }
+{
+    for effect in logged.effects.as_slice() {
+        change.add(alloc, effect)?;
+    }
+    Ok(())
+}

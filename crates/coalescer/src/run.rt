@@ -1,0 +1,22 @@
+ghost use Rattle.std.specs.Prelude.{IfOk};
+ghost use Rattle.coalescer.specs.Weight.{IsLongestRun};
+
+use crate::weight::Weight;
+use log_record::Record;
+use std::alloc::{AllocError, Global};
+
+/// How many of the first of these records are taken at once: the longest run of them that takes at most `CHUNK_IMAGES` images and writes
+/// at most `CHUNK_BLOCKS` blocks, and one at least, where there is one. The images are four for each inode that the records change, two for
+/// each change of an entry, and one for the mark; a block that is cut within is written.
+pub fn longest_run(alloc: Global, records: &[Record]) -> Result<usize, AllocError>
+    ensures { IfOk result (IsLongestRun records.now) }
+{
+    let mut weight = Weight::new(alloc);
+    for count in 0..records.len() {
+        weight.add(&records[count])?;
+        if 0 < count && !weight.fits() {
+            return Ok(count);
+        }
+    }
+    Ok(records.len())
+}
