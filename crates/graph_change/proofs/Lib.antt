@@ -1,5 +1,6 @@
 pub mod Blocks
 pub mod Bytes
+pub mod Ends
 pub mod Entries
 pub mod Law
 pub mod Maps

@@ -1,12 +1,9 @@
 -- A map in memory as the finite map of what its values say.
-use Rattle.std.proofs.Common.{◌≡◌, inl, inr, ℕ, List, [], ◌∷◌, Bool, true, false, Option, Some, None, refl, sym, ap, ◌∙◌, cond, subst}
+use Rattle.std.proofs.Common.{◌≡◌, ℕ, List, [], ◌∷◌, Bool, true, false, Option, Some, None, refl, sym, ap, ◌∙◌, cond, subst}
 use Rattle.std.specs.Prelude.{option_map, unwrap_or, IsSome}
 use Rattle.std.specs.Ordering.{nat_cmp, is_eq, eq_by_cmp}
-use Rattle.std.specs.Cmp.{nat_cmp_total, eq_by_cmp_equiv, unsigned_tied}
-use Rattle.std.proofs.lemmas.Bool.Decides.{eqb_tells}
-use Rattle.graph_change.proofs.Blocks.{either}
+use Rattle.std.specs.Cmp.{nat_cmp_total, eq_by_cmp_equiv}
 use Rattle.std.specs.Map.{lookup}
-use Rattle.std.specs.List.{filter}
 use Rattle.std.specs.FinMap as fin
 use Rattle.std.specs.BTreeMap.{BTreeMap, get, is_at, Updates}
 use Rattle.graph_change.specs.View.{map_of}
@@ -48,54 +45,3 @@ put_over f g old new i x w none there same updates =
 pub put_new : {X Y : Type 0} (f : X → Y) (g : Y → Y) (old new : BTreeMap ℕ X) (i : ℕ) (w : X) (none : Y) → get nat_cmp old i ≡ None → f w ≡ g none → Updates nat_cmp old new i (Some w) → map_of f new.entries ≡ fin.insert (map_of f old.entries) i (g (unwrap_or (fin.get (map_of f old.entries) i) none))
 put_new f g old new i w none absent same updates =
     put_at f old new i w _ (same ∙ ap g (sym (was_there f old i None none absent))) updates
-
--- ---- the entries whose keys pass a test
-
-skipped : {X : Type 0} (b : Bool) (e : ℕ × X) (rest : List (ℕ × X)) (q : ℕ) → is_at (nat_cmp q) e.0 ≡ false → lookup (is_at (nat_cmp q)) (cond b (e ∷ rest) rest) ≡ lookup (is_at (nat_cmp q)) rest
-skipped true e rest q off = ap (λ b. cond b (Some e.1) (lookup (is_at (nat_cmp q)) rest)) off
-skipped false e rest q off = refl
-
-lookup_where : {X : Type 0} (test : ℕ → Bool) (q : ℕ) (es : List (ℕ × X)) → lookup (is_at (nat_cmp q)) (filter (λ e. test e.0) es) ≡ cond (test q) (lookup (is_at (nat_cmp q)) es) None
-lookup_where test q [] = none_either (test q)
-  where
-    none_either : {A : Type 0} (b : Bool) → ◌≡◌ {A = Option A} None (cond b None None)
-    none_either true = refl
-    none_either false = refl
-lookup_where {X} test q (e ∷ es) =
-    let rest = filter {X = ℕ × X} (λ x. test x.0) es in
-    let later = lookup {X = X} (is_at (nat_cmp q)) es in
-    elim (eqb_tells q e.0) [
-      | inl here ↦ elim (either (test e.0)) [
-        | inl passes ↦
-            ap (λ b. lookup (is_at (nat_cmp q)) (cond b (e ∷ rest) rest)) passes
-            ∙ ap (λ b. cond b (Some e.1) (lookup (is_at (nat_cmp q)) rest)) (unsigned_tied q e.0 ∙ here.0)
-            ∙ sym (ap (λ b. cond b (cond (is_at (nat_cmp q) e.0) (Some e.1) later) None) (ap test here.1 ∙ passes) ∙ ap (λ b. cond b (Some e.1) later) (unsigned_tied q e.0 ∙ here.0))
-        | inr fails ↦
-            ap (λ b. lookup (is_at (nat_cmp q)) (cond b (e ∷ rest) rest)) fails
-            ∙ lookup_where test q es
-            ∙ ap (λ b. cond b later None) (ap test here.1 ∙ fails)
-            ∙ sym (ap (λ b. cond b (cond (is_at (nat_cmp q) e.0) (Some e.1) later) None) (ap test here.1 ∙ fails))
-      ]
-      | inr off ↦
-          skipped (test e.0) e rest q (unsigned_tied q e.0 ∙ off.0)
-          ∙ lookup_where test q es
-          ∙ ap (λ o. cond (test q) o None) (sym (ap (λ b. cond b (Some e.1) later) (unsigned_tied q e.0 ∙ off.0)))
-    ]
-
-where_at : {X Y : Type 0} (f : X → Y) (test : ℕ → Bool) (es : List (ℕ × X)) (q : ℕ) → fin.get (map_of f (filter (λ e. test e.0) es)) q ≡ cond (test q) (fin.get (map_of f es) q) None
-where_at f test es q =
-    found f q (filter (λ e. test e.0) es)
-    ∙ ap (option_map f) (lookup_where test q es)
-    ∙ mapped (test q) f (lookup (is_at (nat_cmp q)) es)
-    ∙ ap (λ o. cond (test q) o None) (sym (found f q es))
-  where
-    mapped : {X Y : Type 0} (b : Bool) (f : X → Y) (o : Option X) → option_map f (cond b o None) ≡ cond b (option_map f o) None
-    mapped true f o = refl
-    mapped false f o = refl
-
--- the entries that are left are those whose keys pass
-pub left_where : {X Y : Type 0} (f : X → Y) (test : ℕ → Bool) (es kept : List (ℕ × X)) → kept ≡ filter (λ e. test e.0) es → map_of f kept ≡ fin.retain_keys (map_of f es) test
-left_where f test es kept is = fin.same_map nat_cmp_total fin.nat_cmp-IsAntisymmetric _ _ (λ q.
-    ap (λ l. fin.get (map_of f l) q) is
-    ∙ where_at f test es q
-    ∙ sym (fin.get-retain_keys (map_of f es) test q (λ x e. ap test (sym (fin.nat_cmp-IsAntisymmetric q x e)))))

@@ -1,7 +1,6 @@
 -- Bytes of a block that are put over those that it had.
-use Rattle.std.proofs.Common.{◌≡◌, ◌<◌, ◌≤◌, ℕ, ◌+◌, ◌∙◌, List, length, get_or, sym, ap, arith, map, refl, Bool, true, false, cond, Option, Some, None}
+use Rattle.std.proofs.Common.{◌≡◌, ◌<◌, ◌≤◌, ℕ, ◌∙◌, List, length, get_or, sym, arith, refl, Option, Some, None}
 use Rattle.std.specs.Prelude.{unwrap_or, IsSome}
-use Rattle.std.specs.List.{range_with_len}
 use Rattle.std.proofs.lemmas.List.{ext_get_or}
 use Rattle.std.proofs.lemmas.List.FromFn.{length-map-range_with_len, get_or-map-range_with_len}
 use Rattle.posix_calls.specs.declared.limits.TheConstants.{UNIT_BYTES}

@@ -1,4 +1,6 @@
-ghost use Rattle.std.specs.Prelude.{◌≡◌, ℕ, nat_lt, ◌+◌, ◌*◌, ◌<◌, ◌≤◌, ◌^◌, length, OnOk};
+ghost use Rattle.std.specs.Prelude.{◌≡◌, ℕ, false, None, IsSome, IsTrue, nat_lt, ◌+◌, ◌*◌, ◌<◌, ◌≤◌, ◌^◌, length, OnOk};
+ghost use Rattle.std.specs.Ordering.{nat_cmp};
+ghost use Rattle.std.specs.BTreeMap.{get, btree_map_len};
 ghost use Rattle.std.specs.FinMap as fin;
 ghost use Rattle.graph_change.specs.Bytes.{grown_to};
 ghost use Rattle.posix_calls.specs.declared.limits.TheConstants.{UNIT_BYTES};
@@ -169,11 +171,25 @@ fn blocks_begun(size: u64) -> u64
     }
 }
 
-// Drops the blocks from a number on.
+// Drops the blocks from a number on, the last one first: none of the others is looked at.
 fn drop_from(blocks: &mut BTreeMap<u64, BlockChange>, end: u64)
     ensures { patches_of blocks.new ≡ fin.retain_keys (patches_of blocks.old) (λ b. nat_lt b end) }
 {
-    blocks.retain(|block, _| *block < end);
+    'last: while goes_past(blocks, end) {
+        let _ = blocks.pop_last();
+    }
+}
+
+// Whether a block has this number, or a greater one.
+fn goes_past(blocks: &BTreeMap<u64, BlockChange>, end: u64) -> bool
+    ensures some { IsTrue result → 0 < btree_map_len blocks.now }
+    ensures past { IsTrue result → (b : ℕ) × (end ≤ b) × IsSome (get nat_cmp blocks.now b) }
+    ensures none { result ≡ false → (b : ℕ) → end ≤ b → get nat_cmp blocks.now b ≡ None }
+{
+    match blocks.last_key_value() {
+        Some((last, _)) => end <= *last,
+        None => false,
+    }
 }
 
 // Cuts the block within which a size ends.

@@ -1,17 +1,13 @@
-use Rattle.std.proofs.Common.{◌≡◌, nat_lt, refl, ap, ◌∙◌}
-use Rattle.std.proofs.lemmas.Map.Entries.{filter_from_retain_pairs}
+use Rattle.std.proofs.Common.{◌∙◌}
 use Rattle.graph_change.specs.View.{patch_of}
-use Rattle.graph_change.proofs.Maps.{left_where}
+use Rattle.graph_change.proofs.Ends.{last_gone, none_past}
 use Rattle.graph_change.proofs.node_change.drop_from.Goals as goal
 
--- the closure keeps its bound from call to call
+pub last-preserved-in-last : goal.last-preserved-in-last
+last-preserved-in-last c =
+    let past = c.goes_past.ensures.past c.last-test.true in
+    last_gone patch_of c.pop_last.result c.last.blocks c.pop_last.new.self c.args.end past.0 past.1 past.2 (c.pop_last.ensures.variant.1 (c.goes_past.ensures.some c.last-test.true)) c.pop_last.ensures.greatest c.pop_last.ensures.updates
+    ∙ c.last.invariant
+
 pub returns : goal.returns
-returns c =
-    let old = c.args.blocks.now.entries in
-    let new = c.retain.new.self.entries in
-    let kept = filter_from_retain_pairs _ (λ f. f.0.now ≡ c.args.end) (λ e. nat_lt e.0 c.args.end)
-    (λ g k v b w g' i t.
-    let said = t.called.met.0.said-raw.1.1.1.1 in
-    (said.0 ∙ cc, cc, ap (λ x. x.now) t.called.met.1 ∙ i))
-    _ old new refl c.retain.ensures.filtered in
-    left_where patch_of (λ b. nat_lt b c.args.end) old new kept
+returns c = none_past patch_of c.last.blocks c.args.end (c.goes_past.ensures.none c.last-test.false) ∙ c.last.invariant
