@@ -3,3 +3,4 @@ pub mod Damages
 pub mod Looked
 pub mod Shown
 pub mod Parts
+pub mod Rewriting

@@ -4,3 +4,4 @@ pub mod Spelled
 pub mod Damage
 pub mod Map
 pub mod Looks
+pub mod Rewrites

@@ -1,6 +1,7 @@
 //! What the shared media spell: their blocks as a store, each inode of it, and the graph.
 #![tactic(auto)]
 
+mod change_laws;
 mod error;
 mod extents;
 mod inode;
@@ -10,6 +11,7 @@ mod reading;
 mod slots;
 mod trees;
 
+pub use change_laws::{free_blocks_have_no_use, rewritten_inodes_are_spelled};
 pub use error::AreaError;
 pub use extents::read_extents;
 pub use inode::{InodeParts, read_inode};
