@@ -7,7 +7,8 @@ use Rattle.file_graph.specs.Units.{growth}
 use Rattle.call_effects.specs.Wholes.{state_of}
 use Rattle.call_effects.proofs.KnownUnits.{planned_units}
 use Rattle.call_effects.proofs.Rises.{growth_local}
-use Rattle.world_facts.specs.Logs.{after_records, is_written, is_touched, units_in, IsPaid, ArePaid, NamesNone, NameNone}
+use Rattle.world_facts.specs.Logs.{after_records, is_written, is_touched, units_in, IsPaid, ArePaid, IsNameless, Keeps, NamesNone, NameNone, KeepLimits}
+use Rattle.world_facts.specs.Limits.{IsWithin}
 use Rattle.world_facts.specs.World.{Begun, Status, Client, Account, World, undigested, records_of, change_of, log_of, whole, held, tree_of, moved}
 use Rattle.world_facts.specs.Standing.{is_settled, IsPending, Stands}
 use Rattle.world_facts.specs.Invariant.{Holds}
@@ -15,9 +16,11 @@ use Rattle.world_facts.specs.ClientSteps.{CanBegin, begun, IsBegun, given_up, wi
 use Rattle.world_facts.proofs.Records.{either, both, append_nil, front_written, written_append, or_neither, units_append}
 use Rattle.world_facts.proofs.Owners.{whole_at}
 use Rattle.world_facts.proofs.Idle.{none_some}
-use Rattle.world_facts.proofs.Facts.{owned, writing_holds}
+use Rattle.world_facts.proofs.Facts.{owned, writing_holds, whole_within}
 use Rattle.world_facts.proofs.Along.{along_front, along_join}
-use Rattle.world_facts.proofs.Nameless.{nameless_same, planned_names_none}
+use Rattle.world_facts.proofs.Keeping.{keep_same}
+use Rattle.world_facts.proofs.Nameless.{planned_names_none}
+use Rattle.world_facts.proofs.Within.{planned_within}
 use Rattle.world_facts.proofs.Moved.{quiet, booked_same, before_less, after_less, whole_same, held_same}
 
 -- a client's step that changes neither its records nor what it has open
@@ -60,15 +63,20 @@ module _ (w : World) (c : ℕ) (b : Begun) (h : Holds w) (can : CanBegin w c b) 
   log_paid : ArePaid w.kernel.shared (log_of w c ++ (b.change ∷ []))
   log_paid = along_join IsPaid (log_of w c) (b.change ∷ []) w.kernel.shared (along_front IsPaid (log_of w c) (change_of old.begun) w.kernel.shared s.logged.paid) (grown, tt)
 
+  one_written : (i : ℕ) → is_written i (b.change ∷ []) ≡ true → is_touched i b.change ≡ true
+  one_written i e = elim (either (is_touched i b.change)) [
+    | inl there ↦ there
+    | inr off ↦ both (is_written i (b.change ∷ [])) e (ap (λ x. x || false) off)
+  ]
+
   log_unnamed : NameNone w.kernel.shared (log_of w c ++ (b.change ∷ []))
   log_unnamed = along_join NamesNone (log_of w c) (b.change ∷ []) w.kernel.shared (along_front NamesNone (log_of w c) (change_of old.begun) w.kernel.shared s.logged.unnamed)
-      (nameless_same (b.change ∷ []) (whole w) (after_records w.kernel.shared (log_of w c)) (λ i e. own_view i (one_written i e)) (planned_names_none old.knows (whole w) (held w) b.call b.new b.operation b.change.effects h.sound (h.agrees c can.client) can.planned, tt))
-    where
-      one_written : (i : ℕ) → is_written i (b.change ∷ []) ≡ true → is_touched i b.change ≡ true
-      one_written i e = elim (either (is_touched i b.change)) [
-        | inl there ↦ there
-        | inr off ↦ both (is_written i (b.change ∷ [])) e (ap (λ x. x || false) off)
-      ]
+      (keep_same (λ i o. IsNameless o) (b.change ∷ []) (whole w) (after_records w.kernel.shared (log_of w c)) (λ i e. own_view i (one_written i e)) (planned_names_none old.knows (whole w) (held w) b.call b.new b.operation b.change.effects h.sound (h.agrees c can.client) can.planned, tt))
+
+  log_limits : KeepLimits w.kernel.shared (log_of w c ++ (b.change ∷ []))
+  log_limits = along_join (Keeps IsWithin) (log_of w c) (b.change ∷ []) w.kernel.shared (along_front (Keeps IsWithin) (log_of w c) (change_of old.begun) w.kernel.shared s.logged.limits)
+      (keep_same IsWithin (b.change ∷ []) (whole w) (after_records w.kernel.shared (log_of w c)) (λ i e. own_view i (one_written i e))
+      ((λ i within. planned_within old.knows (whole w) (held w) b.call b.new b.operation b.change.effects h.sound (h.agrees c can.client) can.planned (whole_within w h) i), tt))
 
   pub begun_holds : Holds (begun w c b)
   begun_holds =
@@ -84,7 +92,7 @@ module _ (w : World) (c : ℕ) (b : Begun) (h : Holds w) (can : CanBegin w c b) 
         left = record { closed = s.left.closed; idle = λ e. both (is_settled old.status) e (ap is_settled can.alive) };
         marked = s.marked;
         starts = record { records = s.starts.records; idle = λ e. both old.ready can.ready e };
-        logged = record { leased = log_leased; paid = log_paid; unnamed = log_unnamed };
+        logged = record { leased = log_leased; paid = log_paid; unnamed = log_unnamed; limits = log_limits };
         units = omega (arith, were, before, after, enough);
         numbered = s.numbered;
         leased = s.leased;
@@ -129,6 +137,7 @@ module _ (w : World) (c : ℕ) (b : Begun) (h : Holds w) (is : IsBegun w c b) wh
           leased = λ i e. stood.logged.leased i (front_written i (log_of w c) (change_of was.begun) (sym (ap (is_written i) (append_nil (log_of w c))) ∙ e));
           paid = subst (λ rs. ArePaid w.kernel.shared rs) (sym (append_nil (log_of w c))) (along_front IsPaid (log_of w c) (change_of was.begun) w.kernel.shared stood.logged.paid);
           unnamed = subst (λ rs. NameNone w.kernel.shared rs) (sym (append_nil (log_of w c))) (along_front NamesNone (log_of w c) (change_of was.begun) w.kernel.shared stood.logged.unnamed);
+          limits = subst (λ rs. KeepLimits w.kernel.shared rs) (sym (append_nil (log_of w c))) (along_front (Keeps IsWithin) (log_of w c) (change_of was.begun) w.kernel.shared stood.logged.limits);
         };
         units = omega (arith, were, before, after);
         numbered = stood.numbered;

@@ -43,7 +43,7 @@ to_without has i j off e = same_if j i false (has j) off ∙ e
 -- no more numbers in the account, and units that fit
 module _ (w : World) (c : ℕ) (a : Account) (p : Client) (h : Holds w) (is_c : is_client c ≡ true) (fewer : (i : ℕ) → a.numbers i ≡ true → (w.kernel.accounts c).numbers i ≡ true) where
   pub booked_fewer : charge w.kernel.shared + sum_up_to 8 (λ d. (at w.kernel.accounts c a d).units) ≤ w.kernel.capacity → IsBooked (moved w c w.kernel.shared a p).kernel
-  booked_fewer fits = booked_moved w c w.kernel.shared a p h is_c (λ i e. h.booked.free c i is_c (fewer i e)) (λ d i is_d other e. h.booked.free d i is_d e) (λ i e. h.booked.range c i is_c (fewer i e)) (λ d i is_d other e. h.booked.alone c d i is_c is_d other (fewer i e)) fits
+  booked_fewer fits = booked_moved w c w.kernel.shared a p h is_c (λ i e. h.booked.free c i is_c (fewer i e)) (λ d i is_d other e. h.booked.free d i is_d e) (λ i e. h.booked.range c i is_c (fewer i e)) (λ d i is_d other e. h.booked.alone c d i is_c is_d other (fewer i e)) h.booked.limits fits
 
 -- the same units
 pub fits_same : (w : World) (c : ℕ) (a : Account) (h : Holds w) → is_client c ≡ true → a.units ≡ (w.kernel.accounts c).units → charge w.kernel.shared + sum_up_to 8 (λ d. (at w.kernel.accounts c a d).units) ≤ w.kernel.capacity
@@ -134,6 +134,7 @@ module _ (w : World) (c i : ℕ) (h : Holds w) (is_c : is_client c ≡ true) whe
       (λ d j is_d other e. h.booked.free d j is_d e)
       (λ j e. of_also (λ x. (1 < x) × (x ≤ 1024)) its.numbers i j e (free.low, free.high) (λ has. h.booked.range c j is_c has))
       (λ d j is_d other e. of_also (λ x. (w.kernel.accounts d).numbers x ≡ false) its.numbers i j e (free.nobody d is_d) (λ has. h.booked.alone c d j is_c is_d other has))
+      h.booked.limits
       (fits_same w c with_it h is_c refl))
       (record {
         number = stood.number;

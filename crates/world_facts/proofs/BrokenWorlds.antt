@@ -22,6 +22,7 @@ use Rattle.world_facts.specs.RegionSteps.{CanSeal, sealed}
 use Rattle.world_facts.specs.KernelSteps.{CanDigest, digested}
 use Rattle.world_facts.specs.Walk.{mkdir_a, made}
 use Rattle.world_facts.specs.Broken.{making, marked_past, granted_twice, watching, root_alone, half, misbegun, unpaid, overdrawn}
+use Rattle.world_facts.proofs.Fresh.{fresh_within}
 use Rattle.world_facts.proofs.Idle.{none_some, idle_stands}
 use Rattle.world_facts.proofs.Moved.{each, each_client}
 use Rattle.world_facts.proofs.Walks.{planned}
@@ -204,6 +205,7 @@ over_booked r = record {
   alone = λ c d i is_c is_d other e.
       let one : c ≡ 1 = each_account (λ d a. a.numbers i ≡ true → d ≡ 1) (λ e. refl) (λ d other e. absurd (false≢true e)) c e in
       each_account (λ d a. d ≢ 1 → a.numbers i ≡ false) (λ off. absurd (off refl)) (λ d off again. refl) d (λ same. other (same ∙ sym one));
+  limits = fresh_within;
   fits =
       let none : sum_up_to 8 (λ c. ((overdrawn r).kernel.accounts c).units) ≡ 0 = all_zero 8 (λ c. ((overdrawn r).kernel.accounts c).units) (λ c. each_account (λ d a. a.units ≡ 0) refl (λ d other. refl) c) in
       let exact : charge (overdrawn r).kernel.shared ≡ (overdrawn r).kernel.capacity = refl in

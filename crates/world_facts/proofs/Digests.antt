@@ -11,7 +11,8 @@ use Rattle.file_graph.specs.Units.{charge}
 use Rattle.log_record.specs.declared.format.Record.{Record}
 use Rattle.call_effects.specs.Wholes.{IsSound, state_of}
 use Rattle.call_effects.specs.Known.{Agrees}
-use Rattle.world_facts.specs.Logs.{after_records, is_written, is_made_in, IsMadeOnce, units_in, IsPaid, ArePaid, NamesNone, NameNone}
+use Rattle.world_facts.specs.Logs.{after_records, is_written, is_made_in, IsMadeOnce, units_in, IsPaid, ArePaid, IsNameless, Keeps, NamesNone, NameNone, KeepLimits}
+use Rattle.world_facts.specs.Limits.{IsWithin}
 use Rattle.world_facts.specs.World.{Client, Account, World, undigested, records_of, change_of, log_of, all_of, whole, held, tree_of, at}
 use Rattle.world_facts.specs.Standing.{IsBooked, Stands}
 use Rattle.world_facts.specs.Invariant.{Holds}
@@ -21,7 +22,7 @@ use Rattle.world_facts.proofs.Owners.{digested_whole}
 use Rattle.world_facts.proofs.Made.{records_none, front_unmade, rest_made, rest_unmade, once_rest, once_apart, made_append}
 use Rattle.world_facts.proofs.Along.{along_rest, along_front}
 use Rattle.world_facts.proofs.Paid.{paid_same, charge_records}
-use Rattle.world_facts.proofs.Nameless.{nameless_same}
+use Rattle.world_facts.proofs.Keeping.{through, keep_same}
 use Rattle.world_facts.proofs.Facts.{apart_logs, written_alone}
 use Rattle.world_facts.proofs.Facts as facts
 use Rattle.world_facts.proofs.Moved.{both_same, holds_moved, booked_moved, units_moved, log_there, log_else, held_same}
@@ -104,6 +105,9 @@ module _ (w : World) (c : ℕ) (first rest : List Record) (h : Holds w) (can : C
   paid_all : ArePaid w.kernel.shared (first ++ (later ++ change_of p.begun))
   paid_all = subst (λ rs. ArePaid w.kernel.shared rs) all_was s.logged.paid
 
+  limits_all : KeepLimits w.kernel.shared (first ++ (later ++ change_of p.begun))
+  limits_all = subst (λ rs. KeepLimits w.kernel.shared rs) all_was s.logged.limits
+
   units_were : p.spare + (units_in first + units_in (later ++ change_of p.begun)) ≤ account.units
   units_were = subst (λ n. p.spare + n ≤ account.units) (ap units_in all_was ∙ units_append first (later ++ change_of p.begun)) s.units
 
@@ -149,6 +153,7 @@ module _ (w : World) (c : ℕ) (first rest : List Record) (h : Holds w) (can : C
       ]))
       (λ i e. h.booked.range c i can.client (still i e).0)
       (λ d i is_d other e. h.booked.alone c d i can.client is_d other (still i e).0)
+      (λ i. through IsWithin first w.kernel.shared i (along_front (Keeps IsWithin) first (later ++ change_of p.begun) w.kernel.shared limits_all) (h.booked.limits i))
       fits
 
   -- ---- the parts
@@ -163,6 +168,7 @@ module _ (w : World) (c : ℕ) (first rest : List Record) (h : Holds w) (can : C
       leased = λ i e. s.logged.leased i (ap (is_written i) all_was ∙ rest_written i first (later ++ change_of p.begun) (ap (is_written i) (sym all_is) ∙ e));
       paid = subst (λ rs. ArePaid shared rs) (sym all_is) (along_rest IsPaid first (later ++ change_of p.begun) w.kernel.shared paid_all);
       unnamed = subst (λ rs. NameNone shared rs) (sym all_is) (along_rest NamesNone first (later ++ change_of p.begun) w.kernel.shared (subst (λ rs. NameNone w.kernel.shared rs) all_was s.logged.unnamed));
+      limits = subst (λ rs. KeepLimits shared rs) (sym all_is) (along_rest (Keeps IsWithin) first (later ++ change_of p.begun) w.kernel.shared limits_all);
     };
     units = (let were : p.spare + (units_in first + units_in (later ++ change_of p.begun)) ≤ account.units = units_were in let now : units_in (records_of after p) ≡ units_in (later ++ change_of p.begun) = ap units_in all_is in omega (arith, were, now));
     numbered = record {
@@ -188,7 +194,7 @@ module _ (w : World) (c : ℕ) (first rest : List Record) (h : Holds w) (can : C
         left = x.left;
         marked = x.marked;
         starts = x.starts;
-        logged = record { leased = x.logged.leased; paid = paid_same (all_of w d) w.kernel.shared shared (λ i e. beside d i is_d other e) x.logged.paid; unnamed = nameless_same (all_of w d) w.kernel.shared shared (λ i e. beside d i is_d other e) x.logged.unnamed };
+        logged = record { leased = x.logged.leased; paid = paid_same (all_of w d) w.kernel.shared shared (λ i e. beside d i is_d other e) x.logged.paid; limits = keep_same IsWithin (all_of w d) w.kernel.shared shared (λ i e. beside d i is_d other e) x.logged.limits; unnamed = keep_same (λ i o. IsNameless o) (all_of w d) w.kernel.shared shared (λ i e. beside d i is_d other e) x.logged.unnamed };
         units = x.units;
         numbered = x.numbered;
         leased = x.leased;

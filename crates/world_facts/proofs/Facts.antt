@@ -11,11 +11,14 @@ use Rattle.log_record.specs.declared.format.Record.{Record}
 use Rattle.call_effects.specs.Effects.{effects_by, stored_at, recounted}
 use Rattle.call_effects.specs.Known.{IsPlanned}
 use Rattle.call_effects.proofs.KnownSteps.{planned_answer}
-use Rattle.world_facts.specs.Logs.{is_written, is_made, AreApart}
+use Rattle.world_facts.specs.Logs.{is_written, is_made, AreApart, Keeps}
+use Rattle.world_facts.specs.Limits.{IsWithin, AreWithin}
 use Rattle.world_facts.specs.World.{World, change_of, holds, log_of, all_of, whole, held}
 use Rattle.world_facts.specs.Invariant.{Holds}
 use Rattle.world_facts.proofs.Records.{either, both, in_rest, still_false, front_written}
-use Rattle.world_facts.proofs.Owners.{IsOwner}
+use Rattle.world_facts.proofs.Owners.{IsOwner, owner_of, whole_at}
+use Rattle.world_facts.proofs.Along.{along_front}
+use Rattle.world_facts.proofs.Keeping.{through}
 
 pub apart_less : (old new : ℕ → List Record) → ((d i : ℕ) → is_client d ≡ true → is_written i (new d) ≡ true → is_written i (old d) ≡ true) → AreApart old → AreApart new
 apart_less old new less apart c d i is_c is_d other e = still_false (is_written i (old d)) (is_written i (new d)) (less d i is_d) (apart c d i is_c is_d other (less c i is_c e))
@@ -68,6 +71,14 @@ module _ (w : World) (h : Holds w) where
 
   pub owned : (c i : ℕ) → is_client c ≡ true → holds (w.clients c) i ≡ true → IsOwner (log_of w) c i
   owned c i is_c has = record { client = is_c; others = λ d is_d other. still_false (is_written i (all_of w d)) (is_written i (log_of w d)) (λ e. front_written i (log_of w d) (change_of (w.clients d).begun) e) (held_alone c d i is_c is_d other has) }
+
+  -- the whole is within the limits
+  pub whole_within : AreWithin (whole w)
+  whole_within i =
+      let o = owner_of (log_of w) i apart_logs in
+      let s = h.stands o.0 o.1.client in
+      let keep = along_front (Keeps IsWithin) (log_of w o.0) (change_of (w.clients o.0).begun) w.kernel.shared s.logged.limits in
+      subst (IsWithin i) (sym (whole_at (log_of w) w.kernel.shared o.0 i o.1)) (through IsWithin (log_of w o.0) w.kernel.shared i keep (h.booked.limits i))
 
   -- what a planned call makes is a number that its client was granted
   pub makes_granted : (c : ℕ) → is_client c ≡ true → (call : Call) (new : ℕ) (operation : Operation) (es : List Effect) → IsPlanned (w.clients c).knows call new operation es → (i : ℕ) → is_made i es ≡ true → (makes operation ≡ true) × (i ≡ new)

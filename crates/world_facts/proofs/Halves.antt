@@ -125,6 +125,7 @@ module _ (w : World) (c i : ℕ) (h : Holds w) (is_c : is_client c ≡ true) whe
       (λ d j is_d other e. h.booked.free d j is_d e)
       (λ j e. of_also (λ x. (1 < x) × (x ≤ 1024)) b.numbers i j e (free.low, free.high) (λ has. h.booked.range c j is_c has))
       (λ d j is_d other e. of_also (λ x. (w.kernel.accounts d).numbers x ≡ false) b.numbers i j e (free.nobody d is_d) (λ has. h.booked.alone c d j is_c is_d other has))
+      h.booked.limits
       (fits_same w c with_it h is_c refl))
       (record { number = t.number; left = t.left; marked = t.marked; starts = t.starts; logged = t.logged; units = t.units; numbered = record { made = λ j e. in_rest (j == i) (b.numbers j) (t.numbered.made j e); once = t.numbered.once; granted = λ j e. in_rest (j == i) (b.numbers j) (t.numbered.granted j e); unused = t.numbered.unused }; leased = t.leased; pinned = t.pinned; pending = t.pending })
       (before_less w c q h is_c (λ j e. e)) (after_less w c q h is_c (λ j e. e)) (h.agrees c is_c)

@@ -9,7 +9,8 @@ use Rattle.file_graph.specs.Units.{charge}
 use Rattle.call_effects.specs.Settled.{nobody}
 use Rattle.call_effects.specs.Wholes.{IsSound, state_of}
 use Rattle.log_record.specs.declared.format.Record.{Record}
-use Rattle.world_facts.specs.Logs.{after_clients, is_written, ArePaid, NameNone, units_in, is_made_in, IsMadeOnce}
+use Rattle.world_facts.specs.Limits.{AreWithin}
+use Rattle.world_facts.specs.Logs.{after_clients, is_written, ArePaid, NameNone, KeepLimits, units_in, is_made_in, IsMadeOnce}
 use Rattle.world_facts.specs.World.{records_of, whole, held, tree_of}
 use Rattle.world_facts.specs.Standing.{Stands}
 use Rattle.world_facts.specs.Invariant.{Holds}
@@ -48,6 +49,7 @@ idle_stands g c past = record {
     leased = λ i e. absurd (false≢true (sym (ap (is_written i) (empty past)) ∙ e));
     paid = subst (ArePaid g) (sym (empty past)) tt;
     unnamed = subst (NameNone g) (sym (empty past)) tt;
+    limits = subst (KeepLimits g) (sym (empty past)) tt;
   };
   units = let nothing : units_in (records_of (idle_account past) (idle_client c past)) ≡ 0 = ap units_in (empty past) in omega (arith, nothing);
   numbered = record { made = λ i e. absurd (false≢true (sym (ap (is_made_in i) (nothing_left (past - past))) ∙ e)); once = λ i. subst (IsMadeOnce i) (sym (nothing_left (past - past))) tt; granted = λ i e. e; unused = λ i e. absurd (false≢true e) };
@@ -59,12 +61,12 @@ idle_stands g c past = record {
     empty : (past : ℕ) → records_of (idle_account past) (idle_client c past) ≡ []
     empty past = ap (λ rs. rs ++ []) (nothing_left (past - past))
 
-pub idle_holds : (capacity : ℕ) (g : Graph) → charge g ≤ capacity → IsSound g nobody → Holds (idle_world capacity g)
-idle_holds capacity g fits sound =
+pub idle_holds : (capacity : ℕ) (g : Graph) → charge g ≤ capacity → IsSound g nobody → AreWithin g → Holds (idle_world capacity g)
+idle_holds capacity g fits sound within =
     let nothing : sum_up_to 8 (λ c. 0) ≡ 0 = all_zero 8 (λ c. 0) (λ c. refl) in
     let sound_now : IsSound (whole (idle_world capacity g)) (held (idle_world capacity g)) = subst (λ h. IsSound (whole (idle_world capacity g)) h) (sym (idle_held capacity g)) (subst (λ h. IsSound h nobody) (sym (idle_whole capacity g)) sound) in
     record {
-      booked = record { free = λ c i is_c e. absurd (false≢true e); range = λ c i is_c e. absurd (false≢true e); alone = λ c d i is_c is_d other e. refl; fits = omega (arith, nothing, fits) };
+      booked = record { free = λ c i is_c e. absurd (false≢true e); range = λ c i is_c e. absurd (false≢true e); alone = λ c d i is_c is_d other e. refl; limits = within; fits = omega (arith, nothing, fits) };
       stands = λ c is_c. idle_stands g c 0;
       beside = λ c d is_c is_d other i e. refl;
       sound = sound_now;

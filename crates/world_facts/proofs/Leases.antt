@@ -56,7 +56,7 @@ module _ (w : World) (c i : ℕ) (h : Holds w) (is_c : is_client c ≡ true) whe
         left = s.left;
         marked = s.marked;
         starts = s.starts;
-        logged = record { leased = λ j e. in_rest (j == i) ((w.clients c).writes j) (s.logged.leased j e); paid = s.logged.paid; unnamed = s.logged.unnamed };
+        logged = record { leased = λ j e. in_rest (j == i) ((w.clients c).writes j) (s.logged.leased j e); paid = s.logged.paid; unnamed = s.logged.unnamed; limits = s.logged.limits };
         units = s.units;
         numbered = s.numbered;
         leased = record { copies = λ j copy e. writer_holds j (s.leased.copies j copy e); blocks = λ j b bytes e. writer_holds j (s.leased.blocks j b bytes e) };
@@ -134,6 +134,7 @@ module _ (w : World) (c i : ℕ) (h : Holds w) (can : CanGive w c i) where
           leased = λ j e. still (w.clients c).writes j (λ same. both (is_written j (records_of (w.kernel.accounts c) (w.clients c))) e (ap (λ x. is_written x (records_of (w.kernel.accounts c) (w.clients c))) same ∙ giver_clean)) ∙ stood.logged.leased j e;
           paid = stood.logged.paid;
           unnamed = stood.logged.unnamed;
+          limits = stood.logged.limits;
         };
         units = stood.units;
         numbered = stood.numbered;

@@ -6,7 +6,9 @@ pub mod Facts
 pub mod Along
 pub mod Paid
 pub mod Made
+pub mod Keeping
 pub mod Nameless
+pub mod Within
 pub mod Begins
 pub mod Knowing
 pub mod Replies
@@ -16,11 +18,13 @@ pub mod Books
 pub mod Halves
 pub mod Fetches
 pub mod Digests
+pub mod Recoveries
 pub mod Stops
 pub mod Reclaims
 pub mod Orders
 pub mod Burials
 pub mod Breaks
+pub mod Fresh
 pub mod Walks
 pub mod Besides
 pub mod BrokenWorlds

@@ -8,6 +8,7 @@ use Rattle.file_graph.specs.Graph.{Graph}
 use Rattle.file_graph.specs.Units.{charge}
 use Rattle.call_effects.specs.Wholes.{IsSound}
 use Rattle.call_effects.specs.Known.{Agrees}
+use Rattle.world_facts.specs.Limits.{AreWithin}
 use Rattle.world_facts.specs.Logs.{after_clients}
 use Rattle.world_facts.specs.World.{Client, Account, World, undigested, records_of, holds, log_of, all_of, whole, held, at, moved}
 use Rattle.world_facts.specs.Standing.{Stands, IsBooked, IsBeside}
@@ -114,12 +115,14 @@ module _ (w : World) (c : ℕ) (g : Graph) (a : Account) (p : Client) (h : Holds
       → ((d i : ℕ) → is_client d ≡ true → d ≢ c → (w.kernel.accounts d).numbers i ≡ true → g i ≡ None)
       → ((i : ℕ) → a.numbers i ≡ true → (1 < i) × (i ≤ 1024))
       → ((d i : ℕ) → is_client d ≡ true → d ≢ c → a.numbers i ≡ true → (w.kernel.accounts d).numbers i ≡ false)
+      → AreWithin g
       → charge g + sum_up_to 8 (λ d. (at w.kernel.accounts c a d).units) ≤ w.kernel.capacity
       → IsBooked (moved w c g a p).kernel
-  booked_moved own others range alone fits = record {
+  booked_moved own others range alone limits fits = record {
     free = λ d i is_d. each w.kernel.accounts c a (λ d (b : Account). is_client d ≡ true → b.numbers i ≡ true → g i ≡ None) (λ is e. own i e) (λ d off is e. others d i is off e) d is_d;
     range = λ d i is_d. each w.kernel.accounts c a (λ d (b : Account). is_client d ≡ true → b.numbers i ≡ true → (1 < i) × (i ≤ 1024)) (λ is e. range i e) (λ d off is e. h.booked.range d i is e) d is_d;
     alone = λ d e i is_d is_e apart. apart_numbers d e i is_d is_e apart;
+    limits = limits;
     fits = fits;
   }
     where

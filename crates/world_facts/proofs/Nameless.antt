@@ -33,41 +33,6 @@ use Rattle.call_effects.proofs.Steps.{answer_fits}
 use Rattle.world_facts.specs.Logs.{after_records, is_touched, is_written, is_made, is_made_in, IsNameless, NameNone}
 use Rattle.world_facts.proofs.Records.{either, in_first, in_rest, or_first, or_rest}
 use Rattle.world_facts.proofs.Idle.{none_some}
-use Rattle.world_facts.proofs.Made.{effects_none}
-
--- ---- records
-
-alike : (o p : Option Node) → o ≡ p → IsNameless o → IsNameless p
-alike o p same file = record { bytes = file.bytes; is = sym same ∙ file.is }
-
--- a file that has no name has none after records that name none
-pub through : (rs : List Record) (g : Graph) (i : ℕ) → NameNone g rs → IsNameless (g i) → IsNameless (after_records g rs i)
-through [] g i none file = file
-through (r ∷ rs) g i none file = through rs (after_effects g r.effects) i none.1 (none.0 i file)
-
--- records that name none over one graph do so over each that has the same nodes where they write
-pub nameless_same : (rs : List Record) (g h : Graph) → ((i : ℕ) → is_written i rs ≡ true → g i ≡ h i) → NameNone g rs → NameNone h rs
-nameless_same [] g h same none = tt
-nameless_same (r ∷ rs) g h same none = (
-  (λ i file. elim (either (is_touched i r)) [
-    | inl there ↦
-        let here = same i (in_first (is_touched i r) (is_written i rs) there) in
-        alike (after_effects g r.effects i) (after_effects h r.effects i) (alone g h r.effects i here) (none.0 i (alike (h i) (g i) (sym here) file))
-    | inr off ↦ alike (h i) (after_effects h r.effects i) (sym (untouched h r.effects i off)) file
-  ]),
-  nameless_same rs (after_effects g r.effects) (after_effects h r.effects) (λ i e. alone g h r.effects i (same i (in_rest (is_touched i r) (is_written i rs) e))) none.1,
-)
-
--- and over one that has a node less, if they don't make it
-pub nameless_less : (i : ℕ) (rs : List Record) (g h : Graph) → h i ≡ None → ((j : ℕ) → j ≢ i → h j ≡ g j) → is_made_in i rs ≡ false → NameNone g rs → NameNone h rs
-nameless_less i [] g h gone same unmade none = tt
-nameless_less i (r ∷ rs) g h gone same unmade none = (
-  (λ j file. elim (eqb_tells j i) [
-    | inl here ↦ none_some (record { names = 0; body = FileBody file.bytes }) (sym gone ∙ ap h (sym here.1) ∙ file.is)
-    | inr off ↦ alike (after_effects g r.effects j) (after_effects h r.effects j) (sym (alone h g r.effects j (same j off.1))) (none.0 j (alike (h j) (g j) (same j off.1) file))
-  ]),
-  nameless_less i rs (after_effects g r.effects) (after_effects h r.effects) (effects_none h r.effects i gone (or_first (is_made i r.effects) (is_made_in i rs) unmade)) (λ j off. alone h g r.effects j (same j off)) (or_rest (is_made i r.effects) (is_made_in i rs) unmade) none.1,
-)
 
 -- ---- effects
 

@@ -15,7 +15,8 @@ use Rattle.call_effects.specs.Wholes.{IsSound, state_of}
 use Rattle.call_effects.specs.Fits.{IsUnusedFile}
 use Rattle.call_effects.specs.Known.{Agrees}
 use Rattle.call_effects.proofs.Unused.{same_state, sound_still, agrees_still}
-use Rattle.world_facts.specs.Logs.{is_made, is_made_in, ArePaid, IsNameless, NamesNone}
+use Rattle.world_facts.specs.Logs.{is_made, is_made_in, ArePaid, IsNameless, Keeps, NamesNone}
+use Rattle.world_facts.specs.Limits.{IsWithin}
 use Rattle.world_facts.specs.World.{Begun, World, change_of, log_of, all_of, whole, held, tree_of}
 use Rattle.world_facts.specs.Invariant.{Holds}
 use Rattle.world_facts.specs.KernelSteps.{CanReclaim, reclaimed}
@@ -24,7 +25,7 @@ use Rattle.world_facts.proofs.Owners.{client_is, owner_of, whole_at}
 use Rattle.world_facts.proofs.Idle.{none_some}
 use Rattle.world_facts.proofs.Made.{effects_none, clients_none, unmade_append}
 use Rattle.world_facts.proofs.Along.{along_front}
-use Rattle.world_facts.proofs.Nameless.{through, nameless_less}
+use Rattle.world_facts.proofs.Keeping.{through, keep_less}
 use Rattle.world_facts.proofs.Facts.{apart_logs, makes_granted}
 
 sums_below : (n : ℕ) (f g : ℕ → ℕ) → ((c : ℕ) → f c ≤ g c) → sum_up_to n f ≤ sum_up_to n g
@@ -37,7 +38,7 @@ sums_below (suc n) f g h =
 
 -- one graph is another without a node
 module _ (i : ℕ) where
-  charge_less : (g h : Graph) → h i ≡ None → ((j : ℕ) → j ≢ i → h j ≡ g j) → charge h ≤ charge g
+  pub charge_less : (g h : Graph) → h i ≡ None → ((j : ℕ) → j ≢ i → h j ≡ g j) → charge h ≤ charge g
   unfolding charge
   charge_less g h none same = sums_below 1024 (λ j. cost (h j)) (λ j. cost (g j)) (λ j. at j)
     where
@@ -101,7 +102,7 @@ pub nameless_whole : (w : World) (i : ℕ) → Holds w → IsNameless (w.kernel.
 nameless_whole w i h file =
     let o = owner_of (log_of w) i (apart_logs w h) in
     let none = along_front NamesNone (log_of w o.0) (change_of (w.clients o.0).begun) w.kernel.shared ((h.stands o.0 o.1.client).logged.unnamed) in
-    subst IsNameless (sym (whole_at (log_of w) w.kernel.shared o.0 i o.1)) (through (log_of w o.0) w.kernel.shared i none file)
+    subst IsNameless (sym (whole_at (log_of w) w.kernel.shared o.0 i o.1)) (through (λ j o. IsNameless o) (log_of w o.0) w.kernel.shared i none file)
 
 module _ (w : World) (i : ℕ) (h : Holds w) (can : CanReclaim w i) where
   abbrev shared : Graph
@@ -170,6 +171,7 @@ module _ (w : World) (i : ℕ) (h : Holds w) (can : CanReclaim w i) where
           free = λ c j is_c e. elim (eqb_tells j i) [ inl same ↦ ap shared same.1 ∙ gone | inr off ↦ else_same j off.1 ∙ h.booked.free c j is_c e ];
           range = h.booked.range;
           alone = h.booked.alone;
+          limits = λ j. elim (eqb_tells j i) [ inl same ↦ subst (IsWithin j) (sym (ap shared same.1 ∙ gone)) tt | inr off ↦ subst (IsWithin j) (sym (else_same j off.1)) (h.booked.limits j) ];
           fits = omega (arith, less, fits);
         };
         stands = λ c is_c. let s = h.stands c is_c in record {
@@ -177,7 +179,7 @@ module _ (w : World) (i : ℕ) (h : Holds w) (can : CanReclaim w i) where
           left = s.left;
           marked = s.marked;
           starts = s.starts;
-          logged = record { leased = s.logged.leased; paid = paid_less i (all_of w c) w.kernel.shared shared gone else_same (all_unmade c is_c) s.logged.paid; unnamed = nameless_less i (all_of w c) w.kernel.shared shared gone else_same (all_unmade c is_c) s.logged.unnamed };
+          logged = record { leased = s.logged.leased; paid = paid_less i (all_of w c) w.kernel.shared shared gone else_same (all_unmade c is_c) s.logged.paid; limits = keep_less IsWithin i (all_of w c) w.kernel.shared shared gone else_same (all_unmade c is_c) s.logged.limits; unnamed = keep_less (λ j o. IsNameless o) i (all_of w c) w.kernel.shared shared gone else_same (all_unmade c is_c) s.logged.unnamed };
           units = s.units;
           numbered = s.numbered;
           leased = s.leased;

@@ -14,7 +14,7 @@ use Rattle.file_graph.specs.declared.effect.Effect.{Effect}
 use Rattle.call_effects.specs.Wholes.{IsSound, state_of}
 use Rattle.call_effects.specs.Known.{Agrees, IsPlanned, part_of, knows_after}
 use Rattle.call_effects.proofs.KnownSteps.{planned_step, refused_step}
-use Rattle.world_facts.specs.Logs.{is_written, is_touched, is_made, is_made_in, units_in, ArePaid, NameNone, AreApart}
+use Rattle.world_facts.specs.Logs.{is_written, is_touched, is_made, is_made_in, units_in, ArePaid, NameNone, KeepLimits, AreApart}
 use Rattle.world_facts.specs.World.{Begun, Client, Account, World, undigested, records_of, change_of, log_of, all_of, whole, held, tree_of}
 use Rattle.world_facts.specs.Standing.{is_settled, IsNumbered, Stands}
 use Rattle.world_facts.specs.Invariant.{Holds}
@@ -165,7 +165,7 @@ module _ (w : World) (c : ℕ) (b : Begun) (h : Holds w) (is : IsBegun w c b) wh
         left = record { closed = λ e. none_some b (sym (s.left.idle e) ∙ is.there); idle = λ e. refl };
         marked = s.marked;
         starts = record { records = λ e. none_some b (sym (s.starts.idle e) ∙ is.there); idle = λ e. refl };
-        logged = record { leased = λ i e. s.logged.leased i (ap (is_written i) (sym all_same) ∙ e); paid = subst (λ rs. ArePaid w.kernel.shared rs) (sym all_same) s.logged.paid; unnamed = subst (λ rs. NameNone w.kernel.shared rs) (sym all_same) s.logged.unnamed };
+        logged = record { leased = λ i e. s.logged.leased i (ap (is_written i) (sym all_same) ∙ e); paid = subst (λ rs. ArePaid w.kernel.shared rs) (sym all_same) s.logged.paid; unnamed = subst (λ rs. NameNone w.kernel.shared rs) (sym all_same) s.logged.unnamed; limits = subst (λ rs. KeepLimits w.kernel.shared rs) (sym all_same) s.logged.limits };
         units = subst (λ rs. was.spare + units_in rs ≤ account.units) (sym all_same) s.units;
         numbered = numbered;
         leased = leased_after w c h is.client b.call b.new b.operation b.change.effects planned leased;

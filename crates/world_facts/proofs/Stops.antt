@@ -12,19 +12,23 @@ use Rattle.file_graph.specs.Units.{charge}
 use Rattle.log_record.specs.declared.format.Record.{Record}
 use Rattle.call_effects.specs.Wholes.{IsSound, state_of}
 use Rattle.call_effects.specs.Known.{Knowledge, Agrees, IsPlanned}
-use Rattle.call_effects.proofs.Settled.{closed_sound, settled_state, settled_well_formed}
+use Rattle.call_effects.proofs.Settled.{closed_sound, settled_state, settled_well_formed, settled_within}
+use Rattle.call_effects.proofs.Limits.{seen_within}
 use Rattle.call_effects.proofs.KnownSteps.{planned_step, planned_sound}
 use Rattle.call_effects.proofs.KnownAfter.{other_agrees}
-use Rattle.world_facts.specs.Logs.{after_records, after_clients, after_each, is_written, is_touched, units_in, IsPaid, ArePaid, AreApart, IsDistinct, IsOrder}
+use Rattle.world_facts.specs.Limits.{IsWithin}
+use Rattle.world_facts.specs.Recovery.{IsRecoverable}
+use Rattle.world_facts.specs.Logs.{after_records, after_clients, after_each, is_written, is_touched, units_in, IsPaid, ArePaid, Keeps, KeepLimits, AreApart, IsDistinct, IsOrder}
 use Rattle.world_facts.specs.World.{Begun, World, change_of, records_of, log_of, all_of, holds, whole, held, tree_of, at}
 use Rattle.world_facts.specs.Invariant.{Holds}
 use Rattle.world_facts.specs.Outcome.{Unfinished, AreSomeOf}
 use Rattle.world_facts.specs.Stop.{Leaves, stored, begun_calls, Stores}
 use Rattle.world_facts.proofs.Records.{either, both, in_first, in_rest, append_nil, front_written, rest_written, units_append}
-use Rattle.world_facts.proofs.Owners.{nobody as nobody_writes, is_low, is_high, client_is, ended_whole, first_in, among_rest}
+use Rattle.world_facts.proofs.Owners.{is_low, is_high, client_is, ended_whole, first_in, among_rest}
 use Rattle.world_facts.proofs.Facts.{apart_all, apart_less, granted_alone}
 use Rattle.world_facts.proofs.Along.{along_front}
-use Rattle.world_facts.proofs.Paid.{paid_same, charge_records}
+use Rattle.world_facts.proofs.Within.{tree_within}
+use Rattle.world_facts.proofs.Recoveries.{after_all_within}
 
 -- ---- all clients, in an order
 
@@ -210,20 +214,21 @@ module _ (w : World) (logs : ℕ → List Record) (h : Holds w) (left : Leaves w
         | inr all ↦ let e : units_in (logs c) ≡ units_in (records_of (w.kernel.accounts c) (w.clients c)) = ap units_in all in omega (arith, were, e)
       ]
 
-  -- the logs of clients 1 to n, charged one after another
-  charged : (n : ℕ) → n ≤ 8 → charge (after_clients logs w.kernel.shared n) ≤ charge w.kernel.shared + sum_up_to n (λ c. (w.kernel.accounts c).units)
-  unfolding after_clients sum_up_to
-  charged zero within = omega arith
-  charged (suc n) within =
+  stop_keeps : (c : ℕ) → is_client c ≡ true → KeepLimits w.kernel.shared (logs c)
+  stop_keeps c is_c = elim (left c is_c) [
+    | inl none ↦ subst (λ rs. KeepLimits w.kernel.shared rs) (sym none) (along_front (Keeps IsWithin) (log_of w c) (change_of (w.clients c).begun) w.kernel.shared (h.stands c is_c).logged.limits)
+    | inr all ↦ subst (λ rs. KeepLimits w.kernel.shared rs) (sym all) (h.stands c is_c).logged.limits
+  ]
+
+  -- the units of the logs of clients 1 to n are in the book
+  booked_units : (n : ℕ) → n ≤ 8 → sum_up_to n (λ c. units_in (logs c)) ≤ sum_up_to n (λ c. (w.kernel.accounts c).units)
+  unfolding sum_up_to
+  booked_units zero within = omega arith
+  booked_units (suc n) within =
       let is_c : is_client (suc n) ≡ true = client_is (suc n) (omega arith) within in
-      let before : charge (after_clients logs w.kernel.shared n) ≤ charge w.kernel.shared + sum_up_to n (λ c. (w.kernel.accounts c).units) = charged n (omega (arith, within)) in
-      let last : charge (after_records (after_clients logs w.kernel.shared n) (logs (suc n))) ≤ charge (after_clients logs w.kernel.shared n) + units_in (logs (suc n)) =
-      charge_records (logs (suc n)) (after_clients logs w.kernel.shared n) (paid_same (logs (suc n)) w.kernel.shared (after_clients logs w.kernel.shared n) (λ i e. sym (lower n i e within)) (stop_paid (suc n) is_c)) in
-      let units : units_in (logs (suc n)) ≤ (w.kernel.accounts (suc n)).units = stop_units (suc n) is_c in
-      omega (arith, before, last, units)
-    where
-      lower : (n i : ℕ) → is_written i (logs (suc n)) ≡ true → suc n ≤ 8 → after_clients logs w.kernel.shared n i ≡ w.kernel.shared i
-      lower n i e within = nobody_writes n logs w.kernel.shared i (λ d low high. stop_apart (suc n) d i (client_is (suc n) (omega arith) within) (client_is d low (omega (arith, high, within))) (λ same. omega (arith, same, high)) e)
+      let before : sum_up_to n (λ c. units_in (logs c)) ≤ sum_up_to n (λ c. (w.kernel.accounts c).units) = booked_units n (omega (arith, within)) in
+      let last : units_in (logs (suc n)) ≤ (w.kernel.accounts (suc n)).units = stop_units (suc n) is_c in
+      omega (arith, before, last)
 
   ends : Ends w h more (begun_calls w) all_clients (whole w) (held w)
   ends = begun_run w h more (λ c is_c. some_more c (either (is_client c)) is_c) all_clients (begun_calls w) (whole w) (held w)
@@ -232,14 +237,20 @@ module _ (w : World) (logs : ℕ → List Record) (h : Holds w) (left : Leaves w
   stored_is : stored w logs ≡ after_each more (whole w) all_clients
   stored_is = λ t i. ended_whole (log_of w) logs more w.kernel.shared all_clients stop_apart (λ c is_c. logs_end c (either (is_client c)) is_c) the_order i t
 
+  stop_recoverable : IsSound (stored w logs) ends.last → IsRecoverable w.kernel.capacity w.kernel.shared logs
+  stop_recoverable sound =
+      let units : sum_up_to 8 (λ c. units_in (logs c)) ≤ sum_up_to 8 (λ c. (w.kernel.accounts c).units) = booked_units 8 (omega arith) in
+      let fits : charge w.kernel.shared + sum_up_to 8 (λ c. (w.kernel.accounts c).units) ≤ w.kernel.capacity = h.booked.fits in
+      record { apart = stop_apart; limits = h.booked.limits; keep = stop_keeps; paid = stop_paid; fits = omega (arith, units, fits); sound = closed_sound (stored w logs) ends.last sound }
+
   pub stop_stores : Stores w logs
   stop_stores =
-      let charges : charge (stored w logs) ≤ charge w.kernel.shared + sum_up_to 8 (λ c. (w.kernel.accounts c).units) = charged 8 (omega arith) in
-      let fits : charge w.kernel.shared + sum_up_to 8 (λ c. (w.kernel.accounts c).units) ≤ w.kernel.capacity = h.booked.fits in
       let sound : IsSound (stored w logs) ends.last = subst (λ g. IsSound g ends.last) (sym stored_is) ends.sound in
+      let found = stop_recoverable sound in
       record {
-        sound = closed_sound (stored w logs) ends.last sound;
+        recoverable = found;
         well_formed = settled_well_formed (stored w logs) ends.last sound;
+        within = settled_within (stored w logs) ends.last sound (seen_within (stored w logs) ends.last (tree_within (stored w logs) ends.last sound (after_all_within w.kernel.shared logs stop_apart found.limits found.keep)));
         outcome = record {
           more = ends.turns;
           last = state_of (stored w logs) ends.last;
@@ -247,7 +258,4 @@ module _ (w : World) (logs : ℕ → List Record) (h : Holds w) (left : Leaves w
           run = subst (λ g. Run (tree_of w) ends.turns (state_of g ends.last)) (sym stored_is) ends.run;
           settled = settled_state (stored w logs) ends.last sound;
         };
-        apart = stop_apart;
-        paid = stop_paid;
-        fits = omega (arith, charges, fits);
       }

@@ -36,6 +36,7 @@ use Rattle.world_facts.specs.BookSteps.{HasRoom, IsUnbooked}
 use Rattle.world_facts.specs.BookSteps.{units_granted}
 use Rattle.world_facts.specs.Walk as walked
 use Rattle.world_facts.proofs.Idle.{none_some, idle_holds, idle_tree}
+use Rattle.world_facts.proofs.Fresh.{fresh_within}
 use Rattle.world_facts.proofs.Moved.{each}
 use Rattle.call_effects.proofs.Fresh.{fresh_sound, fresh_state}
 use Rattle.world_facts.proofs.Begins.{begun_holds, begun_tree}
@@ -82,7 +83,7 @@ planned = record { comes = comes; effects = simp parts refl; number = λ m. refl
 -- ---- up to the call
 
 start_holds : Holds walked.start
-start_holds = idle_holds (charge fresh + 10) fresh (omega arith) fresh_sound
+start_holds = idle_holds (charge fresh + 10) fresh (omega arith) fresh_sound fresh_within
 
 room : HasRoom walked.start 10
 room = let nothing : sum_up_to 8 (λ c. 0) ≡ 0 = all_zero 8 (λ c. 0) (λ c. refl) in omega (arith, nothing)

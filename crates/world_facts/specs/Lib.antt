@@ -6,10 +6,12 @@ pub mod Halves
 pub mod Invariant
 pub mod KernelSteps
 pub mod LeaseSteps
+pub mod Limits
 pub mod Logs
 pub mod Opening
 pub mod Outcome
 pub mod PairWalk
+pub mod Recovery
 pub mod RegionSteps
 pub mod Standing
 pub mod Stop

@@ -6,6 +6,7 @@ use Rattle.file_graph.specs.Units.{growth}
 use Rattle.file_graph.specs.declared.effect.Effect.{Effect}
 use Rattle.file_graph.specs.declared.effect.Effect.TheVariants as effect
 use Rattle.log_record.specs.declared.format.Record.{Record}
+use Rattle.world_facts.specs.Limits.{IsWithin}
 
 -- the graph after records, one after the other
 abbrev pub after_records : Graph → List Record → Graph
@@ -73,12 +74,20 @@ pub record IsNameless (o : Option Node) : Type 0 where
   pub bytes : List ℕ
   pub is : o ≡ Some (record { names = 0; body = FileBody bytes })
 
+-- what is so of what stands at an inode is so after a record
+abbrev pub Keeps : (ℕ → Option Node → Type 0) → Graph → Record → Type 0
+Keeps IsSo g r = (i : ℕ) → IsSo i (g i) → IsSo i (after_effects g r.effects i)
+
 -- no record gives a name to a file that has none
 abbrev pub NamesNone : Graph → Record → Type 0
-NamesNone g r = (i : ℕ) → IsNameless (g i) → IsNameless (after_effects g r.effects i)
+NamesNone g r = Keeps (λ i o. IsNameless o) g r
 
 abbrev pub NameNone : Graph → List Record → Type 0
 NameNone g rs = Along NamesNone g rs
+
+-- no record takes a node past the limits
+abbrev pub KeepLimits : Graph → List Record → Type 0
+KeepLimits g rs = Along (Keeps IsWithin) g rs
 
 -- no inode is written by records of two clients
 abbrev pub AreApart : (ℕ → List Record) → Type 0

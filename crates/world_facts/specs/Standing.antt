@@ -10,7 +10,8 @@ use Rattle.file_graph.specs.Units.{charge}
 use Rattle.log_record.specs.declared.format.Record.{Record}
 use Rattle.call_effects.specs.NodeView.{NodeView}
 use Rattle.call_effects.specs.Known.{Knowledge, IsPlanned}
-use Rattle.world_facts.specs.Logs.{is_written, is_made_in, IsMadeOnce, units_in, ArePaid, NameNone}
+use Rattle.world_facts.specs.Logs.{is_written, is_made_in, IsMadeOnce, units_in, ArePaid, NameNone, KeepLimits}
+use Rattle.world_facts.specs.Limits.{AreWithin}
 use Rattle.world_facts.specs.World.{Begun, Region, Away, Status, Settled, Buried, Client, Account, Kernel, undigested, records_of, holds}
 
 -- ---- one client's part beside the kernel's
@@ -27,11 +28,13 @@ pub record StartsWiped (ready : Bool) (current : List Record) (begun : Option Be
   pub records : ready ≡ false → current ≡ []
   pub idle : ready ≡ false → begun ≡ None
 
--- every record touches only what the client holds for writing, has the units for what it raises, and names no file that has no name
+-- every record touches only what the client holds for writing, has the units for what it raises, names no file that has no name, and takes
+-- no node past the limits
 pub record IsLogged (g : Graph) (writes : ℕ → Bool) (records : List Record) : Type 0 where
   pub leased : (i : ℕ) → is_written i records ≡ true → writes i ≡ true
   pub paid : ArePaid g records
   pub unnamed : NameNone g records
+  pub limits : KeepLimits g records
 
 -- a number is in the book until the record that makes its node is digested, and no two records make a node of it
 pub record IsNumbered (book numbers : ℕ → Bool) (log : List Record) : Type 0 where
@@ -91,6 +94,8 @@ pub record IsBooked (k : Kernel) : Type 0 where
   pub free : (c i : ℕ) → is_client c ≡ true → (k.accounts c).numbers i ≡ true → k.shared i ≡ None
   pub range : (c i : ℕ) → is_client c ≡ true → (k.accounts c).numbers i ≡ true → (ROOT < i) × (i ≤ MAX_INODE)
   pub alone : (c d i : ℕ) → is_client c ≡ true → is_client d ≡ true → d ≢ c → (k.accounts c).numbers i ≡ true → (k.accounts d).numbers i ≡ false
+  -- every node is within the limits
+  pub limits : AreWithin k.shared
   -- what is charged and what is out fit together
   pub fits : charge k.shared + sum_up_to MAX_CLIENTS (λ c. (k.accounts c).units) ≤ k.capacity
 

@@ -1,14 +1,14 @@
 -- What a stop stores.
-use Rattle.std.specs.Prelude.{◌≡◌, ◌⊎◌, ℕ, ◌≤◌, List, [], ◌++◌, true, option_map}
+use Rattle.std.specs.Prelude.{◌≡◌, ◌⊎◌, ℕ, List, [], ◌++◌, true, option_map}
 use Rattle.posix_calls.specs.Operations.{is_client}
-use Rattle.posix_calls.specs.WellFormed.{IsWellFormed}
+use Rattle.posix_calls.specs.WellFormed.{IsWellFormed, IsWithinLimits}
 use Rattle.posix_calls.specs.declared.limits.TheConstants.{MAX_CLIENTS}
 use Rattle.file_graph.specs.Graph.{Graph}
-use Rattle.file_graph.specs.Units.{charge}
 use Rattle.log_record.specs.declared.format.Record.{Record}
 use Rattle.call_effects.specs.Settled.{nobody, settled_graph}
-use Rattle.call_effects.specs.Wholes.{IsSound, state_of}
-use Rattle.world_facts.specs.Logs.{after_clients, AreApart, ArePaid}
+use Rattle.call_effects.specs.Wholes.{state_of}
+use Rattle.world_facts.specs.Logs.{after_clients}
+use Rattle.world_facts.specs.Recovery.{IsRecoverable}
 use Rattle.world_facts.specs.Outcome.{Unfinished, IsOutcome}
 use Rattle.world_facts.specs.World.{World, change_of, log_of, tree_of}
 
@@ -24,12 +24,10 @@ stored w logs = after_clients logs w.kernel.shared MAX_CLIENTS
 abbrev pub begun_calls : World → Unfinished
 begun_calls w c = option_map (λ b. b.call) (w.clients c).begun
 
--- what is stored is sound without descriptors, and fits; once it is settled, its state is well-formed, and is the tree after some of the begun calls
+-- what is stored is what a recovery can go on from; once it is settled, its state is well-formed and within the limits, and is the tree after
+-- some of the begun calls
 pub record Stores (w : World) (logs : ℕ → List Record) : Type 0 where
-  pub sound : IsSound (stored w logs) nobody
+  pub recoverable : IsRecoverable w.kernel.capacity w.kernel.shared logs
   pub well_formed : IsWellFormed (state_of (settled_graph (stored w logs)) nobody)
+  pub within : IsWithinLimits (state_of (settled_graph (stored w logs)) nobody).tree
   pub outcome : IsOutcome (tree_of w) [] (begun_calls w) (state_of (settled_graph (stored w logs)) nobody)
-  -- no inode is written by the records of two clients, and each client's are paid for over the shared graph
-  pub apart : AreApart logs
-  pub paid : (c : ℕ) → is_client c ≡ true → ArePaid w.kernel.shared (logs c)
-  pub fits : charge (stored w logs) ≤ w.kernel.capacity

@@ -15,6 +15,7 @@ mod lease_laws;
 mod opening_laws;
 mod order_laws;
 mod part_laws;
+mod recovery_laws;
 mod region_laws;
 mod stop_laws;
 mod walk_laws;
@@ -49,6 +50,10 @@ pub use lease_laws::{
 pub use opening_laws::{idle_world_holds, opening_world_holds};
 pub use order_laws::clients_records_commute;
 pub use part_laws::{one_part_may_move, quiet_part_may_move};
+pub use recovery_laws::{
+    limits_are_those_of_the_nodes, nameless_file_may_be_dropped, recovered_graph_is_sound,
+    recovery_may_digest_records,
+};
 pub use region_laws::{region_may_be_sealed, region_may_be_taken_back, region_may_be_wiped};
 pub use stop_laws::stop_stores_an_outcome;
 pub use walk_laws::{

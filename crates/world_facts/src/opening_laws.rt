@@ -6,14 +6,15 @@ ghost use Rattle.file_graph.specs.Graph.{Graph, fresh};
 ghost use Rattle.file_graph.specs.Units.{charge};
 ghost use Rattle.call_effects.specs.Settled.{nobody};
 ghost use Rattle.call_effects.specs.Wholes.{IsSound, state_of};
+ghost use Rattle.world_facts.specs.Limits.{AreWithin};
 ghost use Rattle.world_facts.specs.World.{tree_of};
 ghost use Rattle.world_facts.specs.Invariant.{Holds};
 ghost use Rattle.world_facts.specs.Opening.{idle_world, opening_world};
 
-/// A sound graph that fits, and of which nobody uses anything, is a world in which all holds, as after a recovery. It stands for the
+/// A sound graph within the limits that fits, and of which nobody uses anything, is a world in which all holds, as after a recovery. It stands for the
 /// tree of the graph, with nothing open.
 pub fn idle_world_holds()
-    ensures holds { (capacity : ℕ) (g : Graph) → charge g ≤ capacity → IsSound g nobody → Holds (idle_world capacity g) }
+    ensures holds { (capacity : ℕ) (g : Graph) → charge g ≤ capacity → IsSound g nobody → AreWithin g → Holds (idle_world capacity g) }
     ensures tree { (capacity : ℕ) (g : Graph) → tree_of (idle_world capacity g) ≡ state_of g nobody }
 {}
 

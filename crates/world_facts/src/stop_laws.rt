@@ -6,9 +6,8 @@ ghost use Rattle.world_facts.specs.World.{World};
 ghost use Rattle.world_facts.specs.Invariant.{Holds};
 ghost use Rattle.world_facts.specs.Stop.{Leaves, Stores};
 
-/// Whatever a stop leaves of the begun records, each whole or not at all: what is stored is sound without descriptors and fits, and
-/// once it is settled it is well-formed, and the tree after some of the begun calls, each client's at most one. No inode is written by the stored
-/// records of two clients, so that in whatever order they are digested the graph is the same.
+/// Whatever a stop leaves of the begun records, each whole or not at all: a recovery can go on from what is stored, and
+/// once that is settled it is well-formed and within the limits, and the tree after some of the begun calls, each client's at most one.
 pub fn stop_stores_an_outcome()
     ensures { (w : World) (logs : ℕ → List Record) → Holds w → Leaves w logs → Stores w logs }
 {}

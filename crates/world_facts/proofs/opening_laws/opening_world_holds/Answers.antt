@@ -1,11 +1,12 @@
 use Rattle.std.proofs.Common.{◌∙◌}
 use Rattle.file_graph.specs.Graph.{fresh}
 use Rattle.call_effects.proofs.Fresh.{fresh_sound, fresh_state}
+use Rattle.world_facts.proofs.Fresh.{fresh_within}
 use Rattle.world_facts.proofs.Idle.{idle_holds, idle_tree}
 use Rattle.world_facts.proofs.opening_laws.opening_world_holds.Goals as goal
 
 pub returns-clause-holds : goal.returns-clause-holds
-returns-clause-holds c = λ capacity fits. idle_holds capacity fresh fits fresh_sound
+returns-clause-holds c = λ capacity fits. idle_holds capacity fresh fits fresh_sound fresh_within
 
 pub returns-clause-tree : goal.returns-clause-tree
 returns-clause-tree c = λ capacity. idle_tree capacity fresh ∙ fresh_state
