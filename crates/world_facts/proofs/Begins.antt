@@ -97,7 +97,7 @@ module _ (w : World) (c : ℕ) (b : Begun) (h : Holds w) (can : CanBegin w c b) 
         numbered = s.numbered;
         leased = s.leased;
         pinned = s.pinned;
-        pending = λ d e. subst (λ x. IsPending old.knows old.pins x) (same_Some b d e) (record { planned = can.planned; pinned = can.pinned });
+        pending = λ d e. subst (λ x. IsPending old.knows old.pins x) (same_Some b d e) (record { planned = can.planned; some = can.some; pinned = can.pinned });
       })
       (before_less w c (record old { begun = Some b; spare = old.spare - b.change.units }) h can.client (λ i e. e))
       (after_less w c (record old { begun = Some b; spare = old.spare - b.change.units }) h can.client (λ i e. e))

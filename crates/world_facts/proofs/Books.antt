@@ -151,7 +151,7 @@ module _ (w : World) (c i : ℕ) (h : Holds w) (is_c : is_client c ≡ true) whe
         };
         leased = record { copies = stood.leased.copies; blocks = stood.leased.blocks };
         pinned = stood.pinned;
-        pending = λ b e. let p = stood.pending b e in record { planned = record { comes = p.planned.comes; effects = p.planned.effects; number = λ m. in_rest (b.new == i) (was.knows.granted b.new) (p.planned.number m) }; pinned = p.pinned };
+        pending = λ b e. let p = stood.pending b e in record { planned = record { comes = p.planned.comes; effects = p.planned.effects; number = λ m. in_rest (b.new == i) (was.knows.granted b.new) (p.planned.number m) }; some = p.some; pinned = p.pinned };
       })
       (before_less w c with_number h is_c (λ j e. e)) (after_less w c with_number h is_c (λ j e. e))
       (record {
@@ -239,7 +239,7 @@ module _ (w : World) (c i : ℕ) (h : Holds w) (is_c : is_client c ≡ true) whe
           opened = λ n o e. in_rest (o.inode == i) ((w.clients c).pins o.inode) (x.pinned.opened n o e);
           booked = λ j e. of_also (λ y. also (w.kernel.accounts c).pins i y ≡ true) (w.clients c).pins i j e (in_first (i == i) ((w.kernel.accounts c).pins i) (itself i)) (λ was. in_rest (j == i) ((w.kernel.accounts c).pins j) (x.pinned.booked j was));
         };
-        pending = λ b e. let p = x.pending b e in record { planned = p.planned; pinned = λ what opens. in_rest (what.1.inode == i) ((w.clients c).pins what.1.inode) (p.pinned what opens) };
+        pending = λ b e. let p = x.pending b e in record { planned = p.planned; some = p.some; pinned = λ what opens. in_rest (what.1.inode == i) ((w.clients c).pins what.1.inode) (p.pinned what opens) };
       })
       (before_less w c pinner h is_c (λ j e. e)) (after_less w c pinner h is_c (λ j e. e)) (h.agrees c is_c)
     where

@@ -189,7 +189,7 @@ pub unbooked : ((overdrawn making).clients 1).spare + units_in (records_of ((ove
 unbooked few = let one : 1 ≤ 0 = few in absurd (omega (arith, one))
 
 pub over_digests : (r : Record) → CanDigest (overdrawn r) 1 (r ∷ []) []
-over_digests r = record { client = refl; split = refl }
+over_digests r = record { client = refl; some = λ e. absurd (cc); split = refl }
 
 abbrev numbered : Account
 numbered = record (idle_account 0) { numbers = λ i. i == 2 }

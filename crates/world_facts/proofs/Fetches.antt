@@ -70,6 +70,7 @@ module _ (w : World) (c i : ℕ) (h : Holds w) (can : CanFetch w c i) where
     | inl idle ↦ none_some b (sym idle ∙ e)
     | inr none ↦ record {
       planned = still_planned w h k more (h.agrees c can.client) agrees (record { nodes = λ j copy there. copied j copy none there; blocks = λ j n bytes there. there }) refl (λ j g. g) b.call b.new b.operation b.change.effects (s.pending b e).planned;
+      some = (s.pending b e).some;
       pinned = (s.pending b e).pinned;
     }
   ]
@@ -146,6 +147,7 @@ module _ (w : World) (c i first count names : ℕ) (bytes : List ℕ) (h : Holds
         pinned = stood.pinned;
         pending = λ b e. let p = stood.pending b e in record {
           planned = still_planned w h knew knows (h.agrees c can.client) now_agrees (record { nodes = λ j copy there. there; blocks = λ j n block there. kept_block j n (j == i && is_within first count n) block refl there }) refl (λ j g. g) b.call b.new b.operation b.change.effects p.planned;
+          some = p.some;
           pinned = p.pinned;
         };
       })

@@ -161,7 +161,7 @@ module _ (w : World) (c i : ℕ) (h : Holds w) (is_c : is_client c ≡ true) whe
   number_received_holds can =
       let known = h.agrees c is_c in
       quiet w c w.kernel.shared b with_number h is_c refl refl refl (booked_same w c with_number h is_c)
-      (record { number = t.number; left = t.left; marked = t.marked; starts = t.starts; logged = t.logged; units = t.units; numbered = record { made = t.numbered.made; once = t.numbered.once; granted = λ j e. of_also (λ x. b.numbers x ≡ true) q.knows.granted i j e can.booked (λ has. t.numbered.granted j has); unused = λ j e. of_also (λ x. is_made_in x (log_of w c) ≡ false) q.knows.granted i j e can.unused (λ has. t.numbered.unused j has) }; leased = record { copies = t.leased.copies; blocks = t.leased.blocks }; pinned = t.pinned; pending = λ x is. let y = t.pending x is in record { planned = record { comes = y.planned.comes; effects = y.planned.effects; number = λ m. in_rest (x.new == i) (q.knows.granted x.new) (y.planned.number m) }; pinned = y.pinned } })
+      (record { number = t.number; left = t.left; marked = t.marked; starts = t.starts; logged = t.logged; units = t.units; numbered = record { made = t.numbered.made; once = t.numbered.once; granted = λ j e. of_also (λ x. b.numbers x ≡ true) q.knows.granted i j e can.booked (λ has. t.numbered.granted j has); unused = λ j e. of_also (λ x. is_made_in x (log_of w c) ≡ false) q.knows.granted i j e can.unused (λ has. t.numbered.unused j has) }; leased = record { copies = t.leased.copies; blocks = t.leased.blocks }; pinned = t.pinned; pending = λ x is. let y = t.pending x is in record { planned = record { comes = y.planned.comes; effects = y.planned.effects; number = λ m. in_rest (x.new == i) (q.knows.granted x.new) (y.planned.number m) }; some = y.some; pinned = y.pinned } })
       (before_less w c with_number h is_c (λ j e. e)) (after_less w c with_number h is_c (λ j e. e))
       (record {
         client = known.client;
@@ -233,7 +233,7 @@ module _ (w : World) (c i : ℕ) (h : Holds w) (is_c : is_client c ≡ true) whe
   pub pin_received_holds : IsPinnedAlone w c i → Holds (pin_received w c i)
   pin_received_holds can =
       quiet w c w.kernel.shared e pinner h is_c refl refl refl (booked_same w c pinner h is_c)
-      (record { number = u.number; left = u.left; marked = u.marked; starts = u.starts; logged = u.logged; units = u.units; numbered = u.numbered; leased = u.leased; pinned = record { opened = λ n o is. in_rest (o.inode == i) (r.pins o.inode) (u.pinned.opened n o is); booked = λ j has. of_also (λ y. e.pins y ≡ true) r.pins i j has can.booked (λ was. u.pinned.booked j was) }; pending = λ x is. let y = u.pending x is in record { planned = y.planned; pinned = λ what opens. in_rest (what.1.inode == i) (r.pins what.1.inode) (y.pinned what opens) } })
+      (record { number = u.number; left = u.left; marked = u.marked; starts = u.starts; logged = u.logged; units = u.units; numbered = u.numbered; leased = u.leased; pinned = record { opened = λ n o is. in_rest (o.inode == i) (r.pins o.inode) (u.pinned.opened n o is); booked = λ j has. of_also (λ y. e.pins y ≡ true) r.pins i j has can.booked (λ was. u.pinned.booked j was) }; pending = λ x is. let y = u.pending x is in record { planned = y.planned; some = y.some; pinned = λ what opens. in_rest (what.1.inode == i) (r.pins what.1.inode) (y.pinned what opens) } })
       (before_less w c pinner h is_c (λ j has. has)) (after_less w c pinner h is_c (λ j has. has)) (h.agrees c is_c)
 
   pub pin_received_tree : tree_of (pin_received w c i) ≡ tree_of w

@@ -16,6 +16,8 @@ pub mod Leases
 pub mod Regions
 pub mod Books
 pub mod Halves
+pub mod Bytes
+pub mod Forgets
 pub mod Fetches
 pub mod Digests
 pub mod Recoveries

@@ -79,7 +79,7 @@ three_holds = write_taken_holds walked.granted 2 3 granted_holds refl three_unhe
 -- ---- client 1's record is digested, and the root passed on
 
 kept_holds : Holds walked.kept
-kept_holds = digested_holds (sealed walked.held_three 1) 1 (opened.open_a.change ∷ []) [] (sealed_holds walked.held_three 1 three_holds (record { client = refl; idle = refl; some = λ e. absurd (cc); back = λ e. absurd (cc) })) (record { client = refl; split = refl })
+kept_holds = digested_holds (sealed walked.held_three 1) 1 (opened.open_a.change ∷ []) [] (sealed_holds walked.held_three 1 three_holds (record { client = refl; idle = refl; some = λ e. absurd (cc); back = λ e. absurd (cc) })) (record { client = refl; some = λ e. absurd (cc); split = refl })
 
 back_holds : Holds walked.back
 back_holds = taken_back_holds walked.kept 1 kept_holds (record { client = refl; away = refl; digested = refl })
@@ -133,6 +133,7 @@ can_make = record {
   idle = refl;
   ready = refl;
   planned = record { comes = mkdir_comes; effects = simp parts refl; number = λ m. refl };
+  some = λ e. absurd (cc);
   counted = mkdir_counted;
   leased = held_both;
   enough = omega arith;
@@ -153,6 +154,7 @@ can_write = record {
   idle = refl;
   ready = refl;
   planned = record { comes = write_comes; effects = simp parts refl; number = λ m. absurd (false≢true m) };
+  some = λ e. absurd (cc);
   counted = simp parts refl;
   leased = λ i e. elim (eqb_tells i 2) [
     | inl there ↦ ap (λ x. (walked.one.clients 1).writes x) there.1
@@ -196,7 +198,7 @@ pub written_step : Step (tree_of walked.two) 1 walked.write_7.call (Wrote 1) (tr
 written_step = replied_step walked.two 1 walked.write_7 two_hold (record { client = refl; there = refl; known = λ e. absurd (cc) })
 
 pub beside_holds : Holds walked.beside
-beside_holds = digested_holds (sealed walked.written 1) 1 (walked.write_7.change ∷ []) [] (sealed_holds walked.written 1 written_holds (record { client = refl; idle = refl; some = λ e. absurd (cc); back = λ e. absurd (cc) })) (record { client = refl; split = refl })
+beside_holds = digested_holds (sealed walked.written 1) 1 (walked.write_7.change ∷ []) [] (sealed_holds walked.written 1 written_holds (record { client = refl; idle = refl; some = λ e. absurd (cc); back = λ e. absurd (cc) })) (record { client = refl; some = λ e. absurd (cc); split = refl })
 
 pub still_begun : IsBegun walked.beside 2 walked.mkdir_b
 still_begun = record { client = refl; there = refl; known = λ e. absurd (cc) }

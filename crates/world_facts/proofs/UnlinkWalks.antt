@@ -70,6 +70,7 @@ can_open = record {
   idle = refl;
   ready = refl;
   planned = record { comes = open_comes; effects = simp parts refl; number = λ m. refl };
+  some = λ e. absurd (cc);
   counted = open_counted;
   leased = held_both;
   enough = omega arith;
@@ -107,6 +108,7 @@ can_unlink = record {
   idle = refl;
   ready = refl;
   planned = record { comes = unlink_comes; effects = simp parts refl; number = λ m. absurd (false≢true m) };
+  some = λ e. absurd (cc);
   counted = simp parts refl;
   leased = λ i e. held_both i (wider i e);
   enough = omega arith;
@@ -131,7 +133,7 @@ unlinked_step = replied_step walked.unlinking 1 walked.unlink_a unlinking_holds 
 -- ---- digested
 
 pub kept_holds : Holds walked.kept
-kept_holds = digested_holds (sealed walked.unlinked 1) 1 (walked.open_a.change ∷ walked.unlink_a.change ∷ []) [] (sealed_holds walked.unlinked 1 unlinked_holds (record { client = refl; idle = refl; some = λ e. absurd (cc); back = λ e. absurd (cc) })) (record { client = refl; split = refl })
+kept_holds = digested_holds (sealed walked.unlinked 1) 1 (walked.open_a.change ∷ walked.unlink_a.change ∷ []) [] (sealed_holds walked.unlinked 1 unlinked_holds (record { client = refl; idle = refl; some = λ e. absurd (cc); back = λ e. absurd (cc) })) (record { client = refl; some = λ e. absurd (cc); split = refl })
 
 pub kept_nameless : IsNameless (walked.kept.kernel.shared 2)
 kept_nameless = record { bytes = []; is = refl }

@@ -140,6 +140,7 @@ can_begin = record {
   idle = refl;
   ready = refl;
   planned = planned;
+  some = λ e. absurd (cc);
   counted = counted;
   leased = held_both;
   enough = omega arith;
@@ -161,7 +162,7 @@ handed_holds : Holds walked.handed
 handed_holds = sealed_holds walked.made 1 made_holds (record { client = refl; idle = refl; some = λ e. absurd (cc); back = λ e. absurd (cc) })
 
 kept_holds : Holds walked.kept
-kept_holds = digested_holds walked.handed 1 (walked.mkdir_a.change ∷ []) [] handed_holds (record { client = refl; split = refl })
+kept_holds = digested_holds walked.handed 1 (walked.mkdir_a.change ∷ []) [] handed_holds (record { client = refl; some = λ e. absurd (cc); split = refl })
 
 back_holds : Holds walked.back
 back_holds = taken_back_holds walked.kept 1 kept_holds (record { client = refl; away = refl; digested = refl })
@@ -195,7 +196,7 @@ passed_tree =
     write_taken_tree (given walked.back 1 2) 2 2 (given_holds walked.back 1 2 back_holds can_give) refl
     ∙ given_tree walked.back 1 2 back_holds can_give
     ∙ taken_back_tree walked.kept 1 kept_holds (record { client = refl; away = refl; digested = refl })
-    ∙ digested_tree walked.handed 1 (walked.mkdir_a.change ∷ []) [] handed_holds (record { client = refl; split = refl })
+    ∙ digested_tree walked.handed 1 (walked.mkdir_a.change ∷ []) [] handed_holds (record { client = refl; some = λ e. absurd (cc); split = refl })
     ∙ sealed_tree walked.made 1 made_holds (record { client = refl; idle = refl; some = λ e. absurd (cc); back = λ e. absurd (cc) })
 
 -- a stop while the call is begun leaves its record or not

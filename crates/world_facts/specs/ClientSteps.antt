@@ -35,6 +35,7 @@ pub record CanBegin (w : World) (c : ℕ) (b : Begun) : Type 0 where
   pub ready : (w.clients c).ready ≡ true
   -- by what the client knows
   pub planned : IsPlanned (w.clients c).knows b.call b.new b.operation b.change.effects
+  pub some : b.change.effects ≢ []
   pub counted : run_part (part_of (w.clients c).knows) (units_asked b.operation) ≡ Known (Ok b.change.units)
   -- it holds for writing what the record touches, has its units, and has pinned what is opened
   pub leased : (i : ℕ) → is_touched i b.change ≡ true → (w.clients c).writes i ≡ true

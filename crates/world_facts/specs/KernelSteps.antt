@@ -1,5 +1,5 @@
 -- The steps of the shared graph, each with when it may be taken.
-use Rattle.std.specs.Prelude.{◌≡◌, ℕ, ◌+◌, ◌-◌, List, ◌++◌, length, drop, true, false, ◌&&◌, not, None}
+use Rattle.std.specs.Prelude.{◌≡◌, ◌≢◌, ℕ, ◌+◌, ◌-◌, List, ◌++◌, [], length, drop, true, false, ◌&&◌, not, None}
 use Rattle.posix_calls.specs.Operations.{is_client}
 use Rattle.file_graph.specs.Graph.{set_node}
 use Rattle.log_record.specs.declared.format.Record.{Record}
@@ -11,6 +11,7 @@ use Rattle.world_facts.specs.World.{World, moved}
 -- the first records of a client's sealed region that are not digested, and those that follow
 pub record CanDigest (w : World) (c : ℕ) (first rest : List Record) : Type 0 where
   pub client : is_client c ≡ true
+  pub some : first ≢ []
   pub split : drop ((w.kernel.accounts c).mark - (w.clients c).past) (w.clients c).sealed ≡ first ++ rest
 
 -- their effects, the mark, their units and the numbers of their new nodes move at once

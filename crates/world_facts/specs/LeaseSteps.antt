@@ -1,10 +1,10 @@
 -- The steps of leases and copies, each with when it may be taken.
-use Rattle.std.specs.Prelude.{◌≡◌, ◌≢◌, ◌⊎◌, ℕ, List, Bool, true, false, ◌==◌, ◌||◌, Some, None, if◌then◌else◌}
+use Rattle.std.specs.Prelude.{◌≡◌, ◌≢◌, ◌⊎◌, ℕ, List, Bool, true, false, ◌==◌, ◌||◌, Option, Some, None, if◌then◌else◌}
 use Rattle.posix_calls.specs.Operations.{is_client}
 use Rattle.file_graph.specs.Graph.{Graph, FileBody}
 use Rattle.call_effects.specs.Blocks.{block_of}
 use Rattle.call_effects.specs.NodeView.{view_at}
-use Rattle.call_effects.specs.Known.{Knowledge, with_copy, with_blocks}
+use Rattle.call_effects.specs.Known.{Knowledge, IsForgetful, with_copy, with_blocks}
 use Rattle.world_facts.specs.Logs.{after_records, is_written}
 use Rattle.world_facts.specs.World.{World, holds, log_of}
 use Rattle.world_facts.specs.ClientSteps.{with_client}
@@ -72,3 +72,22 @@ pub record CanRead (w : World) (c i names : ℕ) (bytes : List ℕ) : Type 0 whe
 
 abbrev pub blocks_fetched : World → ℕ → ℕ → ℕ → ℕ → List ℕ → World
 blocks_fetched w c i first count bytes = with_client w c (record (w.clients c) { knows = with_blocks (w.clients c).knows i first count (λ b. block_of b bytes) })
+
+-- ---- what is known is forgotten
+
+-- copies, blocks and numbers, where no call is begun
+pub record CanForget (w : World) (c : ℕ) (less : Knowledge) : Type 0 where
+  pub client : is_client c ≡ true
+  pub idle : (w.clients c).begun ≡ None
+  pub fewer : IsForgetful (w.clients c).knows less
+
+abbrev pub forgotten : World → ℕ → Knowledge → World
+forgotten w c less = with_client w c (record (w.clients c) { knows = less })
+
+-- blocks alone, at any time: a begun call does not need them, since it has a record
+pub record CanForgetBlocks (w : World) (c : ℕ) (fewer : ℕ → ℕ → Option (List ℕ)) : Type 0 where
+  pub client : is_client c ≡ true
+  pub known : (i b : ℕ) (bytes : List ℕ) → fewer i b ≡ Some bytes → (w.clients c).knows.blocks i b ≡ Some bytes
+
+abbrev pub blocks_forgotten : World → ℕ → (ℕ → ℕ → Option (List ℕ)) → World
+blocks_forgotten w c fewer = with_client w c (record (w.clients c) { knows = record (w.clients c).knows { blocks = fewer } })

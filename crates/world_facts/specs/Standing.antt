@@ -57,9 +57,10 @@ pub record IsPinned (book pins : ℕ → Bool) (own : Own) : Type 0 where
 abbrev pub OpensPinned : (ℕ → Bool) → ℕ → Operation → Type 0
 OpensPinned pins new operation = (what : ℕ × Descriptor) → opens new operation ≡ Some what → pins what.1.inode ≡ true
 
--- by what the client knows, the begun call comes to its operation, and its record to the effects
+-- by what the client knows, the begun call comes to its operation, and its record to the effects, which are not none
 pub record IsPending (k : Knowledge) (pins : ℕ → Bool) (b : Begun) : Type 0 where
   pub planned : IsPlanned k b.call b.new b.operation b.change.effects
+  pub some : b.change.effects ≢ []
   pub pinned : OpensPinned pins b.new b.operation
 
 -- whether a client's call is settled for good

@@ -45,7 +45,8 @@ pub use kernel_laws::{
     records_may_be_digested, unused_file_may_be_reclaimed,
 };
 pub use lease_laws::{
-    copy_may_be_fetched, lease_may_be_given, read_lease_may_be_taken, write_lease_may_be_taken,
+    copy_may_be_fetched, knowledge_may_be_forgotten, lease_may_be_given, read_lease_may_be_taken,
+    write_lease_may_be_taken,
 };
 pub use opening_laws::{idle_world_holds, opening_world_holds};
 pub use order_laws::clients_records_commute;
