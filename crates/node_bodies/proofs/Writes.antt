@@ -1,8 +1,8 @@
--- A file that was grown as far as a write needs, and then written over, is as the definition has it.
-use Rattle.std.proofs.Common.{◌≡◌, ℕ, ◌+◌, ◌-◌, ◌≤◌, ◌<◌, List, ◌++◌, length, take, drop, replicate, refl, sym, ap, ◌∙◌, arith, inl, inr}
+-- A file that is written over as far as it goes, and appended to behind its end, is as the definition has it.
+use Rattle.std.proofs.Common.{◌≡◌, ℕ, ◌+◌, ◌-◌, ◌≤◌, List, [], ◌++◌, length, take, drop, min, refl, ap, ◌∙◌, arith, inl, inr, append_assoc}
 use Rattle.std.proofs.lemmas.Bool.{cases_lt}
-use Rattle.std.proofs.lemmas.List.{append-nil, take_all, drop_all, take-replicate, length-replicate, length-append, take-append-le, length-take, length-drop}
-use Rattle.std.proofs.Math.Seq.{take-append-add}
+use Rattle.std.proofs.lemmas.List.{append-nil, take_all, drop_all, length-append, take-append-le, take-append-drop, length-take, length-drop}
+use Rattle.std.proofs.Math.Seq.{drop-append_seam}
 use Rattle.posix_calls.specs.Content.{written}
 
 pub write_within : (at : ℕ) (new old : List ℕ) → at + length new ≤ length old → take at old ++ new ++ drop (at + length new) old ≡ written at new old
@@ -10,31 +10,21 @@ write_within at new old fits =
     let none : at - length old ≡ 0 = omega arith in
     rw (none, append-nil (take at old)) refl
 
-zeros : (n : ℕ) → length (replicate {A = ℕ} n 0) ≡ n
-zeros n = let nothing : ℕ = 0 in length-replicate n nothing
-
--- what is taken of bytes and zeros behind them
-front_of_grown : (at m : ℕ) (old : List ℕ) → at ≤ length old + m → take at (old ++ replicate m 0) ≡ take at old ++ replicate (at - length old) 0
-front_of_grown at m old fits =
-    elim (cases_lt (length old) at) [
-      | inl lt ↦
-          let split : at ≡ length old + (at - length old) = omega arith in
-          ap (λ (n : ℕ). take n (old ++ replicate m 0)) split
-          ∙ take-append-add old (replicate m 0) (at - length old)
-          ∙ ap (λ (x : List ℕ). old ++ x) (take-replicate (at - length old) m 0 (omega arith))
-          ∙ ap (λ (x : List ℕ). x ++ replicate (at - length old) 0) (sym (take_all at old (omega arith)))
-      | inr le ↦
+-- bytes that are appended as far as they pass the end, and otherwise written over what is there
+pub write_over : (at w : ℕ) (new old : List ℕ) → at ≤ length old → w ≡ min (length new) (length old - at) → take at (old ++ drop w new) ++ take w new ++ drop (at + w) (old ++ drop w new) ≡ written at new old
+write_over at w new old front is =
+    elim (cases_lt (length old - at) (length new)) [
+      | inl past ↦
+          let cut : w ≡ length old - at = omega (arith, is) in
+          let seam : drop (at + w) (old ++ drop w new) ≡ drop w new = ap (λ (n : ℕ). drop n (old ++ drop w new)) (omega (arith, cut, front)) ∙ drop-append_seam old (drop w new) in
           let none : at - length old ≡ 0 = omega arith in
-          take-append-le at old (replicate m 0) le ∙ sym (append-nil (take at old)) ∙ ap (λ (n : ℕ). take at old ++ replicate n 0) (sym none)
+          let nothing : drop (at + length new) old ≡ [] = drop_all (at + length new) old (omega arith) in
+          rw (take-append-le at old (drop w new) front, seam, none, nothing, append-nil (take at old), append-nil (take at old ++ new))
+          (append_assoc (take at old) (take w new) (drop w new) ∙ ap (λ (x : List ℕ). take at old ++ x) (take-append-drop w new))
+      | inr within ↦
+          let all : w ≡ length new = omega (arith, is) in
+          rw (all, drop_all (length new) new (omega arith), take_all (length new) new (omega arith), append-nil old) (write_within at new old (omega (arith, front)))
     ]
-
-pub write_beyond : (at : ℕ) (new old mid : List ℕ) → length old < at + length new → mid ≡ take (at + length new) old ++ replicate (at + length new - length old) 0
-    → take at mid ++ new ++ drop (at + length new) mid ≡ written at new old
-write_beyond at new old mid short is =
-    let grown : mid ≡ old ++ replicate (at + length new - length old) 0 = is ∙ ap (λ (x : List ℕ). x ++ replicate (at + length new - length old) 0) (take_all (at + length new) old (omega arith)) in
-    let long : length mid ≡ at + length new = ap length grown ∙ length-append old (replicate (at + length new - length old) 0) ∙ omega (arith, zeros (at + length new - length old)) in
-    let front : take at mid ≡ take at old ++ replicate (at - length old) 0 = ap (take at) grown ∙ front_of_grown at (at + length new - length old) old (omega arith) in
-    rw (front, drop_all (at + length new) mid (omega (arith, long)), drop_all (at + length new) old (omega arith)) refl
 
 -- what a vector has after its slice was written over
 pub settled : (len at : ℕ) (new items r whole : List ℕ) → r ≡ items → length r ≡ len → at + length new ≤ length r → whole ≡ take at r ++ new ++ drop (at + length new) r

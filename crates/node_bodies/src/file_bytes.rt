@@ -88,7 +88,8 @@ fn range(bytes: &[u8], at: usize, count: usize) -> &[u8]
     &rest[..count.min(rest.len())]
 }
 
-// A file that would pass the end of all numbers finds no memory.
+// A file that would pass the end of all numbers finds no memory. Each byte is written once: over what is there as far as the old
+// end, and appended behind it.
 fn write_at(file: &mut Vec<u8>, at: usize, bytes: &[u8]) -> Result<(), AllocError>
     ensures ok { OnOk result (file.new.items ≡ written at bytes.now file.old.items) }
     ensures err { OnErr result (file.new.items ≡ file.old.items) }
@@ -96,11 +97,26 @@ fn write_at(file: &mut Vec<u8>, at: usize, bytes: &[u8]) -> Result<(), AllocErro
     let Some(end) = at.checked_add(bytes.len()) else {
         return Err(AllocError);
     };
-    if file.len() < end {
-        file.resize(end, 0)?;
+    if file.len() < at {
+        fill_gap(file, at, end)?;
+        return file.extend_from_slice(bytes);
     }
-    overwrite(file, at, bytes);
+    let within = bytes.len().min(file.len() - at);
+    file.extend_from_slice(&bytes[within..])?;
+    overwrite(file, at, &bytes[..within]);
     Ok(())
+}
+
+// Zeros up to an offset behind the end, and room up to an end behind that: what is put there finds memory.
+fn fill_gap(file: &mut Vec<u8>, at: usize, end: usize) -> Result<(), AllocError>
+    requires behind { length file.old.items < at }
+    requires room { at ≤ end }
+    ensures ok { OnOk result (file.new.items ≡ resized at file.old.items) }
+    ensures room { OnOk result (end ≤ file.new.cap) }
+    ensures err { OnErr result (file.new.items ≡ file.old.items) }
+{
+    file.reserve(end - file.len())?;
+    file.resize(at, 0)
 }
 
 fn overwrite(file: &mut [u8], start: usize, bytes: &[u8])
