@@ -1,5 +1,5 @@
--- The graph of a root alone is sound, and stands for the empty tree.
-use Rattle.std.proofs.Common.{◌≡◌, ℕ, ◌+◌, List, [], true, false, Bool, refl, Some, None, Ok, ap, sym, ◌∙◌, arith, cond, ◌==◌, inl, inr}
+-- The graph of a root alone is sound, stands for the empty tree, and is within the limits.
+use Rattle.std.proofs.Common.{◌≡◌, ℕ, ◌+◌, List, [], true, false, Bool, refl, Some, None, Ok, ap, sym, ◌∙◌, arith, cond, ◌==◌, inl, inr, subst}
 use Rattle.std.specs.Prelude.{option_map}
 use Rattle.std.specs.FinMap as fin
 use Rattle.std.specs.Ordering.{nat_cmp}
@@ -9,7 +9,8 @@ use Rattle.posix_calls.specs.Content.{Entries}
 use Rattle.posix_calls.specs.Tree.{Descriptors, opening, names_in, names_of, is_open}
 use Rattle.posix_calls.specs.Tree as tree
 use Rattle.posix_calls.specs.Resolve.{resolve, resolve_from}
-use Rattle.posix_calls.specs.WellFormed.{IsDirectory}
+use Rattle.posix_calls.specs.WellFormed.{IsDirectory, IsWithinLimits}
+use Rattle.posix_calls.proofs.Bounds.{opening_within}
 use Rattle.posix_calls.proofs.Sums.{all_zero}
 use Rattle.posix_calls.proofs.Counts.{counted, counted_is, counted_empty}
 use Rattle.file_graph.specs.Graph.{Node, DirBody, fresh}
@@ -84,3 +85,13 @@ nobody c n = None
 
 pub fresh_state : state_of fresh nobody ≡ opening
 fresh_state = λ t. record { tree = λ i. kept_fresh (is_open nobody i) (i == 1) t; descriptors = nobody }
+
+tree_fresh : (b : Bool) → option_map tree_node (cond b (dir 1 fin.empty) None) ≡ cond b (Some (tree.Dir fin.empty)) None
+tree_fresh true = ap (λ m. Some (tree.Dir m)) inodes_empty
+tree_fresh false = refl
+
+same_tree : tree_of fresh ≡ opening.tree
+same_tree = λ t i. tree_fresh (i == 1) t
+
+pub fresh_within : IsWithinLimits (tree_of fresh)
+fresh_within = subst IsWithinLimits (sym same_tree) opening_within

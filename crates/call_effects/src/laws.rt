@@ -22,6 +22,11 @@ pub fn fresh_graph_stands_for_the_opening()
     ensures state { state_of fresh (λ c n. None) ≡ opening }
 {}
 
+/// It is within the limits, so `calls_keep_a_graph_within_its_limits` has a beginning.
+pub fn fresh_graph_is_within_its_limits()
+    ensures { IsWithinLimits (tree_of fresh) }
+{}
+
 /// What a call sees of a sound graph by the stored counts of names is what it sees of its tree, whose names are counted.
 pub fn stored_counts_are_the_counted_names()
     ensures { (g : Graph) (held : Descriptors) → IsSound g held → view_of ((state_of g held).tree) ≡ graph_view g held }

@@ -27,8 +27,8 @@ pub use known_laws::{
 };
 pub use laws::{
     answered_operation_fits, call_is_a_step, calls_keep_a_graph_within_its_limits,
-    fresh_graph_stands_for_the_opening, operation_is_its_effects, sound_graph_is_well_formed,
-    stored_counts_are_the_counted_names,
+    fresh_graph_is_within_its_limits, fresh_graph_stands_for_the_opening, operation_is_its_effects,
+    sound_graph_is_well_formed, stored_counts_are_the_counted_names,
 };
 pub use record::record_of;
 pub use record_laws::{
