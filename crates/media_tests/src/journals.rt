@@ -14,7 +14,7 @@ use std::test::Fail;
 use tier_device::{Fill, Media, MemMedia, Tier};
 
 // A medium of 2 units with 2, 512 and 0 data blocks, all zero but for the superblock. The node pool ends before block 3,368.
-fn medium(alloc: Global) -> Result<MemMedia, SetupError>
+pub fn medium(alloc: Global) -> Result<MemMedia, SetupError>
     ensures { IfOk result IsAtRest }
 {
     let fast = fast_tier(alloc)?;
@@ -33,7 +33,7 @@ fn fast_tier(alloc: Global) -> Result<Vec<u8>, SetupError> {
     Ok(fast)
 }
 
-fn reopened<M: Media + Drop>(alloc: Global, media: M) -> Result<Journal<M>, SetupError>
+pub fn reopened<M: Media + Drop>(alloc: Global, media: M) -> Result<Journal<M>, SetupError>
     requires { AtRest (M.seen media) (M.left media (M.moment media)) Fast }
 {
     match Journal::reopen(alloc, media) {
@@ -51,7 +51,7 @@ fn filled(alloc: Global, byte: u8) -> Result<Vec<u8>, AllocError>
 }
 
 // Writes the images of blocks 33 and 292, each of one byte.
-fn commit_two<M: Media>(alloc: Global, journal: &mut Journal<M>) -> Result<(), JournalError> {
+pub fn commit_two<M: Media>(alloc: Global, journal: &mut Journal<M>) -> Result<(), JournalError> {
     match two(alloc) {
         Ok(batch) => journal.commit(&batch),
         Err(_) => Err(JournalError::Memory),
