@@ -1,5 +1,5 @@
 ghost use Rattle.std.specs.Prelude.{◌≡◌, IfOk, OnOk};
-ghost use Rattle.graph_change.specs.Change.{Coalesces, with_effects};
+ghost use Rattle.graph_change.specs.Change.{Coalesces, coalesced, with_effects};
 ghost use Rattle.graph_change.specs.View.{changes_of};
 ghost use Rattle.coalescer.specs.Records.{effects_of};
 
@@ -11,7 +11,8 @@ use std::alloc::{AllocError, Global};
 /// that they are on and no others, and of no block of a file that they leave alone. Each inode stands in it once, and so does each block.
 /// A write that would end past all numbers finds no memory; a record that has a spelling holds none.
 pub fn coalesce(alloc: Global, records: &[Record]) -> Result<GraphChange, AllocError>
-    ensures { IfOk result (λ change. Coalesces (effects_of records.now) (changes_of change)) }
+    ensures meaning { IfOk result (λ change. Coalesces (effects_of records.now) (changes_of change)) }
+    ensures exact { IfOk result (λ change. changes_of change ≡ coalesced (effects_of records.now)) }
 {
     let mut change = GraphChange::new(alloc);
     for logged in records {

@@ -21,4 +21,4 @@ pub returns : goal.returns
 returns c =
     let rs = c.args.records.now in
     let is : changes_of c.loop-logged.change ≡ coalesced (effects_of rs) = c.loop-logged.invariant ∙ ap (λ x. coalesced (effects_of x)) (take_all c.loop-logged.logged-index rs c.loop-logged-test.false) in
-    subst (Coalesces (effects_of rs)) (sym is) (coalesces (effects_of rs))
+    record { meaning = subst (Coalesces (effects_of rs)) (sym is) (coalesces (effects_of rs)); exact = is }
