@@ -1,4 +1,5 @@
 mod Counted
 mod Counts
+mod Exchanges
 mod Folds
 mod Runs

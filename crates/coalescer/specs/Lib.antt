@@ -1,3 +1,4 @@
 pub mod Counted
+pub mod Exchange
 pub mod Records
 pub mod Weight

@@ -10,10 +10,12 @@
 //! A record costs by its bytes and its effects, and by the logarithm of what the records before it touch.
 #![tactic(auto)]
 
+mod laws;
 mod records;
 mod run;
 mod weight;
 
+pub use laws::exchange_has_its_place;
 pub use records::{add_record, coalesce};
 pub use run::longest_run;
 pub use weight::{CHUNK_BLOCKS, CHUNK_IMAGES};

@@ -1,0 +1,46 @@
+-- An exchange of what two names of directories lead to, and the two parts of a change that it would stand between.
+use Rattle.std.specs.Prelude.{ℕ, List, [], ◌∷◌, Option, Some, None, map}
+use Rattle.std.specs.FinMap as fin
+use Rattle.posix_calls.specs.Content.{Entries}
+use Rattle.file_graph.specs.declared.effect.Effect.TheVariants as effect
+use Rattle.file_graph.specs.Graph.{Node, FileBody, DirBody, Graph, after_effects}
+use Rattle.graph_change.specs.Bytes.{Grown}
+use Rattle.graph_change.specs.Net.{Kept, Child}
+use Rattle.graph_change.specs.Change.{Change, Changes}
+
+-- a directory, and a name in it
+abbrev pub Place : Type 0
+Place = ℕ × List ℕ
+
+-- the entries of a directory, none of what is no directory
+abbrev pub entries_in : Option Node → Entries Child
+entries_in None = fin.empty
+entries_in (Some n) = elim (n.body) [ FileBody bytes ↦ fin.empty | DirBody entries ↦ entries ]
+
+-- what a name leads to
+abbrev pub child_at : Graph → Place → Option Child
+child_at g p = fin.get (entries_in (g p.0)) p.1
+
+-- with each of these entered under the other's name, where both are there
+abbrev pub entered : Place → Place → Option Child → Option Child → Graph → Graph
+entered p q (Some x) (Some y) g = after_effects g (effect.Enter p.0 y.0 y.1 p.1 ∷ effect.Enter q.0 x.0 x.1 q.1 ∷ [])
+entered p q (Some x) None g = g
+entered p q None y g = g
+
+-- a graph in which two names have exchanged what they lead to; as it was, unless both lead to something
+abbrev pub exchanged : Place → Place → Graph → Graph
+exchanged p q g = entered p q (child_at g p) (child_at g q) g
+
+-- ---- a change in two parts
+
+-- each inode's change as this makes it
+abbrev pub each : (Change → Change) → Changes → Changes
+each f cs = fin.from_entries (map (λ e. (e.0, f e.1)) (fin.entries cs))
+
+-- of a change what makes and drops the node, and its entries
+abbrev pub front : Change → Change
+front c = record { base = c.base; names = None; length = Grown 0; patches = fin.empty; entries = c.entries }
+
+-- the rest of it: how many names the node has, and a file's length and bytes
+abbrev pub rest : Change → Change
+rest c = record { base = Kept; names = c.names; length = c.length; patches = c.patches; entries = fin.empty }
