@@ -1,10 +1,5 @@
 -- The two calls of the first path as records, and what records make of a graph.
 use Rattle.std.specs.Prelude.{◌≡◌, ℕ, zero, suc, List, [], ◌∷◌, drop, Some, None, Ok, true, codes}
-use Rattle.tier_device.specs.declared.media.Tier.{Tier}
-use Rattle.tier_device.specs.declared.media.Tier.TheVariants.{Fast}
-use Rattle.tier_device.specs.Memory.{memory_seen, memory_left, memory_moment}
-use Rattle.tier_device.specs.Stop.{medium_of}
-use Rattle.tier_device.specs.declared.stop.StopMedia.{StopMedia}
 use Rattle.posix_calls.specs.declared.limits.TheConstants.{ROOT}
 use Rattle.posix_calls.specs.declared.call.Call.{Call}
 use Rattle.posix_calls.specs.declared.call.Call.TheVariants as call
@@ -73,14 +68,10 @@ abbrev pub IsMark : ℕ → Graph → Graph → List Record → List Record → 
 IsMark zero g after old new = after ≡ g
 IsMark (suc n) g after old new = (n ≡ 0) × IsDone g after old new
 
--- what reads of a medium give
-abbrev pub stop_seen : StopMedia → Tier → List ℕ
-stop_seen media = memory_seen (medium_of media)
-
--- these are the records of a content that a stop now may leave
-abbrev pub MayHold : StopMedia → List Record → Type 0
-MayHold media found = (c : List ℕ) × memory_left (medium_of media) (memory_moment (medium_of media)) Fast c × (found ≡ records c)
+-- these are the records of one of the contents that a stop may leave
+abbrev pub MayHold : (List ℕ → Type 0) → List Record → Type 0
+MayHold left found = (c : List ℕ) × left c × (found ≡ records c)
 
 -- a graph with all records of such a content but the first ones, which were done
-abbrev pub IsRecovered : StopMedia → ℕ → Graph → Graph → Type 0
-IsRecovered media done g after = (found : List Record) × MayHold media found × (after ≡ after_records g (drop done found))
+abbrev pub IsRecovered : (List ℕ → Type 0) → ℕ → Graph → Graph → Type 0
+IsRecovered left done g after = (found : List Record) × MayHold left found × (after ≡ after_records g (drop done found))

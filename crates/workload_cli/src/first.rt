@@ -1,24 +1,25 @@
 // The program `strata_first`.
 ghost use Rattle.std.specs.Prelude.{◌≡◌, Ok, true, Some, IfOk, OnOk};
+ghost use Rattle.tier_device.specs.declared.media.Tier.TheVariants.{Fast};
 ghost use Rattle.update_log.specs.Frames.{joined};
 ghost use Rattle.file_graph.specs.Graph.{Graph, graph_of};
 ghost use Rattle.update_log.specs.View.{records_of};
-ghost use Rattle.workload_cli.specs.FirstPath.{nothing_open, file_open, first_call, second_call, IsLogged, stop_seen, IsMark, IsRecovered};
+ghost use Rattle.workload_cli.specs.FirstPath.{nothing_open, file_open, first_call, second_call, IsLogged, IsMark, IsRecovered};
 
 use crate::lines::{write_data, write_name};
 use crate::options::{Stop, first_options};
-use crate::regions::{apply, log, open_region, recover};
+use crate::regions::{Stopping, apply, log, open_region, recover};
 use crate::run_error::RunError;
 use crate::two_clients::{
     FILE, NEW, first_call, first_descriptors, first_graph, logged, second_call,
 };
 use crate::usage::{tell, tell_fault};
-use file_graph::PlainGraph;
+use file_graph::{PlainEntry, PlainGraph};
 use log_record::Record;
 use posix_calls::{OwnDescriptors, ROOT, Reply};
 use std::alloc::Global;
 use std::io::{self, Write};
-use tier_device::StopMedia;
+use tier_device::{Media, StopMedia};
 use update_log::Region;
 
 /// Runs `strata_first`: client 1 writes into `/f` and client 2 makes `/a`, each into a region of its own; then the run stops,
@@ -42,40 +43,39 @@ pub fn run_first<'a, O: Write, E: Write>(
 
 // The regions of the two clients.
 #[derive(Drop)]
-struct Regions {
-    first: Region<StopMedia>,
-    second: Region<StopMedia>,
+struct Regions<S: Stopping> {
+    first: Region<S>,
+    second: Region<S>,
 }
 
 fn run<O: Write>(alloc: Global, stop: Option<Stop>, out: &mut O) -> Result<(), RunError> {
     let mut graph = first_graph(alloc)?;
-    let regions = open_regions(alloc, stop)?;
-    run_over(alloc, regions, &mut graph, out)?;
+    run_over::<StopMedia, O>(alloc, stop, &mut graph, out)?;
     write_tree(out, &graph)?;
     Ok(())
 }
 
-fn run_over<O: Write>(
+fn run_over<S: Stopping, O: Write>(
     alloc: Global,
-    regions: Regions,
+    stop: Option<Stop>,
     graph: &mut PlainGraph,
     out: &mut O,
 ) -> Result<(), RunError> {
-    let mut regions = regions;
+    let mut regions = open_regions::<S>(alloc, stop)?;
     let done = ask_both(alloc, &mut regions, graph, out)?;
     recover_both(alloc, regions, graph, done)
 }
 
-fn open_regions(alloc: Global, stop: Option<Stop>) -> Result<Regions, RunError> {
+fn open_regions<S: Stopping>(alloc: Global, stop: Option<Stop>) -> Result<Regions<S>, RunError> {
     let first = open_region(alloc, stop)?;
     let second = open_region(alloc, stop)?;
     Ok(Regions { first, second })
 }
 
 // Asks both clients' calls, and tells how many records of the first region are done.
-fn ask_both<O: Write>(
+fn ask_both<S: Stopping, O: Write>(
     alloc: Global,
-    regions: &mut Regions,
+    regions: &mut Regions<S>,
     graph: &mut PlainGraph,
     out: &mut O,
 ) -> Result<usize, RunError> {
@@ -86,13 +86,13 @@ fn ask_both<O: Write>(
 }
 
 // Does what both regions hold after the stop, but for the first one's records that are done.
-fn recover_both(
+fn recover_both<S: Stopping>(
     alloc: Global,
-    regions: Regions,
+    regions: Regions<S>,
     graph: &mut PlainGraph,
     done: usize,
 ) -> Result<(), RunError>
-    ensures { OnOk result ((between : Graph) × IsRecovered regions.first.media done (graph_of graph.old) between × IsRecovered regions.second.media 0 between (graph_of graph.new)) }
+    ensures { OnOk result ((between : Graph) × IsRecovered (S.left regions.first.media (S.moment regions.first.media) Fast) done (graph_of graph.old) between × IsRecovered (S.left regions.second.media (S.moment regions.second.media) Fast) 0 between (graph_of graph.new)) }
 {
     let Regions { first, second } = regions;
     recover(alloc, first, graph, done)?;
@@ -100,13 +100,13 @@ fn recover_both(
 }
 
 // Logs what client 1 asks, does it where it was answered, and tells how many records are done.
-fn ask_first<O: Write>(
+fn ask_first<M: Media, O: Write>(
     alloc: Global,
-    region: &mut Region<StopMedia>,
+    region: &mut Region<M>,
     graph: &mut PlainGraph,
     out: &mut O,
 ) -> Result<usize, RunError>
-    ensures { IfOk result (λ done. IsMark done (graph_of graph.old) (graph_of graph.new) (records_of stop_seen region.old) (records_of stop_seen region.new)) }
+    ensures { IfOk result (λ done. IsMark done (graph_of graph.old) (graph_of graph.new) (records_of M.seen region.old) (records_of M.seen region.new)) }
 {
     let (entry, reply) = first_asked(alloc, graph)?;
     if !keep(region, &entry, reply, 1, out)? {
@@ -117,9 +117,9 @@ fn ask_first<O: Write>(
 }
 
 // Logs what client 2 asks.
-fn ask_second<O: Write>(
+fn ask_second<M: Media, O: Write>(
     alloc: Global,
-    region: &mut Region<StopMedia>,
+    region: &mut Region<M>,
     graph: &PlainGraph,
     out: &mut O,
 ) -> Result<(), RunError> {
@@ -143,14 +143,14 @@ fn second_asked(alloc: Global, graph: &PlainGraph) -> Result<(Record, Reply), Ru
 }
 
 // Logs a client's record, and prints the reply where it was answered; whether it was.
-fn keep<O: Write>(
-    region: &mut Region<StopMedia>,
+fn keep<M: Media, O: Write>(
+    region: &mut Region<M>,
     entry: &Record,
     reply: Reply,
     client: u8,
     out: &mut O,
 ) -> Result<bool, RunError>
-    ensures { result ≡ Ok true → records_of stop_seen region.new ≡ joined (records_of stop_seen region.old) (Some entry.now) }
+    ensures { result ≡ Ok true → records_of M.seen region.new ≡ joined (records_of M.seen region.old) (Some entry.now) }
 {
     let is_answered = log(region, entry)?;
     write_reply(out, client, is_answered, &reply)?;
@@ -173,11 +173,18 @@ fn write_reply<O: Write>(
 }
 
 fn write_tree<O: Write>(out: &mut O, graph: &PlainGraph) -> io::Result<()> {
-    let bytes = graph.file(FILE).unwrap_or(&[]);
+    write_file(out, graph.file(FILE).unwrap_or(&[]))?;
+    write_names(out, graph.entries(ROOT).unwrap_or(&[]))
+}
+
+fn write_file<O: Write>(out: &mut O, bytes: &[u8]) -> io::Result<()> {
     write!(out, "/f bytes {} ", bytes.len())?;
-    write_data(out, bytes)?;
+    write_data(out, bytes)
+}
+
+fn write_names<O: Write>(out: &mut O, entries: &[PlainEntry]) -> io::Result<()> {
     out.write_all(b"\n/ names")?;
-    for entry in graph.entries(ROOT).unwrap_or(&[]) {
+    for entry in entries {
         write_name(out, entry.name.as_slice())?;
     }
     out.write_all(b"\n")

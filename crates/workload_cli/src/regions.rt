@@ -1,11 +1,11 @@
 // A client's region: what is logged there, and what a stop leaves.
 ghost use Rattle.std.specs.Prelude.{◌≡◌, IfOk, OnOk, Ok, true, false, Some, drop};
 ghost use Rattle.tier_device.specs.declared.media.Tier.TheVariants.{Fast};
-ghost use Rattle.tier_device.specs.Media.{Rose};
-ghost use Rattle.tier_device.specs.Memory.{IsAtRest, memory_seen, memory_left, memory_moment};
+ghost use Rattle.tier_device.specs.Media.{AtRest, Rose};
+ghost use Rattle.tier_device.specs.Memory.{IsAtRest, memory_seen};
 ghost use Rattle.tier_device.specs.Stop.{medium_of};
 ghost use Rattle.file_graph.specs.Graph.{graph_of, after_effects};
-ghost use Rattle.update_log.specs.Frames.{joined};
+ghost use Rattle.update_log.specs.Frames.{joined, records};
 ghost use Rattle.update_log.specs.View.{records_of};
 ghost use Rattle.workload_cli.specs.FirstPath.{after_records, MayHold, IsRecovered};
 
@@ -17,23 +17,31 @@ use std::alloc::Global;
 use tier_device::{Fill, Media, MemMedia, StopMedia};
 use update_log::{REGION_SIZE, Region, RegionError, Stage};
 
-/// An empty region on a medium that stops where it is asked to.
-pub fn open_region(alloc: Global, stop: Option<Stop>) -> Result<Region<StopMedia>, RunError> {
-    let media = fresh_media(alloc, stop)?;
-    match Region::reopen(alloc, media) {
-        Ok(region) => Ok(region),
-        Err((error, _media)) => Err(RunError::from(error)),
-    }
+/// A medium that stops where it is asked to. A run is written over any such, so that what it owns is one value to the check of
+/// borrows, and not as many as `StopMedia` has fields.
+pub trait Stopping: Media + Drop {
+    /// This medium, armed.
+    fn new(media: MemMedia, stop: Option<Stop>) -> Self
+        requires { IsAtRest media }
+        ensures { AtRest (Self.seen result) (Self.left result (Self.moment result)) Fast };
+
+    /// The medium after its stop, or after one now.
+    fn after_stop(self) -> Result<MemMedia, RunError>
+        ensures at_rest { IfOk result IsAtRest }
+        ensures allowed { IfOk result (λ m. Self.left self (Self.moment self) Fast (memory_seen m Fast)) };
 }
 
-// A medium of a region's size, all zeros.
-fn fresh_media(alloc: Global, stop: Option<Stop>) -> Result<StopMedia, RunError>
-    ensures { IfOk result (λ media. IsAtRest (medium_of media)) }
-{
-    let size = REGION_SIZE;
-    let zeros = vec![in alloc; 0u8; size]?;
-    let media = MemMedia::of_bytes(alloc, zeros, Vec::new(alloc), Vec::new(alloc))?;
-    Ok(armed(media, stop))
+impl Stopping for StopMedia {
+    fn new(media: MemMedia, stop: Option<Stop>) -> Self {
+        armed(media, stop)
+    }
+
+    fn after_stop(self) -> Result<MemMedia, RunError> {
+        match self.rest() {
+            Ok(media) => Ok(media),
+            Err(_running) => Err(RunError::Memory),
+        }
+    }
 }
 
 fn armed(media: MemMedia, stop: Option<Stop>) -> StopMedia
@@ -46,6 +54,31 @@ fn armed(media: MemMedia, stop: Option<Stop>) -> StopMedia
             media
         }
         None => media,
+    }
+}
+
+/// An empty region on a medium that stops where it is asked to.
+pub fn open_region<S: Stopping>(alloc: Global, stop: Option<Stop>) -> Result<Region<S>, RunError> {
+    let media = fresh_media(alloc)?;
+    opened(alloc, S::new(media, stop))
+}
+
+// A medium of a region's size, all zeros.
+fn fresh_media(alloc: Global) -> Result<MemMedia, RunError>
+    ensures { IfOk result IsAtRest }
+{
+    let size = REGION_SIZE;
+    let zeros = vec![in alloc; 0u8; size]?;
+    Ok(MemMedia::of_bytes(alloc, zeros, Vec::new(alloc), Vec::new(alloc))?)
+}
+
+fn opened<M: Media + Drop>(alloc: Global, media: M) -> Result<Region<M>, RunError>
+    requires { AtRest (M.seen media) (M.left media (M.moment media)) Fast }
+    ensures { IfOk result (λ region. records_of M.seen region ≡ records (M.seen media Fast)) }
+{
+    match Region::reopen(alloc, media) {
+        Ok(region) => Ok(region),
+        Err((error, _media)) => Err(RunError::from(error)),
     }
 }
 
@@ -65,38 +98,36 @@ pub fn log<M: Media>(region: &mut Region<M>, entry: &Record) -> Result<bool, Run
 }
 
 /// Stops a region's medium, and does in the graph what it then holds, but for the records that are done.
-pub fn recover(
+pub fn recover<S: Stopping>(
     alloc: Global,
-    region: Region<StopMedia>,
+    region: Region<S>,
     graph: &mut PlainGraph,
     done: usize,
 ) -> Result<(), RunError>
-    ensures { OnOk result (IsRecovered region.media done (graph_of graph.old) (graph_of graph.new)) }
+    ensures { OnOk result (IsRecovered (S.left region.media (S.moment region.media) Fast) done (graph_of graph.old) (graph_of graph.new)) }
 {
     let found = records_after_stop(alloc, region)?;
     replay(graph, &found, done)
 }
 
 // Stops a region's medium, and reads the records that it then holds.
-fn records_after_stop(alloc: Global, region: Region<StopMedia>) -> Result<Vec<Record>, RunError>
-    ensures { IfOk result (λ found. MayHold region.media found.items) }
+fn records_after_stop<S: Stopping>(
+    alloc: Global,
+    region: Region<S>,
+) -> Result<Vec<Record>, RunError>
+    ensures { IfOk result (λ found. MayHold (S.left region.media (S.moment region.media) Fast) found.items) }
 {
-    let media = after_stop(region)?;
-    match Region::reopen(alloc, media) {
-        Ok(mut region) => Ok(region.records()?),
-        Err((error, _media)) => Err(RunError::from(error)),
-    }
+    let media = region.into_media().after_stop()?;
+    records_on(alloc, media)
 }
 
-// The medium of a region after its stop.
-fn after_stop(region: Region<StopMedia>) -> Result<MemMedia, RunError>
-    ensures at_rest { IfOk result IsAtRest }
-    ensures allowed { IfOk result (λ m. memory_left (medium_of region.media) (memory_moment (medium_of region.media)) Fast (memory_seen m Fast)) }
+// The records that a medium of a region's holds.
+fn records_on<M: Media + Drop>(alloc: Global, media: M) -> Result<Vec<Record>, RunError>
+    requires { AtRest (M.seen media) (M.left media (M.moment media)) Fast }
+    ensures { IfOk result (λ found. found.items ≡ records (M.seen media Fast)) }
 {
-    match region.into_media().rest() {
-        Ok(media) => Ok(media),
-        Err(_running) => Err(RunError::Memory),
-    }
+    let mut region = opened(alloc, media)?;
+    Ok(region.records()?)
 }
 
 // Does the effects of records that are not done yet.

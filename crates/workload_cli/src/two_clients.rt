@@ -1,10 +1,13 @@
 // Two clients that each ask a call over a graph, which stands for the shared media.
-ghost use Rattle.std.specs.Prelude.{◌≡◌, ℕ, IfOk, IfSome, Ok, codes};
+ghost use Rattle.std.specs.Prelude.{◌≡◌, ℕ, IfOk, IfSome, OnOk, Ok, codes};
 ghost use Rattle.posix_calls.specs.Query.{run};
 ghost use Rattle.posix_calls.specs.Decide.{decide};
-ghost use Rattle.posix_calls.specs.Operations.{IsInRange};
+ghost use Rattle.posix_calls.specs.Operations.{IsInRange, reply_of};
 ghost use Rattle.posix_calls.specs.Own.{own_of};
-ghost use Rattle.file_graph.specs.Graph.{graph_of};
+ghost use Rattle.posix_calls.specs.declared.limits.TheConstants.{ROOT};
+ghost use Rattle.file_graph.specs.declared.effect.Kind.TheVariants as kinds;
+ghost use Rattle.file_graph.specs.Graph.{graph_of, after_effect, after_effects};
+ghost use Rattle.call_effects.specs.Effects.{making};
 ghost use Rattle.call_effects.specs.Known.{stored_view};
 ghost use Rattle.call_effects.specs.Records.{effects_asked, growth_asked};
 ghost use Rattle.workload_cli.specs.FirstPath.{opening, file_open, first_call, second_call, IsLogged};
@@ -30,17 +33,35 @@ pub fn first_graph(alloc: Global) -> Result<PlainGraph, RunError>
     ensures { IfOk result (λ graph. graph_of graph ≡ opening) }
 {
     let name = file_name(alloc)?;
-    let (inode, kind) = (FILE, Kind::File);
     let mut graph = PlainGraph::with_root(alloc)?;
-    graph.apply(&Effect::Make { inode, kind })?;
-    graph.apply(&Effect::Enter {
-        directory: ROOT,
-        inode,
-        kind,
-        name,
-    })?;
-    graph.apply(&Effect::Names { inode, names: 1 })?;
+    make_file(&mut graph, name)?;
     Ok(graph)
+}
+
+fn make_file(graph: &mut PlainGraph, name: Name) -> Result<(), RunError>
+    ensures { OnOk result (graph_of graph.new ≡ after_effects (graph_of graph.old) (making FILE kinds.File (record { parent = ROOT; name = name }))) }
+{
+    let (inode, kind) = (FILE, Kind::File);
+    apply(graph, Effect::Make { inode, kind })?;
+    apply(
+        graph,
+        Effect::Enter {
+            directory: ROOT,
+            inode,
+            kind,
+            name,
+        },
+    )?;
+    apply(graph, Effect::Names { inode, names: 1 })
+}
+
+fn apply(graph: &mut PlainGraph, effect: Effect) -> Result<(), RunError>
+    ensures { OnOk result (graph_of graph.new ≡ after_effect (graph_of graph.old) effect) }
+{
+    match graph.apply(&effect) {
+        Ok(()) => Ok(()),
+        Err(_) => Err(RunError::Memory),
+    }
 }
 
 fn file_name(alloc: Global) -> Result<Name, RunError>
@@ -98,12 +119,40 @@ pub fn logged(
     ensures { IfOk result (λ l. IsLogged (graph_of graph.now) (own_of own.now) call.now new l.0 l.1) }
 {
     let operation = decided(alloc, graph, own, call)?;
-    let units = units_of(graph, &operation)?;
+    told(alloc, graph, operation, new)
+}
+
+fn told(
+    alloc: Global,
+    graph: &PlainGraph,
+    operation: Operation,
+    new: u32,
+) -> Result<(Record, Reply), RunError>
+    requires { IsInRange operation }
+    ensures reply { IfOk result (λ l. l.1 ≡ reply_of operation) }
+    ensures effects { IfOk result (λ l. run (stored_view (graph_of graph.now)) (effects_asked new operation) ≡ Ok l.0.effects) }
+    ensures units { IfOk result (λ l. run (stored_view (graph_of graph.now)) (growth_asked operation) ≡ Ok l.0.units) }
+{
     let Some(reply) = operation.reply() else {
         return Err(RunError::Damaged);
     };
-    let entry = recorded(alloc, graph, operation, new, units)?;
+    let entry = recorded_in_full(alloc, graph, operation, new)?;
     Ok((entry, reply))
+}
+
+// The record with all units that it needs.
+fn recorded_in_full(
+    alloc: Global,
+    graph: &PlainGraph,
+    operation: Operation,
+    new: u32,
+) -> Result<Record, RunError>
+    requires { IsInRange operation }
+    ensures effects { IfOk result (λ entry. run (stored_view (graph_of graph.now)) (effects_asked new operation) ≡ Ok entry.effects) }
+    ensures units { IfOk result (λ entry. run (stored_view (graph_of graph.now)) (growth_asked operation) ≡ Ok entry.units) }
+{
+    let units = units_of(graph, &operation)?;
+    recorded(alloc, graph, operation, new, units)
 }
 
 fn decided(

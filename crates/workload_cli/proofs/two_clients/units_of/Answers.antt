@@ -1,4 +1,3 @@
-use Rattle.std.proofs.Common.{refl}
 use Rattle.file_graph.specs.Graph.{graph_of}
 use Rattle.call_effects.specs.Known.{stored_view}
 use Rattle.call_effects.specs.Records.{units_asked}
