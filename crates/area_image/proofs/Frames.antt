@@ -18,12 +18,12 @@ use Rattle.batch_journal.specs.Volume.{Spells}
 use Rattle.file_graph.specs.Graph.{Graph}
 use Rattle.file_graph.specs.Units.{charge}
 use Rattle.tree_blocks.specs.Inode.{IsConsistent, inode_of, node_of}
-use Rattle.area_image.specs.Store.{Store, slot_read, slot, root_of, space_of, length_of, own_extents, runs_by, runs_read, place, at_or, logical, inode, graph, marks}
+use Rattle.area_image.specs.Store.{Store, slot_read, slot, root_of, space_of, length_of, own_extents, extents_by, extents_read, place, at_or, logical, inode, graph, marks}
 use Rattle.area_image.specs.Reads.{Reads, Free, Loose, Untouched}
 use Rattle.area_image.specs.Spelled.{SpellsInode, Use, used, IsSpelled}
 
-runs_by-same : (g : Sizes) (new old : Blocks) (i : ℕ) (x : Slot) (t : Tier) → (root_of x t ≢ 0 → new (root_of x t) ≡ old (root_of x t)) → runs_by g new i x t ≡ runs_by g old i x t
-runs_by-same g new old i x t same = elim (cases_Bool (root_of x t == 0)) [
+extents_by-same : (g : Sizes) (new old : Blocks) (i : ℕ) (x : Slot) (t : Tier) → (root_of x t ≢ 0 → new (root_of x t) ≡ old (root_of x t)) → extents_by g new i x t ≡ extents_by g old i x t
+extents_by-same g new old i x t same = elim (cases_Bool (root_of x t == 0)) [
   | inl zero ↦ cc
   | inr some ↦ cond-false (root_of x t == 0) _ _ some ∙ ap (own_extents g (space_of x t) i (length_of x)) (same (λ e. absurd (eqb-false (root_of x t) 0 some e))) ∙ sym (cond-false (root_of x t == 0) _ _ some)
 ]
@@ -43,12 +43,12 @@ module _ (g : Sizes) (old new : Store) (i : ℕ) (same : Untouched g old new i) 
   pub slot-kept : slot g new i ≡ slot g old i
   slot-kept = ap (λ o. unwrap_or o slots.Free) slot_read-kept
 
-  pub runs_read-kept : (t : Tier) → runs_read g new i t ≡ runs_read g old i t
-  unfolding runs_read
-  runs_read-kept t = ap (λ x. runs_by g (new Fast) i x t) slot-kept ∙ runs_by-same g (new Fast) (old Fast) i (slot g old i) t (same.roots t)
+  pub extents_read-kept : (t : Tier) → extents_read g new i t ≡ extents_read g old i t
+  unfolding extents_read
+  extents_read-kept t = ap (λ x. extents_by g (new Fast) i x t) slot-kept ∙ extents_by-same g (new Fast) (old Fast) i (slot g old i) t (same.roots t)
 
   pub place-kept : (t : Tier) (k : ℕ) → place g new i t k ≡ place g old i t k
-  place-kept t k = ap (λ o. place_of (unwrap_or o []) k) (runs_read-kept t)
+  place-kept t k = ap (λ o. place_of (unwrap_or o []) k) (extents_read-kept t)
 
   read_in : (t : Tier) (k : ℕ) (x y : List ℕ) → x ≡ y → at_or (new t) (place g new i t k) x ≡ at_or (old t) (place g old i t k) y
   read_in t k x y others = ap (λ o. at_or (new t) o x) (place-kept t k) ∙ at_or-same (new t) (old t) (place g old i t k) x y (same.mapped t k) others
@@ -66,7 +66,7 @@ module _ (g : Sizes) (old new : Store) (i : ℕ) (same : Untouched g old new i) 
   pub spells-kept : SpellsInode g old i → SpellsInode g new i
   spells-kept is = record {
     slot = subst IsSome (sym slot_read-kept) is.slot;
-    extents = λ t. subst IsSome (sym (runs_read-kept t)) (is.extents t);
+    extents = λ t. subst IsSome (sym (extents_read-kept t)) (is.extents t);
     once = λ t u k here there. is.once t u k (subst IsSome (place-kept t k) here) (subst IsSome (place-kept u k) there);
     consistent = subst (IsConsistent i) (sym inode-kept) is.consistent;
   }
@@ -108,7 +108,6 @@ module _ (g : Sizes) (seen left : Store) (loose : Loose g seen left) where
     marks = subst IsSome (sym loose_marks) is.marks;
     inodes = λ i number. spells-kept g seen left i (loose_untouched g seen left loose i) (is.inodes i number);
     apart = λ u v b here there. is.apart u v b (sym (used-kept u) ∙ here) (sym (used-kept v) ∙ there);
-    charge = subst (λ (x : Graph). charge x ≤ g.units) (sym loose_graph) is.charge;
   } where
     used-kept : (u : Use) → used g left u ≡ used g seen u
     used-kept u = block_for-kept g seen left u.inode (loose_untouched g seen left loose u.inode) u.tier u.logical

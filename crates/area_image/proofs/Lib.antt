@@ -4,3 +4,6 @@ pub mod Looked
 pub mod Shown
 pub mod Parts
 pub mod Rewriting
+pub mod Lists
+pub mod Complete
+pub mod Torn

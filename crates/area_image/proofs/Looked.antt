@@ -1,6 +1,7 @@
 -- Reads one after the other.
 use Rattle.std.proofs.Common.{◌≡◌, ◌≢◌, ◌≤◌, ◌+◌, ◌⊎◌, inl, inr, ℕ, List, true, false, refl, sym, ◌∙◌, ap, subst, arith}
 use Rattle.std.specs.Prelude.{Result, Ok, Err, IfErr}
+use Rattle.std.proofs.lemmas.Bool.{true≢false}
 use Rattle.tier_device.specs.declared.media.Tier.{Tier}
 use Rattle.tier_device.specs.Media.{Rose}
 use Rattle.batch_journal.specs.View.{JournalView}
@@ -18,12 +19,35 @@ module _ {M : Type 0} (moment : M → ℕ) (seen : M → Tier → List ℕ) (lef
 
   -- another answer, decided without the device
   pub looks_other : {T U : Type 0} (old new : JournalView M) (x : T) (r : Result U AreaError) → Looks moment seen left faults old new (Ok x) → IfErr r (λ e. e ≢ errors.DeviceFault) → Looks moment seen left faults old new r
-  looks_other old new x (Ok y) looks other = record { unmoved = looks.unmoved; geometry = looks.geometry; more_faults = looks.more_faults; one_fault = looks.one_fault; quiet = looks.quiet; quiet_refused = tt; fault = tt }
-  looks_other old new x (Err e) looks other = record { unmoved = looks.unmoved; geometry = looks.geometry; more_faults = looks.more_faults; one_fault = looks.one_fault; quiet = tt; quiet_refused = λ _. looks.quiet; fault = λ is. absurd (other is) }
+  looks_other old new x (Ok y) looks other = record { unmoved = looks.unmoved; geometry = looks.geometry; more_faults = looks.more_faults; one_fault = looks.one_fault; quiet = looks.quiet; going = looks.going; quiet_refused = tt; stays_failed = λ was. absurd (true≢false (sym was ∙ looks.going.0)); fault = tt }
+  looks_other old new x (Err e) looks other = record {
+    unmoved = looks.unmoved;
+    geometry = looks.geometry;
+    more_faults = looks.more_faults;
+    one_fault = looks.one_fault;
+    quiet = tt;
+    going = tt;
+    quiet_refused = λ _. (looks.quiet, looks.going.0, looks.going.1);
+    stays_failed = λ was. absurd (true≢false (sym was ∙ looks.going.0));
+    fault = λ is. absurd (other is);
+  }
+
+  err_fault : {T : Type 0} (r : Result T AreaError) (e : AreaError) → r ≡ Err e → r ≡ Err errors.DeviceFault → e ≡ errors.DeviceFault
+  err_fault r e is fault = cc
 
   -- the same refusal of another call
   pub looks_err : {T U : Type 0} (old new : JournalView M) (e : AreaError) → Looks {T = T} moment seen left faults old new (Err e) → Looks {T = U} moment seen left faults old new (Err e)
-  looks_err old new e looks = record { unmoved = looks.unmoved; geometry = looks.geometry; more_faults = looks.more_faults; one_fault = looks.one_fault; quiet = tt; quiet_refused = looks.quiet_refused; fault = looks.fault }
+  looks_err {T = T} old new e looks = record {
+    unmoved = looks.unmoved;
+    geometry = looks.geometry;
+    more_faults = looks.more_faults;
+    one_fault = looks.one_fault;
+    quiet = tt;
+    going = tt;
+    quiet_refused = looks.quiet_refused;
+    stays_failed = λ was. let s = looks.stays_failed was in (ap Err (err_fault {T = T} (Err e) e refl s.0), s.1);
+    fault = looks.fault;
+  }
 
   -- one call behind another
   pub looks_on : {T U : Type 0} (old mid new : JournalView M) (x : T) (r : Result U AreaError) → Looks moment seen left faults old mid (Ok x) → Looks moment seen left faults mid new r → Looks moment seen left faults old new r
@@ -31,19 +55,23 @@ module _ {M : Type 0} (moment : M → ℕ) (seen : M → Tier → List ℕ) (lef
     unmoved = unmoved_on first.unmoved second.unmoved;
     geometry = second.geometry ∙ first.geometry;
     more_faults = omega (arith, first.more_faults, second.more_faults);
-    one_fault = omega (arith, first.quiet.0, second.one_fault);
-    quiet = (second.quiet.0 ∙ first.quiet.0, second.quiet.1 ∙ first.quiet.1);
+    one_fault = omega (arith, first.quiet, second.one_fault);
+    quiet = second.quiet ∙ first.quiet;
+    going = (first.going.0, second.going.1);
     quiet_refused = tt;
+    stays_failed = λ was. absurd (true≢false (sym was ∙ first.going.0));
     fault = tt;
   }
   looks_on old mid new x (Err e) first second = record {
     unmoved = unmoved_on first.unmoved second.unmoved;
     geometry = second.geometry ∙ first.geometry;
     more_faults = omega (arith, first.more_faults, second.more_faults);
-    one_fault = omega (arith, first.quiet.0, second.one_fault);
+    one_fault = omega (arith, first.quiet, second.one_fault);
     quiet = tt;
-    quiet_refused = λ other. let q = second.quiet_refused other in (q.0 ∙ first.quiet.0, q.1 ∙ first.quiet.1);
-    fault = λ is. let f = second.fault is in (f.0, elim (f.1) [ inl was ↦ inl (sym first.quiet.1 ∙ was) | inr rose ↦ inr (subst (λ (n : ℕ). Rose n (faults new.media)) first.quiet.0 rose) ]);
+    going = tt;
+    quiet_refused = λ other. let q = second.quiet_refused other in (q.0 ∙ first.quiet, first.going.0, q.2);
+    stays_failed = λ was. absurd (true≢false (sym was ∙ first.going.0));
+    fault = λ is. let f = second.fault is in (f.0, elim (f.1) [ inl was ↦ absurd (true≢false (sym was ∙ first.going.1)) | inr rose ↦ inr (subst (λ (n : ℕ). Rose n (faults new.media)) first.quiet rose) ]);
   }
 
   -- a read that was made
@@ -53,28 +81,54 @@ module _ {M : Type 0} (moment : M → ℕ) (seen : M → Tier → List ℕ) (lef
     geometry = geometry;
     more_faults = omega (arith, quiet);
     one_fault = omega (arith, quiet);
-    quiet = (quiet, going.1 ∙ sym going.0);
+    quiet = quiet;
+    going = going;
     quiet_refused = tt;
+    stays_failed = λ was. absurd (true≢false (sym was ∙ going.0));
     fault = tt;
   }
 
   -- one that a device failed in
-  pub looks_fault : {T : Type 0} (old new : JournalView M) → Unmoved (moment old.media) (moment new.media) (seen old.media) (seen new.media) (left old.media) (left new.media) → new.geometry ≡ old.geometry → faults old.media ≤ faults new.media → faults new.media ≤ faults old.media + 1 → (new.failed ≡ true) × ((old.failed ≡ true) ⊎ Rose (faults old.media) (faults new.media)) → Looks {T = T} moment seen left faults old new (Err errors.DeviceFault)
-  looks_fault old new unmoved geometry more one cause = record {
+  pub looks_fault : {T : Type 0} (old new : JournalView M) → Unmoved (moment old.media) (moment new.media) (seen old.media) (seen new.media) (left old.media) (left new.media) → new.geometry ≡ old.geometry → faults old.media ≤ faults new.media → faults new.media ≤ faults old.media + 1 → (new.failed ≡ true) × ((old.failed ≡ true) ⊎ Rose (faults old.media) (faults new.media)) → (old.failed ≡ true → new ≡ old) → Looks {T = T} moment seen left faults old new (Err errors.DeviceFault)
+  looks_fault old new unmoved geometry more one cause stays = record {
     unmoved = unmoved;
     geometry = geometry;
     more_faults = more;
     one_fault = one;
     quiet = tt;
+    going = tt;
     quiet_refused = λ other. absurd (other refl);
+    stays_failed = λ was. (refl, stays was);
     fault = λ _. cause;
   }
 
-  -- no call at all
-  pub looks_none : {T : Type 0} (old : JournalView M) (r : Result T AreaError) → IfErr r (λ e. e ≢ errors.DeviceFault) → Looks moment seen left faults old old r
-  looks_none old (Ok x) other = record { unmoved = still_there; geometry = refl; more_faults = omega arith; one_fault = omega arith; quiet = (refl, refl); quiet_refused = tt; fault = tt } where
-    still_there : Unmoved (moment old.media) (moment old.media) (seen old.media) (seen old.media) (left old.media) (left old.media)
-    still_there = record { clock = refl; reads = λ t. refl; past = λ m t x le l. l; kept = λ m t x le l. l }
-  looks_none old (Err e) other = record { unmoved = still_there; geometry = refl; more_faults = omega arith; one_fault = omega arith; quiet = tt; quiet_refused = λ _. (refl, refl); fault = λ is. absurd (other is) } where
-    still_there : Unmoved (moment old.media) (moment old.media) (seen old.media) (seen old.media) (left old.media) (left old.media)
-    still_there = record { clock = refl; reads = λ t. refl; past = λ m t x le l. l; kept = λ m t x le l. l }
+  still_there : (old : JournalView M) → Unmoved (moment old.media) (moment old.media) (seen old.media) (seen old.media) (left old.media) (left old.media)
+  still_there old = record { clock = refl; reads = λ t. refl; past = λ m t x le l. l; kept = λ m t x le l. l }
+
+  -- no call at all, where no device has failed
+  pub looks_none : {T : Type 0} (old : JournalView M) (x : T) → old.failed ≡ false → Looks moment seen left faults old old (Ok x)
+  looks_none old x going = record {
+    unmoved = still_there old;
+    geometry = refl;
+    more_faults = omega arith;
+    one_fault = omega arith;
+    quiet = refl;
+    going = (going, going);
+    quiet_refused = tt;
+    stays_failed = λ was. absurd (true≢false (sym was ∙ going));
+    fault = tt;
+  }
+
+  -- no call at all, where one has
+  pub looks_failed : {T : Type 0} (old : JournalView M) → old.failed ≡ true → Looks {T = T} moment seen left faults old old (Err errors.DeviceFault)
+  looks_failed old was = record {
+    unmoved = still_there old;
+    geometry = refl;
+    more_faults = omega arith;
+    one_fault = omega arith;
+    quiet = tt;
+    going = tt;
+    quiet_refused = λ other. absurd (other refl);
+    stays_failed = λ _. (refl, refl);
+    fault = λ _. (was, inl was);
+  }

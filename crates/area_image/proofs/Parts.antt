@@ -9,10 +9,10 @@ use Rattle.layout.specs.declared.slot.Slot.TheVariants as slots
 use Rattle.layout.specs.Places.{Sizes, is_inode}
 use Rattle.area_image.specs.declared.error.AreaError.{AreaError}
 use Rattle.area_image.specs.declared.error.AreaError.TheVariants as errors
-use Rattle.area_image.specs.declared.trees.InodeTrees.{InodeTrees}
-use Rattle.area_image.specs.Store.{Store, slot, slot_read, root_of, runs_by, runs_read}
+use Rattle.area_image.specs.declared.tiers.InodeExtents.{InodeExtents}
+use Rattle.area_image.specs.Store.{Store, slot, slot_read, root_of, extents_by, extents_read}
 use Rattle.area_image.specs.Damage.{OnDamage, IsDamaged}
-use Rattle.area_image.specs.Map.{runs_in, HasRuns, IsPartDamage}
+use Rattle.area_image.specs.Map.{in_tier, extents_in, HasAllExtents, IsPartDamage}
 
 pub on_damage : {P Q : What → ℕ → Type 0} (e : AreaError) → ((w : What) (block : ℕ) → P w block → Q w block) → OnDamage e P → OnDamage e Q
 on_damage errors.DeviceFault f p = tt
@@ -23,14 +23,12 @@ module _ (g : Sizes) (s : Store) (i : ℕ) where
   slot_as : (x : Slot) → slot_read g s i ≡ Some x → slot g s i ≡ x
   slot_as x is = ap (λ o. unwrap_or o slots.Free) is
 
-  runs_as : (x : Slot) (t : Tier) → slot_read g s i ≡ Some x → runs_read g s i t ≡ runs_by g (s Fast) i x t
-  unfolding runs_read
-  runs_as x t is = ap (λ x. runs_by g (s Fast) i x t) (slot_as x is)
+  extents_as : (x : Slot) (t : Tier) → slot_read g s i ≡ Some x → extents_read g s i t ≡ extents_by g (s Fast) i x t
+  unfolding extents_read
+  extents_as x t is = ap (λ x. extents_by g (s Fast) i x t) (slot_as x is)
 
-  pub runs_all : (x : Slot) (trees : InodeTrees) → slot_read g s i ≡ Some x → HasRuns g s i x trees → (t : Tier) → runs_read g s i t ≡ Some (runs_in trees t)
-  runs_all x trees is has Fast = runs_as x Fast is ∙ has.fast
-  runs_all x trees is has Block = runs_as x Block is ∙ has.block
-  runs_all x trees is has Slow = runs_as x Slow is ∙ has.slow
+  pub extents_all : (x : Slot) (found : InodeExtents) → slot_read g s i ≡ Some x → HasAllExtents g (s Fast) i x found → (t : Tier) → extents_read g s i t ≡ Some (extents_in (in_tier found t))
+  extents_all x found is has t = extents_as x t is ∙ (has t).extents
 
   pub part_damage : is_inode i ≡ true → (w : What) (block : ℕ) → IsPartDamage g s i w block → IsDamaged g s w block
   part_damage number w block (inl (structure, at, none)) = inl (record { structure = structure; inode = i; is = number; at = at; wrong = inl none })
@@ -41,5 +39,5 @@ module _ (g : Sizes) (s : Store) (i : ℕ) where
     tier = has.tier;
     some = λ e. has.some (ap (λ x. root_of x has.tier) (sym (slot_as x is)) ∙ e);
     at = has.at ∙ ap (λ x. root_of x has.tier) (sym (slot_as x is));
-    wrong = inl (runs_as x has.tier is ∙ has.none);
+    wrong = inl (extents_as x has.tier is ∙ has.none);
   }))

@@ -16,7 +16,7 @@ use Rattle.layout.specs.Places.{Sizes, is_inode, is_node, slot_block, slot_byte,
 use Rattle.layout.specs.Slot.{slot_of, fits_slot, is_root, roots_apart}
 use Rattle.batch_journal.specs.Images.{slice}
 use Rattle.batch_journal.specs.Blocks.{Blocks, home, is_home, ShowsHome}
-use Rattle.area_image.specs.Store.{Store, slot_bytes, slot_read, root_of, space_of, length_of, is_own, own_extents, runs_by}
+use Rattle.area_image.specs.Store.{Store, slot_bytes, slot_read, root_of, space_of, length_of, is_own, own_extents, extents_by}
 
 pub inode_is : (i : ℕ) → 1 ≤ i → i ≤ 1024 → is_inode i ≡ true
 inode_is i low high = and_from (nat_le 1 i) (nat_le i 1024) (le-leb 1 i low) (le-leb i 1024 high)
@@ -106,11 +106,11 @@ own_other g p i n bytes v read other = own_by g p i n bytes (Some v) read ∙ co
 pub own_none : (g : Sizes) (p : Space) (i n : ℕ) (bytes : List ℕ) → extents_of g p bytes ≡ None → own_extents g p i n bytes ≡ None
 own_none g p i n bytes none = own_by g p i n bytes None none
 
-pub runs_none : (g : Sizes) (fast : Blocks) (i : ℕ) (x : Slot) (t : Tier) → root_of x t ≡ 0 → runs_by g fast i x t ≡ Some []
-runs_none g fast i x t zero = cond-true (root_of x t == 0) _ _ (eq-eqb (root_of x t) 0 zero)
+pub extents_none : (g : Sizes) (fast : Blocks) (i : ℕ) (x : Slot) (t : Tier) → root_of x t ≡ 0 → extents_by g fast i x t ≡ Some []
+extents_none g fast i x t zero = cond-true (root_of x t == 0) _ _ (eq-eqb (root_of x t) 0 zero)
 
-pub runs_some : (g : Sizes) (fast : Blocks) (i : ℕ) (x : Slot) (t : Tier) → root_of x t ≢ 0 → runs_by g fast i x t ≡ own_extents g (space_of x t) i (length_of x) (fast (root_of x t))
-runs_some g fast i x t some = cond-false (root_of x t == 0) _ _ (ne_eqb (root_of x t) 0 some)
+pub extents_some : (g : Sizes) (fast : Blocks) (i : ℕ) (x : Slot) (t : Tier) → root_of x t ≢ 0 → extents_by g fast i x t ≡ own_extents g (space_of x t) i (length_of x) (fast (root_of x t))
+extents_some g fast i x t some = cond-false (root_of x t == 0) _ _ (ne_eqb (root_of x t) 0 some)
 
 -- ---- answers of a decoder
 

@@ -1,5 +1,5 @@
 -- What is damaged on media that spell no graph, and the block that shows it.
-use Rattle.std.specs.Prelude.{◌≡◌, ◌≢◌, ◌<◌, ◌≤◌, ◌/◌, ◌⊎◌, true, ℕ, Option, Some, None, IsSome}
+use Rattle.std.specs.Prelude.{◌≡◌, ◌≢◌, ◌<◌, ◌≤◌, ◌/◌, ◌%◌, ◌⊎◌, true, ℕ, List, get_or, Option, Some, None, IsSome}
 use Rattle.tier_device.specs.declared.media.Tier.{Tier}
 use Rattle.tier_device.specs.declared.media.Tier.TheVariants as tiers
 use Rattle.file_graph.specs.Units.{charge}
@@ -9,19 +9,20 @@ use Rattle.layout.specs.declared.error.What.TheVariants as what
 use Rattle.layout.specs.declared.places.TheConstants.{BLOCK, SUPER_BLOCK, MARKS_BLOCK}
 use Rattle.layout.specs.declared.directory.TheConstants.{MAX_IN_BLOCK}
 use Rattle.layout.specs.Places.{Sizes, is_inode, slot_block}
-use Rattle.tree_blocks.specs.Inode.{IsDirectoryBlock, byte_of, entry_at}
+use Rattle.tree_blocks.specs.Inode.{IsDirectoryBlock, entry_at}
 use Rattle.area_image.specs.declared.error.AreaError.{AreaError}
 use Rattle.area_image.specs.declared.error.AreaError.TheVariants as errors
-use Rattle.area_image.specs.Store.{Store, slot, slot_read, root_of, length_of, runs_read, place, logical, inode as inode_at, graph, marks}
+use Rattle.area_image.specs.Store.{Store, slot, slot_read, root_of, length_of, extents_read, place, logical, inode as inode_at, graph, marks}
 use Rattle.area_image.specs.Spelled.{Use, used}
 
 -- ---- slots
 
--- a directory that has no block for some of its entries
+-- a directory whose extents are read, and have no block for some of its entries
 pub record LacksBlock (g : Sizes) (s : Store) (i : ℕ) : Type 0 where
   pub kind : (inode_at g s i).kind ≡ Some kind.Directory
   pub block : ℕ
   pub within : block < length_of (slot g s i)
+  pub read : IsSome (extents_read g s i tiers.Fast)
   pub none : place g s i tiers.Fast block ≡ None
 
 -- A slot is none, or it tells of entries that no block is there for.
@@ -59,11 +60,11 @@ pub record IsExtentDamage (g : Sizes) (s : Store) (part : What) (block : ℕ) : 
   pub tier : Tier
   pub some : root_of (slot g s inode) tier ≢ 0
   pub at : block ≡ root_of (slot g s inode) tier
-  pub wrong : (runs_read g s inode tier ≡ None) ⊎ IsMappedTwice g s inode tier ⊎ IsShared g s inode tier
+  pub wrong : (extents_read g s inode tier ≡ None) ⊎ IsMappedTwice g s inode tier ⊎ IsShared g s inode tier
 
 -- ---- contents
 
--- an entry of this block whose name another entry has
+-- an entry of this block whose name another entry has, where both blocks are of the directory
 pub record HasTwin (g : Sizes) (s : Store) (i : ℕ) (k : ℕ) : Type 0 where
   pub entry : ℕ
   pub other : ℕ
@@ -71,6 +72,8 @@ pub record HasTwin (g : Sizes) (s : Store) (i : ℕ) (k : ℕ) : Type 0 where
   pub one_within : entry < (inode_at g s i).size
   pub other_within : other < (inode_at g s i).size
   pub differ : entry ≢ other
+  pub here : IsDirectoryBlock i (inode_at g s i).size k (logical g s i k)
+  pub there : IsDirectoryBlock i (inode_at g s i).size (other / MAX_IN_BLOCK) (logical g s i (other / MAX_IN_BLOCK))
   pub same : (entry_at (logical g s i) entry).0 ≡ (entry_at (logical g s i) other).0
 
 -- A directory's block does not hold its part of the entries, or one that has another's name.
@@ -84,7 +87,11 @@ pub record IsEntryDamage (g : Sizes) (s : Store) (part : What) (block : ℕ) : T
   pub at : place g s inode tiers.Fast number ≡ Some block
   pub wrong : (IsDirectoryBlock inode (inode_at g s inode).size number (logical g s inode number) → ⊥) ⊎ HasTwin g s inode number
 
--- A file's block has a byte behind the size that is not zero.
+-- the byte of a file that a block of it has
+abbrev pub byte_in : List ℕ → ℕ → ℕ
+byte_in block at = get_or block (at % BLOCK) 0
+
+-- A file's block of some tier has a byte behind the size that is not zero.
 pub record IsTailDamage (g : Sizes) (s : Store) (part : What) (block : ℕ) : Type 0 where
   pub tier : Tier
   pub structure : part ≡ what.FileData
@@ -94,7 +101,7 @@ pub record IsTailDamage (g : Sizes) (s : Store) (part : What) (block : ℕ) : Ty
   pub byte : ℕ
   pub behind : (inode_at g s number).size ≤ byte
   pub at : place g s number tier (byte / BLOCK) ≡ Some block
-  pub wrong : byte_of (logical g s number) byte ≢ 0
+  pub wrong : byte_in (s tier block) byte ≢ 0
 
 -- ---- the whole
 

@@ -1,5 +1,5 @@
 -- What a call that only reads leaves of a journal.
-use Rattle.std.specs.Prelude.{◌≡◌, ◌≢◌, ◌⊎◌, ◌≤◌, ◌+◌, ℕ, List, true, Result, OnOk, IfErr}
+use Rattle.std.specs.Prelude.{◌≡◌, ◌≢◌, ◌⊎◌, ◌≤◌, ◌+◌, ℕ, List, true, false, Result, Err, OnOk, IfErr}
 use Rattle.tier_device.specs.declared.media.Tier.{Tier}
 use Rattle.tier_device.specs.Media.{Rose}
 use Rattle.batch_journal.specs.View.{JournalView}
@@ -7,12 +7,14 @@ use Rattle.batch_journal.specs.Course.{Unmoved}
 use Rattle.area_image.specs.declared.error.AreaError.{AreaError}
 use Rattle.area_image.specs.declared.error.AreaError.TheVariants as errors
 
--- Nothing has moved; a device fault is answered where a device fails, or has failed before, and from then on.
+-- Nothing has moved. A device fault is answered where a device fails, and from then on: a journal that has failed answers nothing else, and is not touched.
 pub record Looks {M T : Type 0} (moment : M → ℕ) (seen : M → Tier → List ℕ) (left : M → ℕ → Tier → List ℕ → Type 0) (faults : M → ℕ) (old new : JournalView M) (result : Result T AreaError) : Type 0 where
   pub unmoved : Unmoved (moment old.media) (moment new.media) (seen old.media) (seen new.media) (left old.media) (left new.media)
   pub geometry : new.geometry ≡ old.geometry
   pub more_faults : faults old.media ≤ faults new.media
   pub one_fault : faults new.media ≤ faults old.media + 1
-  pub quiet : OnOk result ((faults new.media ≡ faults old.media) × (new.failed ≡ old.failed))
-  pub quiet_refused : IfErr result (λ e. e ≢ errors.DeviceFault → (faults new.media ≡ faults old.media) × (new.failed ≡ old.failed))
+  pub quiet : OnOk result (faults new.media ≡ faults old.media)
+  pub going : OnOk result ((old.failed ≡ false) × (new.failed ≡ false))
+  pub quiet_refused : IfErr result (λ e. e ≢ errors.DeviceFault → (faults new.media ≡ faults old.media) × (old.failed ≡ false) × (new.failed ≡ false))
+  pub stays_failed : old.failed ≡ true → (result ≡ Err errors.DeviceFault) × (new ≡ old)
   pub fault : IfErr result (λ e. e ≡ errors.DeviceFault → (new.failed ≡ true) × ((old.failed ≡ true) ⊎ Rose (faults old.media) (faults new.media)))

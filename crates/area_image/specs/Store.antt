@@ -26,11 +26,15 @@ use Rattle.batch_journal.specs.Blocks.{Blocks, block_of, home}
 abbrev pub Store : Type 0
 Store = Tier → Blocks
 
--- what the bytes of three tiers stand for: of the fast one, once an open journal is replayed
+-- what the bytes of a tier stand for: of the fast one, once an open journal is replayed
+abbrev pub content_blocks : Tier → List ℕ → Blocks
+content_blocks tiers.Fast c = home c
+content_blocks tiers.Block c = block_of c
+content_blocks tiers.Slow c = block_of c
+
+-- what the bytes of three tiers stand for
 abbrev pub store_of : (Tier → List ℕ) → Store
-store_of content tiers.Fast = home (content tiers.Fast)
-store_of content tiers.Block = block_of (content tiers.Block)
-store_of content tiers.Slow = block_of (content tiers.Slow)
+store_of content tier = content_blocks tier (content tier)
 
 -- ---- slots
 
@@ -82,25 +86,25 @@ is_own owner blocks v = (v.owner == owner) && list_all (λ e. nat_le (end_of e) 
 
 -- the extents that a block spells, if they are that inode's and none ends behind so many
 unfoldable pub own_extents : Sizes → Space → ℕ → ℕ → List ℕ → Option (List Extent)
-own_extents g place owner blocks bytes = do
-  v ← extents_of g place bytes
+own_extents g p owner blocks bytes = do
+  v ← extents_of g p bytes
   if is_own owner blocks v then Some v.extents else None
 
 -- the extents that inode i has by a slot, from the extent block of a tier
-abbrev pub runs_by : Sizes → Blocks → ℕ → Slot → Tier → Option (List Extent)
-runs_by g fast i slot t = if root_of slot t == 0 then Some [] else own_extents g (space_of slot t) i (length_of slot) (fast (root_of slot t))
+abbrev pub extents_by : Sizes → Blocks → ℕ → Slot → Tier → Option (List Extent)
+extents_by g fast i slot t = if root_of slot t == 0 then Some [] else own_extents g (space_of slot t) i (length_of slot) (fast (root_of slot t))
 
 -- the extents of an inode in a tier, where its extent block spells some
-unfoldable pub runs_read : Sizes → Store → ℕ → Tier → Option (List Extent)
-runs_read g s i t = runs_by g (s tiers.Fast) i (slot g s i) t
+unfoldable pub extents_read : Sizes → Store → ℕ → Tier → Option (List Extent)
+extents_read g s i t = extents_by g (s tiers.Fast) i (slot g s i) t
 
 -- the extents of an inode in a tier
-abbrev pub runs : Sizes → Store → ℕ → Tier → List Extent
-runs g s i t = unwrap_or (runs_read g s i t) []
+abbrev pub tier_extents : Sizes → Store → ℕ → Tier → List Extent
+tier_extents g s i t = unwrap_or (extents_read g s i t) []
 
 -- the block of a tier that holds a logical block of an inode
 abbrev pub place : Sizes → Store → ℕ → Tier → ℕ → Option ℕ
-place g s i t k = place_of (runs g s i t) k
+place g s i t k = place_of (tier_extents g s i t) k
 
 -- the block at a place, or else this
 abbrev pub at_or : Blocks → Option ℕ → List ℕ → List ℕ

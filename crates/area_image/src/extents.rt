@@ -1,14 +1,15 @@
 // Extents as they are read.
-ghost use Rattle.std.specs.Prelude.{◌≡◌, ◌≢◌, ◌≤◌, Some, None, nat_le, true, IfOk, IfErr};
+ghost use Rattle.std.specs.Prelude.{◌≡◌, ◌≢◌, ◌≤◌, Some, None, IsSome, nat_le, true, IfOk, IfErr};
 ghost use Rattle.std.specs.List.{list_all};
 ghost use Rattle.layout.specs.declared.error.What.TheVariants as what;
 ghost use Rattle.layout.specs.Places.{is_node};
+ghost use Rattle.layout.specs.Extents.{extents_of};
 ghost use Rattle.extent_nodes.specs.Places.{end_of};
-ghost use Rattle.area_image.specs.Store.{store_of, is_own, own_extents, runs_by, root_of, space_of, length_of};
+ghost use Rattle.area_image.specs.Store.{store_of, is_own, own_extents, extents_by, root_of, space_of, length_of};
 ghost use Rattle.area_image.specs.Looks.{Looks};
-ghost use Rattle.area_image.specs.Map.{extents_in};
+ghost use Rattle.area_image.specs.Map.{HasExtents, HasList, IsOwnList};
 ghost use Rattle.area_image.specs.Damage.{OnDamage};
-ghost use Rattle.area_image.specs.declared.error.AreaError.TheVariants.{DeviceFault};
+ghost use Rattle.area_image.specs.declared.error.AreaError.TheVariants.{DeviceFault, Memory};
 ghost use Rattle.tier_device.specs.declared.media.Tier.TheVariants as tiers;
 
 use crate::error::AreaError;
@@ -20,7 +21,7 @@ use std::alloc::Global;
 use tier_device::{Media, Tier};
 
 /// The extents of an inode in a tier, as its slot leads to them; `None` where it has no extent block there. `Damaged` names the extent block, where it spells none
-/// that are the inode's and end within its logical blocks.
+/// that are the inode's and end within its logical blocks; that takes no memory. `Memory` where there was none for what it spells.
 pub fn read_extents<M: Media>(
     alloc: Global,
     journal: &mut Journal<M>,
@@ -29,11 +30,15 @@ pub fn read_extents<M: Media>(
     tier: Tier,
 ) -> Result<Option<ExtentBlock>, AreaError>
     requires { root_of slot.now tier ≢ 0 → is_node journal.old.geometry (root_of slot.now tier) ≡ true }
-    ensures runs { IfOk result (λ x. runs_by journal.old.geometry (store_of (M.seen journal.old.media) tiers.Fast) inode slot.now tier ≡ Some (extents_in x)) }
+    ensures extents { IfOk result (HasExtents journal.old.geometry (store_of (M.seen journal.old.media) tiers.Fast) inode slot.now tier) }
     ensures damaged { IfErr result (λ e. OnDamage e (λ w block. (w ≡ what.ExtentBlock) × (block ≡ root_of slot.now tier) × (root_of slot.now tier ≢ 0)
-        × (runs_by journal.old.geometry (store_of (M.seen journal.old.media) tiers.Fast) inode slot.now tier ≡ None))) }
+        × (extents_by journal.old.geometry (store_of (M.seen journal.old.media) tiers.Fast) inode slot.now tier ≡ None))) }
+    ensures memory { IfErr result (λ e. e ≡ Memory → HasList journal.old.geometry (store_of (M.seen journal.old.media) tiers.Fast) slot.now tier) }
     ensures looks { Looks M.moment M.seen M.left M.faults journal.old journal.new result }
 {
+    if journal.has_failed() {
+        return Err(AreaError::DeviceFault);
+    }
     let root = root_of(slot, tier);
     if root == 0 {
         return Ok(None);
@@ -41,9 +46,9 @@ pub fn read_extents<M: Media>(
     let mut bytes = blank_block();
     read_block(journal, Tier::Fast, root, &mut bytes)?;
     let geometry = journal.geometry();
-    let place = space_of(slot, tier);
+    let space = space_of(slot, tier);
     let blocks = length_of(slot);
-    match spelled_extents(alloc, &geometry, place, root, inode, blocks, &bytes) {
+    match spelled_extents(alloc, &geometry, space, root, inode, blocks, &bytes) {
         Ok(found) => Ok(Some(found)),
         Err(error) => Err(error),
     }
@@ -53,21 +58,23 @@ pub fn read_extents<M: Media>(
 fn spelled_extents(
     alloc: Global,
     geometry: &Geometry,
-    place: Space,
+    space: Space,
     root: u32,
     inode: u32,
     blocks: u64,
     bytes: &[u8],
 ) -> Result<ExtentBlock, AreaError>
-    ensures runs { IfOk result (λ x. own_extents geometry.now place inode blocks bytes.now ≡ Some x.extents) }
+    ensures extents { IfOk result (λ x. own_extents geometry.now space inode blocks bytes.now ≡ Some x.extents) }
+    ensures own { IfOk result (IsOwnList geometry.now space inode) }
+    ensures memory { IfErr result (λ e. e ≡ Memory → IsSome (extents_of geometry.now space bytes.now)) }
     ensures device { IfErr result (λ e. e ≢ DeviceFault) }
-    ensures damaged { IfErr result (λ e. OnDamage e (λ w block. (w ≡ what.ExtentBlock) × (block ≡ root) × (own_extents geometry.now place inode blocks bytes.now ≡ None))) }
+    ensures damaged { IfErr result (λ e. OnDamage e (λ w block. (w ≡ what.ExtentBlock) × (block ≡ root) × (own_extents geometry.now space inode blocks bytes.now ≡ None))) }
 {
     let damaged = AreaError::Damaged {
         what: What::ExtentBlock,
         block: root,
     };
-    match ExtentBlock::decode(alloc, geometry, place, root, bytes) {
+    match ExtentBlock::decode(alloc, geometry, space, root, bytes) {
         Ok(found) => {
             if !is_own(&found, inode, blocks) {
                 return Err(damaged);

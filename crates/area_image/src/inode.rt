@@ -1,14 +1,17 @@
 // Slot and extents of an inode.
-ghost use Rattle.std.specs.Prelude.{◌≡◌, ◌≤◌, Some, IfOk, IfErr};
+ghost use Rattle.std.specs.Prelude.{◌≡◌, ◌≤◌, Some, true, IfOk, IfErr};
 ghost use Rattle.tier_device.specs.declared.media.Tier.{Tier};
-ghost use Rattle.area_image.specs.Store.{store_of, slot_read, runs_read};
+ghost use Rattle.tier_device.specs.declared.media.Tier.TheVariants as tiers;
+ghost use Rattle.layout.specs.Slot.{fits_slot};
+ghost use Rattle.area_image.specs.Store.{store_of, slot_read, extents_read};
 ghost use Rattle.area_image.specs.Damage.{OnDamage, IsDamaged};
 ghost use Rattle.area_image.specs.Looks.{Looks};
-ghost use Rattle.area_image.specs.Map.{runs_in, IsPartDamage, HasRuns};
+ghost use Rattle.area_image.specs.Map.{in_tier, extents_in, IsPartDamage, HasAllExtents, WantsMemory};
+ghost use Rattle.area_image.specs.declared.error.AreaError.TheVariants.{Memory};
 
 use crate::error::AreaError;
 use crate::slots::read_slot;
-use crate::trees::{InodeTrees, read_trees};
+use crate::tiers::{InodeExtents, read_all_extents};
 use batch_journal::Journal;
 use layout::Slot;
 use posix_calls::MAX_INODE;
@@ -19,10 +22,11 @@ use tier_device::Media;
 #[derive(Debug, Drop)]
 pub struct InodeParts {
     pub slot: Slot,
-    pub trees: InodeTrees,
+    pub extents: InodeExtents,
 }
 
-/// The slot and the extents of an inode, each block read once. `Damaged` names the slot or an extent block, where it is none.
+/// The slot and the extents of an inode, each block read once. `Damaged` names the slot or an extent block, where it is none; that takes no memory. `Memory` where
+/// there was none for what an extent block spells.
 pub fn read_inode<M: Media>(
     alloc: Global,
     journal: &mut Journal<M>,
@@ -31,9 +35,12 @@ pub fn read_inode<M: Media>(
     requires low { 1 ≤ inode }
     requires high { inode ≤ MAX_INODE }
     ensures slot { IfOk result (λ x. slot_read journal.old.geometry (store_of (M.seen journal.old.media)) inode ≡ Some x.slot) }
-    ensures runs { IfOk result (λ x. (t : Tier) → runs_read journal.old.geometry (store_of (M.seen journal.old.media)) inode t ≡ Some (runs_in x.trees t)) }
+    ensures fits { IfOk result (λ x. fits_slot journal.old.geometry x.slot ≡ true) }
+    ensures extents { IfOk result (λ x. (t : Tier) → extents_read journal.old.geometry (store_of (M.seen journal.old.media)) inode t ≡ Some (extents_in (in_tier x.extents t))) }
+    ensures blocks { IfOk result (λ x. HasAllExtents journal.old.geometry (store_of (M.seen journal.old.media) tiers.Fast) inode x.slot x.extents) }
     ensures damaged { IfErr result (λ e. OnDamage e (IsDamaged journal.old.geometry (store_of (M.seen journal.old.media)))) }
     ensures own { IfErr result (λ e. OnDamage e (IsPartDamage journal.old.geometry (store_of (M.seen journal.old.media)) inode)) }
+    ensures memory { IfErr result (λ e. e ≡ Memory → WantsMemory journal.old.geometry (store_of (M.seen journal.old.media)) inode) }
     ensures looks { Looks M.moment M.seen M.left M.faults journal.old journal.new result }
 {
     match read_parts(alloc, journal, inode) {
@@ -50,13 +57,15 @@ fn read_parts<M: Media>(
     requires low { 1 ≤ inode }
     requires high { inode ≤ MAX_INODE }
     ensures slot { IfOk result (λ x. slot_read journal.old.geometry (store_of (M.seen journal.old.media)) inode ≡ Some x.slot) }
-    ensures runs { IfOk result (λ x. HasRuns journal.old.geometry (store_of (M.seen journal.old.media)) inode x.slot x.trees) }
+    ensures fits { IfOk result (λ x. fits_slot journal.old.geometry x.slot ≡ true) }
+    ensures blocks { IfOk result (λ x. HasAllExtents journal.old.geometry (store_of (M.seen journal.old.media) tiers.Fast) inode x.slot x.extents) }
     ensures damaged { IfErr result (λ e. OnDamage e (IsPartDamage journal.old.geometry (store_of (M.seen journal.old.media)) inode)) }
+    ensures memory { IfErr result (λ e. e ≡ Memory → WantsMemory journal.old.geometry (store_of (M.seen journal.old.media)) inode) }
     ensures looks { Looks M.moment M.seen M.left M.faults journal.old journal.new result }
 {
     match read_slot(journal, inode) {
-        Ok(slot) => match read_trees(alloc, journal, inode, &slot) {
-            Ok(trees) => Ok(InodeParts { slot, trees }),
+        Ok(slot) => match read_all_extents(alloc, journal, inode, &slot) {
+            Ok(extents) => Ok(InodeParts { slot, extents }),
             Err(error) => Err(error),
         },
         Err(error) => Err(error),

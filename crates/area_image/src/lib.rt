@@ -9,16 +9,18 @@ mod laws;
 mod marks;
 mod reading;
 mod slots;
-mod trees;
+mod tiers;
 
 pub use change_laws::{free_blocks_have_no_use, rewritten_inodes_are_spelled};
 pub use error::AreaError;
 pub use extents::read_extents;
 pub use inode::{InodeParts, read_inode};
 pub use laws::{
-    damage_spells_no_graph, free_blocks_are_not_read, write_to_free_blocks_stays_loose,
+    damage_spells_no_graph, free_blocks_are_not_read, free_blocks_stay_free, places_are_in_pools,
+    sound_blocks_spell_a_graph, torn_free_run_stays_loose, untouched_inodes_stay,
+    write_to_free_blocks_stays_loose,
 };
 pub use marks::read_marks;
 pub use reading::{blank_block, read_block};
 pub use slots::{length_of, read_slot, root_of, space_of};
-pub use trees::{InodeTrees, read_trees};
+pub use tiers::{InodeExtents, read_all_extents};

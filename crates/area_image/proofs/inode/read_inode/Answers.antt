@@ -1,12 +1,12 @@
 use Rattle.area_image.specs.Store.{store_of}
 use Rattle.area_image.proofs.Shown.{inode_is}
-use Rattle.area_image.proofs.Parts.{on_damage, runs_all, part_damage}
+use Rattle.area_image.proofs.Parts.{on_damage, extents_all, part_damage}
 use Rattle.area_image.proofs.inode.read_inode.Goals as goal
 
-pub returns-in-Ok-clause-runs : goal.returns-in-Ok-clause-runs
-returns-in-Ok-clause-runs g c =
+pub returns-in-Ok-clause-extents : goal.returns-in-Ok-clause-extents
+returns-in-Ok-clause-extents g c =
     let old = c.args.journal.now in
-    runs_all old.geometry (store_of (g.M.Media.seen old.media)) c.args.inode c.in-Ok.parts.slot c.in-Ok.parts.trees c.in-Ok.ensures.slot c.in-Ok.ensures.runs
+    extents_all old.geometry (store_of (g.M.Media.seen old.media)) c.args.inode c.in-Ok.parts.slot c.in-Ok.parts.extents c.in-Ok.ensures.slot c.in-Ok.ensures.blocks
 
 pub returns-in-Err-clause-damaged : goal.returns-in-Err-clause-damaged
 returns-in-Err-clause-damaged g c =

@@ -11,7 +11,7 @@ returns-in-Ok-clause-looks g c =
 pub returns-in-Err-clause-looks : goal.returns-in-Err-clause-looks
 returns-in-Err-clause-looks g c =
     let m = g.M.Media in
-    looks_fault m.moment m.seen m.left m.faults c.args.journal.now c.read.new.self c.read.ensures.unmoved c.read.ensures.geometry c.read.ensures.faults c.read.ensures.one_fault c.in-Err.ensures.fault
+    looks_fault m.moment m.seen m.left m.faults c.args.journal.now c.read.new.self c.read.ensures.unmoved c.read.ensures.geometry c.read.ensures.faults c.read.ensures.one_fault c.in-Err.ensures.fault (λ was. (c.read.ensures.stays_failed was).1)
 
 pub returns-in-Ok-clause-bytes : goal.returns-in-Ok-clause-bytes
 returns-in-Ok-clause-bytes g c = c.in-Ok.ensures.bytes ∙ ap (λ n. slice (4096 * c.args.block) n (g.M.Media.seen c.args.journal.now.media c.args.tier)) c.requires.size

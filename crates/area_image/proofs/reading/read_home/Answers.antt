@@ -9,4 +9,4 @@ returns-in-Ok-clause-looks g c =
 pub returns-in-Err-clause-looks : goal.returns-in-Err-clause-looks
 returns-in-Err-clause-looks g c =
     let m = g.M.Media in
-    looks_fault m.moment m.seen m.left m.faults c.args.journal.now c.image.new.self c.image.ensures.unmoved c.image.ensures.geometry c.image.ensures.faults c.image.ensures.one_fault c.in-Err.ensures.fault
+    looks_fault m.moment m.seen m.left m.faults c.args.journal.now c.image.new.self c.image.ensures.unmoved c.image.ensures.geometry c.image.ensures.faults c.image.ensures.one_fault c.in-Err.ensures.fault (λ was. (c.image.ensures.stays_failed was).1)

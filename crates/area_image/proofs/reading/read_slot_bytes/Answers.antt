@@ -14,7 +14,7 @@ returns-in-Ok-clause-looks g c =
 pub returns-in-Err-clause-looks : goal.returns-in-Err-clause-looks
 returns-in-Err-clause-looks g c =
     let m = g.M.Media in
-    looks_fault m.moment m.seen m.left m.faults c.args.journal.now c.read.new.self c.read.ensures.unmoved c.read.ensures.geometry c.read.ensures.faults c.read.ensures.one_fault c.in-Err.ensures.fault
+    looks_fault m.moment m.seen m.left m.faults c.args.journal.now c.read.new.self c.read.ensures.unmoved c.read.ensures.geometry c.read.ensures.faults c.read.ensures.one_fault c.in-Err.ensures.fault (λ was. (c.read.ensures.stays_failed was).1)
 
 pub returns-in-Ok-clause-bytes : goal.returns-in-Ok-clause-bytes
 returns-in-Ok-clause-bytes g c =
