@@ -8,6 +8,7 @@ use Rattle.layout.specs.declared.geometry.Space.{Space}
 use Rattle.layout.specs.Extents.{ExtentList, extents_of, fits_extents}
 use Rattle.layout.specs.declared.error.What.{What}
 use Rattle.layout.specs.declared.error.What.TheVariants as what
+use Rattle.extent_nodes.specs.Places.{place_of}
 use Rattle.batch_journal.specs.Blocks.{Blocks}
 use Rattle.layout.specs.Places.{Sizes, slot_block}
 use Rattle.area_image.specs.Store.{Store, root_of, space_of, slot, extents_by, slot_read}
@@ -58,6 +59,21 @@ abbrev pub in_tier : InodeExtents → Tier → Option ExtentList
 in_tier x tiers.Fast = x.fast
 in_tier x tiers.Block = x.block
 in_tier x tiers.Slow = x.slow
+
+-- where a logical block lies in a tier
+abbrev pub place_by : InodeExtents → Tier → ℕ → Option ℕ
+place_by x t k = place_of (extents_in (in_tier x t)) k
+
+-- One tier at most maps a logical block.
+abbrev pub IsOnceAt : InodeExtents → ℕ → Type 0
+IsOnceAt x k = (t u : Tier) → IsSome (place_by x t k) → IsSome (place_by x u k) → t ≡ u
+
+-- A tier maps a logical block, and so does another one.
+pub record IsTwiceAt (x : InodeExtents) (t : Tier) (k : ℕ) : Type 0 where
+  pub other : Tier
+  pub differ : other ≢ t
+  pub here : IsSome (place_by x t k)
+  pub there : IsSome (place_by x other k)
 
 -- what is read by this slot, in each tier
 abbrev pub HasAllExtents : Sizes → Blocks → ℕ → Slot → InodeExtents → Type 0

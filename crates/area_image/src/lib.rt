@@ -7,6 +7,7 @@ mod extents;
 mod inode;
 mod laws;
 mod marks;
+mod places;
 mod reading;
 mod slots;
 mod tiers;
