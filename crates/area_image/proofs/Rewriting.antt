@@ -6,12 +6,11 @@ use Rattle.std.proofs.lemmas.Bool.{cases_Bool, cond-true, cond-false, and_parts,
 use Rattle.tier_device.specs.declared.media.Tier.{Tier}
 use Rattle.tier_device.specs.declared.media.Tier.TheVariants.{Fast, Block, Slow}
 use Rattle.layout.specs.declared.slot.Slot.TheVariants as slots
-use Rattle.layout.specs.declared.places.TheConstants.{SUPER_BLOCK}
 use Rattle.layout.specs.Places.{Sizes, is_inode, slot_block}
 use Rattle.batch_journal.specs.Volume.{Spells}
 use Rattle.area_image.specs.Store.{Store, slot, root_of, place, inode}
 use Rattle.area_image.specs.Reads.{Reads, IsRoom, Free, Untouched}
-use Rattle.area_image.specs.Spelled.{SpellsInode, Use, used, AreApart, IsSpelled}
+use Rattle.area_image.specs.Spelled.{SpellsInode, Use, used, AreUsedOnce, IsSpelled}
 use Rattle.area_image.specs.Rewrites.{Rewrites}
 use Rattle.area_image.proofs.Frames.{inode-kept, spells-kept, block_for-kept}
 
@@ -40,10 +39,7 @@ module _ (g : Sizes) (rewritten : ℕ → Bool) (old new : Store) (is : Rewrites
   other_use u other = block_for-kept g old new u.inode (untouched u.inode other) u.tier u.logical
 
 module _ (g : Sizes) (rewritten : ℕ → Bool) (old new : Store) (before : IsSpelled g old) (is : Rewrites g rewritten old new) where
-  pub new_superblock : Spells g (new Fast SUPER_BLOCK)
-  new_superblock = subst (Spells g) (sym is.superblock) before.superblock
-
-  pub new_inodes : (i : ℕ) → is_inode i ≡ true → SpellsInode g new i
+  new_inodes : (i : ℕ) → is_inode i ≡ true → SpellsInode g new i
   new_inodes i number = elim (cases_Bool (rewritten i)) [
     | inl its ↦ is.spells i number its
     | inr other ↦ spells-kept g old new i (untouched g rewritten old new is i other) (before.inodes i number)
@@ -52,7 +48,7 @@ module _ (g : Sizes) (rewritten : ℕ → Bool) (old new : Store) (before : IsSp
   stays : (u : Use) (b : Tier × ℕ) → rewritten u.inode ≡ false → used g new u ≡ Some b → used g old u ≡ Some b
   stays u b other at = sym (other_use g rewritten old new is u other) ∙ at
 
-  pub new_apart : AreApart g new
+  new_apart : AreUsedOnce g new
   new_apart u v b here there = elim (cases_Bool (rewritten u.inode)) [
     | inl one ↦ elim (cases_Bool (rewritten v.inode)) [
       | inl two ↦ is.apart u v b one two here there
@@ -63,6 +59,9 @@ module _ (g : Sizes) (rewritten : ℕ → Bool) (old new : Store) (before : IsSp
       | inr third ↦ before.apart u v b (stays u b other here) (stays v b third there)
     ]
   ]
+
+  pub new_spelled : IsSpelled g new
+  new_spelled = record { superblock = subst (Spells g) (sym is.superblock) before.superblock; marks = is.marks; inodes = new_inodes; apart = new_apart }
 
 -- ---- free blocks
 
