@@ -21,5 +21,5 @@ module _ (w : World) (c d : ℕ) (b : Begun) (first rest : List Record) (h : Hol
   replied_beside = replied_whole (digested w d first) c b (digested_holds w d first rest h can) begun_still ∙ ap (λ g. after_effects g b.change.effects) (digest_keeps w d first rest h can)
 
 -- what is open is not reclaimed
-pub open_stays : (w : World) (c n : ℕ) (o : Descriptor) → Holds w → is_client c ≡ true → (w.clients c).knows.own n ≡ Some o → CanReclaim w o.inode → ⊥
+pub open_stays : (w : World) (c n : ℕ) (o : Descriptor) → Holds w → is_client c ≡ true → (w.clients c).knows.own n ≡ Some o → CanReclaim w.kernel o.inode → ⊥
 open_stays w c n o h is_c there can = both ((w.kernel.accounts c).pins o.inode) ((h.stands c is_c).pinned.booked o.inode ((h.stands c is_c).pinned.opened n o there)) (can.unpinned c is_c)

@@ -70,7 +70,7 @@ module _ (w : World) (c units : ℕ) (h : Holds w) (is_c : is_client c ≡ true)
   abbrev poorer : Account
   poorer = record account { units = account.units - units }
 
-  pub units_granted_hold : HasRoom w units → Holds (units_granted w c units)
+  pub units_granted_hold : HasRoom w.kernel units → Holds (units_granted w c units)
   units_granted_hold room =
       let sums : sum_up_to 8 (λ d. (at w.kernel.accounts c richer d).units) + account.units ≡ sum_up_to 8 (λ d. (w.kernel.accounts d).units) + (account.units + units) = units_moved w c w.kernel.shared richer old h is_c in
       let enough : charge w.kernel.shared + (sum_up_to 8 (λ d. (w.kernel.accounts d).units) + units) ≤ w.kernel.capacity = room in
@@ -99,7 +99,7 @@ module _ (w : World) (c units : ℕ) (h : Holds w) (is_c : is_client c ≡ true)
 -- ---- numbers
 
 -- a number that stands in nobody's account is one of no node of the whole
-pub unbooked_new : (w : World) (i : ℕ) → Holds w → IsUnbooked w i → IsNew (whole w) i
+pub unbooked_new : (w : World) (i : ℕ) → Holds w → IsUnbooked w.kernel i → IsNew (whole w) i
 unbooked_new w i h free = record {
   low = free.low;
   high = free.high;
@@ -125,7 +125,7 @@ module _ (w : World) (c i : ℕ) (h : Holds w) (is_c : is_client c ≡ true) whe
   abbrev with_it : Account
   with_it = record its { numbers = also its.numbers i }
 
-  pub number_granted_holds : IsUnbooked w i → Holds (number_granted w c i)
+  pub number_granted_holds : IsUnbooked w.kernel i → Holds (number_granted w c i)
   number_granted_holds free =
       let known = h.agrees c is_c in
       quiet w c w.kernel.shared with_it with_number h is_c refl refl refl

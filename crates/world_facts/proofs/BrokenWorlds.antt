@@ -24,7 +24,8 @@ use Rattle.world_facts.specs.Walk.{mkdir_a, made}
 use Rattle.world_facts.specs.Broken.{making, marked_past, granted_twice, watching, root_alone, half, misbegun, unpaid, overdrawn}
 use Rattle.world_facts.proofs.Fresh.{fresh_within}
 use Rattle.world_facts.proofs.Idle.{none_some, idle_stands}
-use Rattle.world_facts.proofs.Moved.{each, each_client}
+use Rattle.world_facts.proofs.Moved.{each_client}
+use Rattle.world_facts.proofs.Kernels.{each}
 use Rattle.world_facts.proofs.Walks.{planned}
 
 -- ---- a mark past its records

@@ -49,7 +49,7 @@ module _ (w : World) (c units : ℕ) (h : Holds w) (is_c : is_client c ≡ true)
   abbrev sender : Client
   sender = record p { spare = p.spare - units }
 
-  pub units_booked_hold : HasRoom w units → Holds (units_booked w c units)
+  pub units_booked_hold : HasRoom w.kernel units → Holds (units_booked w c units)
   units_booked_hold room =
       let sums : sum_up_to 8 (λ d. (at w.kernel.accounts c richer d).units) + a.units ≡ sum_up_to 8 (λ d. (w.kernel.accounts d).units) + (a.units + units) = units_moved w c w.kernel.shared richer p h is_c in
       let enough : charge w.kernel.shared + (sum_up_to 8 (λ d. (w.kernel.accounts d).units) + units) ≤ w.kernel.capacity = room in
@@ -117,7 +117,7 @@ module _ (w : World) (c i : ℕ) (h : Holds w) (is_c : is_client c ≡ true) whe
   abbrev without_number : Client
   without_number = record q { knows = record q.knows { granted = without q.knows.granted i } }
 
-  pub number_booked_holds : IsUnbooked w i → Holds (number_booked w c i)
+  pub number_booked_holds : IsUnbooked w.kernel i → Holds (number_booked w c i)
   number_booked_holds free =
       quiet w c w.kernel.shared with_it q h is_c refl refl refl
       (booked_moved w c w.kernel.shared with_it q h is_c

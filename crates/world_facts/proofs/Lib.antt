@@ -1,6 +1,7 @@
 pub mod Records
 pub mod Owners
 pub mod Idle
+pub mod Kernels
 pub mod Moved
 pub mod Facts
 pub mod Along

@@ -14,20 +14,14 @@ use Rattle.world_facts.specs.World.{Client, Account, World, undigested, records_
 use Rattle.world_facts.specs.Standing.{Stands, IsBooked, IsBeside}
 use Rattle.world_facts.specs.Invariant.{Holds}
 use Rattle.world_facts.proofs.Records.{either, both}
-use Rattle.world_facts.proofs.Owners.{is_low, is_high}
+use Rattle.world_facts.proofs.Kernels.{each}
+use Rattle.world_facts.proofs.Kernels as kernels
 
 -- what is said of a graph and descriptors is so of others that are the same
 pub both_same : (Q : Graph → Descriptors → Type 0) {g h : Graph} {d e : Descriptors} → h ≡ g → e ≡ d → Q g d → Q h e
 both_same Q {g} {h} {d} {e} graph held q = subst (λ x. Q x e) (sym graph) (subst (λ o. Q g o) (sym held) q)
 
 -- ---- what holds of the client that moved and of the others
-
-pub each : {A : Type 0} (f : ℕ → A) (c : ℕ) (x : A) (Q : ℕ → A → Type 0) → Q c x → ((d : ℕ) → d ≢ c → Q d (f d)) → (d : ℕ) → Q d (at f c x d)
-each f c x Q own others d =
-    elim (eqb_tells d c) [
-      | inl same ↦ subst (λ b. Q d (cond b x (f d))) (sym same.0) (subst (λ e. Q e x) (sym same.1) own)
-      | inr other ↦ subst (λ b. Q d (cond b x (f d))) (sym other.0) (others d other.1)
-    ]
 
 module _ (w : World) (c : ℕ) (g : Graph) (a : Account) (p : Client) where
   pub each_client : (Q : ℕ → Account → Client → Type 0) → Q c a p → ((d : ℕ) → d ≢ c → Q d (w.kernel.accounts d) (w.clients d)) → (d : ℕ) → Q d (at w.kernel.accounts c a d) (at w.clients c p d)
@@ -107,9 +101,7 @@ module _ (w : World) (c : ℕ) (g : Graph) (a : Account) (p : Client) (h : Holds
 
   -- the sum of the units that are out
   pub units_moved : sum_up_to 8 (λ d. (at w.kernel.accounts c a d).units) + (w.kernel.accounts c).units ≡ sum_up_to 8 (λ d. (w.kernel.accounts d).units) + a.units
-  units_moved =
-      one_changes 8 (λ d. (w.kernel.accounts d).units) (λ d. (at w.kernel.accounts c a d).units) c (is_low c is_c) (is_high c is_c) (λ d other. ap (λ (x : Account). x.units) (same_if d c a (w.kernel.accounts d) other))
-      ∙ ap (λ (x : Account). sum_up_to 8 (λ d. (w.kernel.accounts d).units) + x.units) (there_if c a (w.kernel.accounts c))
+  units_moved = kernels.units_moved w.kernel c g a h.booked is_c
 
   pub booked_moved : ((i : ℕ) → a.numbers i ≡ true → g i ≡ None)
       → ((d i : ℕ) → is_client d ≡ true → d ≢ c → (w.kernel.accounts d).numbers i ≡ true → g i ≡ None)
@@ -118,22 +110,7 @@ module _ (w : World) (c : ℕ) (g : Graph) (a : Account) (p : Client) (h : Holds
       → AreWithin g
       → charge g + sum_up_to 8 (λ d. (at w.kernel.accounts c a d).units) ≤ w.kernel.capacity
       → IsBooked (moved w c g a p).kernel
-  booked_moved own others range alone limits fits = record {
-    free = λ d i is_d. each w.kernel.accounts c a (λ d (b : Account). is_client d ≡ true → b.numbers i ≡ true → g i ≡ None) (λ is e. own i e) (λ d off is e. others d i is off e) d is_d;
-    range = λ d i is_d. each w.kernel.accounts c a (λ d (b : Account). is_client d ≡ true → b.numbers i ≡ true → (1 < i) × (i ≤ 1024)) (λ is e. range i e) (λ d off is e. h.booked.range d i is e) d is_d;
-    alone = λ d e i is_d is_e apart. apart_numbers d e i is_d is_e apart;
-    limits = limits;
-    fits = fits;
-  }
-    where
-      apart_numbers : (d e i : ℕ) → is_client d ≡ true → is_client e ≡ true → e ≢ d → (at w.kernel.accounts c a d).numbers i ≡ true → (at w.kernel.accounts c a e).numbers i ≡ false
-      apart_numbers d e i is_d is_e apart =
-          each w.kernel.accounts c a (λ d (b : Account). is_client d ≡ true → e ≢ d → b.numbers i ≡ true → (at w.kernel.accounts c a e).numbers i ≡ false)
-          (λ is apart there. each w.kernel.accounts c a (λ e (b : Account). is_client e ≡ true → e ≢ c → b.numbers i ≡ false) (λ is other. absurd (other refl)) (λ e off is_e other. alone e i is_e off there) e is_e apart)
-          (λ d off is apart there. each w.kernel.accounts c a (λ e (b : Account). is_client e ≡ true → e ≢ d → b.numbers i ≡ false)
-          (λ is_c other. elim (either (a.numbers i)) [ inl has ↦ both ((w.kernel.accounts d).numbers i) there (alone d i is off has) | inr free ↦ free ])
-          (λ e off is_e other. h.booked.alone d e i is is_e other there) e is_e apart)
-          d is_d apart
+  booked_moved = kernels.booked_moved w.kernel c g a h.booked is_c
 
   -- The whole and what is open stay, and the client holds no more than before.
   pub quiet : g ≡ w.kernel.shared → undigested a p ≡ log_of w c → p.knows.own ≡ (w.clients c).knows.own

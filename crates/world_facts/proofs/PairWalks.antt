@@ -52,14 +52,14 @@ ruleset parts = (part_bind, part_gives, part_refuses, part_is_dir, part_look)
 returned_holds : Holds walked.returned
 returned_holds = units_returned_hold opened.known 1 4 known_holds refl (omega arith)
 
-room : HasRoom walked.returned 4
+room : HasRoom walked.returned.kernel 4
 unfolding sum_up_to
 room = omega arith
 
 with_units : Holds (units_granted walked.returned 2 4)
 with_units = units_granted_hold walked.returned 2 4 returned_holds refl room
 
-unbooked : IsUnbooked (units_granted walked.returned 2 4) 3
+unbooked : IsUnbooked (units_granted walked.returned 2 4).kernel 3
 unbooked = record {
   low = omega arith;
   high = omega arith;

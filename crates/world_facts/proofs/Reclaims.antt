@@ -104,7 +104,7 @@ nameless_whole w i h file =
     let none = along_front NamesNone (log_of w o.0) (change_of (w.clients o.0).begun) w.kernel.shared ((h.stands o.0 o.1.client).logged.unnamed) in
     subst IsNameless (sym (whole_at (log_of w) w.kernel.shared o.0 i o.1)) (through (λ j o. IsNameless o) (log_of w o.0) w.kernel.shared i none file)
 
-module _ (w : World) (i : ℕ) (h : Holds w) (can : CanReclaim w i) where
+module _ (w : World) (i : ℕ) (h : Holds w) (can : CanReclaim w.kernel i) where
   abbrev shared : Graph
   shared = set_node w.kernel.shared i None
 

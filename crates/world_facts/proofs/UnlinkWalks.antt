@@ -139,7 +139,7 @@ pub kept_nameless : IsNameless (walked.kept.kernel.shared 2)
 kept_nameless = record { bytes = []; is = refl }
 
 -- while it is open it is pinned
-pub kept_unreclaimed : CanReclaim walked.kept 2 → ⊥
+pub kept_unreclaimed : CanReclaim walked.kept.kernel 2 → ⊥
 kept_unreclaimed can = false≢true (sym (can.unpinned 1 refl))
 
 -- ---- closed
@@ -176,7 +176,7 @@ can_unpin = record {
 released_holds : Holds walked.released
 released_holds = unpinned_holds walked.closed 1 2 closed_holds can_unpin
 
-pub can_reclaim : CanReclaim walked.released 2
+pub can_reclaim : CanReclaim walked.released.kernel 2
 can_reclaim = record {
   file = record { bytes = []; is = refl };
   unpinned = λ c is_c. eight (λ c. (walked.released.kernel.accounts c).pins 2 ≡ false) refl refl refl refl refl refl refl refl c (is_low c is_c) (is_high c is_c);

@@ -37,7 +37,7 @@ use Rattle.world_facts.specs.BookSteps.{units_granted}
 use Rattle.world_facts.specs.Walk as walked
 use Rattle.world_facts.proofs.Idle.{none_some, idle_holds, idle_tree}
 use Rattle.world_facts.proofs.Fresh.{fresh_within}
-use Rattle.world_facts.proofs.Moved.{each}
+use Rattle.world_facts.proofs.Kernels.{each}
 use Rattle.call_effects.proofs.Fresh.{fresh_sound, fresh_state}
 use Rattle.world_facts.proofs.Begins.{begun_holds, begun_tree}
 use Rattle.world_facts.proofs.Replies.{replied_holds, replied_step}
@@ -85,13 +85,13 @@ planned = record { comes = comes; effects = simp parts refl; number = λ m. refl
 start_holds : Holds walked.start
 start_holds = idle_holds (charge fresh + 10) fresh (omega arith) fresh_sound fresh_within
 
-room : HasRoom walked.start 10
+room : HasRoom walked.start.kernel 10
 room = let nothing : sum_up_to 8 (λ c. 0) ≡ 0 = all_zero 8 (λ c. 0) (λ c. refl) in omega (arith, nothing)
 
 with_units : Holds (units_granted walked.start 1 10)
 with_units = units_granted_hold walked.start 1 10 start_holds refl room
 
-unbooked : IsUnbooked (units_granted walked.start 1 10) 2
+unbooked : IsUnbooked (units_granted walked.start 1 10).kernel 2
 unbooked = record { low = omega arith; high = omega arith; none = refl; nobody = λ d is_d. each walked.start.kernel.accounts 1 (record (walked.start.kernel.accounts 1) { units = 10 }) (λ d a. a.numbers 2 ≡ false) refl (λ d other. refl) d }
 
 granted_holds : Holds walked.granted

@@ -5,14 +5,14 @@ use Rattle.posix_calls.specs.Operations.{is_client}
 use Rattle.posix_calls.specs.declared.descriptor.Descriptor.{Descriptor}
 use Rattle.posix_calls.specs.declared.limits.TheConstants.{ROOT, MAX_INODE, MAX_CLIENTS}
 use Rattle.file_graph.specs.Units.{charge}
-use Rattle.world_facts.specs.World.{World, moved}
+use Rattle.world_facts.specs.World.{Kernel, World, moved}
 use Rattle.world_facts.specs.LeaseSteps.{also, without}
 
 -- ---- units
 
 -- what is charged and out, and so many more units, fit
-abbrev pub HasRoom : World → ℕ → Type 0
-HasRoom w units = charge w.kernel.shared + (sum_up_to MAX_CLIENTS (λ c. (w.kernel.accounts c).units) + units) ≤ w.kernel.capacity
+abbrev pub HasRoom : Kernel → ℕ → Type 0
+HasRoom k units = charge k.shared + (sum_up_to MAX_CLIENTS (λ c. (k.accounts c).units) + units) ≤ k.capacity
 
 abbrev pub units_granted : World → ℕ → ℕ → World
 units_granted w c units = moved w c w.kernel.shared (record (w.kernel.accounts c) { units = (w.kernel.accounts c).units + units }) (record (w.clients c) { spare = (w.clients c).spare + units })
@@ -23,11 +23,11 @@ units_returned w c units = moved w c w.kernel.shared (record (w.kernel.accounts 
 -- ---- numbers
 
 -- a number of no node, in nobody's account
-pub record IsUnbooked (w : World) (i : ℕ) : Type 0 where
+pub record IsUnbooked (k : Kernel) (i : ℕ) : Type 0 where
   pub low : ROOT < i
   pub high : i ≤ MAX_INODE
-  pub none : w.kernel.shared i ≡ None
-  pub nobody : (d : ℕ) → is_client d ≡ true → (w.kernel.accounts d).numbers i ≡ false
+  pub none : k.shared i ≡ None
+  pub nobody : (d : ℕ) → is_client d ≡ true → (k.accounts d).numbers i ≡ false
 
 abbrev pub number_granted : World → ℕ → ℕ → World
 number_granted w c i = moved w c w.kernel.shared (record (w.kernel.accounts c) { numbers = also (w.kernel.accounts c).numbers i }) (record (w.clients c) { knows = record (w.clients c).knows { granted = also (w.clients c).knows.granted i } })

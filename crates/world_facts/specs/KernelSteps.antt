@@ -4,7 +4,7 @@ use Rattle.posix_calls.specs.Operations.{is_client}
 use Rattle.file_graph.specs.Graph.{set_node}
 use Rattle.log_record.specs.declared.format.Record.{Record}
 use Rattle.world_facts.specs.Logs.{after_records, is_made_in, units_in, IsNameless}
-use Rattle.world_facts.specs.World.{World, moved}
+use Rattle.world_facts.specs.World.{Kernel, World, moved}
 
 -- ---- records are digested
 
@@ -20,10 +20,10 @@ digested w c first = moved w c (after_records w.kernel.shared first) (record (w.
 
 -- ---- a file is reclaimed
 
-pub record CanReclaim (w : World) (i : ℕ) : Type 0 where
+pub record CanReclaim (k : Kernel) (i : ℕ) : Type 0 where
   -- it stands in the shared graph and has no name there, and nobody has pinned it
-  pub file : IsNameless (w.kernel.shared i)
-  pub unpinned : (c : ℕ) → is_client c ≡ true → (w.kernel.accounts c).pins i ≡ false
+  pub file : IsNameless (k.shared i)
+  pub unpinned : (c : ℕ) → is_client c ≡ true → (k.accounts c).pins i ≡ false
 
 abbrev pub reclaimed : World → ℕ → World
 reclaimed w i = record { kernel = record { shared = set_node w.kernel.shared i None; capacity = w.kernel.capacity; accounts = w.kernel.accounts }; clients = w.clients }

@@ -9,6 +9,7 @@ pub mod LeaseSteps
 pub mod Limits
 pub mod Logs
 pub mod Opening
+pub mod Machine
 pub mod Outcome
 pub mod PairWalk
 pub mod Recovery

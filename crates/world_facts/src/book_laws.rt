@@ -8,7 +8,7 @@ ghost use Rattle.world_facts.specs.Invariant.{Holds};
 
 /// Units are granted where they fit beside what is charged and out, and spare ones are given back.
 pub fn units_may_be_granted_and_returned()
-    ensures granted { (w : World) (c units : ℕ) → Holds w → is_client c ≡ true → HasRoom w units → Holds (units_granted w c units) }
+    ensures granted { (w : World) (c units : ℕ) → Holds w → is_client c ≡ true → HasRoom w.kernel units → Holds (units_granted w c units) }
     ensures granted_tree { (w : World) (c units : ℕ) → Holds w → is_client c ≡ true → tree_of (units_granted w c units) ≡ tree_of w }
     ensures returned { (w : World) (c units : ℕ) → Holds w → is_client c ≡ true → units ≤ (w.clients c).spare → Holds (units_returned w c units) }
     ensures returned_tree { (w : World) (c units : ℕ) → Holds w → is_client c ≡ true → tree_of (units_returned w c units) ≡ tree_of w }
@@ -16,7 +16,7 @@ pub fn units_may_be_granted_and_returned()
 
 /// A number is granted that names no node and stands in nobody's account, and one that wasn't used is given back.
 pub fn number_may_be_granted_and_returned()
-    ensures granted { (w : World) (c i : ℕ) → Holds w → is_client c ≡ true → IsUnbooked w i → Holds (number_granted w c i) }
+    ensures granted { (w : World) (c i : ℕ) → Holds w → is_client c ≡ true → IsUnbooked w.kernel i → Holds (number_granted w c i) }
     ensures granted_tree { (w : World) (c i : ℕ) → Holds w → is_client c ≡ true → tree_of (number_granted w c i) ≡ tree_of w }
     ensures returned { (w : World) (c i : ℕ) → Holds w → CanReturn w c i → Holds (number_returned w c i) }
     ensures returned_tree { (w : World) (c i : ℕ) → Holds w → CanReturn w c i → tree_of (number_returned w c i) ≡ tree_of w }

@@ -10,7 +10,7 @@ ghost use Rattle.world_facts.specs.Invariant.{Holds};
 
 /// Units come into the book first and to the client then; they leave the client first and the book then.
 pub fn units_may_be_on_their_way()
-    ensures booked { (w : World) (c units : ℕ) → Holds w → is_client c ≡ true → HasRoom w units → Holds (units_booked w c units) }
+    ensures booked { (w : World) (c units : ℕ) → Holds w → is_client c ≡ true → HasRoom w.kernel units → Holds (units_booked w c units) }
     ensures booked_tree { (w : World) (c units : ℕ) → Holds w → is_client c ≡ true → tree_of (units_booked w c units) ≡ tree_of w }
     ensures received { (w : World) (c units : ℕ) → Holds w → AreOnTheirWay w c units → Holds (units_received w c units) }
     ensures received_tree { (w : World) (c units : ℕ) → Holds w → is_client c ≡ true → tree_of (units_received w c units) ≡ tree_of w }
@@ -22,7 +22,7 @@ pub fn units_may_be_on_their_way()
 
 /// So does a number.
 pub fn number_may_be_on_its_way()
-    ensures booked { (w : World) (c i : ℕ) → Holds w → is_client c ≡ true → IsUnbooked w i → Holds (number_booked w c i) }
+    ensures booked { (w : World) (c i : ℕ) → Holds w → is_client c ≡ true → IsUnbooked w.kernel i → Holds (number_booked w c i) }
     ensures booked_tree { (w : World) (c i : ℕ) → Holds w → is_client c ≡ true → tree_of (number_booked w c i) ≡ tree_of w }
     ensures received { (w : World) (c i : ℕ) → Holds w → IsOnItsWay w c i → Holds (number_received w c i) }
     ensures received_tree { (w : World) (c i : ℕ) → Holds w → is_client c ≡ true → tree_of (number_received w c i) ≡ tree_of w }

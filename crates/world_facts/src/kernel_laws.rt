@@ -28,9 +28,9 @@ pub fn nameless_file_stays_nameless()
 /// A file that has no name in the shared graph, and that nobody has pinned, is reclaimed, also where a client has a lease on it or a
 /// copy, or has records that are not digested.
 pub fn unused_file_may_be_reclaimed()
-    ensures holds { (w : World) (i : ℕ) → Holds w → CanReclaim w i → Holds (reclaimed w i) }
-    ensures whole { (w : World) (i : ℕ) → Holds w → CanReclaim w i → whole (reclaimed w i) ≡ set_node (whole w) i None }
-    ensures tree { (w : World) (i : ℕ) → Holds w → CanReclaim w i → tree_of (reclaimed w i) ≡ tree_of w }
+    ensures holds { (w : World) (i : ℕ) → Holds w → CanReclaim w.kernel i → Holds (reclaimed w i) }
+    ensures whole { (w : World) (i : ℕ) → Holds w → CanReclaim w.kernel i → whole (reclaimed w i) ≡ set_node (whole w) i None }
+    ensures tree { (w : World) (i : ℕ) → Holds w → CanReclaim w.kernel i → tree_of (reclaimed w i) ≡ tree_of w }
 {}
 
 /// A call that has begun its record stays begun while records are digested, its own client's too, and its answer makes of the whole
@@ -42,5 +42,5 @@ pub fn digest_leaves_begun_calls()
 
 /// A file that a client has open can't be reclaimed, also where it has lost its last name: it is pinned.
 pub fn open_file_is_not_reclaimed()
-    ensures { (w : World) (c n : ℕ) (o : Descriptor) → Holds w → is_client c ≡ true → (w.clients c).knows.own n ≡ Some o → CanReclaim w o.inode → ⊥ }
+    ensures { (w : World) (c n : ℕ) (o : Descriptor) → Holds w → is_client c ≡ true → (w.clients c).knows.own n ≡ Some o → CanReclaim w.kernel o.inode → ⊥ }
 {}

@@ -36,9 +36,9 @@ pub fn small_world_unlinks_an_open_file()
     ensures unlinked { Step (tree_of unlink_walk.unlinking) 1 unlink_walk.unlink_a.call Done (tree_of unlink_walk.unlinked) }
     ensures kept { Holds unlink_walk.kept }
     ensures nameless { IsNameless (unlink_walk.kept.kernel.shared 2) }
-    ensures pinned { CanReclaim unlink_walk.kept 2 → ⊥ }
+    ensures pinned { CanReclaim unlink_walk.kept.kernel 2 → ⊥ }
     ensures closed { Step (tree_of unlink_walk.kept) 1 unlink_walk.close_0 Done (tree_of unlink_walk.closed) }
-    ensures can { CanReclaim unlink_walk.released 2 }
+    ensures can { CanReclaim unlink_walk.released.kernel 2 }
     ensures reclaimed { Holds unlink_walk.emptied }
     ensures unseen { tree_of unlink_walk.emptied ≡ tree_of unlink_walk.released }
 {}
