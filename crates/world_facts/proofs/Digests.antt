@@ -28,7 +28,7 @@ use Rattle.world_facts.proofs.Facts as facts
 use Rattle.world_facts.proofs.Moved.{both_same, holds_moved, booked_moved, units_moved, log_there, log_else, held_same}
 
 -- what is left after more is passed over
-drop_more : {A : Type 0} (m n : ℕ) (xs : List A) → m ≤ length xs → drop (m + n) xs ≡ drop n (drop m xs)
+pub drop_more : {A : Type 0} (m n : ℕ) (xs : List A) → m ≤ length xs → drop (m + n) xs ≡ drop n (drop m xs)
 drop_more m n xs low =
     ap (λ ys. drop (m + n) ys) (sym (take-append-drop m xs))
     ∙ ap (λ k. drop (k + n) (take m xs ++ drop m xs)) (sym (length-take-le m xs low))

@@ -24,6 +24,7 @@ pub mod Digests
 pub mod Recoveries
 pub mod Stops
 pub mod Reclaims
+pub mod Machines
 pub mod Orders
 pub mod Burials
 pub mod Breaks

@@ -32,6 +32,10 @@ pub once_rest : (i : ℕ) (rs ss : List Record) → IsMadeOnce i (rs ++ ss) → 
 once_rest i [] ss once = once
 once_rest i (r ∷ rs) ss once = once_rest i rs ss once.1
 
+pub once_front : (i : ℕ) (rs ss : List Record) → IsMadeOnce i (rs ++ ss) → IsMadeOnce i rs
+once_front i [] ss once = tt
+once_front i (r ∷ rs) ss once = ((λ e. front_unmade i rs ss (once.0 e)), once_front i rs ss once.1)
+
 pub once_apart : (i : ℕ) (rs ss : List Record) → IsMadeOnce i (rs ++ ss) → is_made_in i rs ≡ true → is_made_in i ss ≡ false
 once_apart i [] ss once e = absurd (false≢true e)
 once_apart i (r ∷ rs) ss once e =

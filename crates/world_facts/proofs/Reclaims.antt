@@ -67,7 +67,7 @@ module _ (i : ℕ) where
             omega (arith, before, after)
       ])
 
-  paid_less : (rs : List Record) (g h : Graph) → h i ≡ None → ((j : ℕ) → j ≢ i → h j ≡ g j) → is_made_in i rs ≡ false → ArePaid g rs → ArePaid h rs
+  pub paid_less : (rs : List Record) (g h : Graph) → h i ≡ None → ((j : ℕ) → j ≢ i → h j ≡ g j) → is_made_in i rs ≡ false → ArePaid g rs → ArePaid h rs
   paid_less [] g h none same unmade paid = tt
   paid_less (r ∷ rs) g h none same unmade paid =
       let less : growth h r.effects ≤ growth g r.effects = growth_less g h r.effects none same (or_first (is_made i r.effects) (is_made_in i rs) unmade) in

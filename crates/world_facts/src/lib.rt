@@ -12,6 +12,7 @@ mod call_laws;
 mod half_laws;
 mod kernel_laws;
 mod lease_laws;
+mod machine_laws;
 mod opening_laws;
 mod order_laws;
 mod part_laws;
@@ -47,6 +48,10 @@ pub use kernel_laws::{
 pub use lease_laws::{
     copy_may_be_fetched, knowledge_may_be_forgotten, lease_may_be_given, read_lease_may_be_taken,
     write_lease_may_be_taken,
+};
+pub use machine_laws::{
+    digest_keeps_what_is_sealed, kernel_entries_are_steps_of_the_world, kernel_keeps_its_book,
+    parts_stand_where_they_write,
 };
 pub use opening_laws::{idle_world_holds, opening_world_holds};
 pub use order_laws::clients_records_commute;

@@ -1,0 +1,11 @@
+use Rattle.world_facts.proofs.Machines.{sealed_stands, digested_sealed, digested_beside}
+use Rattle.world_facts.proofs.machine_laws.digest_keeps_what_is_sealed.Goals as goal
+
+pub returns-clause-sealed : goal.returns-clause-sealed
+returns-clause-sealed c = sealed_stands
+
+pub returns-clause-own : goal.returns-clause-own
+returns-clause-own c = λ m d s first rest r t can. digested_sealed m r d s first rest t can
+
+pub returns-clause-beside : goal.returns-clause-beside
+returns-clause-beside c = λ m d s first rest r t can. digested_beside m r d s first rest t can

@@ -1,0 +1,14 @@
+use Rattle.world_facts.proofs.Machines.{stands_same, stands_less, sealed_same, sealed_less}
+use Rattle.world_facts.proofs.machine_laws.parts_stand_where_they_write.Goals as goal
+
+pub returns-clause-client : goal.returns-clause-client
+returns-clause-client c = stands_same
+
+pub returns-clause-client_less : goal.returns-clause-client_less
+returns-clause-client_less c = stands_less
+
+pub returns-clause-sealed : goal.returns-clause-sealed
+returns-clause-sealed c = sealed_same
+
+pub returns-clause-sealed_less : goal.returns-clause-sealed_less
+returns-clause-sealed_less c = sealed_less

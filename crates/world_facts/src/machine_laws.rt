@@ -1,0 +1,59 @@
+//! The kernel as a part of its own: each of its entries keeps its book, what is sealed, and what is said of the clients' parts.
+
+ghost use Rattle.std.specs.Prelude.{◌≡◌, ◌≢◌, ℕ, List, true, false, None};
+ghost use Rattle.posix_calls.specs.Operations.{is_client};
+ghost use Rattle.file_graph.specs.Graph.{Graph};
+ghost use Rattle.log_record.specs.declared.format.Record.{Record};
+ghost use Rattle.world_facts.specs.Logs.{after_records, is_written, is_made_in};
+ghost use Rattle.world_facts.specs.World.{Account, Client, World, records_of};
+ghost use Rattle.world_facts.specs.Standing.{Stands};
+ghost use Rattle.world_facts.specs.BookSteps.{HasRoom, IsUnbooked};
+ghost use Rattle.world_facts.specs.KernelSteps.{CanReclaim, digested, reclaimed};
+ghost use Rattle.world_facts.specs.Halves.{units_booked, units_unbooked, number_booked, number_unbooked, pin_booked, pin_unbooked};
+ghost use Rattle.world_facts.specs.Burial.{buried};
+ghost use Rattle.world_facts.specs.Machine.{Machine, IsRunning, Sealed, sealed_of, left_of, StandsSealed, CanAccept, accept, CanDigestNext, account_after, digest, book_units, unbook_units, book_number, unbook_number, book_pin, unbook_pin, bury, reclaim};
+ghost use Rattle.world_facts.specs.Invariant.{Holds};
+
+/// Each entry keeps what holds of the kernel alone.
+pub fn kernel_keeps_its_book()
+    ensures accept { (m : Machine) (c : ℕ) (s : Sealed) → IsRunning m → CanAccept m c s → IsRunning (accept m c s) }
+    ensures digest { (m : Machine) (c : ℕ) (s : Sealed) (first rest : List Record) → IsRunning m → StandsSealed m.kernel.shared (m.kernel.accounts c) s → CanDigestNext m c s first rest → IsRunning (digest m c first) }
+    ensures book_units { (m : Machine) (c units : ℕ) → IsRunning m → is_client c ≡ true → HasRoom m.kernel units → IsRunning (book_units m c units) }
+    ensures unbook_units { (m : Machine) (c units : ℕ) → IsRunning m → is_client c ≡ true → IsRunning (unbook_units m c units) }
+    ensures book_number { (m : Machine) (c i : ℕ) → IsRunning m → is_client c ≡ true → IsUnbooked m.kernel i → IsRunning (book_number m c i) }
+    ensures unbook_number { (m : Machine) (c i : ℕ) → IsRunning m → is_client c ≡ true → IsRunning (unbook_number m c i) }
+    ensures book_pin { (m : Machine) (c i : ℕ) → IsRunning m → is_client c ≡ true → IsRunning (book_pin m c i) }
+    ensures unbook_pin { (m : Machine) (c i : ℕ) → IsRunning m → is_client c ≡ true → IsRunning (unbook_pin m c i) }
+    ensures bury { (m : Machine) (c : ℕ) → IsRunning m → is_client c ≡ true → IsRunning (bury m c) }
+    ensures reclaim { (m : Machine) (i : ℕ) → IsRunning m → CanReclaim m.kernel i → IsRunning (reclaim m i) }
+{}
+
+/// A client's sealed region is a part of its own, beside the shared graph and the client's account. A digest of its next records keeps
+/// what is said of it, and leaves the shared graph as it was wherever its client holds nothing for writing.
+pub fn digest_keeps_what_is_sealed()
+    ensures sealed { (g : Graph) (a : Account) (c : ℕ) (p : Client) → Stands g a c p → StandsSealed g a (sealed_of p) }
+    ensures own { (m : Machine) (c : ℕ) (s : Sealed) (first rest : List Record) → IsRunning m → StandsSealed m.kernel.shared (m.kernel.accounts c) s → CanDigestNext m c s first rest → StandsSealed (after_records m.kernel.shared first) (account_after (m.kernel.accounts c) first) s }
+    ensures beside { (m : Machine) (c : ℕ) (s : Sealed) (first rest : List Record) → IsRunning m → StandsSealed m.kernel.shared (m.kernel.accounts c) s → CanDigestNext m c s first rest → (others : List Record) → ((i : ℕ) → is_written i others ≡ true → s.writes i ≡ false) → (i : ℕ) → is_written i others ≡ true → m.kernel.shared i ≡ after_records m.kernel.shared first i }
+{}
+
+/// What is said of a client's part, or of a sealed region, beside the shared graph is so beside every other graph that has the same
+/// nodes where its records write, and beside one that lacks a node that they don't make.
+pub fn parts_stand_where_they_write()
+    ensures client { (g h : Graph) (a : Account) (c : ℕ) (p : Client) → ((i : ℕ) → is_written i (records_of a p) ≡ true → g i ≡ h i) → Stands g a c p → Stands h a c p }
+    ensures client_less { (i : ℕ) (g h : Graph) (a : Account) (c : ℕ) (p : Client) → h i ≡ None → ((j : ℕ) → j ≢ i → h j ≡ g j) → is_made_in i (records_of a p) ≡ false → Stands g a c p → Stands h a c p }
+    ensures sealed { (g h : Graph) (a : Account) (s : Sealed) → ((i : ℕ) → is_written i (left_of a s) ≡ true → g i ≡ h i) → StandsSealed g a s → StandsSealed h a s }
+    ensures sealed_less { (i : ℕ) (g h : Graph) (a : Account) (s : Sealed) → h i ≡ None → ((j : ℕ) → j ≢ i → h j ≡ g j) → is_made_in i (left_of a s) ≡ false → StandsSealed g a s → StandsSealed h a s }
+{}
+
+/// The kernel's entries are what the world's steps make of the kernel's part.
+pub fn kernel_entries_are_steps_of_the_world()
+    ensures digest { (w : World) (accepted : ℕ → ℕ) (c : ℕ) (first : List Record) → (digest (record { kernel = w.kernel; accepted = accepted }) c first).kernel ≡ (digested w c first).kernel }
+    ensures reclaim { (w : World) (accepted : ℕ → ℕ) (i : ℕ) → (reclaim (record { kernel = w.kernel; accepted = accepted }) i).kernel ≡ (reclaimed w i).kernel }
+    ensures book_units { (w : World) (accepted : ℕ → ℕ) (c units : ℕ) → (book_units (record { kernel = w.kernel; accepted = accepted }) c units).kernel ≡ (units_booked w c units).kernel }
+    ensures unbook_units { (w : World) (accepted : ℕ → ℕ) (c units : ℕ) → (unbook_units (record { kernel = w.kernel; accepted = accepted }) c units).kernel ≡ (units_unbooked w c units).kernel }
+    ensures book_number { (w : World) (accepted : ℕ → ℕ) (c i : ℕ) → (book_number (record { kernel = w.kernel; accepted = accepted }) c i).kernel ≡ (number_booked w c i).kernel }
+    ensures unbook_number { (w : World) (accepted : ℕ → ℕ) (c i : ℕ) → (unbook_number (record { kernel = w.kernel; accepted = accepted }) c i).kernel ≡ (number_unbooked w c i).kernel }
+    ensures book_pin { (w : World) (accepted : ℕ → ℕ) (c i : ℕ) → (book_pin (record { kernel = w.kernel; accepted = accepted }) c i).kernel ≡ (pin_booked w c i).kernel }
+    ensures unbook_pin { (w : World) (accepted : ℕ → ℕ) (c i : ℕ) → (unbook_pin (record { kernel = w.kernel; accepted = accepted }) c i).kernel ≡ (pin_unbooked w c i).kernel }
+    ensures bury { (w : World) (accepted : ℕ → ℕ) (c : ℕ) → (bury (record { kernel = w.kernel; accepted = accepted }) c).kernel ≡ (buried w c).kernel }
+{}
