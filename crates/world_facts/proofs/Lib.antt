@@ -32,5 +32,6 @@ pub mod Fresh
 pub mod Walks
 pub mod Besides
 pub mod BrokenWorlds
+pub mod BrokenBooks
 pub mod UnlinkWalks
 pub mod PairWalks

@@ -1,5 +1,5 @@
 -- What a stop stores: the whole graph after the effects of some begun records, which are a run of the file tree.
-use Rattle.std.proofs.Common.{◌≡◌, ◌≢◌, ◌⊎◌, inl, inr, ℕ, zero, suc, ◌+◌, ◌≤◌, ◌==◌, true, false, List, [], ◌∷◌, ◌++◌, refl, Some, None, ap, sym, ◌∙◌, subst, arith}
+use Rattle.std.proofs.Common.{◌≡◌, ◌≢◌, ◌⊎◌, inl, inr, ℕ, zero, suc, ◌+◌, ◌≤◌, ◌==◌, cond, true, false, List, [], ◌∷◌, ◌++◌, refl, Some, None, ap, sym, ◌∙◌, subst, arith}
 use Rattle.std.specs.Prelude.{option_map}
 use Rattle.std.proofs.lemmas.Bool.{false≢true}
 use Rattle.std.proofs.lemmas.Bool.Decides.{eqb_tells}
@@ -152,7 +152,7 @@ module _ (w : World) (h : Holds w) where
           record {
             turns = record { client = c; call = b.call; reply = reply_of b.operation } ∷ next.turns;
             last = next.last;
-            some_of = (are c (first_in c cs) ∙ ap (option_map (λ (x : Begun). x.call)) is, next.some_of);
+            some_of = (are c (first_in c cs) ∙ ap (λ t. cond t (option_map (λ (x : Begun). x.call) (w.clients c).begun) None) is_c ∙ ap (option_map (λ (x : Begun). x.call)) is, next.some_of);
             run = (
               state_of (after_effects g b.change.effects) (with_own ds c (own_after b.new (w.clients c).knows.own b.operation)),
               subst (λ d. Step (state_of g ds) d b.call (reply_of b.operation) (state_of (after_effects g b.change.effects) (with_own ds d (own_after b.new (w.clients c).knows.own b.operation)))) number (planned_step (w.clients c).knows g ds goes.sound agrees b.call b.new b.operation b.change.effects planned),

@@ -1,7 +1,7 @@
 -- Small worlds that break one part of the invariant each.
-use Rattle.std.specs.Prelude.{ℕ, List, [], ◌∷◌, Bool, true, ◌==◌, ◌&&◌, Some, None, if◌then◌else◌}
+use Rattle.std.specs.Prelude.{ℕ, ◌+◌, List, [], ◌∷◌, Bool, true, false, ◌==◌, ◌&&◌, Some, None, if◌then◌else◌}
 use Rattle.posix_calls.specs.Tree.{Descriptors}
-use Rattle.file_graph.specs.Graph.{Graph, FileBody, fresh}
+use Rattle.file_graph.specs.Graph.{Graph, FileBody, fresh, set_node}
 use Rattle.file_graph.specs.declared.effect.Kind.TheVariants as kind
 use Rattle.file_graph.specs.declared.effect.Effect.TheVariants as effect
 use Rattle.file_graph.specs.Units.{charge}
@@ -12,7 +12,9 @@ use Rattle.world_facts.specs.World.{Begun, Away, World, moved}
 use Rattle.world_facts.specs.Opening.{knows_nothing, idle_client, idle_account, idle_world}
 use Rattle.world_facts.specs.ClientSteps.{with_client, begun}
 use Rattle.world_facts.specs.BookSteps.{number_granted}
+use Rattle.world_facts.specs.Halves.{number_booked}
 use Rattle.world_facts.specs.Walk as walked
+use Rattle.world_facts.specs.UnlinkWalk as unlink_walked
 
 -- ---- two clients whose records count the names of one file
 
@@ -77,3 +79,29 @@ unpaid = record { units = 0; effects = effect.Make 2 kind.File ∷ [] }
 
 abbrev pub overdrawn : Record → World
 overdrawn r = moved (idle_world (charge fresh) fresh) 1 fresh (record (idle_account 0) { numbers = λ i. i == 2 }) (record (idle_client 1 0) { sealed = r ∷ []; other = Away; writes = λ i. i == 2 })
+
+-- ---- the book has a number that a file without a name has, or one past the inode numbers
+
+abbrev pub with_file : Graph
+with_file = set_node fresh 2 (Some (record { names = 0; body = FileBody [] }))
+
+abbrev pub taken_number : World
+taken_number = number_booked (idle_world (charge with_file) with_file) 1 2
+
+abbrev pub far_number : World
+far_number = number_booked (idle_world (charge fresh) fresh) 1 2000
+
+-- ---- the call of the walk makes a node of a number that isn't in its client's account
+
+abbrev pub unbooked_number : World
+unbooked_number = moved walked.making 1 walked.making.kernel.shared (record (walked.making.kernel.accounts 1) { numbers = λ i. false }) (walked.making.clients 1)
+
+-- ---- a client has made and dropped a node, and may still give its number to another one
+
+abbrev pub used_number : World
+used_number = moved (idle_world (charge fresh + 1) fresh) 1 fresh (record (idle_account 0) { units = 1; numbers = λ i. i == 2 }) (record (idle_client 1 0) { knows = record (knows_nothing 1) { granted = λ i. i == 2 }; sealed = making ∷ dropping ∷ []; other = Away; writes = λ i. i == 2 })
+
+-- ---- a client has a file open that lost its name, and the book has no pin of it
+
+abbrev pub unpinned_file : World
+unpinned_file = moved unlink_walked.kept 1 unlink_walked.kept.kernel.shared (record (unlink_walked.kept.kernel.accounts 1) { pins = λ i. false }) (unlink_walked.kept.clients 1)

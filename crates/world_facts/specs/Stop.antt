@@ -1,5 +1,5 @@
 -- What a stop stores.
-use Rattle.std.specs.Prelude.{◌≡◌, ◌⊎◌, ℕ, List, [], ◌++◌, true, option_map}
+use Rattle.std.specs.Prelude.{◌≡◌, ◌⊎◌, ℕ, List, [], ◌++◌, true, None, option_map, if◌then◌else◌}
 use Rattle.posix_calls.specs.Operations.{is_client}
 use Rattle.posix_calls.specs.WellFormed.{IsWellFormed, IsWithinLimits}
 use Rattle.posix_calls.specs.declared.limits.TheConstants.{MAX_CLIENTS}
@@ -22,7 +22,7 @@ stored w logs = after_clients logs w.kernel.shared MAX_CLIENTS
 
 -- the calls that have begun a record
 abbrev pub begun_calls : World → Unfinished
-begun_calls w c = option_map (λ b. b.call) (w.clients c).begun
+begun_calls w c = if is_client c then option_map (λ b. b.call) (w.clients c).begun else None
 
 -- what is stored is what a recovery can go on from; once it is settled, its state is well-formed and within the limits, and is the tree after
 -- some of the begun calls

@@ -4,14 +4,17 @@ ghost use Rattle.std.specs.Prelude.{◌≡◌, ◌≢◌, ℕ, ◌+◌, ◌≤�
 ghost use Rattle.file_graph.specs.Graph.{Graph, fresh, set_node};
 ghost use Rattle.call_effects.specs.Known.{Agrees};
 ghost use Rattle.call_effects.specs.Wholes.{IsSound, state_of};
-ghost use Rattle.world_facts.specs.Logs.{after_records, after_each, units_in, AreApart, IsMadeOnce, ArePaid, NameNone};
-ghost use Rattle.world_facts.specs.World.{all_of, records_of, whole, held, holds, tree_of};
-ghost use Rattle.world_facts.specs.Standing.{IsMarked, IsLeased, IsPending, IsBooked, IsBeside, Stands};
+ghost use Rattle.world_facts.specs.Limits.{AreWithin};
+ghost use Rattle.world_facts.specs.Logs.{after_records, after_each, units_in, AreApart, IsMadeOnce, ArePaid, NameNone, KeepLimits};
+ghost use Rattle.world_facts.specs.World.{log_of, all_of, records_of, whole, held, holds, tree_of};
+ghost use Rattle.world_facts.specs.Standing.{IsMarked, IsNumbered, IsLeased, IsPinned, IsPending, IsBooked, IsBeside, Stands};
 ghost use Rattle.world_facts.specs.ClientSteps.{IsBegun, replied};
 ghost use Rattle.world_facts.specs.RegionSteps.{CanSeal, sealed};
-ghost use Rattle.world_facts.specs.KernelSteps.{CanDigest, digested};
+ghost use Rattle.world_facts.specs.KernelSteps.{CanDigest, digested, CanReclaim, reclaimed};
+ghost use Rattle.world_facts.specs.BookSteps.{IsUnbooked, number_granted};
+ghost use Rattle.world_facts.specs.Halves.{IsOnItsWay, number_received};
 ghost use Rattle.world_facts.specs.Walk.{mkdir_a, made};
-ghost use Rattle.world_facts.specs.Broken.{both_counting, one_file, making, dropping, one_open, naming, marked_past, granted_twice, watching, root_alone, half, misbegun, unpaid, overdrawn};
+ghost use Rattle.world_facts.specs.Broken.{counting, taken_number, far_number, unbooked_number, used_number, unpinned_file, both_counting, one_file, making, dropping, one_open, naming, marked_past, granted_twice, watching, root_alone, half, misbegun, unpaid, overdrawn};
 
 /// Where two clients write one inode, which takes a lease that one of them doesn't hold, the order of their digests is seen.
 pub fn writing_without_a_lease_is_seen()
@@ -95,4 +98,46 @@ pub fn unbooked_units_pass_the_capacity()
     ensures booked { IsBooked (overdrawn making).kernel }
     ensures can { CanDigest (overdrawn making) 1 (making ∷ []) [] }
     ensures passed { IsBooked (digested (overdrawn making) 1 (making ∷ [])).kernel → ⊥ }
+{}
+
+/// Where the book has a number that a node of the shared graph has, its client takes it for a free one.
+pub fn booked_number_of_a_node_is_taken()
+    ensures broken { IsBooked taken_number.kernel → ⊥ }
+    ensures can { IsOnItsWay taken_number 1 2 }
+    ensures taken { Agrees ((number_received taken_number 1 2).clients 1).knows (whole (number_received taken_number 1 2)) (held (number_received taken_number 1 2)) → ⊥ }
+{}
+
+/// Where it has one past all inodes, so does the client.
+pub fn booked_number_past_all_inodes_is_received()
+    ensures broken { IsBooked far_number.kernel → ⊥ }
+    ensures can { IsOnItsWay far_number 1 2000 }
+    ensures received { Agrees ((number_received far_number 1 2000).clients 1).knows (whole (number_received far_number 1 2000)) (held (number_received far_number 1 2000)) → ⊥ }
+{}
+
+/// Where a client has a number that is not in its account, another one gets it too, and finds a node there.
+pub fn number_without_an_account_is_granted_again()
+    ensures broken { IsNumbered (unbooked_number.kernel.accounts 1).numbers (unbooked_number.clients 1).knows.granted (log_of unbooked_number 1) → ⊥ }
+    ensures can { IsUnbooked unbooked_number.kernel 2 }
+    ensures taken { Agrees ((replied (number_granted unbooked_number 2 2) 1 mkdir_a).clients 2).knows (whole (replied (number_granted unbooked_number 2 2) 1 mkdir_a)) (held (replied (number_granted unbooked_number 2 2) 1 mkdir_a)) → ⊥ }
+{}
+
+/// Where a client still has a number of which a record of its made a node, it has it without an account once that is digested.
+pub fn used_number_loses_its_account()
+    ensures broken { IsNumbered (used_number.kernel.accounts 1).numbers (used_number.clients 1).knows.granted (log_of used_number 1) → ⊥ }
+    ensures can { CanDigest used_number 1 (making ∷ dropping ∷ []) [] }
+    ensures lost { IsNumbered ((digested used_number 1 (making ∷ dropping ∷ [])).kernel.accounts 1).numbers ((digested used_number 1 (making ∷ dropping ∷ [])).clients 1).knows.granted (log_of (digested used_number 1 (making ∷ dropping ∷ [])) 1) → ⊥ }
+{}
+
+/// Where a client counts on a pin that is not in the book, the file that it has open is reclaimed.
+pub fn pin_without_the_book_is_no_pin()
+    ensures broken { IsPinned (unpinned_file.kernel.accounts 1).pins (unpinned_file.clients 1).pins (unpinned_file.clients 1).knows.own → ⊥ }
+    ensures can { CanReclaim unpinned_file.kernel 2 }
+    ensures seen { tree_of (reclaimed unpinned_file 2) ≢ tree_of unpinned_file }
+{}
+
+/// Where a record takes a node past a limit, its digest makes a shared graph that can't be spelled.
+pub fn record_past_a_limit_is_digested()
+    ensures within { AreWithin one_file }
+    ensures broken { KeepLimits one_file (counting 2000 ∷ []) → ⊥ }
+    ensures passed { AreWithin (after_records one_file (counting 2000 ∷ [])) → ⊥ }
 {}

@@ -1,0 +1,131 @@
+-- What goes wrong in small worlds whose book breaks one part of the invariant each.
+use Rattle.std.proofs.Common.{◌≡◌, ◌≢◌, inl, inr, ℕ, ◌+◌, ◌-◌, ◌≤◌, ◌==◌, ◌||◌, cond, Bool, true, false, [], ◌∷◌, refl, Some, None, Option, ap, sym, ◌∙◌, subst, arith, lit≤}
+use Rattle.std.specs.Prelude.{is_some, option_map}
+use Rattle.std.proofs.lemmas.Bool.{false≢true}
+use Rattle.std.proofs.lemmas.Bool.Decides.{eqb_tells}
+use Rattle.posix_calls.specs.Tree.{State, Own, refers_to, has_open, is_open}
+use Rattle.posix_calls.specs.Operations.{is_client}
+use Rattle.posix_calls.proofs.Sums.{any_there}
+use Rattle.file_graph.specs.Graph.{Graph, FileBody}
+use Rattle.call_effects.specs.Known.{Agrees}
+use Rattle.call_effects.specs.Wholes.{keep, tree_node}
+use Rattle.world_facts.specs.Limits.{IsWithin, AreWithin}
+use Rattle.world_facts.specs.Logs.{after_records, after_clients, KeepLimits, is_made_in}
+use Rattle.world_facts.specs.World.{Account, log_of, whole, held, tree_of, at}
+use Rattle.world_facts.specs.Standing.{IsBooked, IsNumbered, IsPinned}
+use Rattle.world_facts.specs.LeaseSteps.{write_taken}
+use Rattle.world_facts.specs.BookSteps.{IsUnbooked, units_granted, number_granted}
+use Rattle.world_facts.specs.Halves.{IsOnItsWay, number_received}
+use Rattle.world_facts.specs.ClientSteps.{replied}
+use Rattle.world_facts.specs.KernelSteps.{CanDigest, digested, CanReclaim, reclaimed}
+use Rattle.world_facts.specs.Opening.{idle_account}
+use Rattle.world_facts.specs.Walk.{mkdir_a}
+use Rattle.world_facts.specs.Walk as walked
+use Rattle.world_facts.specs.UnlinkWalk as unlink_walked
+use Rattle.world_facts.specs.Broken.{counting, one_file, making, dropping, taken_number, far_number, unbooked_number, used_number, unpinned_file}
+use Rattle.world_facts.proofs.Owners.{is_low, is_high}
+use Rattle.world_facts.proofs.UnlinkWalks.{eight}
+use Rattle.world_facts.proofs.Kernels.{each}
+use Rattle.world_facts.proofs.Moved.{at_same}
+
+-- ---- a number that names a file
+
+pub taken_broken : IsBooked taken_number.kernel → ⊥
+taken_broken is = false≢true (sym (ap is_some (is.free 1 2 refl refl)))
+
+pub taken_coming : IsOnItsWay taken_number 1 2
+taken_coming = record { client = refl; booked = refl; absent = refl; unused = refl }
+
+pub taken_received : Agrees ((number_received taken_number 1 2).clients 1).knows (whole (number_received taken_number 1 2)) (held (number_received taken_number 1 2)) → ⊥
+unfolding after_clients
+taken_received agrees = let new = agrees.granted 2 refl in false≢true (sym (ap is_some new.none))
+
+-- ---- a number past all inodes
+
+pub far_broken : IsBooked far_number.kernel → ⊥
+far_broken is = let range = is.range 1 2000 refl refl in let high : 2000 ≤ 1024 = range.1 in absurd (omega (arith, high))
+
+pub far_coming : IsOnItsWay far_number 1 2000
+far_coming = record { client = refl; booked = refl; absent = refl; unused = refl }
+
+pub far_received : Agrees ((number_received far_number 1 2000).clients 1).knows (whole (number_received far_number 1 2000)) (held (number_received far_number 1 2000)) → ⊥
+far_received agrees = let new = agrees.granted 2000 refl in let high : 2000 ≤ 1024 = new.high in absurd (omega (arith, high))
+
+-- ---- a number that isn't in the book
+
+pub unbooked_broken : IsNumbered (unbooked_number.kernel.accounts 1).numbers (unbooked_number.clients 1).knows.granted (log_of unbooked_number 1) → ⊥
+unbooked_broken is = false≢true (is.granted 2 refl)
+
+-- nobody else was granted a number
+granted_free : (d : ℕ) → d ≢ 1 → (walked.granted.kernel.accounts d).numbers 2 ≡ false
+granted_free d other = each (units_granted walked.start 1 10).kernel.accounts 1 (walked.granted.kernel.accounts 1) (λ d a. d ≢ 1 → a.numbers 2 ≡ false) (λ off. absurd (off refl)) (λ d off again. each walked.start.kernel.accounts 1 ((units_granted walked.start 1 10).kernel.accounts 1) (λ d a. a.numbers 2 ≡ false) refl (λ d off. refl) d) d other
+
+-- and leases, copies and a begun call leave the book
+accounts_stay : (d : ℕ) → walked.making.kernel.accounts d ≡ walked.granted.kernel.accounts d
+accounts_stay d =
+    ap (λ (f : ℕ → Account). f d) (at_same walked.ready.kernel.accounts 1)
+    ∙ ap (λ (f : ℕ → Account). f d) (at_same walked.holding.kernel.accounts 1)
+    ∙ ap (λ (f : ℕ → Account). f d) (at_same (write_taken walked.granted 1 1).kernel.accounts 1)
+    ∙ ap (λ (f : ℕ → Account). f d) (at_same walked.granted.kernel.accounts 1)
+
+pub unbooked_free : IsUnbooked unbooked_number.kernel 2
+unbooked_free = record {
+  low = omega arith;
+  high = omega arith;
+  none = refl;
+  nobody = λ d is_d. each walked.making.kernel.accounts 1 (record (walked.making.kernel.accounts 1) { numbers = λ i. false }) (λ d a. is_client d ≡ true → d ≡ d → a.numbers 2 ≡ false) (λ is same. refl) (λ d other is same. making_free d other) d is_d refl;
+}
+  where
+    making_free : (d : ℕ) → d ≢ 1 → (walked.making.kernel.accounts d).numbers 2 ≡ false
+    making_free d other = ap (λ (a : Account). a.numbers 2) (accounts_stay d) ∙ granted_free d other
+
+pub unbooked_taken : Agrees ((replied (number_granted unbooked_number 2 2) 1 mkdir_a).clients 2).knows (whole (replied (number_granted unbooked_number 2 2) 1 mkdir_a)) (held (replied (number_granted unbooked_number 2 2) 1 mkdir_a)) → ⊥
+unfolding after_clients
+unbooked_taken agrees = let new = agrees.granted 2 refl in false≢true (sym (ap is_some new.none))
+
+-- ---- a number that was used
+
+pub used_broken : IsNumbered (used_number.kernel.accounts 1).numbers (used_number.clients 1).knows.granted (log_of used_number 1) → ⊥
+used_broken is = false≢true (sym (is.unused 2 refl))
+
+pub used_can : CanDigest used_number 1 (making ∷ dropping ∷ []) []
+used_can = record { client = refl; some = λ e. absurd (cc); split = refl }
+
+pub used_lost : IsNumbered ((digested used_number 1 (making ∷ dropping ∷ [])).kernel.accounts 1).numbers ((digested used_number 1 (making ∷ dropping ∷ [])).clients 1).knows.granted (log_of (digested used_number 1 (making ∷ dropping ∷ [])) 1) → ⊥
+used_lost is = false≢true (is.granted 2 refl)
+
+-- ---- a pin that isn't in the book
+
+pub unpinned_broken : IsPinned (unpinned_file.kernel.accounts 1).pins (unpinned_file.clients 1).pins (unpinned_file.clients 1).knows.own → ⊥
+unpinned_broken is = false≢true (is.booked 2 refl)
+
+is_unpinned : (c : ℕ) → is_client c ≡ true → (unpinned_file.kernel.accounts c).pins 2 ≡ false
+is_unpinned c is_c = each unlink_walked.kept.kernel.accounts 1 (record (unlink_walked.kept.kernel.accounts 1) { pins = λ i. false }) (λ d a. is_client d ≡ true → a.pins 2 ≡ false) (λ is. refl) (λ d other is. others_free d other is) c is_c
+  where
+    others_free : (d : ℕ) → d ≢ 1 → is_client d ≡ true → (unlink_walked.kept.kernel.accounts d).pins 2 ≡ false
+    others_free d other is = eight (λ d. d ≢ 1 → (unlink_walked.kept.kernel.accounts d).pins 2 ≡ false) (λ off. absurd (off refl)) (λ off. refl) (λ off. refl) (λ off. refl) (λ off. refl) (λ off. refl) (λ off. refl) (λ off. refl) d (is_low d is) (is_high d is) other
+
+pub unpinned_can : CanReclaim unpinned_file.kernel 2
+unpinned_can = record { file = record { bytes = []; is = refl }; unpinned = is_unpinned }
+
+still_open : is_open (held unpinned_file) 2 ≡ true
+unfolding is_open
+still_open = any_there 8 1 (λ c. has_open (held unpinned_file c) 2) (lit≤ tt) (lit≤ tt) (any_there 32 1 (λ n. refers_to 2 (held unpinned_file 1 (n - 1))) (lit≤ tt) (lit≤ tt) refl)
+
+pub unpinned_seen : tree_of (reclaimed unpinned_file 2) ≢ tree_of unpinned_file
+unfolding after_clients
+unpinned_seen e = false≢true (ap (λ (s : State). is_some (s.tree 2)) e ∙ ap (λ b. is_some (option_map tree_node (keep b (whole unpinned_file 2)))) still_open)
+
+-- ---- a record that passes a limit
+
+pub one_within : AreWithin one_file
+one_within i = elim (eqb_tells i 2) [
+  | inl same ↦ subst (λ j. IsWithin j (one_file j)) (sym same.1) (record { low = omega arith; high = omega arith; names = omega arith; body = omega arith })
+  | inr off ↦ subst (IsWithin i) (sym (ap (λ b. cond b (Some (record { names = 0; body = FileBody [] })) None) off.0)) tt
+]
+
+pub many_broken : KeepLimits one_file (counting 2000 ∷ []) → ⊥
+many_broken keep = let many : 2000 ≤ 1000 = (keep.0 2 (one_within 2)).names in absurd (omega (arith, many))
+
+pub many_passed : AreWithin (after_records one_file (counting 2000 ∷ [])) → ⊥
+many_passed within = let many : 2000 ≤ 1000 = (within 2).names in absurd (omega (arith, many))

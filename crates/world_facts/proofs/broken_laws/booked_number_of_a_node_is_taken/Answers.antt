@@ -1,0 +1,11 @@
+use Rattle.world_facts.proofs.BrokenBooks.{taken_broken, taken_coming, taken_received}
+use Rattle.world_facts.proofs.broken_laws.booked_number_of_a_node_is_taken.Goals as goal
+
+pub returns-clause-broken : goal.returns-clause-broken
+returns-clause-broken c = taken_broken
+
+pub returns-clause-can : goal.returns-clause-can
+returns-clause-can c = taken_coming
+
+pub returns-clause-taken : goal.returns-clause-taken
+returns-clause-taken c = taken_received

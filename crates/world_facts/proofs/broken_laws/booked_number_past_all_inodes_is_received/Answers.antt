@@ -1,0 +1,11 @@
+use Rattle.world_facts.proofs.BrokenBooks.{far_broken, far_coming, far_received}
+use Rattle.world_facts.proofs.broken_laws.booked_number_past_all_inodes_is_received.Goals as goal
+
+pub returns-clause-broken : goal.returns-clause-broken
+returns-clause-broken c = far_broken
+
+pub returns-clause-can : goal.returns-clause-can
+returns-clause-can c = far_coming
+
+pub returns-clause-received : goal.returns-clause-received
+returns-clause-received c = far_received
