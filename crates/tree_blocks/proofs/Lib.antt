@@ -8,3 +8,4 @@ pub mod Finding
 pub mod Held
 pub mod Leaving
 pub mod Lists
+pub mod NameChanges

@@ -2,6 +2,7 @@
 use Rattle.std.proofs.Common.{◌≡◌, ◌≢◌, ◌⊎◌, inl, inr, ℕ, ◌+◌, ◌-◌, ◌*◌, ◌/◌, ◌%◌, ◌≤◌, ◌<◌, List, [], ◌∷◌, ◌++◌, length, get_or, set, take, drop, true, refl, sym, ◌∙◌, ap, subst, arith, Option, Some, None}
 use Rattle.std.specs.Prelude.{IfSome, IfNone, slice_get, is_some}
 use Rattle.std.specs.List.{position}
+use Rattle.std.specs.FinMap as fin
 use Rattle.std.proofs.lemmas.Bool.{cases_eq, cases_lt}
 use Rattle.std.proofs.lemmas.List.{get_or-set_same, get_or-set_other, length-set, length-append, get_or_append_left, get_or_push, get_or_past, get_or_default}
 use Rattle.std.proofs.Math.Seq.{take-append_seam}
@@ -9,9 +10,10 @@ use Rattle.std.proofs.lemmas.Option.{slice_get-get_or}
 use Rattle.file_graph.specs.declared.effect.Kind.{Kind}
 use Rattle.layout.specs.declared.directory.DirEntry.{DirEntry}
 use Rattle.layout.specs.Directory.{EntryList, AreEntries, listed, no_entry, entry_of, with_target, with_last}
-use Rattle.tree_blocks.specs.Inode.{Blocks, plain, entry_at, blocks_for, IsAbsent, IsDirectory}
+use Rattle.tree_blocks.specs.Inode.{Blocks, plain, entry_at, named, blocks_for, IsAbsent, IsDirectory}
 use Rattle.tree_blocks.specs.After.{IsEntered}
-use Rattle.tree_blocks.specs.Directory.{numbered, HaveOneMore}
+use Rattle.tree_blocks.specs.Directory.{numbered, AreHeld, HaveOneMore}
+use Rattle.tree_blocks.proofs.Directories.{get_there, get_missing}
 use Rattle.tree_blocks.proofs.Entering.{distinct_entered}
 use Rattle.tree_blocks.proofs.Finding.{has, none_found}
 use Rattle.tree_blocks.proofs.Held.{entry_is, part_of, within_part, is_set, parts_set, parts_more, is_more}
@@ -30,6 +32,14 @@ Found name o bs = IfSome o (λ e. (e / 56 < length bs) × (e % 56 < length (list
 
 abbrev pub Missing : List ℕ → Option ℕ → List (List ℕ) → Type 0
 Missing name o bs = IfNone o ((k i : ℕ) → k < length bs → i < length (listed (numbered bs k)).entries → (entry_of (listed (numbered bs k)) i).name ≢ name)
+
+-- at a number
+abbrev pub FoundAt : List ℕ → ℕ → List (List ℕ) → Type 0
+FoundAt name e bs = (e / 56 < length bs) × (e % 56 < length (listed (numbered bs (e / 56))).entries) × ((entry_of (listed (numbered bs (e / 56))) (e % 56)).name ≡ name)
+
+-- in no block
+abbrev pub InNone : List ℕ → List (List ℕ) → Type 0
+InNone name bs = (k i : ℕ) → k < length bs → i < length (listed (numbered bs k)).entries → (entry_of (listed (numbered bs k)) i).name ≢ name
 
 pub read_there : (bs : List (List ℕ)) (k : ℕ) (w : List ℕ) → k < length bs → w ≡ get_or bs k w → w ≡ numbered bs k
 read_there bs k w lt is = is ∙ get_or_default bs k w [] lt
@@ -119,3 +129,20 @@ module _ (owner n : ℕ) (bs : List (List ℕ)) (is : IsDirectory owner n (numbe
           beside : (k : ℕ) → k ≢ n / 56 → (k < n / 56) ⊎ (n / 56 ≤ k) → numbered (bs ++ w ∷ []) k ≡ numbered bs k
           beside k off (inl lt) = get_or_append_left bs (w ∷ []) [] k (omega (arith, lt, long, full))
           beside k off (inr ge) = get_or_past (bs ++ w ∷ []) k [] (omega (arith, length-append bs (w ∷ []), ge, off, long, full)) ∙ sym (get_or_past bs k [] (omega (arith, ge, long, full)))
+
+-- ---- what was found
+
+module _ (owner n : ℕ) (bs : List (List ℕ)) (held : AreHeld owner n bs) where
+  pub found_inside : (name : List ℕ) (e : ℕ) → FoundAt name e bs → (e < n) × ((entry_at (numbered bs) e).0 ≡ name)
+  found_inside name e f =
+      let low : e / 56 < blocks_for n = omega (arith, f.0, held.long) in
+      let count = (held.directory.parts (e / 56) low).count_is in
+      (omega (arith, f.1, count), ap (λ x. x.0) (entry_is (numbered bs) e (listed (numbered bs (e / 56))) refl) ∙ f.2)
+
+  pub found_nowhere : (name : List ℕ) → InNone name bs → IsAbsent name (entry_at (numbered bs)) n
+  found_nowhere name off e lt same =
+      off (e / 56) (e % 56) (omega (arith, held.long, lt)) (within_part owner n (numbered bs) held.directory e lt) (sym (ap (λ x. x.0) (entry_is (numbered bs) e (listed (numbered bs (e / 56))) refl)) ∙ same)
+
+  pub stands_is : (name : List ℕ) (o : Option ℕ) → Found name o bs → Missing name o bs → fin.contains_key (named (entry_at (numbered bs)) n) name ≡ is_some o
+  stands_is name (Some e) f off = let at = found_inside name e f in ap is_some (get_there (entry_at (numbered bs)) n e name held.directory.distinct at.0 at.1)
+  stands_is name None f off = ap is_some (get_missing (entry_at (numbered bs)) n name (found_nowhere name off))

@@ -1,5 +1,6 @@
 -- A directory in memory.
-use Rattle.std.specs.Prelude.{◌≡◌, ◌≢◌, ℕ, ◌+◌, ◌-◌, ◌/◌, ◌≤◌, List, [], length, get_or, true}
+use Rattle.std.specs.Prelude.{◌≡◌, ◌≢◌, ℕ, ◌+◌, ◌-◌, ◌/◌, ◌<◌, ◌≤◌, Bool, true, false, List, [], ◌∷◌, length, get_or, Option, None, is_some, IfSome, if◌then◌else◌}
+use Rattle.file_graph.specs.declared.effect.Kind.{Kind}
 use Rattle.posix_calls.specs.declared.limits.TheConstants.{MAX_ENTRIES}
 use Rattle.layout.specs.Places.{is_inode}
 use Rattle.layout.specs.declared.directory.TheConstants.{MAX_IN_BLOCK}
@@ -26,6 +27,28 @@ pub record IsHeld (d : EntryBlocks) : Type 0 where
   pub few : d.count ≤ MAX_ENTRIES
   pub long : length d.blocks ≡ blocks_for d.count
   pub directory : IsDirectory d.owner d.count (numbered d.blocks)
+
+-- blocks are those of a directory of so many entries, and no more
+pub record AreHeld (owner count : ℕ) (blocks : List (List ℕ)) : Type 0 where
+  pub long : length blocks ≡ blocks_for count
+  pub directory : IsDirectory owner count (numbered blocks)
+
+-- ---- a change of names
+
+-- each name that comes leads to an inode
+abbrev pub LeadToInodes : List (List ℕ × Option (ℕ × Kind)) → Type 0
+LeadToInodes cs = (i : ℕ) → i < length cs → IfSome (get_or cs i ([], None)).1 (λ child. is_inode child.0 ≡ true)
+
+-- how many there are where a name stood or did not, and is to stand there or not
+abbrev pub counted : ℕ → Bool → Bool → ℕ
+counted n stood comes = if comes then (if stood then n else n + 1) else (if stood then n - 1 else n)
+
+-- how many names are to stand there afterwards
+abbrev pub coming : List (List ℕ × Option (ℕ × Kind)) → ℕ
+coming [] = 0
+coming (c ∷ cs) = counted (coming cs) false (is_some c.1)
+
+-- ---- blocks as they change
 
 -- the blocks of a directory of so many entries with one more behind them
 pub record HaveOneMore (owner count : ℕ) (e : Entry) (old new : List (List ℕ)) : Type 0 where

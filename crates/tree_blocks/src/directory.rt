@@ -4,14 +4,18 @@ ghost use Rattle.layout.specs.Places.{is_inode};
 ghost use Rattle.layout.specs.Lent.{owned};
 ghost use Rattle.layout.specs.Directory.{fits_entry};
 ghost use Rattle.layout.specs.declared.directory.TheConstants.{MAX_IN_BLOCK};
-ghost use Rattle.tree_blocks.specs.Inode.{plain, IsAbsent};
-ghost use Rattle.tree_blocks.specs.After.{IsEntered, IsTakenOut};
-ghost use Rattle.tree_blocks.specs.Directory.{EntryBlocks, IsHeld, numbered, entries_of};
+ghost use Rattle.tree_blocks.specs.Inode.{plain, named, IsAbsent};
+ghost use Rattle.std.specs.FinMap as fin;
+ghost use Rattle.graph_change.specs.Net.{entries_after};
+ghost use Rattle.tree_blocks.specs.After.{IsEntered, IsTakenOut, IsDirectoryAfter};
+ghost use Rattle.tree_blocks.specs.Directory.{EntryBlocks, IsHeld, LeadToInodes, numbered, entries_of};
 
+use crate::changing::{are_too_many, change_names, coming};
 use crate::entry_blocks::{add_to, find_in, take_from};
 use crate::error::EnterError;
 use file_graph::Kind;
 use layout::{BLOCK, DirEntries, EntryRef, MAX_IN_BLOCK, set_target};
+use node_bodies::NameMap;
 use posix_calls::MAX_ENTRIES;
 use std::alloc::{AllocError, Global};
 use std::marker::Model;
@@ -177,5 +181,25 @@ impl Directory {
         let last = self.count - 1;
         take_from(&mut self.blocks, number, last);
         self.count = last;
+    }
+
+    /// Changes what stands under some names: an entry that comes is entered, or `None` takes the entry of the name out if there is one. `Full` where more entries would be
+    /// there in the end than a directory may have; `Memory` where there was none for the blocks that come. The directory stays as it was then.
+    pub fn change(&mut self, changes: &NameMap<Option<(u32, Kind)>>) -> Result<(), EnterError>
+        requires { LeadToInodes (fin.entries changes.now) }
+        ensures changed { OnOk result (IsDirectoryAfter self.old.owner changes.now self.old.count (numbered self.old.blocks) self.new.count (numbered self.new.blocks)) }
+        ensures owner { self.new.owner ≡ self.old.owner }
+        ensures full { result ≡ Err EnterError.Full ↔ MAX_ENTRIES < fin.len (entries_after changes.now (named (entries_of self.old) self.old.count)) }
+        ensures refused { OnErr result (self.new ≡ self.old) }
+    {
+        let names = changes.as_slice();
+        if are_too_many(&self.blocks, self.count, names) {
+            return Err(EnterError::Full);
+        }
+        let most = self.count + coming(names);
+        self.blocks
+            .reserve(most.div_ceil(MAX_IN_BLOCK) - self.blocks.len())?;
+        self.count = change_names(self.alloc, &mut self.blocks, self.owner, self.count, names);
+        Ok(())
     }
 }

@@ -115,7 +115,6 @@ pub fn fill_block(blocks: &mut [[u8; BLOCK]], count: usize, entry: EntryRef<'_>)
 // Puts the last entry at the place of another, which may be itself, and nothing at its own.
 pub fn put_last_at(blocks: &mut [[u8; BLOCK]], place: usize, last: usize)
     requires inside { place ≤ last }
-    requires small { last < 2 ^ 32 }
     requires long { length blocks.old ≡ blocks_for (last + 1) }
     requires directory { (owner : ℕ) × IsDirectory owner (last + 1) (numbered blocks.old) }
     ensures less { (owner : ℕ) → IsDirectory owner (last + 1) (numbered blocks.old) → HaveOneLess owner last place (numbered blocks.old) (numbered blocks.new) }
@@ -134,7 +133,6 @@ pub fn put_last_at(blocks: &mut [[u8; BLOCK]], place: usize, last: usize)
 // Takes an entry out, in whose place the last one stands then, and the block that has none any more.
 pub fn take_from(blocks: &mut Vec<[u8; BLOCK]>, place: usize, last: usize)
     requires inside { place ≤ last }
-    requires small { last < 2 ^ 32 }
     requires long { length blocks.old.items ≡ blocks_for (last + 1) }
     requires directory { (owner : ℕ) × IsDirectory owner (last + 1) (numbered blocks.old.items) }
     ensures less { (owner : ℕ) → IsDirectory owner (last + 1) (numbered blocks.old.items) → HaveOneLess owner last place (numbered blocks.old.items) (numbered blocks.new.items) }

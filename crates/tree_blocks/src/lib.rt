@@ -5,6 +5,7 @@
 #![tactic(auto)]
 
 mod after;
+mod changing;
 mod directory;
 mod entry_blocks;
 mod error;

@@ -1,0 +1,39 @@
+use Rattle.std.proofs.Common.{◌≡◌, ◌+◌, ◌-◌, ◌<◌, ◌∙◌, ℕ, ap, arith, subst, sym, List}
+use Rattle.std.specs.FinMap as fin
+use Rattle.tree_blocks.specs.Inode.{entry_at, named, IsDirectory}
+use Rattle.tree_blocks.specs.After.{IsTakenOut}
+use Rattle.tree_blocks.specs.Directory.{numbered}
+use Rattle.tree_blocks.proofs.Directories.{get_missing}
+use Rattle.tree_blocks.proofs.Entering.{named_left}
+use Rattle.tree_blocks.proofs.Lists.{FoundAt, InNone, found_inside, found_nowhere}
+use Rattle.tree_blocks.proofs.NameChanges.{remove_absent}
+use Rattle.tree_blocks.proofs.changing.drop_name.Goals as goal
+
+pub returns-in_default-clause-entries : goal.returns-in_default-clause-entries
+returns-in_default-clause-entries c =
+    let f = entry_at (numbered c.args.blocks.now.items) in
+    let held = c.requires.held in
+    let none = found_nowhere held.0 c.args.count c.args.blocks.now.items held.1 c.args.name.now (subst (InNone c.args.name.now) c.deref.ensures.value c.in_default.ensures.absent) in
+    sym (remove_absent (named f c.args.count) c.args.name.now (get_missing f c.args.count c.args.name.now none))
+
+pub returns-clause-held : goal.returns-clause-held
+returns-clause-held c owner held =
+    let bs : List (List ℕ) = c.args.blocks.now.items in
+    let n : ℕ = c.args.count in
+    let at = found_inside owner n bs held c.args.name.now c.in-Some.number (subst (FoundAt c.args.name.now c.in-Some.number) c.deref.ensures.value c.in-Some.ensures.found) in
+    let more : n ≡ n - 1 + 1 = omega (arith, at.0) in
+    record { long = c.take_from.ensures.long; directory = (c.take_from.ensures.less owner (subst (λ (k : ℕ). IsDirectory owner k (numbered bs)) more held.directory)).directory }
+
+pub returns-clause-entries : goal.returns-clause-entries
+returns-clause-entries c =
+    let bs : List (List ℕ) = c.args.blocks.now.items in
+    let n : ℕ = c.args.count in
+    let i : ℕ = c.in-Some.number in
+    let owner : ℕ = c.requires.held.0 in
+    let held = c.requires.held.1 in
+    let at = found_inside owner n bs held c.args.name.now i (subst (FoundAt c.args.name.now i) c.deref.ensures.value c.in-Some.ensures.found) in
+    let more : n ≡ n - 1 + 1 = omega (arith, at.0) in
+    let less = c.take_from.ensures.less owner (subst (λ (k : ℕ). IsDirectory owner k (numbered bs)) more held.directory) in
+    let taken : IsTakenOut i n (entry_at (numbered bs)) (n - 1) (entry_at (numbered c.take_from.new.blocks.items)) =
+    subst (λ (k : ℕ). IsTakenOut i k (entry_at (numbered bs)) (n - 1) (entry_at (numbered c.take_from.new.blocks.items))) (sym more) less.taken in
+    named_left i (entry_at (numbered bs)) n held.directory.distinct (n - 1) (entry_at (numbered c.take_from.new.blocks.items)) taken ∙ ap (fin.remove (named (entry_at (numbered bs)) n)) at.1

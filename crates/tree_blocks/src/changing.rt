@@ -1,0 +1,187 @@
+//! Blocks of entries, as a change of names makes them.
+
+ghost use Rattle.std.specs.Prelude.{◌≡◌, ◌≤◌, ◌<◌, ◌+◌, ◌^◌, ◌↔◌, ℕ, length, true, false, is_some, IfSome, IfOk, OnErr, IsTrue, vec_capacity};
+ghost use Rattle.std.specs.FinMap as fin;
+ghost use Rattle.posix_calls.specs.declared.limits.TheConstants.{MAX_ENTRIES};
+ghost use Rattle.layout.specs.Places.{is_inode};
+ghost use Rattle.layout.specs.Lent.{owned};
+ghost use Rattle.layout.specs.Directory.{fits_entry};
+ghost use Rattle.node_bodies.specs.Named.{pairs, IsInOrder};
+ghost use Rattle.graph_change.specs.Net.{with_entry, with_entries};
+ghost use Rattle.tree_blocks.specs.Inode.{entry_at, named, IsDirectory, blocks_for};
+ghost use Rattle.tree_blocks.specs.Directory.{numbered, AreHeld, LeadToInodes, coming, counted};
+
+use crate::entry_blocks::{add_to, find_in, take_from};
+use file_graph::Kind;
+use layout::{BLOCK, EntryRef, MAX_IN_BLOCK, set_target};
+use node_bodies::NamedEntry;
+use posix_calls::MAX_ENTRIES;
+use std::alloc::{AllocError, Global};
+
+// Enters an entry, over that of its name or behind the last one. It answers how many there are then.
+fn put_name(
+    alloc: Global,
+    blocks: &mut Vec<[u8; BLOCK]>,
+    owner: u32,
+    count: usize,
+    entry: EntryRef<'_>,
+) -> Result<usize, AllocError>
+    requires owner { is_inode owner ≡ true }
+    requires few { count < 2 ^ 62 }
+    requires fits { fits_entry (owned entry) ≡ true }
+    requires held { AreHeld owner count blocks.old.items }
+    ensures held { IfOk result (λ n. AreHeld owner n blocks.new.items) }
+    ensures entries { IfOk result (λ n. named (entry_at (numbered blocks.new.items)) n ≡ fin.insert (named (entry_at (numbered blocks.old.items)) count) entry.entry.name.now (entry.entry.inode, entry.entry.kind)) }
+    ensures grown { IfOk result (λ n. n ≤ count + 1) }
+    ensures memory { OnErr result (vec_capacity blocks.old < blocks_for (count + 1)) }
+    ensures capacity { vec_capacity blocks.old ≤ vec_capacity blocks.new }
+{
+    if let Some(number) = find_in(blocks, entry.name) {
+        set_target(
+            &mut blocks[number / MAX_IN_BLOCK],
+            number % MAX_IN_BLOCK,
+            entry.inode,
+            entry.kind,
+        );
+        return Ok(count);
+    }
+    add_to(alloc, blocks, owner, count, entry)?;
+    Ok(count + 1)
+}
+
+// Takes the entry of a name out, if there is one. It answers how many there are then.
+fn drop_name(blocks: &mut Vec<[u8; BLOCK]>, count: usize, name: &[u8]) -> usize
+    requires few { count < 2 ^ 62 }
+    requires held { (owner : ℕ) × AreHeld owner count blocks.old.items }
+    ensures held { (owner : ℕ) → AreHeld owner count blocks.old.items → AreHeld owner result blocks.new.items }
+    ensures entries { named (entry_at (numbered blocks.new.items)) result ≡ fin.remove (named (entry_at (numbered blocks.old.items)) count) name.now }
+    ensures shrunk { result ≤ count }
+    ensures capacity { vec_capacity blocks.new ≡ vec_capacity blocks.old }
+{
+    let Some(number) = find_in(blocks, name) else {
+        return count;
+    };
+    take_from(blocks, number, count - 1);
+    count - 1
+}
+
+// Changes what stands under a name. It answers how many entries there are then.
+fn change_name(
+    alloc: Global,
+    blocks: &mut Vec<[u8; BLOCK]>,
+    owner: u32,
+    count: usize,
+    change: &NamedEntry<Option<(u32, Kind)>>,
+) -> Result<usize, AllocError>
+    requires owner { is_inode owner ≡ true }
+    requires few { count < 2 ^ 62 }
+    requires fits { IfSome change.now.value (λ child. is_inode child.0 ≡ true) }
+    requires held { AreHeld owner count blocks.old.items }
+    ensures held { IfOk result (λ n. AreHeld owner n blocks.new.items) }
+    ensures entries { IfOk result (λ n. named (entry_at (numbered blocks.new.items)) n ≡ with_entry change.now.name change.now.value (named (entry_at (numbered blocks.old.items)) count)) }
+    ensures grown { IfOk result (λ n. n ≤ counted count false (is_some change.now.value)) }
+    ensures memory { OnErr result (vec_capacity blocks.old < blocks_for (counted count false (is_some change.now.value))) }
+    ensures capacity { vec_capacity blocks.old ≤ vec_capacity blocks.new }
+{
+    let name = change.name.as_slice();
+    match change.value {
+        Some((inode, kind)) => put_name(
+            alloc,
+            blocks,
+            owner,
+            count,
+            EntryRef { inode, kind, name },
+        ),
+        None => Ok(drop_name(blocks, count, name)),
+    }
+}
+
+// Changes what stands under each of these names, from the last to the first. It answers how many entries there are then.
+pub fn change_names(
+    alloc: Global,
+    blocks: &mut Vec<[u8; BLOCK]>,
+    owner: u32,
+    count: usize,
+    changes: &[NamedEntry<Option<(u32, Kind)>>],
+) -> usize
+    requires owner { is_inode owner ≡ true }
+    requires few { count + coming (pairs changes.now) < 2 ^ 62 }
+    requires fits { LeadToInodes (pairs changes.now) }
+    requires held { AreHeld owner count blocks.old.items }
+    requires room { blocks_for (count + coming (pairs changes.now)) ≤ vec_capacity blocks.old }
+    ensures held { AreHeld owner result blocks.new.items }
+    ensures entries { named (entry_at (numbered blocks.new.items)) result ≡ with_entries (pairs changes.now) (named (entry_at (numbered blocks.old.items)) count) }
+{
+    let mut after = count;
+    'changes: for done in 0..changes.len() {
+        let change = &changes[changes.len() - 1 - done];
+        let Ok(next) = change_name(alloc, blocks, owner, after, change) else {
+            unreachable!()
+        };
+        after = next;
+    }
+    after
+}
+
+// Whether there would be more entries after a change than a directory may have.
+pub fn are_too_many(
+    blocks: &[[u8; BLOCK]],
+    count: usize,
+    changes: &[NamedEntry<Option<(u32, Kind)>>],
+) -> bool
+    requires few { count < 2 ^ 32 }
+    requires held { (owner : ℕ) × AreHeld owner count blocks.now }
+    requires order { IsInOrder changes.now }
+    ensures { IsTrue result ↔ MAX_ENTRIES < fin.len (with_entries (pairs changes.now) (named (entry_at (numbered blocks.now)) count)) }
+{
+    if count + coming(changes) <= MAX_ENTRIES as usize {
+        return false;
+    }
+    count_after(blocks, count, changes) > MAX_ENTRIES as usize
+}
+
+// How many of these names are to stand there afterwards.
+pub fn coming(changes: &[NamedEntry<Option<(u32, Kind)>>]) -> usize
+    ensures count { result ≡ coming (pairs changes.now) }
+    ensures few { result ≤ length changes.now }
+{
+    let mut count = 0;
+    'changes: for done in 0..changes.len() {
+        let change = &changes[changes.len() - 1 - done];
+        count = counted(count, false, change.value.is_some());
+    }
+    count
+}
+
+// How many entries there are after a change.
+fn count_after(
+    blocks: &[[u8; BLOCK]],
+    count: usize,
+    changes: &[NamedEntry<Option<(u32, Kind)>>],
+) -> usize
+    requires few { count < 2 ^ 32 }
+    requires held { (owner : ℕ) × AreHeld owner count blocks.now }
+    requires order { IsInOrder changes.now }
+    ensures { result ≡ fin.len (with_entries (pairs changes.now) (named (entry_at (numbered blocks.now)) count)) }
+{
+    let mut after = count;
+    'changes: for done in 0..changes.len() {
+        let change = &changes[changes.len() - 1 - done];
+        let stands = find_in(blocks, change.name.as_slice()).is_some();
+        after = counted(after, stands, change.value.is_some());
+    }
+    after
+}
+
+// How many there are where a name stood or did not, and is to stand there or not.
+fn counted(count: usize, stood: bool, comes: bool) -> usize
+    requires room { count < 2 ^ 63 }
+    requires some { IsTrue stood → 0 < count }
+    ensures { result ≡ counted count stood comes }
+{
+    match (stood, comes) {
+        (false, true) => count + 1,
+        (true, false) => count - 1,
+        _ => count,
+    }
+}
