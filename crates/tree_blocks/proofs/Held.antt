@@ -1,11 +1,11 @@
 -- The entries of a directory, as the entries of one block or two change.
-use Rattle.std.proofs.Common.{◌≡◌, ◌≢◌, ◌⊎◌, inl, inr, ℕ, ◌+◌, ◌-◌, ◌*◌, ◌/◌, ◌%◌, ◌≤◌, ◌<◌, List, [], ◌∷◌, ◌++◌, length, take, get_or, refl, sym, ◌∙◌, ap, subst, arith}
-use Rattle.std.proofs.lemmas.Bool.{cases_eq, cases_lt}
-use Rattle.std.proofs.lemmas.List.{get_or-set_same, get_or-set_other, length-set, length-take, length-append, get_or-take, get_or_append_left, get_or_push}
+use Rattle.std.proofs.Common.{◌≡◌, ◌≢◌, inl, inr, ℕ, ◌+◌, ◌-◌, ◌/◌, ◌%◌, ◌<◌, List, [], ◌∷◌, ◌++◌, length, refl, sym, ◌∙◌, ap, subst, arith}
+use Rattle.std.proofs.lemmas.Bool.{cases_eq}
+use Rattle.std.proofs.lemmas.List.{get_or-set_same, get_or-set_other, length-set, length-append, get_or-take, get_or_append_left, get_or_push}
 use Rattle.layout.specs.declared.directory.DirEntry.{DirEntry}
 use Rattle.layout.specs.Directory.{EntryList, AreEntries, listed, no_entry, entry_of, with_entry, with_last, without_entry, without_last}
-use Rattle.tree_blocks.specs.Inode.{Blocks, Entry, plain, entry_at, entries_in, blocks_for, IsAbsent, IsDirectoryBlock, IsDirectory}
-use Rattle.tree_blocks.specs.After.{IsEntered, IsTakenOut}
+use Rattle.tree_blocks.specs.Inode.{Blocks, plain, entry_at, entries_in, blocks_for, IsAbsent, IsDirectoryBlock, IsDirectory}
+use Rattle.tree_blocks.specs.After.{IsEntered}
 
 -- an entry by the list of its block
 pub entry_is : (b : Blocks) (e : ℕ) (v : EntryList) → listed (b (e / 56)) ≡ v → entry_at b e ≡ plain (entry_of v (e % 56))

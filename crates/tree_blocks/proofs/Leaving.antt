@@ -1,9 +1,9 @@
 -- The blocks of a directory, as the last entry takes the place of another.
-use Rattle.std.proofs.Common.{◌≡◌, ◌≢◌, ◌⊎◌, inl, inr, ℕ, ◌+◌, ◌-◌, ◌*◌, ◌/◌, ◌%◌, ◌≤◌, ◌<◌, List, length, get_or, true, refl, sym, ◌∙◌, ap, subst, arith}
+use Rattle.std.proofs.Common.{◌≡◌, ◌≢◌, ◌⊎◌, inl, inr, ℕ, ◌+◌, ◌-◌, ◌*◌, ◌/◌, ◌%◌, ◌≤◌, ◌<◌, List, length, true, refl, sym, ◌∙◌, ap, subst, arith}
 use Rattle.std.proofs.lemmas.Bool.{cases_eq}
 use Rattle.std.proofs.lemmas.List.{length-set, length-take}
 use Rattle.layout.specs.declared.directory.DirEntry.{DirEntry}
-use Rattle.layout.specs.Directory.{EntryList, AreEntries, listed, no_entry, entry_of, are_distinct, with_entry, without_entry, without_last}
+use Rattle.layout.specs.Directory.{EntryList, AreEntries, listed, entry_of, are_distinct, with_entry, without_entry, without_last}
 use Rattle.tree_blocks.specs.Inode.{Blocks, plain, entry_at, entries_in, blocks_for, IsDirectoryBlock, IsDirectory}
 use Rattle.tree_blocks.specs.After.{IsTakenOut}
 use Rattle.tree_blocks.specs.Directory.{HaveOneLess}

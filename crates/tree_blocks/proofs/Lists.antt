@@ -1,9 +1,9 @@
 -- Blocks of a directory in a list, of which one is written or put behind the others.
-use Rattle.std.proofs.Common.{◌≡◌, ◌≢◌, ◌⊎◌, inl, inr, ℕ, ◌+◌, ◌-◌, ◌*◌, ◌/◌, ◌%◌, ◌≤◌, ◌<◌, List, [], ◌∷◌, ◌++◌, length, get_or, set, take, drop, true, refl, sym, ◌∙◌, ap, subst, arith, Option, Some, None}
+use Rattle.std.proofs.Common.{◌≡◌, ◌≢◌, ◌⊎◌, inl, inr, ℕ, ◌+◌, ◌*◌, ◌/◌, ◌%◌, ◌≤◌, ◌<◌, List, [], ◌∷◌, ◌++◌, length, get_or, set, take, drop, refl, sym, ◌∙◌, ap, subst, arith, Option, Some, None}
 use Rattle.std.specs.Prelude.{IfSome, IfNone, slice_get, is_some}
 use Rattle.std.specs.List.{position}
 use Rattle.std.specs.FinMap as fin
-use Rattle.std.proofs.lemmas.Bool.{cases_eq, cases_lt}
+use Rattle.std.proofs.lemmas.Bool.{cases_lt}
 use Rattle.std.proofs.lemmas.List.{get_or-set_same, get_or-set_other, length-set, length-append, get_or_append_left, get_or_push, get_or_past, get_or_default}
 use Rattle.std.proofs.Math.Seq.{take-append_seam}
 use Rattle.std.proofs.lemmas.Option.{slice_get-get_or}
@@ -16,7 +16,7 @@ use Rattle.tree_blocks.specs.Directory.{numbered, AreHeld, HaveOneMore}
 use Rattle.tree_blocks.proofs.Directories.{get_there, get_missing}
 use Rattle.tree_blocks.proofs.Entering.{distinct_entered}
 use Rattle.tree_blocks.proofs.Finding.{has, none_found}
-use Rattle.tree_blocks.proofs.Held.{entry_is, part_of, within_part, is_set, parts_set, parts_more, is_more}
+use Rattle.tree_blocks.proofs.Held.{entry_is, within_part, is_set, parts_set, parts_more, is_more}
 
 pub some_weaker : {A : Type 0} (P Q : A → Type 0) (o : Option A) → ((x : A) → P x → Q x) → IfSome o P → IfSome o Q
 some_weaker P Q None f h = h

@@ -1,5 +1,5 @@
 -- Entries by name, as a list of changes is carried out from its last to its first.
-use Rattle.std.proofs.Common.{◌≡◌, ◌≢◌, ◌⊎◌, inl, inr, ℕ, zero, suc, ◌+◌, ◌-◌, ◌≤◌, ◌<◌, Bool, true, false, cond, List, [], ◌∷◌, length, get_or, drop, map, refl, sym, ◌∙◌, ap, subst, arith, Option, Some, None}
+use Rattle.std.proofs.Common.{◌≡◌, inl, inr, ℕ, zero, suc, ◌+◌, ◌-◌, ◌≤◌, ◌<◌, Bool, true, false, cond, List, [], ◌∷◌, length, get_or, drop, refl, sym, ◌∙◌, ap, subst, arith, Option, Some, None}
 use Rattle.std.specs.Prelude.{is_some, ◌&&◌, T}
 use Rattle.std.specs.Ordering.{nat_cmp, eq_by_cmp, is_lt, is_eq}
 use Rattle.std.specs.declared.cmp.Ordering.{Ordering}
@@ -9,11 +9,9 @@ use Rattle.std.specs.FinMap as fin
 use Rattle.std.specs.FinMap.Entries.{below_all}
 use Rattle.std.proofs.Math.Seq.{drop-cons}
 use Rattle.std.proofs.Math.ListN.{drop_of_length-le}
-use Rattle.std.proofs.lemmas.Bool.{cases_Bool}
 use Rattle.posix_calls.specs.Content.{Entries}
 use Rattle.node_bodies.specs.Named.{pairs}
 use Rattle.node_bodies.specs.declared.name_map.NamedEntry.{NamedEntry}
-use Rattle.file_graph.specs.declared.effect.Kind.{Kind}
 use Rattle.graph_change.specs.Net.{Child, with_entry, with_entries}
 use Rattle.tree_blocks.specs.Directory.{coming, counted}
 use Rattle.tree_blocks.proofs.Directories.{names_same, same_name, cases_name}

@@ -1,4 +1,4 @@
-use Rattle.std.proofs.Common.{◌≡◌, ◌∙◌, ◌+◌, ℕ, List, length, ap, arith, sym, Option, false}
+use Rattle.std.proofs.Common.{◌≡◌, ◌∙◌, List, length, ap, arith, sym, Option, false}
 use Rattle.std.specs.Prelude.{is_some}
 use Rattle.node_bodies.specs.Named.{pairs}
 use Rattle.node_bodies.specs.declared.name_map.NamedEntry.{NamedEntry}

@@ -1,4 +1,4 @@
-use Rattle.std.proofs.Common.{◌≡◌, ◌+◌, ◌-◌, ◌<◌, ◌∙◌, ℕ, ap, arith, subst, sym, List}
+use Rattle.std.proofs.Common.{◌≡◌, ◌+◌, ◌-◌, ◌∙◌, ℕ, ap, arith, subst, sym, List}
 use Rattle.std.specs.FinMap as fin
 use Rattle.tree_blocks.specs.Inode.{entry_at, named, IsDirectory}
 use Rattle.tree_blocks.specs.After.{IsTakenOut}

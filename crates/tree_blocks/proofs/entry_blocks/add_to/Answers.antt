@@ -1,4 +1,4 @@
-use Rattle.std.proofs.Common.{◌≡◌, ◌≢◌, ◌++◌, ◌∷◌, [], ◌/◌, ◌%◌, ◌<◌, ◌∙◌, ℕ, ap, arith, length, subst, sym, refl, List, get_or, take, drop}
+use Rattle.std.proofs.Common.{◌≡◌, ◌∙◌, ℕ, arith, subst, sym, List}
 use Rattle.layout.specs.Lent.{owned}
 use Rattle.tree_blocks.specs.Inode.{plain, IsDirectory}
 use Rattle.tree_blocks.specs.Directory.{HaveOneMore, numbered}

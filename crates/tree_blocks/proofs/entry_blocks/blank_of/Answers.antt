@@ -1,5 +1,5 @@
-use Rattle.std.proofs.Common.{◌≡◌, ◌∙◌, ℕ, [], true, arith, ap, sym, refl, List}
-use Rattle.layout.specs.Directory.{EntryList, entries_spelling, fits_entries}
+use Rattle.std.proofs.Common.{◌∙◌, [], arith, ap, refl}
+use Rattle.layout.specs.Directory.{EntryList, entries_spelling}
 use Rattle.layout.proofs.DirChanges.{entries_now, fit_from}
 use Rattle.tree_blocks.proofs.entry_blocks.blank_of.Goals as goal
 

@@ -1,6 +1,3 @@
-use Rattle.std.proofs.Common.{◌≡◌, ◌≢◌, ◌/◌, ◌%◌, ◌<◌, ◌∙◌, ℕ, ap, arith, length, subst, sym, refl, List, get_or}
-use Rattle.std.specs.List.{position}
-use Rattle.layout.specs.Directory.{EntryList, listed, with_last}
 use Rattle.layout.specs.Lent.{owned}
 use Rattle.tree_blocks.specs.Directory.{numbered}
 use Rattle.tree_blocks.proofs.Lists.{absent_in, more_filled}

@@ -1,6 +1,6 @@
-use Rattle.std.proofs.Common.{◌≡◌, ◌≢◌, ◌+◌, ◌/◌, ◌%◌, ◌<◌, ◌∙◌, ℕ, [], set, ap, arith, length, subst, sym, refl, List, get_or}
+use Rattle.std.proofs.Common.{◌≡◌, ◌/◌, ◌%◌, ◌<◌, ◌∙◌, ℕ, [], set, ap, arith, length, subst, sym, List}
 use Rattle.std.proofs.lemmas.List.{get_or-set_same, get_or-set_other}
-use Rattle.layout.specs.Directory.{EntryList, AreEntries, listed, without_entry}
+use Rattle.layout.specs.Directory.{AreEntries, listed, without_entry}
 use Rattle.tree_blocks.specs.Directory.{numbered}
 use Rattle.tree_blocks.proofs.Leaving.{distinct_target, less_within, less_across}
 use Rattle.tree_blocks.proofs.entry_blocks.put_last_at.Goals as goal

@@ -1,6 +1,6 @@
-use Rattle.std.proofs.Common.{◌≡◌, [], ◌+◌, ◌<◌, ◌∙◌, ℕ, ap, arith, length, subst, sym, List, take}
+use Rattle.std.proofs.Common.{◌≡◌, [], ◌+◌, ◌∙◌, ℕ, ap, arith, subst, sym, List, take}
 use Rattle.std.proofs.lemmas.List.{get_or-take}
-use Rattle.tree_blocks.specs.Inode.{blocks_for, IsDirectory}
+use Rattle.tree_blocks.specs.Inode.{IsDirectory}
 use Rattle.tree_blocks.specs.Directory.{HaveOneLess, numbered}
 use Rattle.tree_blocks.proofs.Leaving.{less_cut}
 use Rattle.tree_blocks.proofs.Lists.{written_back}

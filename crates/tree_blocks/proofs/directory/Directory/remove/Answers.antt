@@ -1,7 +1,7 @@
-use Rattle.std.proofs.Common.{◌≡◌, ◌+◌, ◌-◌, ◌<◌, ◌/◌, ◌%◌, ◌∙◌, ℕ, ap, arith, length, subst, sym, refl, List}
+use Rattle.std.proofs.Common.{◌≡◌, ◌+◌, ◌-◌, ◌<◌, ℕ, ap, arith, subst, sym}
 use Rattle.tree_blocks.specs.Inode.{entry_at, IsDirectory}
 use Rattle.tree_blocks.specs.After.{IsTakenOut}
-use Rattle.tree_blocks.specs.Directory.{EntryBlocks, HaveOneLess, numbered, entries_of}
+use Rattle.tree_blocks.specs.Directory.{EntryBlocks, numbered, entries_of}
 use Rattle.tree_blocks.proofs.directory.Directory.remove.Goals as goal
 
 pub invariant_of-self : goal.invariant_of-self
