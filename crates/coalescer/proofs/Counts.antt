@@ -25,7 +25,7 @@ member_congr : {K : Type 0} {eq : K → K → Bool} → IsEquivalence eq → (xs
 member_congr laws [] q x h = refl
 member_congr {eq = eq} laws (y ∷ ys) q x h = ap (λ b. b || is_member eq ys q) (laws.congr q x y h) ∙ ap (λ b. eq x y || b) (member_congr laws ys q x h)
 
-member_unique : {K : Type 0} {eq : K → K → Bool} → IsEquivalence eq → (xs : List K) (q : K) → is_member eq (unique_keys eq xs) q ≡ is_member eq xs q
+pub member_unique : {K : Type 0} {eq : K → K → Bool} → IsEquivalence eq → (xs : List K) (q : K) → is_member eq (unique_keys eq xs) q ≡ is_member eq xs q
 member_unique laws [] q = refl
 member_unique {eq = eq} laws (x ∷ xs) q =
     elim (either (is_member eq xs x)) [
@@ -46,7 +46,7 @@ none_in eq x (z ∷ zs) h =
       | inr f ↦ (f, none_in eq x zs (sym (ap (λ b. b || list_any (eq x) zs) f) ∙ h))
     ]
 
-empty_distinct : {K : Type 0} (eq : K → K → Bool) → IsDistinct eq []
+pub empty_distinct : {K : Type 0} (eq : K → K → Bool) → IsDistinct eq []
 unfolding IsDistinct
 empty_distinct eq = tt
 
@@ -74,11 +74,11 @@ count_front {eq = eq} laws xs ys =
 
 -- ---- blocks of inodes
 
-and_true : (a b : Bool) → (a && b) ≡ true → (a ≡ true) × (b ≡ true)
+pub and_true : (a b : Bool) → (a && b) ≡ true → (a ≡ true) × (b ≡ true)
 and_true true b h = (refl, h)
 and_true false b h = absurd (false≢true h)
 
-block_laws : IsEquivalence same_block
+pub block_laws : IsEquivalence same_block
 block_laws = record {
   refl = λ a. ap (λ b. b && (a.1 == a.1)) (nat_eq_equiv.refl a.0) ∙ nat_eq_equiv.refl a.1;
   symm = λ a b. ap (λ t. t && (a.1 == b.1)) (nat_eq_equiv.symm a.0 b.0) ∙ ap (λ t. (b.0 == a.0) && t) (nat_eq_equiv.symm a.1 b.1);
@@ -125,7 +125,7 @@ block_eq a b =
     ∙ ap (λ t. t && is_eq (nat_cmp a.1 b.1)) (unsigned_tied a.0 b.0)
     ∙ ap (λ t. a.0 == b.0 && t) (unsigned_tied a.1 b.1)
 
-same_any : {K : Type 0} (f g : K → Bool) → ((x : K) → f x ≡ g x) → (xs : List K) → list_any f xs ≡ list_any g xs
+pub same_any : {K : Type 0} (f g : K → Bool) → ((x : K) → f x ≡ g x) → (xs : List K) → list_any f xs ≡ list_any g xs
 same_any f g same [] = refl
 same_any f g same (x ∷ xs) = ap (λ b. b || list_any f xs) (same x) ∙ ap (λ b. g x || b) (same_any f g same xs)
 

@@ -10,7 +10,7 @@ use Rattle.file_graph.specs.declared.effect.Effect.{Effect}
 use Rattle.file_graph.specs.declared.effect.Effect.TheVariants as effect
 use Rattle.file_graph.specs.Graph.{Graph, Node, Body, FileBody, DirBody, is_among, acted, after_effect, after_effects}
 use Rattle.graph_change.specs.Bytes.{Grown, IsTidy, BytesChange, no_bytes, bytes_after}
-use Rattle.graph_change.specs.Net.{Base, Net, Kept, Child, EntryChanges, from_base, based, names_after, body_after, edited, node_after}
+use Rattle.graph_change.specs.Net.{Kept, Child, based, names_after, body_after, edited, node_after}
 use Rattle.graph_change.specs.Change.{Change, Changes, blank, new_in, new_change, net_of, change_at, changed, with_effect, with_effects, coalesced, writes_block}
 use Rattle.graph_change.proofs.Bytes.{tidy_nothing, nothing_after}
 use Rattle.graph_change.proofs.Entries.{no_entries}

@@ -3,3 +3,4 @@ mod Counts
 mod Exchanges
 mod Folds
 mod Runs
+mod Within

@@ -2,3 +2,4 @@ pub mod Counted
 pub mod Exchange
 pub mod Records
 pub mod Weight
+pub mod Within

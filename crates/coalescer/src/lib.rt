@@ -15,7 +15,7 @@ mod records;
 mod run;
 mod weight;
 
-pub use laws::exchange_has_its_place;
+pub use laws::{change_is_within_its_weight, exchange_has_its_place};
 pub use records::{add_record, coalesce};
 pub use run::longest_run;
 pub use weight::{CHUNK_BLOCKS, CHUNK_IMAGES};

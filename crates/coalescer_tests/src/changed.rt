@@ -79,7 +79,7 @@ fn put_block(
     graph.apply(&Effect::Bytes {
         inode,
         at: start,
-        bytes: Bytes::copy_of(alloc, &new[..count])?,
+        bytes: Bytes::copy_of(alloc, new.get(..count).unwrap_or(&[]))?,
     })
 }
 

@@ -1,5 +1,7 @@
 //! Lists of records drawn at random, each against a graph that is no tree of files.
 
+ghost use Rattle.std.specs.Prelude.{◌≤◌};
+
 use crate::changed::{put_change, told};
 use crate::made::{enter, fill, leave, record_of};
 use coalescer::coalesce;
@@ -16,8 +18,10 @@ struct Draw {
 }
 
 impl Draw {
-    // A number below a bound, which isn't 0.
-    fn below(&mut self, bound: u32) -> u32 {
+    // A number below a bound, or 0 where that is 0.
+    fn below(&mut self, bound: u32) -> u32
+        ensures { result ≤ bound }
+    {
         self.state = self
             .state
             .wrapping_mul(1_664_525)
@@ -95,7 +99,7 @@ fn file_effect(
         alloc,
         inode,
         size_of(draw),
-        b'a' + number as u8,
+        b'a' + (number % 16) as u8,
         count as usize,
     )
 }
