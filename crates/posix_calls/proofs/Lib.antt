@@ -29,4 +29,6 @@ pub mod Bounds
 pub mod Chain
 mod Ranges
 pub mod Walks
+pub mod Targets
+pub mod Wants
 pub mod Places

@@ -201,7 +201,7 @@ value_or d (Known (Err e)) = d
 value_or d (Unknown what) = d
 
 -- what was found after another was found after its value
-found_after : {A B : Type 0} (found : Found A) (k : A → Found B) (y : B) → then_found found k ≡ Known (Ok y) → (x : A) × (found ≡ Known (Ok x)) × (k x ≡ Known (Ok y))
+pub found_after : {A B : Type 0} (found : Found A) (k : A → Found B) (y : B) → then_found found k ≡ Known (Ok y) → (x : A) × (found ≡ Known (Ok x)) × (k x ≡ Known (Ok y))
 found_after (Known (Ok x)) k y e = (x, refl, e)
 found_after (Known (Err d)) k y e = absurd (cc)
 found_after (Unknown what) k y e = absurd (cc)
@@ -212,7 +212,7 @@ named_here p dir way name place None e = absurd (cc)
 named_here p dir way name place (Some a) e = sym (ap (λ z. (value_or root_place z).location.name) e)
 
 -- a walk leads to a place of the last name
-named : (p : Part) (names : List (List ℕ)) (dir : ℕ) (way : List ℕ) (place : Place) → run_part p (walk dir way names) ≡ Known (Ok place) → place.location.name ≡ last_name names
+pub named : (p : Part) (names : List (List ℕ)) (dir : ℕ) (way : List ℕ) (place : Place) → run_part p (walk dir way names) ≡ Known (Ok place) → place.location.name ≡ last_name names
 unfolding run_part walk ◌>>=◌
 named p [] dir way place e = sym (ap (λ z. (value_or root_place z).location.name) e)
 named p (name ∷ []) dir way place e = named_here p dir way name place (p.node dir) e

@@ -1,11 +1,11 @@
 -- What someone who knows a part of a tree answers, piece by piece, and how a decision stands to its questions.
-use Rattle.std.specs.Prelude.{◌≡◌, ℕ, List, [], ◌∷◌, map, Bool, Option, Some, None, Result, Ok, Err}
+use Rattle.std.specs.Prelude.{◌≡◌, ℕ, List, [], ◌∷◌, map, Bool, true, false, not, nat_lt, Option, Some, None, Result, Ok, Err}
 use Rattle.std.specs.FinMap as fin
 use Rattle.std.specs.List.{list_any}
 use Rattle.posix_calls.specs.Query.{Seen, File, Dir, Query, Gives, Look, ◌>>=◌, Part, Known, Unknown, run_part}
-use Rattle.posix_calls.specs.Walk.{Place, entries_seen, directory, prefix, is_inode}
+use Rattle.posix_calls.specs.Walk.{Place, entries_seen, entries_at, directory, prefix, is_inode, there, kind_at, refuse}
 use Rattle.posix_calls.specs.declared.errno.Errno.{Errno}
-use Rattle.posix_calls.specs.declared.errno.Errno.TheVariants.{NoMemory}
+use Rattle.posix_calls.specs.declared.errno.Errno.TheVariants.{NoMemory, NotEmpty}
 use Rattle.posix_calls.specs.declared.operation.DecideError.{DecideError}
 use Rattle.posix_calls.specs.declared.operation.DecideError.TheVariants as why
 use Rattle.posix_calls.specs.declared.operation.DecideError.TheVariants.{Refused, Memory}
@@ -13,6 +13,7 @@ use Rattle.posix_calls.specs.declared.operation.Missing.{Missing}
 use Rattle.posix_calls.specs.declared.operation.Description.{Description}
 use Rattle.posix_calls.specs.declared.operation.Description.TheVariants as description
 use Rattle.posix_calls.specs.declared.walk.Landing.{Landing}
+use Rattle.posix_calls.specs.declared.walk.Target.{Target}
 
 -- ---- of one node
 
@@ -66,6 +67,26 @@ IsTold p to = (i : ℕ) (is_dir : Bool) → to.inode ≡ Some i → to.is_dir �
 -- the directory under a name of a directory
 abbrev pub child_at : ℕ → List ℕ → Query ℕ
 child_at dir name = Look dir (λ s. directory (entry_in name s))
+
+-- whether a node is of the other kind than is wanted
+abbrev pub other_kind : Bool → Bool → Bool
+other_kind true is_dir = not is_dir
+other_kind false is_dir = is_dir
+
+-- what a path leads to, where it is a directory or a file as is wanted, and else this error
+abbrev pub target : Bool → Errno → List (List ℕ) → Query Target
+target wants_dir errno names = do
+  place ← prefix names
+  i ← there place.inode
+  is_dir ← kind_at place.inode
+  _ ← refuse errno (other_kind wants_dir is_dir)
+  Gives (record { parent = place.location.parent; inode = i })
+
+-- a directory with entries is refused
+abbrev pub no_entries : ℕ → Query (Unit {0})
+no_entries i = do
+  entries ← entries_at i
+  refuse NotEmpty (nat_lt 0 (fin.len entries))
 
 -- ---- of a decision
 

@@ -3,7 +3,7 @@ use crate::errno::Errno;
 use crate::names::Names;
 
 /// How a file is opened.
-#[derive(Clone, Copy, Debug, PartialEq, Eq)]
+#[derive(Clone, Copy)]
 pub struct Flags {
     /// The descriptor may be read from.
     pub read: bool,
@@ -19,7 +19,7 @@ pub struct Flags {
 
 /// What a client asks. Descriptors are numbers of that client; offsets, counts and lengths are in bytes. Paths are the bytes
 /// that the client gave, which `Path::read` reads.
-#[derive(Debug, Drop)]
+#[derive(Drop)]
 pub enum Call {
     /// Opens a file, and makes it first where the flags say so.
     Open {

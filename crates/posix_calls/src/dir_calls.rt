@@ -7,10 +7,10 @@ ghost use Rattle.posix_calls.specs.Answers.{Tells};
 ghost use Rattle.posix_calls.specs.Decide.{mkdir, rmdir, rmdir_at};
 
 use crate::errno::Errno;
-use crate::operation::{DecideError, Missing, Operation};
+use crate::operation::{DecideError, Operation};
 use crate::path::Path;
-use crate::tree_answers::{TreeAnswers, known};
-use crate::walk::{kind_at, location, prefix, read_path, refuse_if, refuse_root, there};
+use crate::tree_answers::TreeAnswers;
+use crate::walk::{location, prefix, reach, read_path, refuse_entries, refuse_if, refuse_root};
 use std::alloc::Global;
 
 pub(crate) fn mkdir<T: TreeAnswers>(
@@ -47,12 +47,11 @@ fn rmdir_at<T: TreeAnswers>(alloc: Global, tree: &T, path: &Path) -> Result<Oper
     ensures memory { result ≡ Err Memory → is_root path.now ≡ false }
 {
     refuse_root(path)?;
-    let to = prefix(tree, path)?;
-    let inode = there(to.inode)?;
-    let is_dir = kind_at(tree, to)?;
-    refuse_if(!is_dir, Errno::NotDirectory)?;
-    let entries = known(tree.entry_count(inode), Missing::Node { inode })?;
-    refuse_if(entries > 0, Errno::NotEmpty)?;
+    let to = reach(tree, path, true, Errno::NotDirectory)?;
+    refuse_entries(tree, to.inode)?;
     let at = location(alloc, to.parent, path)?;
-    Ok(Operation::RemoveDir { at, inode })
+    Ok(Operation::RemoveDir {
+        at,
+        inode: to.inode,
+    })
 }

@@ -12,7 +12,7 @@ use crate::limits::MAX_FILE;
 use crate::operation::{DecideError, Missing, Operation};
 use crate::path::Path;
 use crate::tree_answers::{TreeAnswers, known};
-use crate::walk::{kind_at, location, prefix, read_path, refuse_if, refuse_root, there};
+use crate::walk::{location, reach, read_path, refuse_if, refuse_root};
 use std::alloc::Global;
 
 pub(crate) fn truncate<T: TreeAnswers>(
@@ -25,10 +25,7 @@ pub(crate) fn truncate<T: TreeAnswers>(
     ensures memory { result ≡ Err Memory → comes_to_name bytes.now ≡ true }
 {
     let path = read_path(alloc, bytes)?;
-    let to = prefix(tree, &path)?;
-    let inode = there(to.inode)?;
-    let is_dir = kind_at(tree, to)?;
-    refuse_if(is_dir, Errno::IsDirectory)?;
+    let inode = reach(tree, &path, false, Errno::IsDirectory)?.inode;
     refuse_if(len > MAX_FILE, Errno::FileTooBig)?;
     let size = known(tree.file_size(inode), Missing::Node { inode })?;
     if size == len {
@@ -57,10 +54,10 @@ fn unlink_at<T: TreeAnswers>(alloc: Global, tree: &T, path: &Path) -> Result<Ope
     ensures memory { result ≡ Err Memory → is_root path.now ≡ false }
 {
     refuse_root(path)?;
-    let to = prefix(tree, path)?;
-    let inode = there(to.inode)?;
-    let is_dir = kind_at(tree, to)?;
-    refuse_if(is_dir, Errno::NotPermitted)?;
+    let to = reach(tree, path, false, Errno::NotPermitted)?;
     let at = location(alloc, to.parent, path)?;
-    Ok(Operation::DropName { at, inode })
+    Ok(Operation::DropName {
+        at,
+        inode: to.inode,
+    })
 }

@@ -8,7 +8,7 @@ use crate::errno::Errno;
 use crate::name::Name;
 
 /// A name in a directory.
-#[derive(Debug, Drop)]
+#[derive(Drop)]
 pub struct Location {
     /// The inode of the directory.
     pub parent: u32,
@@ -16,7 +16,7 @@ pub struct Location {
 }
 
 /// What a rename puts out of its place.
-#[derive(Clone, Copy, Debug, PartialEq, Eq)]
+#[derive(Clone, Copy)]
 pub enum Replaced {
     /// There was nothing at the new name.
     Nothing,
@@ -27,7 +27,7 @@ pub enum Replaced {
 }
 
 /// What a call does where no error holds. What is opened may be read from, written to or both.
-#[derive(Debug, Drop)]
+#[derive(Drop)]
 pub enum Operation {
     /// Nothing changes, and the call is answered.
     Tell {
@@ -174,7 +174,7 @@ impl Operation {
 }
 
 /// Why a call comes to no operation.
-#[derive(Clone, Copy, Debug, PartialEq, Eq)]
+#[derive(Clone, Copy)]
 pub enum DecideError {
     /// The call is answered by this error.
     Refused { errno: Errno },
@@ -185,7 +185,7 @@ pub enum DecideError {
 }
 
 /// What has to be known of a file tree to decide a call.
-#[derive(Clone, Copy, Debug, PartialEq, Eq)]
+#[derive(Clone, Copy, Debug)]
 pub enum Missing {
     /// What stands at an inode: whether it is a directory, its entries, or a file's size and number of names.
     Node { inode: u32 },
@@ -194,7 +194,7 @@ pub enum Missing {
 }
 
 /// What there is to say of what stands at an inode.
-#[derive(Clone, Copy, Debug, PartialEq, Eq)]
+#[derive(Clone, Copy)]
 pub enum Description {
     /// A file of so many bytes, which has so many names.
     File { size: u64, names: u32 },

@@ -12,7 +12,7 @@ use std::marker::Model;
 const PLACES: usize = 32;
 
 /// The descriptors of one client: what is open at each number from 0 to 31. Contracts see them as the list of the places.
-#[derive(Debug, Drop)]
+#[derive(Drop)]
 pub struct OwnDescriptors {
     places: [Option<Descriptor>; PLACES],
 }

@@ -12,7 +12,7 @@ use std::marker::Model;
 const SLASH: u8 = b'/';
 
 /// A path that was read: the names from the root on, none for the root itself. Contracts see it as the list of their bytes.
-#[derive(Debug, Drop)]
+#[derive(Drop)]
 pub struct Path {
     names: Vec<Name>,
 }

@@ -13,7 +13,7 @@ use crate::errno::Errno;
 use crate::operation::{DecideError, Description, Missing, Operation};
 use crate::path::Path;
 use crate::tree_answers::{TreeAnswers, known};
-use crate::walk::{kind_at, prefix, read_path, refuse_if, there};
+use crate::walk::{prefix, reach, read_path, there};
 use std::alloc::Global;
 
 pub(crate) fn list<T: TreeAnswers>(
@@ -33,10 +33,7 @@ fn list_at<T: TreeAnswers>(alloc: Global, tree: &T, path: &Path) -> Result<Opera
     ensures tells { Tells (T.part tree.now) (list_at path.now) result }
     ensures memory { result ≡ Err Memory → is_root path.now ≡ true → has_names ((T.part tree.now).node ROOT) ≡ true }
 {
-    let to = prefix(tree, path)?;
-    let inode = there(to.inode)?;
-    let is_dir = kind_at(tree, to)?;
-    refuse_if(!is_dir, Errno::NotDirectory)?;
+    let inode = reach(tree, path, true, Errno::NotDirectory)?.inode;
     let answer = tree.names(alloc, inode)?;
     let names = known(answer, Missing::Node { inode })?;
     Ok(Operation::Tell {

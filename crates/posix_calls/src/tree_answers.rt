@@ -11,7 +11,7 @@ use crate::operation::{DecideError, Description, Missing};
 use std::alloc::{AllocError, Global};
 
 /// What a directory has under a name.
-#[derive(Clone, Copy, Debug, PartialEq, Eq)]
+#[derive(Clone, Copy)]
 pub struct Child {
     pub inode: u32,
     /// Whether it is a directory, where that is at hand.

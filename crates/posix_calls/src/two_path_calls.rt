@@ -13,7 +13,8 @@ use crate::operation::{DecideError, Missing, Operation, Replaced};
 use crate::path::Path;
 use crate::tree_answers::{TreeAnswers, known};
 use crate::walk::{
-    Landing, is_inode, kind_at, location, prefix, read_path, refuse_if, refuse_root, there, walk,
+    Landing, is_inode, kind_at, location, prefix, reach, read_path, refuse_entries, refuse_if,
+    refuse_root, there, walk,
 };
 use std::alloc::Global;
 
@@ -41,10 +42,7 @@ fn link_at<T: TreeAnswers>(
     ensures tells { Tells (T.part tree.now) (link_at old_path.now new_path.now) result }
     ensures memory { result ≡ Err Memory → is_root new_path.now ≡ false }
 {
-    let from = prefix(tree, old_path)?;
-    let inode = there(from.inode)?;
-    let is_dir = kind_at(tree, from)?;
-    refuse_if(is_dir, Errno::NotPermitted)?;
+    let inode = reach(tree, old_path, false, Errno::NotPermitted)?.inode;
     let to = prefix(tree, new_path)?;
     refuse_if(to.is_there(), Errno::Exists)?;
     let names = known(tree.file_names(inode), Missing::Node { inode })?;
@@ -82,8 +80,7 @@ fn replaced<T: TreeAnswers>(
     if !new_dir {
         return Ok(Replaced::OldFile { inode });
     }
-    let entries = known(tree.entry_count(inode), Missing::Node { inode })?;
-    refuse_if(entries > 0, Errno::NotEmpty)?;
+    refuse_entries(tree, inode)?;
     Ok(Replaced::OldDir { inode })
 }
 

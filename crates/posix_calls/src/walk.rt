@@ -4,7 +4,7 @@ ghost use Rattle.posix_calls.specs.Path.{comes_to_name, reading};
 ghost use Rattle.posix_calls.specs.Query.{Part};
 ghost use Rattle.posix_calls.specs.declared.tree_answers.Child.{Child};
 ghost use Rattle.posix_calls.specs.Walk.{said, kind_at, there, is_root, is_there, is_inode};
-ghost use Rattle.posix_calls.specs.Answers.{Tells, IsTold, last_name, landing, untold, child_at};
+ghost use Rattle.posix_calls.specs.Answers.{Tells, IsTold, last_name, landing, untold, child_at, other_kind, target, no_entries};
 ghost use Rattle.posix_calls.specs.declared.operation.DecideError.TheVariants as why;
 ghost use Rattle.posix_calls.specs.declared.operation.DecideError.TheVariants.{Refused, Memory};
 ghost use Rattle.posix_calls.specs.declared.operation.Missing.TheVariants as missing;
@@ -19,13 +19,20 @@ use std::alloc::Global;
 
 // Where a path leads: the directory of its last name, the inode there, and how many entries that directory has; whether the walk
 // went through the inode that it was to watch for; and whether a directory is there, where the entry told it.
-#[derive(Clone, Copy, Debug, PartialEq, Eq)]
+#[derive(Clone, Copy)]
 pub struct Landing {
     pub parent: u32,
     pub inode: Option<u32>,
     pub entries: u32,
     pub passed: bool,
     pub is_dir: Option<bool>,
+}
+
+// What a path leads to: the directory of its last name, and the inode there.
+#[derive(Clone, Copy)]
+pub struct Target {
+    pub parent: u32,
+    pub inode: u32,
 }
 
 // This error, where the test holds.
@@ -204,6 +211,46 @@ pub(crate) fn prefix<T: TreeAnswers>(tree: &T, path: &Path) -> Result<Landing, D
     ensures root { IfOk result (λ to. is_root path.now ≡ true → to.inode ≡ Some ROOT) }
 {
     walk(tree, path, None)
+}
+
+// Whether a node is of the other kind than is wanted.
+fn is_other_kind(wants_dir: bool, is_dir: bool) -> bool
+    ensures { result ≡ other_kind wants_dir is_dir }
+{
+    match wants_dir {
+        true => !is_dir,
+        false => is_dir,
+    }
+}
+
+// Walks along a path to a directory or to a file, as is wanted; this error, where it leads to the other.
+pub(crate) fn reach<T: TreeAnswers>(
+    tree: &T,
+    path: &Path,
+    wants_dir: bool,
+    errno: Errno,
+) -> Result<Target, DecideError>
+    ensures tells { Tells (T.part tree.now) (target wants_dir errno path.now) result }
+    ensures memory { result ≢ Err Memory }
+    ensures root { IfOk result (λ to. is_root path.now ≡ true → to.inode ≡ ROOT) }
+{
+    let to = prefix(tree, path)?;
+    let inode = there(to.inode)?;
+    let is_dir = kind_at(tree, to)?;
+    refuse_if(is_other_kind(wants_dir, is_dir), errno)?;
+    Ok(Target {
+        parent: to.parent,
+        inode,
+    })
+}
+
+// A directory with entries is refused.
+pub(crate) fn refuse_entries<T: TreeAnswers>(tree: &T, inode: u32) -> Result<(), DecideError>
+    ensures tells { Tells (T.part tree.now) (no_entries inode) result }
+    ensures memory { result ≢ Err Memory }
+{
+    let entries = known(tree.entry_count(inode), Missing::Node { inode })?;
+    refuse_if(entries > 0, Errno::NotEmpty)
 }
 
 // The last name of a path, in its directory.

@@ -1,7 +1,7 @@
-use Rattle.std.proofs.Common.{sym, ◌∙◌, None}
+use Rattle.std.proofs.Common.{sym, ◌∙◌, false}
 use Rattle.posix_calls.specs.Walk.{size_seen}
 use Rattle.posix_calls.proofs.Chain.{exits, gives_as, bind_gives, bind_stops, passes, fails, bind_look, bind_look_missing, same_if, apart_if}
-use Rattle.posix_calls.proofs.Walks.{bind_place, bind_place_stops}
+use Rattle.posix_calls.proofs.Targets.{bind_target, bind_target_stops}
 use Rattle.posix_calls.specs.Decide.{truncate}
 use Rattle.posix_calls.proofs.file_calls.truncate.Goals as goal
 
@@ -9,34 +9,22 @@ pub returns-in_err-path-clause-tells : goal.returns-in_err-path-clause-tells
 unfolding truncate
 returns-in_err-path-clause-tells g c = exits c.from_residual.ensures.1 (bind_stops _ (c.in_err-path.ensures.tells _))
 
-pub returns-in_err-to-clause-tells : goal.returns-in_err-to-clause-tells
-unfolding truncate
-returns-in_err-to-clause-tells g c = exits c.from_residual-in_err-to.ensures.1 (bind_gives _ (c.in_ok-path.ensures.tells _) (bind_place_stops None c.in_ok-path.path _ c.in_err-to.ensures.tells))
-
 pub returns-in_err-inode-clause-tells : goal.returns-in_err-inode-clause-tells
 unfolding truncate
-returns-in_err-inode-clause-tells g c = exits c.from_residual-in_err-inode.ensures.1 (bind_gives _ (c.in_ok-path.ensures.tells _) (bind_place None c.in_ok-path.path _ c.in_ok-to.ensures.tells (λ to_walked to_seen. bind_stops _ (c.in_err-inode.ensures.tells _))))
-
-pub returns-in_err-is_dir-clause-tells : goal.returns-in_err-is_dir-clause-tells
-unfolding truncate
-returns-in_err-is_dir-clause-tells g c = exits c.from_residual-in_err-is_dir.ensures.1 (bind_gives _ (c.in_ok-path.ensures.tells _) (bind_place None c.in_ok-path.path _ c.in_ok-to.ensures.tells (λ to_walked to_seen. bind_gives _ (c.in_ok-inode.ensures.tells _) (bind_stops _ c.in_err-is_dir.ensures.tells))))
+returns-in_err-inode-clause-tells g c = exits c.from_residual-in_err-inode.ensures.1 (bind_gives _ (c.in_ok-path.ensures.tells _) (bind_target_stops false _ c.in_ok-path.path _ c.in_err-inode.ensures.tells))
 
 pub returns-in_err-refuse_if-clause-tells : goal.returns-in_err-refuse_if-clause-tells
 unfolding truncate
-returns-in_err-refuse_if-clause-tells g c = exits c.from_residual-in_err-refuse_if.ensures.1 (bind_gives _ (c.in_ok-path.ensures.tells _) (bind_place None c.in_ok-path.path _ c.in_ok-to.ensures.tells (λ to_walked to_seen. bind_gives _ (c.in_ok-inode.ensures.tells _) (bind_gives _ c.in_ok-is_dir.ensures.tells (fails _ _ c.in_err-refuse_if.ensures.refused.0 (c.in_err-refuse_if.ensures.refused.1))))))
-
-pub returns-in_err-refuse_if-2-clause-tells : goal.returns-in_err-refuse_if-2-clause-tells
-unfolding truncate
-returns-in_err-refuse_if-2-clause-tells g c = exits c.from_residual-in_err-refuse_if-2.ensures.1 (bind_gives _ (c.in_ok-path.ensures.tells _) (bind_place None c.in_ok-path.path _ c.in_ok-to.ensures.tells (λ to_walked to_seen. bind_gives _ (c.in_ok-inode.ensures.tells _) (bind_gives _ c.in_ok-is_dir.ensures.tells (passes _ _ (c.in_ok-refuse_if.ensures.clear) (fails _ _ c.in_err-refuse_if-2.ensures.refused.0 (c.in_err-refuse_if-2.ensures.refused.1)))))))
+returns-in_err-refuse_if-clause-tells g c = exits c.from_residual-in_err-refuse_if.ensures.1 (bind_gives _ (c.in_ok-path.ensures.tells _) (bind_target false _ c.in_ok-path.path _ c.in_ok-inode.ensures.tells (λ walked entries. fails _ _ c.in_err-refuse_if.ensures.refused.0 c.in_err-refuse_if.ensures.refused.1)))
 
 pub returns-in_err-size-clause-tells : goal.returns-in_err-size-clause-tells
 unfolding truncate
-returns-in_err-size-clause-tells g c = exits c.from_residual-in_err-size.ensures.1 (bind_gives _ (c.in_ok-path.ensures.tells _) (bind_place None c.in_ok-path.path _ c.in_ok-to.ensures.tells (λ to_walked to_seen. bind_gives _ (c.in_ok-inode.ensures.tells _) (bind_gives _ c.in_ok-is_dir.ensures.tells (passes _ _ (c.in_ok-refuse_if.ensures.clear) (passes _ _ (c.in_ok-refuse_if-2.ensures.clear) (bind_look_missing _ size_seen size_seen _ c.in_err-size.ensures.missing.0 (sym c.file_size.ensures ∙ c.in_err-size.ensures.missing.1))))))))
+returns-in_err-size-clause-tells g c = exits c.from_residual-in_err-size.ensures.1 (bind_gives _ (c.in_ok-path.ensures.tells _) (bind_target false _ c.in_ok-path.path _ c.in_ok-inode.ensures.tells (λ walked entries. passes _ _ c.in_ok-refuse_if.ensures.clear (bind_look_missing _ size_seen size_seen _ c.in_err-size.ensures.missing.0 (sym c.file_size.ensures ∙ c.in_err-size.ensures.missing.1)))))
 
 pub returns-then-size-len-clause-tells : goal.returns-then-size-len-clause-tells
 unfolding truncate
-returns-then-size-len-clause-tells g c = (bind_gives _ (c.in_ok-path.ensures.tells _) (bind_place None c.in_ok-path.path _ c.in_ok-to.ensures.tells (λ to_walked to_seen. bind_gives _ (c.in_ok-inode.ensures.tells _) (bind_gives _ c.in_ok-is_dir.ensures.tells (passes _ _ (c.in_ok-refuse_if.ensures.clear) (passes _ _ (c.in_ok-refuse_if-2.ensures.clear) (bind_look _ size_seen size_seen _ (sym c.file_size.ensures ∙ c.in_ok-size.ensures.known) (λ s is. gives_as (same_if _ _ _ _ (is ∙ c.if-size-len.true))))))))))
+returns-then-size-len-clause-tells g c = bind_gives _ (c.in_ok-path.ensures.tells _) (bind_target false _ c.in_ok-path.path _ c.in_ok-inode.ensures.tells (λ walked entries. passes _ _ c.in_ok-refuse_if.ensures.clear (bind_look _ size_seen size_seen _ (sym c.file_size.ensures ∙ c.in_ok-size.ensures.known) (λ s is. gives_as (same_if _ _ _ _ (is ∙ c.if-size-len.true))))))
 
 pub returns-clause-tells : goal.returns-clause-tells
 unfolding truncate
-returns-clause-tells g c = (bind_gives _ (c.in_ok-path.ensures.tells _) (bind_place None c.in_ok-path.path _ c.in_ok-to.ensures.tells (λ to_walked to_seen. bind_gives _ (c.in_ok-inode.ensures.tells _) (bind_gives _ c.in_ok-is_dir.ensures.tells (passes _ _ (c.in_ok-refuse_if.ensures.clear) (passes _ _ (c.in_ok-refuse_if-2.ensures.clear) (bind_look _ size_seen size_seen _ (sym c.file_size.ensures ∙ c.in_ok-size.ensures.known) (λ s is. gives_as (apart_if _ _ _ _ (λ e. c.if-size-len.false (sym is ∙ e)))))))))))
+returns-clause-tells g c = bind_gives _ (c.in_ok-path.ensures.tells _) (bind_target false _ c.in_ok-path.path _ c.in_ok-inode.ensures.tells (λ walked entries. passes _ _ c.in_ok-refuse_if.ensures.clear (bind_look _ size_seen size_seen _ (sym c.file_size.ensures ∙ c.in_ok-size.ensures.known) (λ s is. gives_as (apart_if _ _ _ _ (λ e. c.if-size-len.false (sym is ∙ e)))))))

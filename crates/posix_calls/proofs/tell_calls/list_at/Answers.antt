@@ -1,26 +1,17 @@
-use Rattle.std.proofs.Common.{sym, ◌∙◌, ap, None}
+use Rattle.std.proofs.Common.{sym, ◌∙◌, ap, true}
 use Rattle.posix_calls.specs.Walk.{entries_seen}
 use Rattle.posix_calls.specs.Answers.{listed_in}
-use Rattle.posix_calls.proofs.Chain.{exits, gives_as, bind_gives, bind_stops, passes, fails, bind_look, bind_look_missing}
-use Rattle.posix_calls.proofs.Walks.{bind_place, bind_place_stops}
+use Rattle.posix_calls.proofs.Chain.{exits, gives_as, bind_look, bind_look_missing}
+use Rattle.posix_calls.proofs.Targets.{bind_target, bind_target_stops}
 use Rattle.posix_calls.specs.declared.operation.Operation.TheVariants as operation
 use Rattle.posix_calls.specs.declared.call.Reply.TheVariants as reply
 use Rattle.posix_calls.proofs.tell_calls.list_at.Goals as goal
 
-pub returns-in_err-to-clause-tells : goal.returns-in_err-to-clause-tells
-returns-in_err-to-clause-tells g c = exits c.from_residual.ensures.1 (bind_place_stops None c.args.path.now _ c.in_err-to.ensures.tells)
-
 pub returns-in_err-inode-clause-tells : goal.returns-in_err-inode-clause-tells
-returns-in_err-inode-clause-tells g c = exits c.from_residual-in_err-inode.ensures.1 (bind_place None c.args.path.now _ c.in_ok-to.ensures.tells (λ to_walked to_seen. bind_stops _ (c.in_err-inode.ensures.tells _)))
-
-pub returns-in_err-is_dir-clause-tells : goal.returns-in_err-is_dir-clause-tells
-returns-in_err-is_dir-clause-tells g c = exits c.from_residual-in_err-is_dir.ensures.1 (bind_place None c.args.path.now _ c.in_ok-to.ensures.tells (λ to_walked to_seen. bind_gives _ (c.in_ok-inode.ensures.tells _) (bind_stops _ c.in_err-is_dir.ensures.tells)))
-
-pub returns-in_err-refuse_if-clause-tells : goal.returns-in_err-refuse_if-clause-tells
-returns-in_err-refuse_if-clause-tells g c = exits c.from_residual-in_err-refuse_if.ensures.1 (bind_place None c.args.path.now _ c.in_ok-to.ensures.tells (λ to_walked to_seen. bind_gives _ (c.in_ok-inode.ensures.tells _) (bind_gives _ c.in_ok-is_dir.ensures.tells (fails _ _ c.in_err-refuse_if.ensures.refused.0 (c.in_err-refuse_if.ensures.refused.1)))))
+returns-in_err-inode-clause-tells g c = exits c.from_residual.ensures.1 (bind_target_stops true _ c.args.path.now _ c.in_err-inode.ensures.tells)
 
 pub returns-in_err-names-clause-tells : goal.returns-in_err-names-clause-tells
-returns-in_err-names-clause-tells g c = exits c.from_residual-in_err-names.ensures.1 (bind_place None c.args.path.now _ c.in_ok-to.ensures.tells (λ to_walked to_seen. bind_gives _ (c.in_ok-inode.ensures.tells _) (bind_gives _ c.in_ok-is_dir.ensures.tells (passes _ _ (c.in_ok-refuse_if.ensures.clear) (bind_look_missing _ entries_seen listed_in _ c.in_err-names.ensures.missing.0 (sym c.in_ok-answer.ensures.names ∙ c.in_err-names.ensures.missing.1))))))
+returns-in_err-names-clause-tells g c = exits c.from_residual-in_err-names.ensures.1 (bind_target true _ c.args.path.now _ c.in_ok-inode.ensures.tells (λ walked entries. bind_look_missing _ entries_seen listed_in _ c.in_err-names.ensures.missing.0 (sym c.in_ok-answer.ensures.names ∙ c.in_err-names.ensures.missing.1)))
 
 pub returns-clause-tells : goal.returns-clause-tells
-returns-clause-tells g c = (bind_place None c.args.path.now _ c.in_ok-to.ensures.tells (λ to_walked to_seen. bind_gives _ (c.in_ok-inode.ensures.tells _) (bind_gives _ c.in_ok-is_dir.ensures.tells (passes _ _ (c.in_ok-refuse_if.ensures.clear) (bind_look _ entries_seen listed_in _ (sym c.in_ok-answer.ensures.names ∙ c.in_ok-names.ensures.known) (λ s is. gives_as (ap (λ z. operation.Tell (reply.Listed z)) is)))))))
+returns-clause-tells g c = bind_target true _ c.args.path.now _ c.in_ok-inode.ensures.tells (λ walked entries. bind_look _ entries_seen listed_in _ (sym c.in_ok-answer.ensures.names ∙ c.in_ok-names.ensures.known) (λ s is. gives_as (ap (λ z. operation.Tell (reply.Listed z)) is)))

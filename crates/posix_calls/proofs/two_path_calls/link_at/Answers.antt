@@ -1,35 +1,27 @@
-use Rattle.std.proofs.Common.{sym, ◌∙◌, ap, nat_le, None}
+use Rattle.std.proofs.Common.{sym, ◌∙◌, ap, nat_le, None, false}
 use Rattle.posix_calls.specs.Walk.{names_seen}
-use Rattle.posix_calls.proofs.Chain.{exits, gives, bind_gives, bind_stops, passes, fails, bind_look, bind_look_missing}
+use Rattle.posix_calls.proofs.Chain.{exits, gives, passes, fails, bind_look, bind_look_missing}
 use Rattle.posix_calls.proofs.Walks.{bind_place, bind_place_stops}
+use Rattle.posix_calls.proofs.Targets.{bind_target, bind_target_stops}
 use Rattle.posix_calls.proofs.two_path_calls.link_at.Goals as goal
 
-pub returns-in_err-from-clause-tells : goal.returns-in_err-from-clause-tells
-returns-in_err-from-clause-tells g c = exits c.from_residual.ensures.1 (bind_place_stops None c.args.old_path.now _ c.in_err-from.ensures.tells)
-
 pub returns-in_err-inode-clause-tells : goal.returns-in_err-inode-clause-tells
-returns-in_err-inode-clause-tells g c = exits c.from_residual-in_err-inode.ensures.1 (bind_place None c.args.old_path.now _ c.in_ok-from.ensures.tells (λ from_walked from_seen. bind_stops _ (c.in_err-inode.ensures.tells _)))
-
-pub returns-in_err-is_dir-clause-tells : goal.returns-in_err-is_dir-clause-tells
-returns-in_err-is_dir-clause-tells g c = exits c.from_residual-in_err-is_dir.ensures.1 (bind_place None c.args.old_path.now _ c.in_ok-from.ensures.tells (λ from_walked from_seen. bind_gives _ (c.in_ok-inode.ensures.tells _) (bind_stops _ c.in_err-is_dir.ensures.tells)))
-
-pub returns-in_err-refuse_if-clause-tells : goal.returns-in_err-refuse_if-clause-tells
-returns-in_err-refuse_if-clause-tells g c = exits c.from_residual-in_err-refuse_if.ensures.1 (bind_place None c.args.old_path.now _ c.in_ok-from.ensures.tells (λ from_walked from_seen. bind_gives _ (c.in_ok-inode.ensures.tells _) (bind_gives _ c.in_ok-is_dir.ensures.tells (fails _ _ c.in_err-refuse_if.ensures.refused.0 (c.in_err-refuse_if.ensures.refused.1)))))
+returns-in_err-inode-clause-tells g c = exits c.from_residual.ensures.1 (bind_target_stops false _ c.args.old_path.now _ c.in_err-inode.ensures.tells)
 
 pub returns-in_err-to-clause-tells : goal.returns-in_err-to-clause-tells
-returns-in_err-to-clause-tells g c = exits c.from_residual-in_err-to.ensures.1 (bind_place None c.args.old_path.now _ c.in_ok-from.ensures.tells (λ from_walked from_seen. bind_gives _ (c.in_ok-inode.ensures.tells _) (bind_gives _ c.in_ok-is_dir.ensures.tells (passes _ _ (c.in_ok-refuse_if.ensures.clear) (bind_place_stops None c.args.new_path.now _ c.in_err-to.ensures.tells)))))
+returns-in_err-to-clause-tells g c = exits c.from_residual-in_err-to.ensures.1 (bind_target false _ c.args.old_path.now _ c.in_ok-inode.ensures.tells (λ walked entries. bind_place_stops None c.args.new_path.now _ c.in_err-to.ensures.tells))
 
-pub returns-in_err-refuse_if-2-clause-tells : goal.returns-in_err-refuse_if-2-clause-tells
-returns-in_err-refuse_if-2-clause-tells g c = exits c.from_residual-in_err-refuse_if-2.ensures.1 (bind_place None c.args.old_path.now _ c.in_ok-from.ensures.tells (λ from_walked from_seen. bind_gives _ (c.in_ok-inode.ensures.tells _) (bind_gives _ c.in_ok-is_dir.ensures.tells (passes _ _ (c.in_ok-refuse_if.ensures.clear) (bind_place None c.args.new_path.now _ c.in_ok-to.ensures.tells (λ to_walked to_seen. fails _ _ c.in_err-refuse_if-2.ensures.refused.0 (sym c.is_there.ensures ∙ c.in_err-refuse_if-2.ensures.refused.1)))))))
+pub returns-in_err-refuse_if-clause-tells : goal.returns-in_err-refuse_if-clause-tells
+returns-in_err-refuse_if-clause-tells g c = exits c.from_residual-in_err-refuse_if.ensures.1 (bind_target false _ c.args.old_path.now _ c.in_ok-inode.ensures.tells (λ walked entries. bind_place None c.args.new_path.now _ c.in_ok-to.ensures.tells (λ to_walked to_seen. fails _ _ c.in_err-refuse_if.ensures.refused.0 (sym c.is_there.ensures ∙ c.in_err-refuse_if.ensures.refused.1))))
 
 pub returns-in_err-names-clause-tells : goal.returns-in_err-names-clause-tells
-returns-in_err-names-clause-tells g c = exits c.from_residual-in_err-names.ensures.1 (bind_place None c.args.old_path.now _ c.in_ok-from.ensures.tells (λ from_walked from_seen. bind_gives _ (c.in_ok-inode.ensures.tells _) (bind_gives _ c.in_ok-is_dir.ensures.tells (passes _ _ (c.in_ok-refuse_if.ensures.clear) (bind_place None c.args.new_path.now _ c.in_ok-to.ensures.tells (λ to_walked to_seen. passes _ _ (sym c.is_there.ensures ∙ c.in_ok-refuse_if-2.ensures.clear) (bind_look_missing _ names_seen names_seen _ c.in_err-names.ensures.missing.0 (sym c.file_names.ensures ∙ c.in_err-names.ensures.missing.1))))))))
+returns-in_err-names-clause-tells g c = exits c.from_residual-in_err-names.ensures.1 (bind_target false _ c.args.old_path.now _ c.in_ok-inode.ensures.tells (λ walked entries. bind_place None c.args.new_path.now _ c.in_ok-to.ensures.tells (λ to_walked to_seen. passes _ _ (sym c.is_there.ensures ∙ c.in_ok-refuse_if.ensures.clear) (bind_look_missing _ names_seen names_seen _ c.in_err-names.ensures.missing.0 (sym c.file_names.ensures ∙ c.in_err-names.ensures.missing.1)))))
+
+pub returns-in_err-refuse_if-2-clause-tells : goal.returns-in_err-refuse_if-2-clause-tells
+returns-in_err-refuse_if-2-clause-tells g c = exits c.from_residual-in_err-refuse_if-2.ensures.1 (bind_target false _ c.args.old_path.now _ c.in_ok-inode.ensures.tells (λ walked entries. bind_place None c.args.new_path.now _ c.in_ok-to.ensures.tells (λ to_walked to_seen. passes _ _ (sym c.is_there.ensures ∙ c.in_ok-refuse_if.ensures.clear) (bind_look _ names_seen names_seen _ (sym c.file_names.ensures ∙ c.in_ok-names.ensures.known) (λ s is. fails _ _ c.in_err-refuse_if-2.ensures.refused.0 (ap (nat_le 1000) is ∙ c.in_err-refuse_if-2.ensures.refused.1))))))
 
 pub returns-in_err-refuse_if-3-clause-tells : goal.returns-in_err-refuse_if-3-clause-tells
-returns-in_err-refuse_if-3-clause-tells g c = exits c.from_residual-in_err-refuse_if-3.ensures.1 (bind_place None c.args.old_path.now _ c.in_ok-from.ensures.tells (λ from_walked from_seen. bind_gives _ (c.in_ok-inode.ensures.tells _) (bind_gives _ c.in_ok-is_dir.ensures.tells (passes _ _ (c.in_ok-refuse_if.ensures.clear) (bind_place None c.args.new_path.now _ c.in_ok-to.ensures.tells (λ to_walked to_seen. passes _ _ (sym c.is_there.ensures ∙ c.in_ok-refuse_if-2.ensures.clear) (bind_look _ names_seen names_seen _ (sym c.file_names.ensures ∙ c.in_ok-names.ensures.known) (λ s is. fails _ _ c.in_err-refuse_if-3.ensures.refused.0 (ap (nat_le 1000) is ∙ c.in_err-refuse_if-3.ensures.refused.1)))))))))
-
-pub returns-in_err-refuse_if-4-clause-tells : goal.returns-in_err-refuse_if-4-clause-tells
-returns-in_err-refuse_if-4-clause-tells g c = exits c.from_residual-in_err-refuse_if-4.ensures.1 (bind_place None c.args.old_path.now _ c.in_ok-from.ensures.tells (λ from_walked from_seen. bind_gives _ (c.in_ok-inode.ensures.tells _) (bind_gives _ c.in_ok-is_dir.ensures.tells (passes _ _ (c.in_ok-refuse_if.ensures.clear) (bind_place None c.args.new_path.now _ c.in_ok-to.ensures.tells (λ to_walked to_seen. passes _ _ (sym c.is_there.ensures ∙ c.in_ok-refuse_if-2.ensures.clear) (bind_look _ names_seen names_seen _ (sym c.file_names.ensures ∙ c.in_ok-names.ensures.known) (λ s is. passes _ _ (ap (nat_le 1000) is ∙ c.in_ok-refuse_if-3.ensures.clear) (fails _ _ c.in_err-refuse_if-4.ensures.refused.0 (sym c.is_full.ensures ∙ c.in_err-refuse_if-4.ensures.refused.1))))))))))
+returns-in_err-refuse_if-3-clause-tells g c = exits c.from_residual-in_err-refuse_if-3.ensures.1 (bind_target false _ c.args.old_path.now _ c.in_ok-inode.ensures.tells (λ walked entries. bind_place None c.args.new_path.now _ c.in_ok-to.ensures.tells (λ to_walked to_seen. passes _ _ (sym c.is_there.ensures ∙ c.in_ok-refuse_if.ensures.clear) (bind_look _ names_seen names_seen _ (sym c.file_names.ensures ∙ c.in_ok-names.ensures.known) (λ s is. passes _ _ (ap (nat_le 1000) is ∙ c.in_ok-refuse_if-2.ensures.clear) (fails _ _ c.in_err-refuse_if-3.ensures.refused.0 (sym c.is_full.ensures ∙ c.in_err-refuse_if-3.ensures.refused.1)))))))
 
 pub returns-clause-tells : goal.returns-clause-tells
-returns-clause-tells g c = rw c.in_ok-at.ensures.location (bind_place None c.args.old_path.now _ c.in_ok-from.ensures.tells (λ from_walked from_seen. bind_gives _ (c.in_ok-inode.ensures.tells _) (bind_gives _ c.in_ok-is_dir.ensures.tells (passes _ _ (c.in_ok-refuse_if.ensures.clear) (bind_place None c.args.new_path.now _ c.in_ok-to.ensures.tells (λ to_walked to_seen. passes _ _ (sym c.is_there.ensures ∙ c.in_ok-refuse_if-2.ensures.clear) (bind_look _ names_seen names_seen _ (sym c.file_names.ensures ∙ c.in_ok-names.ensures.known) (λ s is. passes _ _ (ap (nat_le 1000) is ∙ c.in_ok-refuse_if-3.ensures.clear) (passes _ _ (sym c.is_full.ensures ∙ c.in_ok-refuse_if-4.ensures.clear) (gives))))))))))
+returns-clause-tells g c = rw c.in_ok-at.ensures.location (bind_target false _ c.args.old_path.now _ c.in_ok-inode.ensures.tells (λ walked entries. bind_place None c.args.new_path.now _ c.in_ok-to.ensures.tells (λ to_walked to_seen. passes _ _ (sym c.is_there.ensures ∙ c.in_ok-refuse_if.ensures.clear) (bind_look _ names_seen names_seen _ (sym c.file_names.ensures ∙ c.in_ok-names.ensures.known) (λ s is. passes _ _ (ap (nat_le 1000) is ∙ c.in_ok-refuse_if-2.ensures.clear) (passes _ _ (sym c.is_full.ensures ∙ c.in_ok-refuse_if-3.ensures.clear) gives))))))

@@ -1,6 +1,7 @@
 use Rattle.std.proofs.Common.{sym, ◌∙◌, Some, None}
 use Rattle.posix_calls.proofs.Chain.{exits, gives, bind_gives, bind_stops, passes, fails, if_holds, if_fails, or_clear, or_left, or_right}
 use Rattle.posix_calls.proofs.Walks.{bind_place, bind_place_stops}
+use Rattle.posix_calls.proofs.Wants.{refused_wants}
 use Rattle.posix_calls.proofs.two_path_calls.rename_at.Goals as goal
 
 pub returns-in_err-refuse_root-clause-tells : goal.returns-in_err-refuse_root-clause-tells
@@ -32,3 +33,33 @@ returns-then-is_inode-clause-tells g c = (passes _ _ (or_clear c.in_ok-refuse_ro
 
 pub returns-clause-tells : goal.returns-clause-tells
 returns-clause-tells g c = rw (c.in_ok-old_location.ensures.location, c.in_ok-new_location.ensures.location) (passes _ _ (or_clear c.in_ok-refuse_root.ensures.clear c.in_ok-refuse_root-2.ensures.clear) (bind_place None c.args.old_path.now _ c.in_ok-from.ensures.tells (λ from_walked from_seen. bind_gives _ (c.in_ok-inode.ensures.tells _) (bind_place (Some c.in_ok-inode.inode) c.args.new_path.now _ c.in_ok-to.ensures.tells (λ to_walked to_seen. passes _ _ (to_seen ∙ c.in_ok-refuse_if.ensures.clear) (if_fails _ (sym c.is_inode.ensures ∙ c.if-is_inode.false) (bind_gives _ c.in_ok-is_dir.ensures.tells (bind_gives _ (c.in_ok-replaced.ensures.tells c.args.old_path.now c.args.new_path.now from_walked to_walked) (gives)))))))))
+
+pub returns-in_err-refuse_root-clause-memory : goal.returns-in_err-refuse_root-clause-memory
+returns-in_err-refuse_root-clause-memory g c = λ want. refused_wants c.from_residual.ensures.1 c.in_err-refuse_root.ensures.refused.0 want
+
+pub returns-in_err-refuse_root-2-clause-memory : goal.returns-in_err-refuse_root-2-clause-memory
+returns-in_err-refuse_root-2-clause-memory g c = λ want. c.in_ok-refuse_root.ensures.clear
+
+pub returns-in_err-from-clause-memory : goal.returns-in_err-from-clause-memory
+returns-in_err-from-clause-memory g c = λ want. c.in_ok-refuse_root.ensures.clear
+
+pub returns-in_err-inode-clause-memory : goal.returns-in_err-inode-clause-memory
+returns-in_err-inode-clause-memory g c = λ want. c.in_ok-refuse_root.ensures.clear
+
+pub returns-in_err-to-clause-memory : goal.returns-in_err-to-clause-memory
+returns-in_err-to-clause-memory g c = λ want. c.in_ok-refuse_root.ensures.clear
+
+pub returns-in_err-refuse_if-clause-memory : goal.returns-in_err-refuse_if-clause-memory
+returns-in_err-refuse_if-clause-memory g c = λ want. c.in_ok-refuse_root.ensures.clear
+
+pub returns-in_err-is_dir-clause-memory : goal.returns-in_err-is_dir-clause-memory
+returns-in_err-is_dir-clause-memory g c = λ want. c.in_ok-refuse_root.ensures.clear
+
+pub returns-in_err-replaced-clause-memory : goal.returns-in_err-replaced-clause-memory
+returns-in_err-replaced-clause-memory g c = λ want. c.in_ok-refuse_root.ensures.clear
+
+pub returns-in_err-old_location-clause-memory : goal.returns-in_err-old_location-clause-memory
+returns-in_err-old_location-clause-memory g c = λ want. c.in_ok-refuse_root.ensures.clear
+
+pub returns-in_err-new_location-clause-memory : goal.returns-in_err-new_location-clause-memory
+returns-in_err-new_location-clause-memory g c = λ want. c.in_ok-refuse_root.ensures.clear
