@@ -1,6 +1,7 @@
 // Media that are opened: their journal is replayed or refused.
 ghost use Rattle.std.specs.Prelude.{◌≡◌, ◌<◌, ◌≤◌, length};
-ghost use Rattle.tier_device.specs.Memory.{IsAtRest};
+ghost use Rattle.tier_device.specs.declared.media.Tier.{Tier};
+ghost use Rattle.tier_device.specs.Media.{AtRest};
 
 use crate::data_words::{Input, filled};
 use crate::media::Image;
@@ -9,7 +10,7 @@ use crate::words::Text;
 use batch_journal::{Journal, JournalError};
 use layout::{BLOCK, Super};
 use std::alloc::Global;
-use tier_device::{MemMedia, Tier};
+use tier_device::{Media, Tier};
 
 /// `journal U,F,B,S LINE; LINE ..`: the superblock, and each other block of slots, of marks and of the node pool that is not
 /// zero, once the medium of these contents is opened.
@@ -22,30 +23,23 @@ pub fn tell_journal(input: &mut Input<'_>, out: &mut Text) {
 }
 
 fn put_opened(image: &Image, out: &mut Text) {
-    match opened(image) {
-        Ok(mut journal) => put_home(image.alloc, &mut journal, out),
-        Err(error) => out.field("", &error),
-    }
-}
-
-/// The tiers, once they are opened.
-pub fn opened(image: &Image) -> Result<Journal<MemMedia>, JournalError> {
     match image.tiers() {
-        Ok(media) => open(image.alloc, media),
-        Err(_) => Err(JournalError::Memory),
+        Ok(media) => put_medium(image.alloc, media, out),
+        Err(_) => out.field("", &JournalError::Memory),
     }
 }
 
-fn open(alloc: Global, media: MemMedia) -> Result<Journal<MemMedia>, JournalError>
-    requires { IsAtRest media }
+// Over any medium: its journal is then one value to the check of borrows, and not as many as the medium has fields.
+fn put_medium<M: Media + Drop>(alloc: Global, media: M, out: &mut Text)
+    requires { (t : Tier) → AtRest (M.seen media) (M.left media (M.moment media)) t }
 {
     match Journal::reopen(alloc, media) {
-        Ok(journal) => Ok(journal),
-        Err((error, _media)) => Err(error),
+        Ok(mut journal) => put_home(alloc, &mut journal, out),
+        Err((error, _media)) => out.field("", &error),
     }
 }
 
-fn put_home(alloc: Global, journal: &mut Journal<MemMedia>, out: &mut Text) {
+fn put_home<M: Media>(alloc: Global, journal: &mut Journal<M>, out: &mut Text) {
     let mut block = filled(alloc, 0, BLOCK);
     if read_home(journal, 0, &mut block) {
         put_reading(&Super::decode(&block), out);
@@ -66,7 +60,7 @@ fn put_block(number: u32, bytes: &[u8], out: &mut Text) {
 }
 
 /// Reads a block that a batch may write, and says whether it could.
-pub fn read_home(journal: &mut Journal<MemMedia>, number: u32, block: &mut [u8]) -> bool
+pub fn read_home<M: Media>(journal: &mut Journal<M>, number: u32, block: &mut [u8]) -> bool
     ensures { length block.new ≡ length block.old }
 {
     let geometry = journal.geometry();

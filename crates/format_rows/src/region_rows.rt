@@ -1,5 +1,7 @@
 // Regions: the records that stand in them.
 ghost use Rattle.std.specs.Prelude.{IfOk};
+ghost use Rattle.tier_device.specs.declared.media.Tier.{Tier};
+ghost use Rattle.tier_device.specs.Media.{AtRest};
 ghost use Rattle.tier_device.specs.Memory.{IsAtRest};
 
 use crate::data_words::{Input, filled};
@@ -7,7 +9,7 @@ use crate::record_rows::put_record;
 use crate::words::Text;
 use log_record::Record;
 use std::alloc::{AllocError, Global};
-use tier_device::{MemMedia, Tier};
+use tier_device::{Media, MemMedia, Tier};
 use update_log::{HEADER, REGION_SIZE, Region, RegionError, Stage};
 
 /// `region SIZE DATA ..`: the stage, the room and the records of a region whose medium has so many bytes, with zeros behind the
@@ -40,16 +42,27 @@ impl Found {
 
 /// What stands in a region of these bytes.
 pub fn found_in(alloc: Global, bytes: &[u8]) -> Result<Found, RegionError> {
-    match opened(alloc, bytes) {
+    match medium(alloc, bytes) {
+        Ok(media) => found_on(alloc, media, bytes),
+        Err(_) => Err(RegionError::Memory),
+    }
+}
+
+// On a medium of these bytes. Over any medium a region is one value to the check of borrows, and not as many as the medium has
+// fields.
+fn found_on<M: Media + Drop>(alloc: Global, media: M, bytes: &[u8]) -> Result<Found, RegionError>
+    requires { (t : Tier) → AtRest (M.seen media) (M.left media (M.moment media)) t }
+{
+    match Region::reopen(alloc, media) {
         Ok(mut region) => all_of(alloc, &mut region, bytes),
-        Err(error) => Err(error),
+        Err((error, _media)) => Err(error),
     }
 }
 
 // What stands in an opened region.
-fn all_of(
+fn all_of<M: Media>(
     alloc: Global,
-    region: &mut Region<MemMedia>,
+    region: &mut Region<M>,
     bytes: &[u8],
 ) -> Result<Found, RegionError> {
     match region.records() {
@@ -67,14 +80,6 @@ fn all_of(
     }
 }
 
-// A region on a medium of these bytes.
-fn opened(alloc: Global, bytes: &[u8]) -> Result<Region<MemMedia>, RegionError> {
-    match medium(alloc, bytes) {
-        Ok(media) => open(alloc, media),
-        Err(_) => Err(RegionError::Memory),
-    }
-}
-
 fn medium(alloc: Global, bytes: &[u8]) -> Result<MemMedia, AllocError>
     ensures { IfOk result IsAtRest }
 {
@@ -82,15 +87,6 @@ fn medium(alloc: Global, bytes: &[u8]) -> Result<MemMedia, AllocError>
     match MemMedia::of_bytes(alloc, fast, Vec::new(alloc), Vec::new(alloc)) {
         Ok(media) => Ok(media),
         Err(_) => Err(AllocError),
-    }
-}
-
-fn open(alloc: Global, media: MemMedia) -> Result<Region<MemMedia>, RegionError>
-    requires { IsAtRest media }
-{
-    match Region::reopen(alloc, media) {
-        Ok(region) => Ok(region),
-        Err((error, _media)) => Err(error),
     }
 }
 
@@ -105,20 +101,29 @@ fn front_of(bytes: &[u8], room: Option<usize>) -> &[u8] {
 
 // Whether an empty region that the records are appended to then begins with these bytes.
 fn is_appended(alloc: Global, records: &[Record], front: &[u8]) -> bool {
-    match opened(alloc, &filled(alloc, 0, REGION_SIZE)) {
-        Ok(mut region) => append_all(&mut region, records) && begins_with(region, front),
+    match medium(alloc, &filled(alloc, 0, REGION_SIZE)) {
+        Ok(media) => is_written(alloc, media, records, front),
         Err(_) => false,
     }
 }
 
-fn begins_with(region: Region<MemMedia>, front: &[u8]) -> bool {
-    let media = region.into_media();
-    let end = HEADER.saturating_add(front.len());
-    media.bytes(Tier::Fast).get(HEADER..end) == Some(front)
+fn is_written<M: Media + Drop>(alloc: Global, media: M, records: &[Record], front: &[u8]) -> bool
+    requires { (t : Tier) → AtRest (M.seen media) (M.left media (M.moment media)) t }
+{
+    match Region::reopen(alloc, media) {
+        Ok(mut region) => append_all(&mut region, records) && begins_with(alloc, region, front),
+        Err(_) => false,
+    }
+}
+
+fn begins_with<M: Media + Drop>(alloc: Global, region: Region<M>, front: &[u8]) -> bool {
+    let mut media = region.into_media();
+    let mut found = filled(alloc, 0, front.len());
+    media.read(Tier::Fast, HEADER, &mut found).is_ok() && found.as_slice() == front
 }
 
 // Whether all could be appended.
-fn append_all(region: &mut Region<MemMedia>, records: &[Record]) -> bool {
+fn append_all<M: Media>(region: &mut Region<M>, records: &[Record]) -> bool {
     for entry in records {
         if region.stage() != Stage::Resting || !entry.has_spelling() {
             return false;

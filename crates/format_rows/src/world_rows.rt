@@ -1,13 +1,15 @@
 // Whole media: every block that the superblock, the slots, the extents and the entries name, and every region.
 ghost use Rattle.std.specs.Prelude.{◌≤◌};
+ghost use Rattle.tier_device.specs.declared.media.Tier.{Tier};
+ghost use Rattle.tier_device.specs.Media.{AtRest};
 
 use crate::data_words::{Input, filled};
-use crate::journal_rows::{opened, read_home};
+use crate::journal_rows::read_home;
 use crate::media::{Image, REGIONS};
 use crate::region_rows::{found_in, put_sizes};
 use crate::structures::put_reading;
 use crate::words::Text;
-use batch_journal::Journal;
+use batch_journal::{Journal, JournalError};
 use layout::{
     BLOCK, DirBlock, Extent, ExtentBlock, Geometry, MARKS_BLOCK, Marks, SLOT_SIZE, Slot, Space,
     Super, slot_block, slot_byte,
@@ -15,7 +17,7 @@ use layout::{
 use posix_calls::MAX_INODE;
 use std::alloc::Global;
 use std::fs;
-use tier_device::{MemMedia, Tier};
+use tier_device::{Media, Tier};
 
 /// `world U,F,B,S FILE`: what stands on the media of a file, once they are opened.
 pub fn tell_world(rt: &HostRuntime, input: &mut Input<'_>, out: &mut Text) {
@@ -38,9 +40,9 @@ fn put_lines(image: &mut Image, lines: &str, input: &mut Input<'_>) {
 }
 
 fn put_image(image: &Image, out: &mut Text) {
-    match opened(image) {
-        Ok(journal) => put_tiers(image.alloc, journal, out),
-        Err(error) => out.field("", &error),
+    match image.tiers() {
+        Ok(media) => put_medium(image.alloc, media, out),
+        Err(_) => out.field("", &JournalError::Memory),
     }
     for index in 0..REGIONS {
         put_region(image.alloc, index, image.region(index), out);
@@ -64,29 +66,42 @@ fn put_region(alloc: Global, index: usize, bytes: &[u8], out: &mut Text) {
     }
 }
 
-fn put_tiers(alloc: Global, journal: Journal<MemMedia>, out: &mut Text) {
+fn put_medium<M: Media + Drop>(alloc: Global, media: M, out: &mut Text)
+    requires { (t : Tier) → AtRest (M.seen media) (M.left media (M.moment media)) t }
+{
+    match Journal::reopen(alloc, media) {
+        Ok(journal) => put_tiers(alloc, journal, out),
+        Err((error, _media)) => out.field("", &error),
+    }
+}
+
+fn put_tiers<M: Media + Drop>(alloc: Global, journal: Journal<M>, out: &mut Text) {
     let mut walk = Walk {
         alloc,
         geometry: journal.geometry(),
         journal,
         block: filled(alloc, 0, BLOCK),
     };
-    walk.put_fixed(out);
-    for inode in 1..MAX_INODE + 1 {
-        walk.put_node(inode, out);
-    }
+    walk.put_all(out);
 }
 
 // A walk over the blocks of an opened medium.
 #[derive(Drop)]
-struct Walk {
+struct Walk<M: Media + Drop> {
     alloc: Global,
     geometry: Geometry,
-    journal: Journal<MemMedia>,
+    journal: Journal<M>,
     block: Vec<u8>,
 }
 
-impl Walk {
+impl<M: Media + Drop> Walk<M> {
+    fn put_all(&mut self, out: &mut Text) {
+        self.put_fixed(out);
+        for inode in 1..MAX_INODE + 1 {
+            self.put_node(inode, out);
+        }
+    }
+
     // The superblock and the marks.
     fn put_fixed(&mut self, out: &mut Text) {
         self.read(0);
