@@ -35,3 +35,4 @@ pub mod BrokenWorlds
 pub mod BrokenBooks
 pub mod UnlinkWalks
 pub mod PairWalks
+pub mod FiveWalks

@@ -2,6 +2,7 @@ pub mod BookSteps
 pub mod Broken
 pub mod Burial
 pub mod ClientSteps
+pub mod FiveWalk
 pub mod Halves
 pub mod Invariant
 pub mod KernelSteps

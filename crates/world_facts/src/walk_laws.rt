@@ -1,6 +1,6 @@
 //! Walks of small worlds, computed by the definitions: each step's premises are met.
 
-ghost use Rattle.std.specs.Prelude.{◌≡◌, [], ◌∷◌, Bool, Some, is_some, if◌then◌else◌};
+ghost use Rattle.std.specs.Prelude.{◌≡◌, [], ◌∷◌, map, Bool, true, false, Some, is_some, if◌then◌else◌};
 ghost use Rattle.posix_calls.specs.Tree.{opening};
 ghost use Rattle.posix_calls.specs.Operations.{Step};
 ghost use Rattle.posix_calls.specs.declared.call.Reply.TheVariants.{Done, Opened, Wrote};
@@ -15,6 +15,7 @@ ghost use Rattle.world_facts.specs.Stop.{Stores, stored};
 ghost use Rattle.world_facts.specs.Walk.{mkdir_a, making, made, passed};
 ghost use Rattle.world_facts.specs.UnlinkWalk as unlink_walk;
 ghost use Rattle.world_facts.specs.PairWalk as pair_walk;
+ghost use Rattle.world_facts.specs.FiveWalk as five_walk;
 
 /// From a format on, client 1 gets units and a number, takes two leases, fetches the root and begins `mkdir /a`: the tree is the empty
 /// one still, and a stop stores that, or that after the call. Its answer is the call's step. Then its region is sealed, digested and
@@ -56,4 +57,19 @@ pub fn small_world_of_two_clients()
     ensures beside { Holds pair_walk.beside }
     ensures still { IsBegun pair_walk.beside 2 pair_walk.mkdir_b }
     ensures made { Step (tree_of pair_walk.beside) 2 pair_walk.mkdir_b.call Done (tree_of pair_walk.made) }
+{}
+
+/// Client 1's region comes back, and it gives the lease on the file that it has open to client 2, which makes `/b/x` and `/b/y` and
+/// unlinks `/a`. Its four records, of six in all, are digested: the shared graph has five nodes, and the file without a name stays, with the
+/// byte that client 1 wrote, since client 1 has it open.
+pub fn small_world_of_five_nodes()
+    ensures given { CanGive five_walk.back 1 2 }
+    ensures made { Step (tree_of five_walk.making) 2 five_walk.mkdir_x.call Done (tree_of five_walk.made) }
+    ensures opened { Step (tree_of five_walk.opening) 2 five_walk.open_y.call (Opened 0) (tree_of five_walk.opened) }
+    ensures unlinked { Step (tree_of five_walk.unlinking) 2 unlink_walk.unlink_a.call Done (tree_of five_walk.unlinked) }
+    ensures kept { Holds five_walk.kept }
+    ensures nodes { map (λ i. is_some (five_walk.kept.kernel.shared i)) (1 ∷ 2 ∷ 3 ∷ 4 ∷ 5 ∷ 6 ∷ []) ≡ true ∷ true ∷ true ∷ true ∷ true ∷ false ∷ [] }
+    ensures nameless { IsNameless (five_walk.kept.kernel.shared 2) }
+    ensures byte { file_bytes (five_walk.kept.kernel.shared 2) ≡ Some (7 ∷ []) }
+    ensures pinned { CanReclaim five_walk.kept.kernel 2 → ⊥ }
 {}
