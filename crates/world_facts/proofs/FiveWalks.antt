@@ -26,7 +26,7 @@ use Rattle.world_facts.specs.Invariant.{Holds}
 use Rattle.world_facts.specs.ClientSteps.{CanBegin, IsBegun}
 use Rattle.world_facts.specs.LeaseSteps.{IsUnheld, CanFetch, CanGive, write_taken, fetched}
 use Rattle.world_facts.specs.BookSteps.{IsUnbooked, number_granted}
-use Rattle.world_facts.specs.RegionSteps.{sealed}
+use Rattle.world_facts.specs.RegionSteps.{sealed, taken_back}
 use Rattle.world_facts.specs.KernelSteps.{CanReclaim}
 use Rattle.world_facts.specs.UnlinkWalk.{unlink_a}
 use Rattle.world_facts.specs.PairWalk as pair
@@ -38,7 +38,7 @@ use Rattle.world_facts.proofs.Replies.{replied_holds, replied_step}
 use Rattle.world_facts.proofs.Leases.{write_taken_holds, given_holds}
 use Rattle.world_facts.proofs.Fetches.{fetched_holds}
 use Rattle.world_facts.proofs.Books.{number_granted_holds, pinned_holds}
-use Rattle.world_facts.proofs.Regions.{sealed_holds, taken_back_holds}
+use Rattle.world_facts.proofs.Regions.{sealed_holds, taken_back_holds, current_wiped_holds}
 use Rattle.world_facts.proofs.Digests.{digested_holds}
 use Rattle.world_facts.proofs.Walks.{part_is_dir, part_look, apart, none_seen}
 use Rattle.world_facts.proofs.UnlinkWalks.{eight}
@@ -52,7 +52,7 @@ pair_holds : Holds pair.made
 pair_holds = replied_holds pair.beside 2 pair.mkdir_b beside_holds still_begun
 
 back_holds : Holds walked.back
-back_holds = taken_back_holds pair.made 1 pair_holds (record { client = refl; away = refl; digested = refl })
+back_holds = current_wiped_holds (taken_back pair.made 1) 1 (taken_back_holds pair.made 1 pair_holds (record { client = refl; away = refl; digested = refl })) refl
 
 pub can_give : CanGive walked.back 1 2
 can_give = record { client = refl; idle = refl; clean = refl }

@@ -39,7 +39,7 @@ use Rattle.world_facts.proofs.Replies.{replied_holds, replied_step}
 use Rattle.world_facts.proofs.Leases.{write_taken_holds, given_holds}
 use Rattle.world_facts.proofs.Fetches.{fetched_holds}
 use Rattle.world_facts.proofs.Books.{units_granted_hold, units_returned_hold, number_granted_holds}
-use Rattle.world_facts.proofs.Regions.{sealed_holds, taken_back_holds, other_wiped_holds}
+use Rattle.world_facts.proofs.Regions.{sealed_holds, taken_back_holds}
 use Rattle.world_facts.proofs.Digests.{digested_holds}
 use Rattle.world_facts.proofs.Stops.{stop_stores}
 use Rattle.world_facts.proofs.Walks.{part_is_dir, part_look, apart}
@@ -192,7 +192,7 @@ made_if false false = refl
 -- ---- a digest beside the begun call
 
 written_holds : Holds walked.written
-written_holds = other_wiped_holds (replied walked.two 1 walked.write_7) 1 (replied_holds walked.two 1 walked.write_7 two_hold (record { client = refl; there = refl; known = λ e. absurd (cc) })) refl refl
+written_holds = replied_holds walked.two 1 walked.write_7 two_hold (record { client = refl; there = refl; known = λ e. absurd (cc) })
 
 pub written_step : Step (tree_of walked.two) 1 walked.write_7.call (Wrote 1) (tree_of (replied walked.two 1 walked.write_7))
 written_step = replied_step walked.two 1 walked.write_7 two_hold (record { client = refl; there = refl; known = λ e. absurd (cc) })

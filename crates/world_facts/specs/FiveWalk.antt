@@ -8,7 +8,7 @@ use Rattle.world_facts.specs.World.{Begun, World}
 use Rattle.world_facts.specs.ClientSteps.{begun, replied}
 use Rattle.world_facts.specs.LeaseSteps.{write_taken, given, fetched}
 use Rattle.world_facts.specs.BookSteps.{number_granted, pinned}
-use Rattle.world_facts.specs.RegionSteps.{sealed, taken_back}
+use Rattle.world_facts.specs.RegionSteps.{sealed, taken_back, current_wiped}
 use Rattle.world_facts.specs.KernelSteps.{digested}
 use Rattle.world_facts.specs.UnlinkWalk.{unlink_a}
 use Rattle.world_facts.specs.PairWalk.{mkdir_b}
@@ -32,9 +32,9 @@ open_y = record {
   change = record { units = 1; effects = effect.Make 5 kind.File ∷ effect.Enter 3 5 kind.File (121 ∷ []) ∷ effect.Names 5 1 ∷ [] };
 }
 
--- client 1 has `/a` open, and both of its records digested; its region is back, and the lease on the file goes to client 2
+-- client 1 has `/a` open, and both of its records digested; its region is back, the one that it is to write next is wiped, and the lease on the file goes to client 2
 abbrev pub back : World
-back = taken_back pair.made 1
+back = current_wiped (taken_back pair.made 1) 1
 
 abbrev pub passed : World
 passed = given back 1 2

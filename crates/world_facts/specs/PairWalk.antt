@@ -9,7 +9,7 @@ use Rattle.world_facts.specs.World.{Begun, World, log_of, all_of}
 use Rattle.world_facts.specs.ClientSteps.{begun, replied}
 use Rattle.world_facts.specs.LeaseSteps.{write_taken, given, fetched}
 use Rattle.world_facts.specs.BookSteps.{units_granted, units_returned, number_granted}
-use Rattle.world_facts.specs.RegionSteps.{sealed, taken_back, other_wiped}
+use Rattle.world_facts.specs.RegionSteps.{sealed, taken_back}
 use Rattle.world_facts.specs.KernelSteps.{digested}
 use Rattle.world_facts.specs.UnlinkWalk.{open_a, known}
 
@@ -66,9 +66,9 @@ two = begun one 1 write_7
 abbrev pub left : (first second : Bool) → ℕ → List Record
 left first second c = if (c == 1 && first) || (c == 2 && second) then all_of two c else log_of two c
 
--- client 1 is answered, and its record digested, while client 2's call is begun
+-- client 1 is answered, its region sealed beside the other one, which is not wiped yet, and its record digested, while client 2's call is begun
 abbrev pub written : World
-written = other_wiped (replied two 1 write_7) 1
+written = replied two 1 write_7
 
 abbrev pub beside : World
 beside = digested (sealed written 1) 1 (write_7.change ∷ [])
