@@ -9,7 +9,7 @@ use Rattle.batch_journal.specs.declared.error.JournalError.{JournalError}
 use Rattle.batch_journal.specs.declared.error.JournalError.TheVariants as errors
 use Rattle.batch_journal.specs.Damage.{OnDamage}
 use Rattle.batch_journal.specs.Course.{Since, Unmoved, TornFrom, BesideFrom}
-use Rattle.batch_journal.specs.Images.{number_at, count_of, images_of}
+use Rattle.batch_journal.specs.Images.{target_at, count_of, images_of}
 use Rattle.batch_journal.specs.Blocks.{is_home}
 use Rattle.batch_journal.proofs.Images.{found, torn_beside, beside_on}
 
@@ -72,14 +72,14 @@ rose_later a b c le more (inl lt) = inl (omega (arith, le, lt))
 rose_later a b c le more (inr top) = inr top
 
 -- an image more, torn
-pub one_torn : (bytes : List ℕ) (p n a b c : ℕ) (L M N : ℕ → Tier → List ℕ → Type 0) → p < n → n ≡ count_of bytes → is_home (number_at bytes p) ≡ true
-    → Since Fast (BesideFrom (L a Fast) (images_of bytes)) a b L M → Since Fast (TornFrom (M b Fast) (4096 * number_at bytes p) 4096) b c M N → Since Fast (BesideFrom (L a Fast) (images_of bytes)) a c L N
+pub one_torn : (bytes : List ℕ) (p n a b c : ℕ) (L M N : ℕ → Tier → List ℕ → Type 0) → p < n → n ≡ count_of bytes → is_home (target_at bytes p) ≡ true
+    → Since Fast (BesideFrom (L a Fast) (images_of bytes)) a b L M → Since Fast (TornFrom (M b Fast) (4096 * target_at bytes p) 4096) b c M N → Since Fast (BesideFrom (L a Fast) (images_of bytes)) a c L N
 one_torn bytes p n a b c L M N lt count at_home first second =
     let images = images_of bytes in
     let named = found bytes (count_of bytes) 0 p (omega arith) (omega (arith, lt, count)) in
     and_then first second (λ x l. l) (λ x torn.
     let from = first.all b torn.0 first.later (omega arith) torn.1 in
-    (from.0, from.1, beside_on images from.0 torn.0 x from.2 (torn_beside images (number_at bytes p) torn.0 x at_home named torn.2)))
+    (from.0, from.1, beside_on images from.0 torn.0 x from.2 (torn_beside images (target_at bytes p) torn.0 x at_home named torn.2)))
 
 -- of a call that another one ends
 pub on_ok : {T E A B : Type 0} (r : Result T E) → (A → B) → OnOk r A → OnOk r B

@@ -9,7 +9,7 @@ use Rattle.byteorder.specs.Endian.{little_number}
 use Rattle.tier_device.specs.declared.media.Tier.TheVariants.{Fast}
 use Rattle.layout.specs.Places.{Sizes, is_journaled, tier_blocks}
 use Rattle.batch_journal.specs.Course.{Doing, IsPut, Beside}
-use Rattle.batch_journal.specs.Images.{slice, count_of, number_at, image_at, images_from, images_of, image_for, or_else, with_images, Rises}
+use Rattle.batch_journal.specs.Images.{slice, count_of, target_at, image_at, images_from, images_of, image_for, or_else, with_images, Rises}
 use Rattle.batch_journal.specs.Blocks.{Blocks, block_of, gate_of, area_of, is_home, Fit, RisesJournaled, AreJournaled, rest_of_gate}
 use Rattle.batch_journal.proofs.Bytes.{slice_apart, slice_written}
 
@@ -19,15 +19,15 @@ home_either t is = grind arith
 pub some_none : {A : Type 0} (x : A) → Some x ≡ None → ⊥
 some_none x e = cc
 
-pub found : (bytes : List ℕ) (n q p : ℕ) → q ≤ p → p < q + n → image_for (number_at bytes p) (images_from bytes q n) ≡ None → ⊥
+pub found : (bytes : List ℕ) (n q p : ℕ) → q ≤ p → p < q + n → image_for (target_at bytes p) (images_from bytes q n) ≡ None → ⊥
 found bytes zero q p low high none = omega (arith, low, high)
 found bytes (suc n) q p low high none =
-    elim (eqb_tells (number_at bytes p) (number_at bytes q)) [
-      | inl same ↦ some_none (image_at bytes q) (sym (ap (λ b. cond b (Some (image_at bytes q)) (image_for (number_at bytes p) (images_from bytes (q + 1) n))) same.0) ∙ none)
+    elim (eqb_tells (target_at bytes p) (target_at bytes q)) [
+      | inl same ↦ some_none (image_at bytes q) (sym (ap (λ b. cond b (Some (image_at bytes q)) (image_for (target_at bytes p) (images_from bytes (q + 1) n))) same.0) ∙ none)
       | inr off ↦
           elim (cases_eq p q) [
-            | inl at_q ↦ absurd (off.1 (ap (number_at bytes) at_q))
-            | inr apart ↦ found bytes n (q + 1) p (omega (arith, low, apart)) (omega (arith, high)) (sym (ap (λ b. cond b (Some (image_at bytes q)) (image_for (number_at bytes p) (images_from bytes (q + 1) n))) off.0) ∙ none)
+            | inl at_q ↦ absurd (off.1 (ap (target_at bytes) at_q))
+            | inr apart ↦ found bytes n (q + 1) p (omega (arith, low, apart)) (omega (arith, high)) (sym (ap (λ b. cond b (Some (image_at bytes q)) (image_for (target_at bytes p) (images_from bytes (q + 1) n))) off.0) ∙ none)
           ]
     ]
 
@@ -89,15 +89,15 @@ doing_first bytes first n count fit =
 doing_suc : (bytes first seen : List ℕ) (p n : ℕ) → p < n → Doing bytes p (n - p) first seen → Doing bytes p (suc (n - (p + 1))) first seen
 doing_suc bytes first seen p n lt doing = subst (λ m. Doing bytes p m first seen) (omega (arith, lt)) doing
 
-pub doing_fits : (bytes first seen : List ℕ) (p n : ℕ) → p < n → Doing bytes p (n - p) first seen → (is_home (number_at bytes p) ≡ true) × (4096 * number_at bytes p + 4096 ≤ length seen)
+pub doing_fits : (bytes first seen : List ℕ) (p n : ℕ) → p < n → Doing bytes p (n - p) first seen → (is_home (target_at bytes p) ≡ true) × (4096 * target_at bytes p + 4096 ≤ length seen)
 doing_fits bytes first seen p n lt doing =
     let fit = (doing_suc bytes first seen p n lt doing).fit in (fit.0, fit.1)
 
 pub doing_more : (bytes first seen new : List ℕ) (p n : ℕ) → p < n → n ≡ count_of bytes → 4096 * n + 4096 ≤ length bytes → Doing bytes p (n - p) first seen
-    → new ≡ overwritten seen (4096 * number_at bytes p) (image_at bytes p) → Doing bytes (p + 1) (n - (p + 1)) first new
+    → new ≡ overwritten seen (4096 * target_at bytes p) (image_at bytes p) → Doing bytes (p + 1) (n - (p + 1)) first new
 doing_more bytes first seen new p n lt count long before is =
     let doing = doing_suc bytes first seen p n lt before in
-    let t = number_at bytes p in
+    let t = target_at bytes p in
     let image = image_at bytes p in
     let rest = images_from bytes (p + 1) (n - (p + 1)) in
     let size : length image ≡ 4096 = length-take-le 4096 (drop (4096 * p + 4096) bytes) (omega (arith, lt, long, length-drop (4096 * p + 4096) bytes)) in
@@ -118,12 +118,12 @@ doing_done bytes first seen p n ge before =
     let doing : Doing bytes p 0 first seen = subst (λ m. Doing bytes p m first seen) (omega (arith, ge)) before in
     record { beside = doing.beside; put = λ k at_home. doing.to_do k at_home }
 
-pub number_is : (bytes : List ℕ) (p x : ℕ) → x ≡ little_number 4 (take (length bytes - (4 + 4 * p)) (drop (4 + 4 * p) bytes)) → x ≡ number_at bytes p
-unfolding number_at
+pub number_is : (bytes : List ℕ) (p x : ℕ) → x ≡ little_number 4 (take (length bytes - (4 + 4 * p)) (drop (4 + 4 * p) bytes)) → x ≡ target_at bytes p
+unfolding target_at
 number_is bytes p x is = is ∙ ap (little_number 4) (take_rest bytes (4 + 4 * p))
 
-pub write_is : (seen bytes : List ℕ) (p x : ℕ) → x ≡ number_at bytes p
-    → overwritten seen (4096 * x) (take (4096 * p + 4096 + 4096 - (4096 * p + 4096)) (drop (4096 * p + 4096) bytes)) ≡ overwritten seen (4096 * number_at bytes p) (image_at bytes p)
+pub write_is : (seen bytes : List ℕ) (p x : ℕ) → x ≡ target_at bytes p
+    → overwritten seen (4096 * x) (take (4096 * p + 4096 + 4096 - (4096 * p + 4096)) (drop (4096 * p + 4096) bytes)) ≡ overwritten seen (4096 * target_at bytes p) (image_at bytes p)
 write_is seen bytes p x is =
     let size : 4096 * p + 4096 + 4096 - (4096 * p + 4096) ≡ 4096 = omega arith in
     λ i. overwritten seen (4096 * is i) (take (size i) (drop (4096 * p + 4096) bytes))
@@ -172,11 +172,11 @@ rising_fit g size low (image ∷ images) le rising =
 abbrev MayFollow : Sizes → ℕ → ℕ → Type 0
 MayFollow g low x = (low ≤ x) × (is_journaled g x ≡ true)
 
-module _ (bytes : List ℕ) (g : Sizes) (low p n x : ℕ) (lt : p < n) (is : x ≡ number_at bytes p) (Whole : Type 0) (same : RisesJournaled g low (images_from bytes p (n - p)) ↔ Whole) where
+module _ (bytes : List ℕ) (g : Sizes) (low p n x : ℕ) (lt : p < n) (is : x ≡ target_at bytes p) (Whole : Type 0) (same : RisesJournaled g low (images_from bytes p (n - p)) ↔ Whole) where
   split : n - p ≡ suc (n - (p + 1))
   split = omega (arith, lt)
 
-  parts : Whole → RisesJournaled g low ((number_at bytes p, image_at bytes p) ∷ images_from bytes (p + 1) (n - (p + 1)))
+  parts : Whole → RisesJournaled g low ((target_at bytes p, image_at bytes p) ∷ images_from bytes (p + 1) (n - (p + 1)))
   parts w = subst (λ m. RisesJournaled g low (images_from bytes p m)) split (same.1 w)
 
   pub rising_stops : (MayFollow g low x → ⊥) → Whole → ⊥
@@ -185,7 +185,7 @@ module _ (bytes : List ℕ) (g : Sizes) (low p n x : ℕ) (lt : p < n) (is : x �
   pub rising_goes : MayFollow g low x → (RisesJournaled g (x + 1) (images_from bytes (p + 1) (n - (p + 1))) → Whole) × (Whole → RisesJournaled g (x + 1) (images_from bytes (p + 1) (n - (p + 1))))
   rising_goes has =
       let rest = images_from bytes (p + 1) (n - (p + 1)) in
-      let has' : MayFollow g low (number_at bytes p) = subst (λ y. MayFollow g low y) is has in (
+      let has' : MayFollow g low (target_at bytes p) = subst (λ y. MayFollow g low y) is has in (
         λ r. same.0 (subst (λ m. RisesJournaled g low (images_from bytes p m)) (sym split) (has'.0, has'.1, subst (λ y. RisesJournaled g (y + 1) rest) is r)),
         λ w. subst (λ y. RisesJournaled g (y + 1) rest) (sym is) (parts w).2,
       )
@@ -195,14 +195,14 @@ is_home_by t either = grind arith
 
 -- ---- the image for block 0
 
-pub first_for_0 : (bytes : List ℕ) (n : ℕ) → 1 ≤ n → number_at bytes 0 ≡ 0 → image_for 0 (images_from bytes 0 n) ≡ Some (image_at bytes 0)
+pub first_for_0 : (bytes : List ℕ) (n : ℕ) → 1 ≤ n → target_at bytes 0 ≡ 0 → image_for 0 (images_from bytes 0 n) ≡ Some (image_at bytes 0)
 first_for_0 bytes zero some is = absurd (omega (arith, some))
 first_for_0 bytes (suc n) some is = ap (λ t. cond (0 == t) (Some (image_at bytes 0)) (image_for 0 (images_from bytes 1 n))) is
 
-pub none_for_0 : (bytes : List ℕ) (n : ℕ) → Rises 0 (images_from bytes 0 n) → (n ≡ 0) ⊎ (number_at bytes 0 ≢ 0) → image_for 0 (images_from bytes 0 n) ≡ None
+pub none_for_0 : (bytes : List ℕ) (n : ℕ) → Rises 0 (images_from bytes 0 n) → (n ≡ 0) ⊎ (target_at bytes 0 ≢ 0) → image_for 0 (images_from bytes 0 n) ≡ None
 none_for_0 bytes zero rises either = refl
 none_for_0 bytes (suc n) rises (inl is) = absurd (omega (arith, is))
-none_for_0 bytes (suc n) rises (inr away) = elim (eqb_tells 0 (number_at bytes 0)) [
+none_for_0 bytes (suc n) rises (inr away) = elim (eqb_tells 0 (target_at bytes 0)) [
   | inl same ↦ absurd (away (sym same.1))
-  | inr off ↦ ap (λ b. cond b (Some (image_at bytes 0)) (image_for 0 (images_from bytes 1 n))) off.0 ∙ none_below (number_at bytes 0 + 1) 0 (images_from bytes 1 n) rises.1 (omega arith)
+  | inr off ↦ ap (λ b. cond b (Some (image_at bytes 0)) (image_for 0 (images_from bytes 1 n))) off.0 ∙ none_below (target_at bytes 0 + 1) 0 (images_from bytes 1 n) rises.1 (omega arith)
 ]

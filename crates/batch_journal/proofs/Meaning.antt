@@ -5,7 +5,7 @@ use Rattle.std.proofs.lemmas.Bool.{cases_Bool, false≢true}
 use Rattle.byteorder.specs.Endian.{little_number}
 use Rattle.byteorder.specs.Numbers.{little_from-append}
 use Rattle.tier_device.specs.Media.{overwritten, Torn}
-use Rattle.batch_journal.specs.Images.{slice, count_of, number_at, image_at, images_from, images_of, rest_of_head, image_for, or_else, with_images}
+use Rattle.batch_journal.specs.Images.{slice, count_of, target_at, image_at, images_from, images_of, rest_of_head, image_for, or_else, with_images}
 use Rattle.layout.specs.Bytes.{are_zero}
 use Rattle.batch_journal.specs.Blocks.{Blocks, block_of, gate_of, rest_of_gate, is_open, area_of, is_home, home, RisesJournaled, after_batch, ShowsHome}
 use Rattle.batch_journal.specs.Volume.{Spells, IsHead, IsJournal, SameJournal, IsAfter}
@@ -105,8 +105,8 @@ staging_home n d c high closed torn = home_by c d (λ k at_home.
 
 -- ---- the images of bytes are told by their front
 
-pub number_front : (bytes rest : List ℕ) (p : ℕ) → 8 + 4 * p ≤ length bytes → number_at (bytes ++ rest) p ≡ number_at bytes p
-unfolding number_at
+pub number_front : (bytes rest : List ℕ) (p : ℕ) → 8 + 4 * p ≤ length bytes → target_at (bytes ++ rest) p ≡ target_at bytes p
+unfolding target_at
 number_front bytes rest p le =
     ap (little_number 4) (drop-append-le (4 + 4 * p) bytes rest (omega (arith, le))) ∙ little_from-append 4 (drop (4 + 4 * p) bytes) rest (omega (arith, le, length-drop (4 + 4 * p) bytes))
 

@@ -6,7 +6,7 @@ use Rattle.layout.specs.declared.superblock.Super.{Super}
 use Rattle.layout.specs.Places.{Sizes, tier_blocks}
 use Rattle.tier_device.specs.declared.media.Tier.{Tier}
 use Rattle.tier_device.specs.declared.media.Tier.TheVariants.{Fast}
-use Rattle.batch_journal.specs.Images.{count_of, number_at, image_at, images_of, images_from, image_for, or_else, Rises}
+use Rattle.batch_journal.specs.Images.{count_of, target_at, image_at, images_of, images_from, image_for, or_else, Rises}
 use Rattle.layout.specs.Bytes.{are_zero}
 use Rattle.batch_journal.specs.Blocks.{area_of, rest_of_gate, block_of, is_open, home, Fit}
 use Rattle.batch_journal.specs.Volume.{Spells, HasSizes, IsHead, IsJournal, IsVolume}
@@ -14,10 +14,10 @@ use Rattle.batch_journal.specs.Reading.{IsRead, first_block}
 use Rattle.batch_journal.proofs.Images.{rising_rises, rising_fit, none_below}
 use Rattle.batch_journal.proofs.Meaning.{head_alike, home_over, home_shut}
 
-pub first_image : (n : ℕ) (bytes : List ℕ) (x : List ℕ) → 1 ≤ n → Rises 0 (images_from bytes 0 n) → or_else (image_for 0 (images_from bytes 0 n)) x ≡ cond (number_at bytes 0 == 0) (image_at bytes 0) x
+pub first_image : (n : ℕ) (bytes : List ℕ) (x : List ℕ) → 1 ≤ n → Rises 0 (images_from bytes 0 n) → or_else (image_for 0 (images_from bytes 0 n)) x ≡ cond (target_at bytes 0 == 0) (image_at bytes 0) x
 first_image zero bytes x some rises = absurd (omega (arith, some))
 first_image (suc n) bytes x some rises =
-    let t = number_at bytes 0 in
+    let t = target_at bytes 0 in
     let rest = images_from bytes 1 n in
     elim (eqb_tells t 0) [
       | inl same ↦

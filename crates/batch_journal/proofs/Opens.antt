@@ -11,7 +11,7 @@ use Rattle.layout.specs.declared.error.What.{What}
 use Rattle.layout.specs.declared.error.What.TheVariants as what
 use Rattle.batch_journal.specs.declared.error.JournalError.{JournalError}
 use Rattle.batch_journal.specs.declared.error.JournalError.TheVariants as errors
-use Rattle.batch_journal.specs.Images.{slice, count_of, number_at, image_at, images_of, images_from, rest_of_head, Rises}
+use Rattle.batch_journal.specs.Images.{slice, count_of, target_at, image_at, images_of, images_from, rest_of_head, Rises}
 use Rattle.batch_journal.specs.Blocks.{home, area_of, block_of, is_open, IsShutGate, rest_of_gate, calls_of, Fit, RisesJournaled}
 use Rattle.batch_journal.specs.Volume.{Spells, HasSizes, IsHead, IsVolume, SameJournal}
 use Rattle.batch_journal.specs.Course.{Since, Unmoved, SameLengths}
@@ -110,16 +110,16 @@ opens_after {s = s} {t = t} {u = u} {a = a} {b = b} {c = c} {L = L} {M = M} {N =
 -- ---- the head's block alone
 
 -- numbers that rise, whatever the images
-rising_numbers : (g : Sizes) (low : ℕ) (x y : List ℕ) (p n : ℕ) → ((q : ℕ) → p ≤ q → q < p + n → number_at x q ≡ number_at y q) → RisesJournaled g low (images_from x p n) → RisesJournaled g low (images_from y p n)
+rising_numbers : (g : Sizes) (low : ℕ) (x y : List ℕ) (p n : ℕ) → ((q : ℕ) → p ≤ q → q < p + n → target_at x q ≡ target_at y q) → RisesJournaled g low (images_from x p n) → RisesJournaled g low (images_from y p n)
 rising_numbers g low x y p zero same rising = rising
 rising_numbers g low x y p (suc n) same rising =
-    let here : number_at x p ≡ number_at y p = same p (omega arith) (omega arith) in
-    let rest = rising_numbers g (number_at x p + 1) x y (p + 1) n (λ q lo hi. same q (omega (arith, lo)) (omega (arith, hi))) rising.2 in
+    let here : target_at x p ≡ target_at y p = same p (omega arith) (omega arith) in
+    let rest = rising_numbers g (target_at x p + 1) x y (p + 1) n (λ q lo hi. same q (omega (arith, lo)) (omega (arith, hi))) rising.2 in
     subst (λ (k : ℕ). (low ≤ k) × (is_journaled g k ≡ true) × RisesJournaled g (k + 1) (images_from y (p + 1) n)) here (rising.0, rising.1, rest)
 
 record SameHead (x y : List ℕ) : Type 0 where
   count : count_of x ≡ count_of y
-  numbers : (q : ℕ) → q < count_of x → number_at x q ≡ number_at y q
+  numbers : (q : ℕ) → q < count_of x → target_at x q ≡ target_at y q
   rest : rest_of_head x ≡ rest_of_head y
 
 heads_alike : (g : Sizes) (x y : List ℕ) → SameHead x y → IsHead g x → IsHead g y
@@ -136,7 +136,7 @@ module _ (c head : List ℕ) (size : 1196032 ≤ length c) (is : head ≡ slice 
       let long : length head ≡ 4096 = ap length is ∙ slice_long 143360 4096 c (omega (arith, size)) in
       sym (front_count (area_of c) head 4096 (take_shorter 4096 1052672 (drop 143360 c) (omega arith) ∙ sym is) (omega (arith, long)))
 
-  head_number : (p : ℕ) → p < 1023 → number_at head p ≡ number_at (area_of c) p
+  head_number : (p : ℕ) → p < 1023 → target_at head p ≡ target_at (area_of c) p
   head_number p lt =
       number_slice head p
       ∙ ap (little_number 4) (ap (slice (4 + 4 * p) 4) is ∙ slice_slice (4 + 4 * p) 4 143360 4096 c (omega (arith, lt)) ∙ sym (slice_slice (4 + 4 * p) 4 143360 1052672 c (omega (arith, lt))))
@@ -158,12 +158,12 @@ module _ (c head : List ℕ) (size : 1196032 ≤ length c) (is : head ≡ slice 
     head_back g = heads_alike g (area_of c) head (record { count = sym head_count; numbers = λ q lt. sym (head_number q (omega (arith, lt, few))); rest = sym head_rest })
 
   -- where the superblock stands
-  pub super_there : is_open c ≡ true → slice (cond (number_at head 0 == 0) 147456 0) 4096 c ≡ super_block c
+  pub super_there : is_open c ≡ true → slice (cond (target_at head 0 == 0) 147456 0) 4096 c ≡ super_block c
   super_there opened =
-      let first : number_at head 0 ≡ number_at (area_of c) 0 = head_number 0 (omega arith) in
+      let first : target_at head 0 ≡ target_at (area_of c) 0 = head_number 0 (omega arith) in
       let image : slice 147456 4096 c ≡ image_at (area_of c) 0 = sym (slice_slice 4096 4096 143360 1052672 c (omega arith)) in
       let either : (b : Bool) → slice (cond b 147456 0) 4096 c ≡ cond b (image_at (area_of c) 0) (block_of c 0) = elim [ true ↦ image | false ↦ refl ] in
-      either (number_at head 0 == 0)
+      either (target_at head 0 == 0)
       ∙ ap (λ (k : ℕ). cond (k == 0) (image_at (area_of c) 0) (block_of c 0)) first
       ∙ sym (ap (λ b. cond b (first_block (area_of c) c) (block_of c 0)) opened)
 

@@ -9,27 +9,27 @@ use Rattle.byteorder.specs.Endian.{little_number, little_bytes}
 use Rattle.byteorder.specs.Numbers.{little_from-take, little_number-reads_back, length-bytes_low_first}
 use Rattle.tier_device.specs.Media.{overwritten, Torn}
 use Rattle.tier_device.specs.RecordLaws.{torn_overwritten}
-use Rattle.batch_journal.specs.Images.{slice, count_of, number_at, image_at, images_from, images_of, rest_of_head, image_for, Rises, next_from, next_of}
+use Rattle.batch_journal.specs.Images.{slice, count_of, target_at, image_at, images_from, images_of, rest_of_head, image_for, Rises, next_from, next_of}
 use Rattle.layout.specs.Bytes.{are_zero}
 use Rattle.batch_journal.specs.View.{IsBatch}
 use Rattle.batch_journal.proofs.Bytes.{slice_behind, slice_apart, slice_written}
 use Rattle.batch_journal.proofs.Meaning.{number_front, image_front}
 
-pub number_slice : (b : List ℕ) (p : ℕ) → number_at b p ≡ little_number 4 (slice (4 + 4 * p) 4 b)
-unfolding number_at
+pub number_slice : (b : List ℕ) (p : ℕ) → target_at b p ≡ little_number 4 (slice (4 + 4 * p) 4 b)
+unfolding target_at
 number_slice b p = sym (little_from-take 0 4 4 (drop (4 + 4 * p) b) (omega arith))
 
-images_more : (b : List ℕ) (p n : ℕ) → images_from b p (suc n) ≡ images_from b p n ++ (number_at b (p + n), image_at b (p + n)) ∷ []
+images_more : (b : List ℕ) (p n : ℕ) → images_from b p (suc n) ≡ images_from b p n ++ (target_at b (p + n), image_at b (p + n)) ∷ []
 images_more b p zero =
     let e : p ≡ p + 0 = omega arith in
-    ap (λ q. (number_at b q, image_at b q) ∷ []) e
+    ap (λ q. (target_at b q, image_at b q) ∷ []) e
 images_more b p (suc n) =
     let e : p + 1 + n ≡ p + suc n = omega arith in
-    let more : images_from b (p + 1) (suc n) ≡ images_from b (p + 1) n ++ (number_at b (p + suc n), image_at b (p + suc n)) ∷ [] =
-    images_more b (p + 1) n ∙ ap (λ q. images_from b (p + 1) n ++ (number_at b q, image_at b q) ∷ []) e in
-    ap (λ (l : List (ℕ × List ℕ)). (number_at b p, image_at b p) ∷ l) more
+    let more : images_from b (p + 1) (suc n) ≡ images_from b (p + 1) n ++ (target_at b (p + suc n), image_at b (p + suc n)) ∷ [] =
+    images_more b (p + 1) n ∙ ap (λ q. images_from b (p + 1) n ++ (target_at b q, image_at b q) ∷ []) e in
+    ap (λ (l : List (ℕ × List ℕ)). (target_at b p, image_at b p) ∷ l) more
 
-images_each : (b c : List ℕ) (p n : ℕ) → ((q : ℕ) → p ≤ q → q < p + n → number_at b q ≡ number_at c q) → ((q : ℕ) → p ≤ q → q < p + n → image_at b q ≡ image_at c q) → images_from b p n ≡ images_from c p n
+images_each : (b c : List ℕ) (p n : ℕ) → ((q : ℕ) → p ≤ q → q < p + n → target_at b q ≡ target_at c q) → ((q : ℕ) → p ≤ q → q < p + n → image_at b q ≡ image_at c q) → images_from b p n ≡ images_from c p n
 images_each b c p zero numbers images = refl
 images_each b c p (suc n) numbers images =
     λ i. (numbers p (omega arith) (omega arith) i, images p (omega arith) (omega arith) i)
@@ -101,7 +101,7 @@ module _ (bytes image : List ℕ) (n next number : ℕ) (is : IsBatch n next byt
   images_kept : (p : ℕ) → slice (4096 * p + 4096) 4096 b3 ≡ slice (4096 * p + 4096) 4096 b1
   images_kept p = slice_behind 0 4 b2 b3 torn3 (4096 * p + 4096) 4096 (omega arith) ∙ slice_behind (4 + 4 * n) 4 b1 b2 torn2 (4096 * p + 4096) 4096 (omega (arith, few))
 
-  numbers : (p : ℕ) → 0 ≤ p → p < 0 + n → number_at b3 p ≡ number_at bytes p
+  numbers : (p : ℕ) → 0 ≤ p → p < 0 + n → target_at b3 p ≡ target_at bytes p
   numbers p low lt =
       number_slice b3 p ∙ ap (little_number 4) (slice_behind 0 4 b2 b3 torn3 (4 + 4 * p) 4 (omega arith) ∙ slice_apart (4 + 4 * n) 4 b1 b2 torn2 (4 + 4 * p) 4 (inl (omega (arith, lt))))
       ∙ sym (number_slice b1 p) ∙ number_front bytes image p (omega (arith, lt, is.long, few))
@@ -109,7 +109,7 @@ module _ (bytes image : List ℕ) (n next number : ℕ) (is : IsBatch n next byt
   images : (p : ℕ) → 0 ≤ p → p < 0 + n → image_at b3 p ≡ image_at bytes p
   images p low lt = images_kept p ∙ image_front bytes image p (omega (arith, lt, is.long))
 
-  last_number : number_at b3 n ≡ number
+  last_number : target_at b3 n ≡ number
   last_number =
       number_slice b3 n ∙ ap (little_number 4) (slice_behind 0 4 b2 b3 torn3 (4 + 4 * n) 4 (omega arith) ∙ slice_written b1 (4 + 4 * n) (little_bytes 4 number) 4 (sym (four number)) (omega (arith, long1, few)))
       ∙ word_reads number small
@@ -137,7 +137,7 @@ module _ (bytes image : List ℕ) (n next number : ℕ) (is : IsBatch n next byt
 
   pub pushed_images : images_of b3 ≡ images_of bytes ++ (number, image) ∷ []
   pushed_images =
-      ap (images_from b3 0) count3_suc ∙ images_more b3 0 n ∙ ap (λ q. images_from b3 0 n ++ (number_at b3 q, image_at b3 q) ∷ []) from_zero ∙ (λ i. images_each b3 bytes 0 n numbers images i ++ (last_number i, last_image i) ∷ [])
+      ap (images_from b3 0) count3_suc ∙ images_more b3 0 n ∙ ap (λ q. images_from b3 0 n ++ (target_at b3 q, image_at b3 q) ∷ []) from_zero ∙ (λ i. images_each b3 bytes 0 n numbers images i ++ (last_number i, last_image i) ∷ [])
       ∙ ap (λ k. images_from bytes 0 k ++ (number, image) ∷ []) is.counts
 
   rest_pushed : are_zero (rest_of_head b3) ≡ true

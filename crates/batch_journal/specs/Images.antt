@@ -11,8 +11,8 @@ unfoldable pub count_of : List ℕ → ℕ
 count_of bytes = little_number 4 bytes
 
 -- the block that the image at a place is for
-unfoldable pub number_at : List ℕ → ℕ → ℕ
-number_at bytes p = little_number 4 (drop (4 + 4 * p) bytes)
+unfoldable pub target_at : List ℕ → ℕ → ℕ
+target_at bytes p = little_number 4 (drop (4 + 4 * p) bytes)
 
 -- the image at a place
 abbrev pub image_at : List ℕ → ℕ → List ℕ
@@ -21,7 +21,7 @@ image_at bytes p = slice (4096 * p + 4096) 4096 bytes
 -- n images from place p on, each with its block's number
 abbrev pub images_from : List ℕ → ℕ → ℕ → List (ℕ × List ℕ)
 images_from bytes p zero = []
-images_from bytes p (suc n) = (number_at bytes p, image_at bytes p) ∷ images_from bytes (p + 1) n
+images_from bytes p (suc n) = (target_at bytes p, image_at bytes p) ∷ images_from bytes (p + 1) n
 
 -- all images, each with its block's number
 abbrev pub images_of : List ℕ → List (ℕ × List ℕ)

@@ -3,7 +3,7 @@ use Rattle.std.specs.Prelude.{◌≡◌, ◌≢◌, ℕ, ◌+◌, ◌*◌, ◌�
 use Rattle.tier_device.specs.Media.{Rose}
 use Rattle.batch_journal.specs.declared.error.JournalError.{JournalError}
 use Rattle.batch_journal.specs.declared.error.JournalError.TheVariants as errors
-use Rattle.batch_journal.specs.Images.{count_of, number_at, image_at, images_of, rest_of_head}
+use Rattle.batch_journal.specs.Images.{count_of, target_at, image_at, images_of, rest_of_head}
 use Rattle.batch_journal.specs.Blocks.{area_of, block_of}
 
 pub record IsRead (c bytes : List ℕ) : Type 0 where
@@ -15,7 +15,7 @@ pub record IsRead (c bytes : List ℕ) : Type 0 where
 
 -- the image at place 0 where it is for block 0, else that block
 abbrev pub first_block : List ℕ → List ℕ → List ℕ
-first_block bytes c = if number_at bytes 0 == 0 then image_at bytes 0 else block_of c 0
+first_block bytes c = if target_at bytes 0 == 0 then image_at bytes 0 else block_of c 0
 
 -- The count of failed calls rose, by one, where a device fault is answered, and stays else.
 pub record TellsFaults {T : Type 0} (before after : ℕ) (result : Result T JournalError) : Type 0 where

@@ -3,7 +3,7 @@ ghost use Rattle.std.specs.Prelude.{◌≡◌, ◌≢◌, ◌≤◌, ◌<◌, �
 ghost use Rattle.tier_device.specs.declared.media.Tier.{Tier};
 ghost use Rattle.tier_device.specs.declared.media.Tier.TheVariants.{Fast};
 ghost use Rattle.tier_device.specs.Media.{overwritten, AtRest, Rose};
-ghost use Rattle.batch_journal.specs.Images.{number_at, image_at, slice};
+ghost use Rattle.batch_journal.specs.Images.{target_at, image_at, slice};
 ghost use Rattle.batch_journal.specs.Course.{Since, TornFrom, SameLengths, Unmoved};
 
 use byteorder::{ByteOrder, LittleEndian};
@@ -88,14 +88,14 @@ pub fn keep<M: Media>(media: &mut M, at: usize, bytes: &[u8]) -> Result<(), Fail
     settle(media, Tier::Fast)
 }
 
-#[tactic(auto, unfolding(crate::specs::Images::number_at))]
+#[tactic(auto, unfolding(crate::specs::Images::target_at))]
 /// The image at that place, written to the block that it is for.
 pub fn put_image<M: Media>(media: &mut M, bytes: &[u8], place: usize) -> Result<(), Failed>
     requires head { 4 + 4 * place + 4 ≤ length bytes.now }
     requires image { 4096 * place + 4096 + 4096 ≤ length bytes.now }
-    requires fits { 4096 * number_at bytes.now place + 4096 ≤ length (M.seen media.old Fast) }
-    ensures course { Since Fast (TornFrom (M.left media.old (M.moment media.old) Fast) (4096 * number_at bytes.now place) 4096) (M.moment media.old) (M.moment media.new) (M.left media.old) (M.left media.new) }
-    ensures written { OnOk result (M.seen media.new Fast ≡ overwritten (M.seen media.old Fast) (4096 * number_at bytes.now place) (image_at bytes.now place)) }
+    requires fits { 4096 * target_at bytes.now place + 4096 ≤ length (M.seen media.old Fast) }
+    ensures course { Since Fast (TornFrom (M.left media.old (M.moment media.old) Fast) (4096 * target_at bytes.now place) 4096) (M.moment media.old) (M.moment media.new) (M.left media.old) (M.left media.new) }
+    ensures written { OnOk result (M.seen media.new Fast ≡ overwritten (M.seen media.old Fast) (4096 * target_at bytes.now place) (image_at bytes.now place)) }
     ensures others { OnOk result ((t : Tier) → t ≢ Fast → M.seen media.new t ≡ M.seen media.old t) }
     ensures lengths { SameLengths (M.seen media.old) (M.seen media.new) }
     ensures one_call { OnOk result (M.moment media.new ≡ M.moment media.old + 1) }

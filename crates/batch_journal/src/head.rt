@@ -1,7 +1,7 @@
 // What the bytes of a head say.
 ghost use Rattle.std.specs.Prelude.{◌≡◌, ◌<◌, ◌≤◌, ◌+◌, ◌*◌, ◌^◌, ℕ, List, length, true, IsTrue, ◌↔◌};
 ghost use Rattle.layout.specs.Places.{is_journaled};
-ghost use Rattle.batch_journal.specs.Images.{count_of, number_at, images_of, rest_of_head, Rises};
+ghost use Rattle.batch_journal.specs.Images.{count_of, target_at, images_of, rest_of_head, Rises};
 ghost use Rattle.layout.specs.Bytes.{are_zero};
 ghost use Rattle.batch_journal.specs.Blocks.{RisesJournaled};
 ghost use Rattle.batch_journal.specs.Volume.{IsHead, Spells, KeepsGeometry};
@@ -12,7 +12,7 @@ use layout::{Geometry, Super, are_zero};
 /// The block that the image at a place is for.
 pub fn number_in(bytes: &[u8], place: usize) -> u32
     requires { 4 + 4 * place + 4 ≤ length bytes.now }
-    ensures { result ≡ number_at bytes.now place }
+    ensures { result ≡ target_at bytes.now place }
 {
     LittleEndian::read_u32(&bytes[4 + 4 * place..])
 }

@@ -1,7 +1,7 @@
 //! The numbers of the journal, each told once as a number.
 
 ghost use Rattle.std.specs.Prelude.{◌≡◌, ◌∷◌, [], List, ℕ, true, false};
-ghost use Rattle.batch_journal.specs.Images.{slice, count_of, number_at, image_at};
+ghost use Rattle.batch_journal.specs.Images.{slice, count_of, target_at, image_at};
 ghost use Rattle.batch_journal.specs.Blocks.{gate_of, area_of, is_open, is_home};
 
 use crate::replay::{CLOSED, END, GATE, HEAD, OPEN};
@@ -24,7 +24,7 @@ pub fn journal_has_its_numbers()
     ensures last_own { is_home 291 ≡ false }
     ensures first_node { is_home 292 ≡ true }
     ensures count { count_of (2 ∷ 0 ∷ 0 ∷ 0 ∷ 1 ∷ 0 ∷ 0 ∷ 0 ∷ 44 ∷ 1 ∷ 0 ∷ 0 ∷ []) ≡ 2 }
-    ensures first_number { number_at (2 ∷ 0 ∷ 0 ∷ 0 ∷ 1 ∷ 0 ∷ 0 ∷ 0 ∷ 44 ∷ 1 ∷ 0 ∷ 0 ∷ []) 0 ≡ 1 }
-    ensures second_number { number_at (2 ∷ 0 ∷ 0 ∷ 0 ∷ 1 ∷ 0 ∷ 0 ∷ 0 ∷ 44 ∷ 1 ∷ 0 ∷ 0 ∷ []) 1 ≡ 300 }
+    ensures first_number { target_at (2 ∷ 0 ∷ 0 ∷ 0 ∷ 1 ∷ 0 ∷ 0 ∷ 0 ∷ 44 ∷ 1 ∷ 0 ∷ 0 ∷ []) 0 ≡ 1 }
+    ensures second_number { target_at (2 ∷ 0 ∷ 0 ∷ 0 ∷ 1 ∷ 0 ∷ 0 ∷ 0 ∷ 44 ∷ 1 ∷ 0 ∷ 0 ∷ []) 1 ≡ 300 }
     ensures second_image { (bytes : List ℕ) → image_at bytes 1 ≡ slice 8192 4096 bytes }
 {}

@@ -5,7 +5,7 @@ ghost use Rattle.layout.specs.Places.{tier_blocks};
 ghost use Rattle.layout.specs.Bytes.{are_zero};
 ghost use Rattle.layout.specs.declared.places.TheConstants.{BLOCK};
 ghost use Rattle.layout.specs.declared.error.What.TheVariants as what;
-ghost use Rattle.batch_journal.specs.Images.{slice, count_of, number_at};
+ghost use Rattle.batch_journal.specs.Images.{slice, count_of, target_at};
 ghost use Rattle.batch_journal.specs.Blocks.{area_of, is_open, rest_of_gate};
 ghost use Rattle.batch_journal.specs.Volume.{Spells, HasSizes};
 ghost use Rattle.batch_journal.specs.Course.{Unmoved};
@@ -171,7 +171,7 @@ pub fn read_head<M: Media>(media: &mut M, head: &mut [u8]) -> Result<usize, Jour
 /// Where the superblock stands behind an open gate: the first image, if that is for block 0, else block 0.
 pub fn superblock_in(head: &[u8]) -> usize
     requires { 8 ≤ length head.now }
-    ensures { result ≡ (if number_at head.now 0 == 0 then 147456 else 0) }
+    ensures { result ≡ (if target_at head.now 0 == 0 then 147456 else 0) }
 {
     if number_in(head, 0) == 0 {
         HEAD + BLOCK

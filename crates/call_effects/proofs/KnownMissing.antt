@@ -15,7 +15,7 @@ use Rattle.file_graph.specs.declared.effect.Kind.TheVariants as kind
 use Rattle.call_effects.specs.Blocks.{joined}
 use Rattle.call_effects.specs.NodeView.{NodeView, view_seen}
 use Rattle.call_effects.specs.Wholes.{node_is_dir}
-use Rattle.call_effects.specs.Known.{Knowledge, Agrees, HasCopies, with_copy, with_blocks, is_within, copied, tells, is_told, is_dir_by, part_of}
+use Rattle.call_effects.specs.Known.{Knowledge, Agrees, HasCopies, with_copy, with_blocks, in_run, copied, tells, is_told, is_dir_by, part_of}
 use Rattle.call_effects.proofs.Changes.{IsFair}
 use Rattle.call_effects.proofs.JoinedBlocks.{a_block, not_joined, range_more}
 use Rattle.call_effects.proofs.KnownTold.{told_is, dir_stands, file_stands, part_is}
@@ -68,14 +68,14 @@ copy_is_enough k i copy q e =
     let clash : Some copy ≡ None = sym (ap (λ b. cond b (Some copy) (k.copies i)) (eq-eqb i i refl)) ∙ missing_no_copy (with_copy k i copy) q i e in
     absurd (cc)
 
-within_is : (first count b : ℕ) → first ≤ b → b < first + count → is_within first count b ≡ true
+within_is : (first count b : ℕ) → first ≤ b → b < first + count → in_run first count b ≡ true
 within_is first count b low high = ap (λ t. t && nat_lt b (first + count)) (le-leb first b low) ∙ lt-ltb b (first + count) high
 
 pub blocks_are_enough : {A : Type 0} (k : Knowledge) (i first count : ℕ) (block : ℕ → List ℕ) (q : Query A) → run_part (part_of (with_blocks k i first count block)) q ≡ Unknown (missing.Blocks i first count) → ⊥
 blocks_are_enough k i first count block q e =
     let lacks = a_block ((with_blocks k i first count block).blocks i) first count (missing_not_joined (with_blocks k i first count block) q i first count e) in
     let b = lacks.block in
-    let test : (i == i && is_within first count b) ≡ true = ap (λ t. t && is_within first count b) (eq-eqb i i refl) ∙ within_is first count b lacks.low lacks.high in
+    let test : (i == i && in_run first count b) ≡ true = ap (λ t. t && in_run first count b) (eq-eqb i i refl) ∙ within_is first count b lacks.low lacks.high in
     let clash : Some (block b) ≡ None = sym (ap (λ t. cond t (Some (block b)) (k.blocks i b)) test) ∙ lacks.unknown in
     absurd (cc)
 

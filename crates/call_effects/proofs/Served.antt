@@ -9,7 +9,7 @@ use Rattle.posix_calls.specs.Tree.{Descriptors}
 use Rattle.file_graph.specs.Graph.{Graph, FileBody, file_bytes}
 use Rattle.call_effects.specs.Blocks.{block_of, block_at}
 use Rattle.call_effects.specs.NodeView.{view_of_node, view_at}
-use Rattle.call_effects.specs.Known.{Knowledge, Agrees, IsForgetful, is_within, with_copy, with_blocks, with_granted}
+use Rattle.call_effects.specs.Known.{Knowledge, Agrees, IsForgetful, in_run, with_copy, with_blocks, with_granted}
 use Rattle.call_effects.proofs.Changes.{file}
 use Rattle.call_effects.proofs.KnownTold.{both_hold}
 use Rattle.call_effects.proofs.PutBack.{stands_back}
@@ -56,9 +56,9 @@ module _ (k : Knowledge) (g : Graph) (d : Descriptors) (agrees : Agrees k g d) w
   -- ---- blocks of a file
 
   module _ (i first count names : ℕ) (bytes : List ℕ) (is_file : g i ≡ file names bytes) where
-    served_block : (j b : ℕ) (t : Bool) (block : List ℕ) → (j == i && is_within first count b) ≡ t → cond t (Some (block_of b bytes)) (k.blocks j b) ≡ Some block → block_at agrees.back j b ≡ Some block
+    served_block : (j b : ℕ) (t : Bool) (block : List ℕ) → (j == i && in_run first count b) ≡ t → cond t (Some (block_of b bytes)) (k.blocks j b) ≡ Some block → block_at agrees.back j b ≡ Some block
     served_block j b true block test is =
-        let at = both_hold (j == i) (is_within first count b) test in
+        let at = both_hold (j == i) (in_run first count b) test in
         ap (λ x. block_at agrees.back x b) (eqb-true j i at.0)
         ∙ ap (λ o. option_map (block_of b) (file_bytes o)) (stands_back g agrees.back agrees.put_back i (record { names = names; body = FileBody bytes }) is_file)
         ∙ is
@@ -71,7 +71,7 @@ module _ (k : Knowledge) (g : Graph) (d : Descriptors) (agrees : Agrees k g d) w
       back = agrees.back;
       put_back = agrees.put_back;
       copies = agrees.copies;
-      blocks = λ j b block is. served_block j b (j == i && is_within first count b) block refl is;
+      blocks = λ j b block is. served_block j b (j == i && in_run first count b) block refl is;
       granted = agrees.granted;
     }
 

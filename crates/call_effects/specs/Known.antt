@@ -1,5 +1,5 @@
 -- What a client knows of the whole, and what it can answer by that.
-use Rattle.std.specs.Prelude.{◌≡◌, ◌⊎◌, ℕ, ◌+◌, ◌*◌, ◌<◌, ◌≤◌, ◌==◌, ◌&&◌, ◌||◌, nat_le, nat_lt, List, Bool, true, false, Option, Some, None, Ok, not, unwrap_or, option_map, if◌then◌else◌}
+use Rattle.std.specs.Prelude.{◌≡◌, ◌⊎◌, ℕ, ◌+◌, ◌*◌, ◌<◌, ◌≤◌, ◌==◌, ◌&&◌, ◌||◌, List, Bool, true, false, Option, Some, None, Ok, not, unwrap_or, option_map, if◌then◌else◌}
 use Rattle.std.specs.List.{list_any}
 use Rattle.std.specs.FinMap as fin
 use Rattle.posix_calls.specs.Content.{Entries, range}
@@ -14,6 +14,7 @@ use Rattle.posix_calls.specs.declared.operation.Missing.TheVariants as missing
 use Rattle.posix_calls.specs.declared.call.Call.{Call}
 use Rattle.posix_calls.specs.declared.limits.TheConstants.{ROOT, MAX_INODE, UNIT_BYTES}
 use Rattle.file_graph.specs.Graph.{Graph, Node, FileBody}
+pub use Rattle.file_graph.specs.Numbers.{in_run}
 use Rattle.file_graph.specs.declared.effect.Kind.{Kind}
 use Rattle.file_graph.specs.declared.effect.Kind.TheVariants as kind
 use Rattle.file_graph.specs.declared.effect.Effect.{Effect}
@@ -81,13 +82,9 @@ with_copy k i copy = record k { copies = λ j. if j == i then Some copy else k.c
 abbrev pub with_granted : Knowledge → ℕ → Knowledge
 with_granted k i = record k { granted = λ j. j == i || k.granted j }
 
--- whether a block is one of so many from a first one on
-abbrev pub is_within : ℕ → ℕ → ℕ → Bool
-is_within first count b = nat_le first b && nat_lt b (first + count)
-
 -- what a client knows with so many more blocks of a file
 abbrev pub with_blocks : Knowledge → ℕ → ℕ → ℕ → (ℕ → List ℕ) → Knowledge
-with_blocks k i first count block = record k { blocks = λ j b. if j == i && is_within first count b then Some (block b) else k.blocks j b }
+with_blocks k i first count block = record k { blocks = λ j b. if j == i && in_run first count b then Some (block b) else k.blocks j b }
 
 -- ---- what entries tell of the inodes that they name
 

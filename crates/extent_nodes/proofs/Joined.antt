@@ -6,7 +6,7 @@ use Rattle.std.proofs.lemmas.Option.{none-some, same_Some}
 use Rattle.std.proofs.lemmas.List.{append-nil, take-append-drop, drop_more, drop_all, set_split}
 use Rattle.layout.specs.declared.extents.Extent.{Extent}
 use Rattle.extent_nodes.specs.Places.{place_of, SamePlaces}
-use Rattle.extent_nodes.specs.Normal.{IsRising, Point, start_of, stop_of, Meet, AreApart, PlacesFit, Lengthened, Joins}
+use Rattle.extent_nodes.specs.Normal.{IsRising, Point, start_of, stop_of, Meet, NoneGoesOn, PlacesFit, Lengthened, Joins}
 use Rattle.extent_nodes.proofs.Maps.{same-append, same-longer, or-none}
 use Rattle.extent_nodes.proofs.Rising.{rising-wider, rising-append, rising-longer}
 
@@ -48,21 +48,21 @@ stop-append (x ∷ z ∷ xs) ys = stop-append (z ∷ xs) ys
 
 -- ---- no extent goes on where the one before ends
 
-pub apart-append : (xs ys : List Extent) → AreApart xs → AreApart ys → (Meet xs ys → ⊥) → AreApart (xs ++ ys)
+pub apart-append : (xs ys : List Extent) → NoneGoesOn xs → NoneGoesOn ys → (Meet xs ys → ⊥) → NoneGoesOn (xs ++ ys)
 apart-append [] ys first second seam = second
 apart-append (x ∷ []) ys first second seam = (seam, second)
 apart-append (x ∷ y ∷ xs) ys first second seam = (first.0, apart-append (y ∷ xs) ys first.1 second seam)
 
-pub apart-left : (xs ys : List Extent) → AreApart (xs ++ ys) → AreApart xs
+pub apart-left : (xs ys : List Extent) → NoneGoesOn (xs ++ ys) → NoneGoesOn xs
 apart-left [] ys are = tt
 apart-left (x ∷ []) ys are = ((λ meet. elim_none meet.2), tt)
 apart-left (x ∷ y ∷ xs) ys are = (are.0, apart-left (y ∷ xs) ys are.1)
 
-pub apart-right : (xs ys : List Extent) → AreApart (xs ++ ys) → AreApart ys
+pub apart-right : (xs ys : List Extent) → NoneGoesOn (xs ++ ys) → NoneGoesOn ys
 apart-right [] ys are = are
 apart-right (x ∷ xs) ys are = apart-right xs ys are.1
 
-pub apart-seam : (xs ys : List Extent) → AreApart (xs ++ ys) → Meet xs ys → ⊥
+pub apart-seam : (xs ys : List Extent) → NoneGoesOn (xs ++ ys) → Meet xs ys → ⊥
 apart-seam [] ys are meet = elim_none meet.1
 apart-seam (x ∷ []) ys are meet = are.0 meet
 apart-seam (x ∷ y ∷ xs) ys are meet = apart-seam (y ∷ xs) ys are.1 meet
@@ -94,7 +94,7 @@ joins-wider end end' source new joins le = record {
   stop = joins.stop;
 }
 
-pub joins-none : (end : ℕ) (es : List Extent) → IsRising 0 end es → AreApart es → PlacesFit es → Joins end (es ++ []) es
+pub joins-none : (end : ℕ) (es : List Extent) → IsRising 0 end es → NoneGoesOn es → PlacesFit es → Joins end (es ++ []) es
 joins-none end es rising apart fit =
     let whole = append-nil es in
     record {
@@ -107,7 +107,7 @@ joins-none end es rising apart fit =
     }
 
 -- an extent that does not go on where the last ends is put behind it
-pub joins-pushed : (es : List Extent) (next : Extent) → 0 < next.length → next.place + next.length < 2 ^ 32 → IsRising 0 next.logical es → AreApart es → PlacesFit es → (Meet es (next ∷ []) → ⊥) → Joins (next.logical + next.length) (es ++ next ∷ []) (es ++ next ∷ [])
+pub joins-pushed : (es : List Extent) (next : Extent) → 0 < next.length → next.place + next.length < 2 ^ 32 → IsRising 0 next.logical es → NoneGoesOn es → PlacesFit es → (Meet es (next ∷ []) → ⊥) → Joins (next.logical + next.length) (es ++ next ∷ []) (es ++ next ∷ [])
 joins-pushed es next some fits rising apart fit seam =
     let P : Extent → Type 0 = λ e. e.place + e.length < 2 ^ 32 in
     record {
@@ -120,7 +120,7 @@ joins-pushed es next some fits rising apart fit seam =
     }
 
 -- an extent that goes on where the last ends becomes a part of it
-pub joins-longer : (front : List Extent) (last next : Extent) → 0 < next.length → next.place + next.length < 2 ^ 32 → IsRising 0 next.logical (front ++ last ∷ []) → AreApart (front ++ last ∷ []) → PlacesFit (front ++ last ∷ []) → next.logical ≡ last.logical + last.length → next.place ≡ last.place + last.length
+pub joins-longer : (front : List Extent) (last next : Extent) → 0 < next.length → next.place + next.length < 2 ^ 32 → IsRising 0 next.logical (front ++ last ∷ []) → NoneGoesOn (front ++ last ∷ []) → PlacesFit (front ++ last ∷ []) → next.logical ≡ last.logical + last.length → next.place ≡ last.place + last.length
     → Joins (next.logical + next.length) ((front ++ last ∷ []) ++ next ∷ []) (front ++ record { logical = last.logical; length = last.length + next.length; place = last.place } ∷ [])
 joins-longer front last next some fits rising apart fit goes_on place_on =
     let P : Extent → Type 0 = λ e. e.place + e.length < 2 ^ 32 in
@@ -187,12 +187,12 @@ fits-longer n es next d is meet fits =
     let at : n - 1 ≡ length es - 1 = omega (arith, is) in
     subst (λ k. (get_or es k d).length + next.length < 2 ^ 32) (sym at) (omega (arith, p.0, fits))
 
-pub joins-lengthened : (es new : List Extent) (next : Extent) → 0 < next.length → next.place + next.length < 2 ^ 32 → IsRising 0 next.logical es → AreApart es → PlacesFit es → Meet es (next ∷ []) → Lengthened next.length es new → Joins (next.logical + next.length) (es ++ next ∷ []) new
+pub joins-lengthened : (es new : List Extent) (next : Extent) → 0 < next.length → next.place + next.length < 2 ^ 32 → IsRising 0 next.logical es → NoneGoesOn es → PlacesFit es → Meet es (next ∷ []) → Lengthened next.length es new → Joins (next.logical + next.length) (es ++ next ∷ []) new
 joins-lengthened es new next some fits rising apart fit meet more =
     let front = more.front in
     let last = more.last in
     let point = same_Some _ _ (sym (ap stop_of more.was ∙ stop-append front (last ∷ [])) ∙ meet.1 ∙ sym meet.2) in
     let goes_on : next.logical ≡ last.logical + last.length = sym (ap (λ p. p.block) point) in
     let place_on : next.place ≡ last.place + last.length = sym (ap (λ p. p.place) point) in
-    let made = joins-longer front last next some fits (subst (IsRising 0 next.logical) more.was rising) (subst AreApart more.was apart) (subst PlacesFit more.was fit) goes_on place_on in
+    let made = joins-longer front last next some fits (subst (IsRising 0 next.logical) more.was rising) (subst NoneGoesOn more.was apart) (subst PlacesFit more.was fit) goes_on place_on in
     subst (λ l. Joins (next.logical + next.length) (l ++ next ∷ []) new) (sym more.was) (subst (Joins (next.logical + next.length) ((front ++ last ∷ []) ++ next ∷ [])) (sym more.is) made)

@@ -7,7 +7,7 @@ use Rattle.std.proofs.lemmas.Option.{none-some, same_Some}
 use Rattle.std.proofs.lemmas.List.{append-nil}
 use Rattle.layout.specs.declared.extents.Extent.{Extent}
 use Rattle.extent_nodes.specs.Places.{in_run, place_in, place_of}
-use Rattle.extent_nodes.specs.Normal.{IsRising, Point, start_of, stop_of, Meet, AreApart, IsNormal, Joins}
+use Rattle.extent_nodes.specs.Normal.{IsRising, Point, start_of, stop_of, Meet, NoneGoesOn, IsNormal, Joins}
 use Rattle.extent_nodes.specs.Parts.{part}
 use Rattle.extent_nodes.specs.Changes.{after, piece, changed, EndBefore, BeginBehind}
 use Rattle.extent_nodes.specs.Nodes.{last_end}
@@ -194,7 +194,7 @@ spliced-rising first count place front middle back new s =
         rising-append low e.logical 4294967295 new (e ∷ es) upto (omega (arith, least, back_rises.0)) (omega (arith, back_rises.2)) (omega arith, back_rises.1, back_rises.2, back_rises.3)
 
 -- neither seam joins
-spliced-apart : (first count : ℕ) (place : Option ℕ) (front middle back new : List Extent) → Spliced first count place front middle back new → AreApart (front ++ (new ++ back))
+spliced-apart : (first count : ℕ) (place : Option ℕ) (front middle back new : List Extent) → Spliced first count place front middle back new → NoneGoesOn (front ++ (new ++ back))
 spliced-apart first count place front middle back new s =
     let old = apart-right front (middle ++ back) s.normal.apart in
     apart-append front (new ++ back) (apart-left front (middle ++ back) s.normal.apart)

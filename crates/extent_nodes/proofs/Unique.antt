@@ -5,7 +5,7 @@ use Rattle.std.proofs.lemmas.Bool.{cases_lt}
 use Rattle.std.proofs.lemmas.Option.{none-some, same_Some}
 use Rattle.layout.specs.declared.extents.Extent.{Extent}
 use Rattle.extent_nodes.specs.Places.{place_in, place_of, SamePlaces}
-use Rattle.extent_nodes.specs.Normal.{IsRising, Meet, AreApart}
+use Rattle.extent_nodes.specs.Normal.{IsRising, Meet, NoneGoesOn}
 use Rattle.extent_nodes.proofs.Maps.{has-in, not-has, place-here, place-later}
 use Rattle.extent_nodes.proofs.Rising.{none-before}
 
@@ -38,7 +38,7 @@ goes-on end x (z ∷ zs) place is on mapped =
           (record { block = z.logical; place = z.place }, (λ i. Some (record { block = block i; place = spot i })), refl)
     ]
 
-not-shorter : (low end : ℕ) (x y : Extent) (xs ys : List Extent) → IsRising low end (x ∷ xs) → AreApart (x ∷ xs) → SamePlaces (x ∷ xs) (y ∷ ys) → x.logical ≡ y.logical → x.place ≡ y.place → x.length < y.length → ⊥
+not-shorter : (low end : ℕ) (x y : Extent) (xs ys : List Extent) → IsRising low end (x ∷ xs) → NoneGoesOn (x ∷ xs) → SamePlaces (x ∷ xs) (y ∷ ys) → x.logical ≡ y.logical → x.place ≡ y.place → x.length < y.length → ⊥
 not-shorter low end x y xs ys first apart same start place lt =
     let b = x.logical + x.length in
     let there : place_of (y ∷ ys) b ≡ Some (y.place + (b - y.logical)) = place-here b y ys (has-in b y (omega (arith, start)) (omega (arith, start, lt))) in
@@ -46,7 +46,7 @@ not-shorter low end x y xs ys first apart same start place lt =
     let on : y.place + (b - y.logical) ≡ x.place + x.length = omega (arith, start, place) in
     apart.0 (goes-on end x xs (y.place + (b - y.logical)) first.3 on (sym here ∙ same b ∙ there))
 
-same-head : (low end : ℕ) (x y : Extent) (xs ys : List Extent) → IsRising low end (x ∷ xs) → IsRising low end (y ∷ ys) → AreApart (x ∷ xs) → AreApart (y ∷ ys) → SamePlaces (x ∷ xs) (y ∷ ys) → x ≡ y
+same-head : (low end : ℕ) (x y : Extent) (xs ys : List Extent) → IsRising low end (x ∷ xs) → IsRising low end (y ∷ ys) → NoneGoesOn (x ∷ xs) → NoneGoesOn (y ∷ ys) → SamePlaces (x ∷ xs) (y ∷ ys) → x ≡ y
 same-head low end x y xs ys first second apart apart_y same =
     let back : SamePlaces (y ∷ ys) (x ∷ xs) = λ b. sym (same b) in
     let start : x.logical ≡ y.logical = elim (cases_lt x.logical y.logical) [
@@ -66,7 +66,7 @@ same-rest end x xs ys first second same b = elim (cases_lt b (x.logical + x.leng
   | inr behind ↦ let out = not-has b x (λ l h. omega (arith, h, behind)) in sym (place-later b x xs out) ∙ same b ∙ place-later b x ys out
 ]
 
-pub one-list : (low end : ℕ) (xs ys : List Extent) → IsRising low end xs → IsRising low end ys → AreApart xs → AreApart ys → SamePlaces xs ys → xs ≡ ys
+pub one-list : (low end : ℕ) (xs ys : List Extent) → IsRising low end xs → IsRising low end ys → NoneGoesOn xs → NoneGoesOn ys → SamePlaces xs ys → xs ≡ ys
 one-list low end [] [] first second apart apart_y same = refl
 one-list low end [] (y ∷ ys) first second apart apart_y same = absurd (none-some y.place (same y.logical ∙ begins-mapped y ys second.1))
 one-list low end (x ∷ xs) [] first second apart apart_y same = absurd (none-some x.place (sym (same x.logical) ∙ begins-mapped x xs first.1))

@@ -30,9 +30,9 @@ abbrev pub Meet : List Extent → List Extent → Type 0
 Meet xs ys = (p : Point) × (stop_of xs ≡ Some p) × (start_of ys ≡ Some p)
 
 -- no extent goes on where the one before ends
-abbrev pub AreApart : List Extent → Type 0
-AreApart [] = Unit {0}
-AreApart (e ∷ es) = (Meet (e ∷ []) es → ⊥) × AreApart es
+abbrev pub NoneGoesOn : List Extent → Type 0
+NoneGoesOn [] = Unit {0}
+NoneGoesOn (e ∷ es) = (Meet (e ∷ []) es → ⊥) × NoneGoesOn es
 
 -- each place is a number of 32 bits, and so is the end of the places
 abbrev pub PlacesFit : List Extent → Type 0
@@ -41,7 +41,7 @@ PlacesFit es = AllByRecursion (λ e. e.place + e.length < 2 ^ 32) es
 -- extents of numbers of 32 bits that rise, and of which none goes on where the one before ends
 pub record IsNormal (es : List Extent) : Type 0 where
   pub rising : IsRising 0 4294967295 es
-  pub apart : AreApart es
+  pub apart : NoneGoesOn es
   pub places : PlacesFit es
 
 -- the new list is the old one with its last extent longer
@@ -55,7 +55,7 @@ pub record Lengthened (more : ℕ) (old new : List Extent) : Type 0 where
 pub record Joins (end : ℕ) (source new : List Extent) : Type 0 where
   pub same : SamePlaces new source
   pub rising : IsRising 0 end new
-  pub apart : AreApart new
+  pub apart : NoneGoesOn new
   pub places : PlacesFit new
   pub start : start_of new ≡ start_of source
   pub stop : stop_of new ≡ stop_of source

@@ -1,15 +1,12 @@
 -- Extents, and the map from logical blocks to places that a list of them spells.
-use Rattle.std.specs.Prelude.{◌≡◌, ◌+◌, ◌-◌, ◌&&◌, nat_lt, nat_le, ℕ, Bool, List, [], ◌∷◌, Option, Some, None, if◌then◌else◌}
+use Rattle.std.specs.Prelude.{◌≡◌, ◌+◌, ◌-◌, ℕ, Bool, List, [], ◌∷◌, Option, Some, None, if◌then◌else◌}
 use Rattle.std.specs.Option.{option_map}
+pub use Rattle.file_graph.specs.Numbers.{in_run}
 use Rattle.layout.specs.declared.extents.Extent.{Extent}
 
 -- where an extent ends
 abbrev pub end_of : Extent → ℕ
 end_of e = e.logical + e.length
-
--- whether a block is one of a run
-abbrev pub in_run : ℕ → ℕ → ℕ → Bool
-in_run first count b = nat_le first b && nat_lt b (first + count)
 
 -- whether an extent has a block
 abbrev pub has : ℕ → Extent → Bool

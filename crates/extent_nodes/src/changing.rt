@@ -1,7 +1,7 @@
 // Extents of which a run of blocks is mapped anew or unmapped.
 ghost use Rattle.std.specs.Prelude.{◌≤◌, ◌<◌, ◌+◌, ◌++◌, ◌^◌, IfSome, IfOk, OnOk};
 ghost use Rattle.extent_nodes.specs.Changes.{changed, piece};
-ghost use Rattle.extent_nodes.specs.Normal.{IsRising, AreApart, PlacesFit, Joins};
+ghost use Rattle.extent_nodes.specs.Normal.{IsRising, NoneGoesOn, PlacesFit, Joins};
 
 use crate::joining::{push, push_part};
 use layout::Extent;
@@ -39,7 +39,7 @@ fn push_piece(
     requires blocks { first + count < 2 ^ 32 }
     requires places { IfSome place (λ p. p + count < 2 ^ 32) }
     requires rising { IsRising 0 first extents.old.items }
-    requires apart { AreApart extents.old.items }
+    requires apart { NoneGoesOn extents.old.items }
     requires fit { PlacesFit extents.old.items }
     ensures { OnOk result (Joins (first + count) (extents.old.items ++ piece first count place) extents.new.items) }
 {

@@ -1,6 +1,6 @@
 // Lists of extents in normal form, made from the front.
 ghost use Rattle.std.specs.Prelude.{◌≡◌, ◌≤◌, ◌<◌, ◌+◌, ◌-◌, ◌^◌, ◌++◌, ◌∷◌, [], ◌↔◌, IsTrue, OnOk, vec_len, slice_index_or};
-ghost use Rattle.extent_nodes.specs.Normal.{IsRising, Meet, AreApart, PlacesFit, Lengthened, Joins};
+ghost use Rattle.extent_nodes.specs.Normal.{IsRising, Meet, NoneGoesOn, PlacesFit, Lengthened, Joins};
 ghost use Rattle.extent_nodes.specs.Parts.{part};
 
 use layout::Extent;
@@ -40,7 +40,7 @@ pub fn push(extents: &mut Vec<Extent>, next: Extent) -> Result<(), AllocError>
     requires blocks { next.logical + next.length < 2 ^ 32 }
     requires places { next.place + next.length < 2 ^ 32 }
     requires rising { IsRising 0 next.logical extents.old.items }
-    requires apart { AreApart extents.old.items }
+    requires apart { NoneGoesOn extents.old.items }
     requires fit { PlacesFit extents.old.items }
     ensures { OnOk result (Joins (next.logical + next.length) (extents.old.items ++ next ∷ []) extents.new.items) }
 {
@@ -63,7 +63,7 @@ pub fn push_part(
     requires more { IsRising 0 4294967295 more.now }
     requires more_fit { PlacesFit more.now }
     requires rising { IsRising 0 from extents.old.items }
-    requires apart { AreApart extents.old.items }
+    requires apart { NoneGoesOn extents.old.items }
     requires fit { PlacesFit extents.old.items }
     ensures { OnOk result (Joins to (extents.old.items ++ part from to more.now) extents.new.items) }
 {

@@ -35,7 +35,7 @@ pub record IsWidth (width : ℕ) : Type 0 where
   pub most : width < 2 ^ 31
 
 -- the leaves spell a list in normal form, and the levels above cover them
-pub record IsSound (width : ℕ) (leaves : List (List Extent)) (inner : List (List (List Extent))) : Type 0 where
+pub record IsExtentTree (width : ℕ) (leaves : List (List Extent)) (inner : List (List (List Extent))) : Type 0 where
   pub width_is : IsWidth width
   pub normal : IsNormal (flat leaves)
   pub level : IsLevel width leaves

@@ -3,7 +3,7 @@ ghost use Rattle.extent_nodes.specs.Changes.{after};
 ghost use Rattle.extent_nodes.specs.Nodes.{flat, HaveFrom};
 ghost use Rattle.extent_nodes.specs.Normal.{IsRising, PlacesFit, IsNormal};
 ghost use Rattle.extent_nodes.specs.Places.{place_of, SamePlaces};
-ghost use Rattle.extent_tree.specs.Tree.{IsSound, counts};
+ghost use Rattle.extent_tree.specs.Tree.{IsExtentTree, counts};
 ghost use Rattle.extent_tree.specs.Value.{GrownByNeed, StaysOne, OthersStay};
 
 use crate::building::{Level, levels_above};
@@ -26,14 +26,14 @@ pub struct Extents<const N: usize> {
 
 impl<const N: usize> Model for Extents<N> {
     ghost use Rattle.extent_nodes.specs.Nodes.{flat};
-    ghost use Rattle.extent_tree.specs.Tree.{IsSound, counts};
+    ghost use Rattle.extent_tree.specs.Tree.{IsExtentTree, counts};
     ghost use Rattle.extent_tree.specs.Value.{ExtentMap};
 
     ghost Value = { ExtentMap };
 
     ghost view = { λ t. record { runs = flat t.leaves.items; levels = counts t.leaves.items t.inner.items; leaves = t.leaves.items } };
 
-    ghost invariant = { λ t. IsSound N t.leaves.items t.inner.items };
+    ghost invariant = { λ t. IsExtentTree N t.leaves.items t.inner.items };
 }
 
 /// Where a block lies, and how many entries were compared to find it.
@@ -165,7 +165,7 @@ impl<const N: usize> Extents<N> {
 }
 
 fn look_up<const N: usize>(leaves: &[Node], inner: &[Level], block: u32) -> Counted
-    requires { IsSound N leaves.now inner.now }
+    requires { IsExtentTree N leaves.now inner.now }
     ensures place { result.place ≡ place_of (flat leaves.now) block }
     ensures compared { result.compared ≤ N * (1 + length inner.now) }
     ensures some { 0 < length (flat leaves.now) → 0 < result.compared }
@@ -209,8 +209,8 @@ fn replace<const N: usize>(
 ) -> Result<(), AllocError>
     requires fits { run.first + run.count < 2 ^ 32 }
     requires places { IfSome place (λ p. p + run.count < 2 ^ 32) }
-    requires sound { IsSound N leaves.old.items inner.old.items }
-    ensures sound { IsSound N leaves.new.items inner.new.items }
+    requires sound { IsExtentTree N leaves.old.items inner.old.items }
+    ensures sound { IsExtentTree N leaves.new.items inner.new.items }
     ensures mapped { OnOk result ((b : ℕ) → place_of (flat leaves.new.items) b ≡ after run.first run.count place (flat leaves.old.items) b) }
     ensures grown { GrownByNeed N (record { runs = flat leaves.old.items; levels = counts leaves.old.items inner.old.items; leaves = leaves.old.items }) (record { runs = flat leaves.new.items; levels = counts leaves.new.items inner.new.items; leaves = leaves.new.items }) }
     ensures one { StaysOne N (record { runs = flat leaves.old.items; levels = counts leaves.old.items inner.old.items; leaves = leaves.old.items }) (record { runs = flat leaves.new.items; levels = counts leaves.new.items inner.new.items; leaves = leaves.new.items }) }

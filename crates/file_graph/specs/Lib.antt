@@ -1,5 +1,7 @@
 pub mod Bodies
 pub mod Codes
+pub mod Fields
 pub mod Graph
+pub mod Numbers
 pub mod Plain
 pub mod Units

@@ -9,7 +9,7 @@ use Rattle.std.specs.declared.cmp.Ordering.TheVariants.{Equal}
 use Rattle.std.proofs.lemmas.Bool.{cases_lt, false≢true}
 use Rattle.std.proofs.lemmas.Bool.Decides.{eqb_tells, nat_tests}
 use Rattle.posix_calls.specs.declared.limits.TheConstants.{UNIT_BYTES}
-use Rattle.graph_change.specs.Bytes.{is_within}
+use Rattle.graph_change.specs.Bytes.{in_run}
 use Rattle.graph_change.specs.Change.{Patch, Patches, blank, patch_at, new_in, span, over_patch, put_block, put_blocks, cut_patch, cut_patches}
 
 pub either : (b : Bool) → (b ≡ true) ⊎ (b ≡ false)
@@ -47,33 +47,33 @@ one_other at bytes b ps i off =
     let new = over_patch at bytes b (patch_at ps b) in
     at_block b new ps i ∙ ap (λ t. cond t new (patch_at ps (i / UNIT_BYTES)) (i % UNIT_BYTES)) off
 
-one_there : (at : ℕ) (bytes : List ℕ) (b : ℕ) (ps : Patches) (i : ℕ) → (i / UNIT_BYTES == b) ≡ true → i / UNIT_BYTES ≡ b → new_in (put_block at bytes b ps) i ≡ (if is_within at (length bytes) i then Some (get_or bytes (i - at) 0) else new_in ps i)
+one_there : (at : ℕ) (bytes : List ℕ) (b : ℕ) (ps : Patches) (i : ℕ) → (i / UNIT_BYTES == b) ≡ true → i / UNIT_BYTES ≡ b → new_in (put_block at bytes b ps) i ≡ (if in_run at (length bytes) i then Some (get_or bytes (i - at) 0) else new_in ps i)
 one_there at bytes b ps i here same =
     let new = over_patch at bytes b (patch_at ps b) in
     at_block b new ps i ∙ ap (λ t. cond t new (patch_at ps (i / UNIT_BYTES)) (i % UNIT_BYTES)) here
     ∙ ap (λ k. over_patch at bytes k (patch_at ps k) (i % UNIT_BYTES)) (sym same)
-    ∙ ap (λ t. if t && is_within at (length bytes) (UNIT_BYTES * (i / UNIT_BYTES) + i % UNIT_BYTES) then Some (get_or bytes (UNIT_BYTES * (i / UNIT_BYTES) + i % UNIT_BYTES - at) 0) else new_in ps i) (less {m = i % UNIT_BYTES} {n = UNIT_BYTES} (omega arith))
-    ∙ ap (λ k. if is_within at (length bytes) k then Some (get_or bytes (k - at) 0) else new_in ps i) (whole i)
+    ∙ ap (λ t. if t && in_run at (length bytes) (UNIT_BYTES * (i / UNIT_BYTES) + i % UNIT_BYTES) then Some (get_or bytes (UNIT_BYTES * (i / UNIT_BYTES) + i % UNIT_BYTES - at) 0) else new_in ps i) (less {m = i % UNIT_BYTES} {n = UNIT_BYTES} (omega arith))
+    ∙ ap (λ k. if in_run at (length bytes) k then Some (get_or bytes (k - at) 0) else new_in ps i) (whole i)
 
-one_out : (at : ℕ) (bytes : List ℕ) (b : ℕ) (ps : Patches) (i : ℕ) → is_within at (length bytes) i ≡ false → new_in (put_block at bytes b ps) i ≡ new_in ps i
+one_out : (at : ℕ) (bytes : List ℕ) (b : ℕ) (ps : Patches) (i : ℕ) → in_run at (length bytes) i ≡ false → new_in (put_block at bytes b ps) i ≡ new_in ps i
 one_out at bytes b ps i out =
     elim (eqb_tells (i / UNIT_BYTES) b) [
       | inl here ↦ one_there at bytes b ps i here.0 here.1 ∙ ap (λ t. cond t (Some (get_or bytes (i - at) 0)) (new_in ps i)) out
       | inr off ↦ one_other at bytes b ps i off.0
     ]
 
-all_out : (at : ℕ) (bytes : List ℕ) (bs : List ℕ) (ps : Patches) (i : ℕ) → is_within at (length bytes) i ≡ false → new_in (put_blocks at bytes bs ps) i ≡ new_in ps i
+all_out : (at : ℕ) (bytes : List ℕ) (bs : List ℕ) (ps : Patches) (i : ℕ) → in_run at (length bytes) i ≡ false → new_in (put_blocks at bytes bs ps) i ≡ new_in ps i
 all_out at bytes [] ps i out = refl
 all_out at bytes (b ∷ bs) ps i out = all_out at bytes bs (put_block at bytes b ps) i out ∙ one_out at bytes b ps i out
 
-all_stays : (at : ℕ) (bytes : List ℕ) (bs : List ℕ) (ps : Patches) (i : ℕ) → is_within at (length bytes) i ≡ true → new_in ps i ≡ Some (get_or bytes (i - at) 0) → new_in (put_blocks at bytes bs ps) i ≡ Some (get_or bytes (i - at) 0)
+all_stays : (at : ℕ) (bytes : List ℕ) (bs : List ℕ) (ps : Patches) (i : ℕ) → in_run at (length bytes) i ≡ true → new_in ps i ≡ Some (get_or bytes (i - at) 0) → new_in (put_blocks at bytes bs ps) i ≡ Some (get_or bytes (i - at) 0)
 all_stays at bytes [] ps i inside done = done
 all_stays at bytes (b ∷ bs) ps i inside done = all_stays at bytes bs (put_block at bytes b ps) i inside (elim (eqb_tells (i / UNIT_BYTES) b) [
   | inl here ↦ one_there at bytes b ps i here.0 here.1 ∙ ap (λ t. cond t (Some (get_or bytes (i - at) 0)) (new_in ps i)) inside
   | inr off ↦ one_other at bytes b ps i off.0 ∙ done
 ])
 
-all_in : (at : ℕ) (bytes : List ℕ) (bs : List ℕ) (ps : Patches) (i : ℕ) → is_within at (length bytes) i ≡ true → list_any (nat_eq (i / UNIT_BYTES)) bs ≡ true → new_in (put_blocks at bytes bs ps) i ≡ Some (get_or bytes (i - at) 0)
+all_in : (at : ℕ) (bytes : List ℕ) (bs : List ℕ) (ps : Patches) (i : ℕ) → in_run at (length bytes) i ≡ true → list_any (nat_eq (i / UNIT_BYTES)) bs ≡ true → new_in (put_blocks at bytes bs ps) i ≡ Some (get_or bytes (i - at) 0)
 all_in at bytes [] ps i inside has = absurd (false≢true has)
 all_in at bytes (b ∷ bs) ps i inside has =
     elim (eqb_tells (i / UNIT_BYTES) b) [
@@ -98,12 +98,12 @@ in_span at n i low high =
           ∙ any_range ((at + n - 1) / UNIT_BYTES + 1 - at / UNIT_BYTES) (at / UNIT_BYTES) (i / UNIT_BYTES) (omega arith) (omega arith)
     ]
 
-is_in : (at n i : ℕ) → is_within at n i ≡ true → (at ≤ i) × (i < at + n)
+is_in : (at n i : ℕ) → in_run at n i ≡ true → (at ≤ i) × (i < at + n)
 is_in at n i h = (grind (arith, nat_tests), grind (arith, nat_tests))
 
-pub write_written : (at : ℕ) (bytes : List ℕ) (ps : Patches) (i : ℕ) → new_in (put_blocks at bytes (span at (length bytes)) ps) i ≡ (if is_within at (length bytes) i then Some (get_or bytes (i - at) 0) else new_in ps i)
+pub write_written : (at : ℕ) (bytes : List ℕ) (ps : Patches) (i : ℕ) → new_in (put_blocks at bytes (span at (length bytes)) ps) i ≡ (if in_run at (length bytes) i then Some (get_or bytes (i - at) 0) else new_in ps i)
 write_written at bytes ps i =
-    elim (either (is_within at (length bytes) i)) [
+    elim (either (in_run at (length bytes) i)) [
       | inl inside ↦
           let h = is_in at (length bytes) i inside in
           all_in at bytes (span at (length bytes)) ps i inside (in_span at (length bytes) i h.0 h.1)

@@ -7,7 +7,7 @@ use Rattle.std.proofs.lemmas.List.{get_or-drop, get_or_append_left, get_or-appen
 use Rattle.std.proofs.lemmas.List.FromFn.{length-map-range_with_len, get_or-map-range_with_len}
 use Rattle.std.proofs.lemmas.Grind.{common_steps}
 use Rattle.posix_calls.specs.Content.{resized, written}
-use Rattle.graph_change.specs.Bytes.{BytesChange, Length, Grown, Cut, end, length_after, left, no_bytes, byte_after, bytes_after, grown_to, sized_to, is_within, with_write, with_size, IsOrdered, IsTidy}
+use Rattle.graph_change.specs.Bytes.{BytesChange, Length, Grown, Cut, end, length_after, left, no_bytes, byte_after, bytes_after, grown_to, sized_to, in_run, with_write, with_size, IsOrdered, IsTidy}
 
 length_resized : (n : ℕ) (bs : List ℕ) → length (resized n bs) ≡ n
 length_resized n bs = grind (arith, common_steps)
@@ -140,13 +140,13 @@ write_end : (n : ℕ) (e : Length) → end (grown_to n e) ≡ max (end e) n
 write_end n (Grown to) = refl
 write_end n (Cut least to) = refl
 
-within : {A : Type 0} (at n i : ℕ) (x y : A) → at ≤ i → i < at + n → (if is_within at n i then x else y) ≡ x
+within : {A : Type 0} (at n i : ℕ) (x y : A) → at ≤ i → i < at + n → (if in_run at n i then x else y) ≡ x
 within at n i x y low high = grind (arith, nat_tests)
 
-before : {A : Type 0} (at n i : ℕ) (x y : A) → i < at → (if is_within at n i then x else y) ≡ y
+before : {A : Type 0} (at n i : ℕ) (x y : A) → i < at → (if in_run at n i then x else y) ≡ y
 before at n i x y low = grind (arith, nat_tests)
 
-past : {A : Type 0} (at n i : ℕ) (x y : A) → at + n ≤ i → (if is_within at n i then x else y) ≡ y
+past : {A : Type 0} (at n i : ℕ) (x y : A) → at + n ≤ i → (if in_run at n i then x else y) ≡ y
 past at n i x y high = grind (arith, nat_tests)
 
 pub tidy_write : (at : ℕ) (bytes : List ℕ) (c : BytesChange) → IsTidy c → IsTidy (with_write at bytes c)
@@ -157,8 +157,8 @@ tidy_write at bytes c tidy =
       inside = λ i h. past at (length bytes) i (Some (get_or bytes (i - at) 0)) (c.new i) (omega (arith, e, h)) ∙ tidy.inside i (omega (arith, e, h));
     }
 
-write_byte : (at : ℕ) (bytes : List ℕ) (c : BytesChange) (old : List ℕ) (i : ℕ) → byte_after (with_write at bytes c) old i ≡ byte_of (if is_within at (length bytes) i then Some (get_or bytes (i - at) 0) else c.new i) (left c.length old i)
-write_byte at bytes c old i = ap (byte_of (if is_within at (length bytes) i then Some (get_or bytes (i - at) 0) else c.new i)) (write_left (at + length bytes) c.length old i)
+write_byte : (at : ℕ) (bytes : List ℕ) (c : BytesChange) (old : List ℕ) (i : ℕ) → byte_after (with_write at bytes c) old i ≡ byte_of (if in_run at (length bytes) i then Some (get_or bytes (i - at) 0) else c.new i) (left c.length old i)
+write_byte at bytes c old i = ap (byte_of (if in_run at (length bytes) i then Some (get_or bytes (i - at) 0) else c.new i)) (write_left (at + length bytes) c.length old i)
 
 write_over : (at : ℕ) (bytes : List ℕ) (c : BytesChange) (old : List ℕ) (i : ℕ) → IsTidy c → byte_after (with_write at bytes c) old i ≡ get_or (written at bytes (bytes_after c old)) i 0
 write_over at bytes c old i tidy =

@@ -8,13 +8,13 @@ use Rattle.std.proofs.lemmas.Bool.{cases_lt}
 use Rattle.std.proofs.lemmas.Bool.Decides.{eqb_tells, nat_tests}
 use Rattle.std.proofs.lemmas.Grind.{common_steps}
 use Rattle.posix_calls.specs.declared.limits.TheConstants.{UNIT_BYTES}
-use Rattle.graph_change.specs.Bytes.{is_within}
+use Rattle.graph_change.specs.Bytes.{in_run}
 use Rattle.graph_change.specs.Change.{Patch, Patches, blank, patch_at, span, put_patch, over_patch, put_block, put_blocks}
 use Rattle.graph_change.proofs.Blocks.{get_put, value_put, either, any_range}
 
 -- a block with its part of the first bytes that are put at an offset of the file
 abbrev pub so_far : ℕ → ℕ → List ℕ → ℕ → Patch → Patch
-so_far at done bytes b old p = if nat_lt p UNIT_BYTES && is_within at done (UNIT_BYTES * b + p) then Some (get_or bytes (UNIT_BYTES * b + p - at) 0) else old p
+so_far at done bytes b old p = if nat_lt p UNIT_BYTES && in_run at done (UNIT_BYTES * b + p) then Some (get_or bytes (UNIT_BYTES * b + p - at) 0) else old p
 
 -- the blocks after the first bytes are put
 abbrev pub PutSoFar : ℕ → ℕ → List ℕ → Patches → Patches → Type 0
@@ -27,7 +27,7 @@ twice true x y = refl
 twice false x y = refl
 
 over_twice : (at : ℕ) (bytes : List ℕ) (b : ℕ) (old : Patch) → over_patch at bytes b (over_patch at bytes b old) ≡ over_patch at bytes b old
-over_twice at bytes b old = λ t p. twice (nat_lt p UNIT_BYTES && is_within at (length bytes) (UNIT_BYTES * b + p)) (Some (get_or bytes (UNIT_BYTES * b + p - at) 0)) (old p) t
+over_twice at bytes b old = λ t p. twice (nat_lt p UNIT_BYTES && in_run at (length bytes) (UNIT_BYTES * b + p)) (Some (get_or bytes (UNIT_BYTES * b + p - at) 0)) (old p) t
 
 same_both : {A : Type 0} (b : Bool) (x : A) → (if b then x else x) ≡ x
 same_both true x = refl
@@ -106,7 +106,7 @@ block_so_far at done bytes old now b p put =
   where
     not_so_far : (at done : ℕ) (bytes : List ℕ) (b : ℕ) (old : Patch) (p : ℕ) → lies_in at done b ≡ false → so_far at done bytes b old p ≡ old p
     not_so_far at done bytes b old p out =
-        let z : (nat_lt p UNIT_BYTES && is_within at done (UNIT_BYTES * b + p)) ≡ false = grind (arith, nat_tests, out) in
+        let z : (nat_lt p UNIT_BYTES && in_run at done (UNIT_BYTES * b + p)) ≡ false = grind (arith, nat_tests, out) in
         ap (λ t. cond t (Some (get_or bytes (UNIT_BYTES * b + p - at) 0)) (old p)) z
 
 piece_byte : (count done k : ℕ) (bytes : List ℕ) → k < count → get_or (take count (drop done bytes)) k 0 ≡ get_or bytes (done + k) 0
@@ -122,29 +122,29 @@ in_block at done count bytes old now p fits within is =
     let b = (at + done) / UNIT_BYTES in
     let part = take count (drop done bytes) in
     let new = so_far at (done + count) bytes b old p in
-    ap (λ n. if is_within place n p then Some (get_or part (p - place) 0) else now p) (piece_length count done bytes fits)
+    ap (λ n. if in_run place n p then Some (get_or part (p - place) 0) else now p) (piece_length count done bytes fits)
     ∙ elim (cases_lt p place) [
       | inl low ↦
-          (let z : is_within place count p ≡ false = grind (arith, nat_tests, low) in ap (λ t. cond t (Some (get_or part (p - place) 0)) (now p)) z)
-          ∙ is ∙ (let z : (nat_lt p UNIT_BYTES && is_within at done (UNIT_BYTES * b + p)) ≡ (nat_lt p UNIT_BYTES && is_within at (done + count) (UNIT_BYTES * b + p)) = grind (arith, nat_tests, low, within) in ap (λ t. cond t (Some (get_or bytes (UNIT_BYTES * b + p - at) 0)) (old p)) z)
+          (let z : in_run place count p ≡ false = grind (arith, nat_tests, low) in ap (λ t. cond t (Some (get_or part (p - place) 0)) (now p)) z)
+          ∙ is ∙ (let z : (nat_lt p UNIT_BYTES && in_run at done (UNIT_BYTES * b + p)) ≡ (nat_lt p UNIT_BYTES && in_run at (done + count) (UNIT_BYTES * b + p)) = grind (arith, nat_tests, low, within) in ap (λ t. cond t (Some (get_or bytes (UNIT_BYTES * b + p - at) 0)) (old p)) z)
       | inr high ↦ elim (cases_lt p (place + count)) [
         | inl inside ↦
-            (let z : is_within place count p ≡ true = grind (arith, nat_tests, high, inside) in ap (λ t. cond t (Some (get_or part (p - place) 0)) (now p)) z)
+            (let z : in_run place count p ≡ true = grind (arith, nat_tests, high, inside) in ap (λ t. cond t (Some (get_or part (p - place) 0)) (now p)) z)
             ∙ ap Some (piece_byte count done (p - place) bytes (omega (arith, high, inside)) ∙ ap (λ k. get_or bytes k 0) (let e : done + (p - place) ≡ UNIT_BYTES * b + p - at = omega (arith, high, inside) in e))
-            ∙ sym (let z : (nat_lt p UNIT_BYTES && is_within at (done + count) (UNIT_BYTES * b + p)) ≡ true = grind (arith, nat_tests, high, inside, within) in ap (λ t. cond t (Some (get_or bytes (UNIT_BYTES * b + p - at) 0)) (old p)) z)
+            ∙ sym (let z : (nat_lt p UNIT_BYTES && in_run at (done + count) (UNIT_BYTES * b + p)) ≡ true = grind (arith, nat_tests, high, inside, within) in ap (λ t. cond t (Some (get_or bytes (UNIT_BYTES * b + p - at) 0)) (old p)) z)
         | inr past ↦
-            (let z : is_within place count p ≡ false = grind (arith, nat_tests, past) in ap (λ t. cond t (Some (get_or part (p - place) 0)) (now p)) z)
-            ∙ is ∙ (let z : (nat_lt p UNIT_BYTES && is_within at done (UNIT_BYTES * b + p)) ≡ (nat_lt p UNIT_BYTES && is_within at (done + count) (UNIT_BYTES * b + p)) = grind (arith, nat_tests, past, within) in ap (λ t. cond t (Some (get_or bytes (UNIT_BYTES * b + p - at) 0)) (old p)) z)
+            (let z : in_run place count p ≡ false = grind (arith, nat_tests, past) in ap (λ t. cond t (Some (get_or part (p - place) 0)) (now p)) z)
+            ∙ is ∙ (let z : (nat_lt p UNIT_BYTES && in_run at done (UNIT_BYTES * b + p)) ≡ (nat_lt p UNIT_BYTES && in_run at (done + count) (UNIT_BYTES * b + p)) = grind (arith, nat_tests, past, within) in ap (λ t. cond t (Some (get_or bytes (UNIT_BYTES * b + p - at) 0)) (old p)) z)
       ]
     ]
 
 -- every other block
 other_block : (at done count : ℕ) (bytes : List ℕ) (b : ℕ) (old : Patch) → (at + done) % UNIT_BYTES + count ≤ UNIT_BYTES → b ≢ (at + done) / UNIT_BYTES → so_far at done bytes b old ≡ so_far at (done + count) bytes b old
 other_block at done count bytes b old within other = λ t p.
-    (let z : (nat_lt p UNIT_BYTES && is_within at done (UNIT_BYTES * b + p)) ≡ (nat_lt p UNIT_BYTES && is_within at (done + count) (UNIT_BYTES * b + p)) = elsewhere p in
+    (let z : (nat_lt p UNIT_BYTES && in_run at done (UNIT_BYTES * b + p)) ≡ (nat_lt p UNIT_BYTES && in_run at (done + count) (UNIT_BYTES * b + p)) = elsewhere p in
     ap (λ c. cond c (Some (get_or bytes (UNIT_BYTES * b + p - at) 0)) (old p)) z) t
   where
-    elsewhere : (p : ℕ) → (nat_lt p UNIT_BYTES && is_within at done (UNIT_BYTES * b + p)) ≡ (nat_lt p UNIT_BYTES && is_within at (done + count) (UNIT_BYTES * b + p))
+    elsewhere : (p : ℕ) → (nat_lt p UNIT_BYTES && in_run at done (UNIT_BYTES * b + p)) ≡ (nat_lt p UNIT_BYTES && in_run at (done + count) (UNIT_BYTES * b + p))
     elsewhere p = elim (cases_lt p UNIT_BYTES) [
       | inl low ↦ elim (cases_lt b ((at + done) / UNIT_BYTES)) [
         | inl before ↦ grind (arith, nat_tests, within, low, before)

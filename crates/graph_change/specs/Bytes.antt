@@ -1,6 +1,7 @@
 -- What becomes of a file's bytes: a length, and new bytes at some places.
-use Rattle.std.specs.Prelude.{ℕ, ◌+◌, ◌-◌, ◌≤◌, min, max, List, length, get_or, Bool, ◌&&◌, Option, Some, None, ◌≡◌, nat_lt, nat_le, if◌then◌else◌, map}
+use Rattle.std.specs.Prelude.{ℕ, ◌+◌, ◌-◌, ◌≤◌, min, max, List, length, get_or, Option, Some, None, ◌≡◌, nat_lt, if◌then◌else◌, map}
 use Rattle.std.specs.List.{range_with_len}
+pub use Rattle.file_graph.specs.Numbers.{in_run}
 
 -- the length that a file gets
 pub data Length : Type 0 where
@@ -53,13 +54,9 @@ abbrev pub sized_to : ℕ → Length → Length
 sized_to n (Grown to) = Cut n n
 sized_to n (Cut least to) = Cut (min least n) n
 
--- whether a place is one of so many from a place on
-abbrev pub is_within : ℕ → ℕ → ℕ → Bool
-is_within at count i = nat_le at i && nat_lt i (at + count)
-
 -- with bytes put at an offset
 abbrev pub with_write : ℕ → List ℕ → BytesChange → BytesChange
-with_write at bytes c = record { length = grown_to (at + length bytes) c.length; new = λ i. if is_within at (length bytes) i then Some (get_or bytes (i - at) 0) else c.new i }
+with_write at bytes c = record { length = grown_to (at + length bytes) c.length; new = λ i. if in_run at (length bytes) i then Some (get_or bytes (i - at) 0) else c.new i }
 
 -- with a length
 abbrev pub with_size : ℕ → BytesChange → BytesChange

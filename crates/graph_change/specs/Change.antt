@@ -7,7 +7,7 @@ use Rattle.posix_calls.specs.declared.limits.TheConstants.{UNIT_BYTES}
 use Rattle.file_graph.specs.Graph.{Graph, after_effects}
 use Rattle.file_graph.specs.declared.effect.Effect.{Effect}
 use Rattle.file_graph.specs.declared.effect.Effect.TheVariants as effect
-use Rattle.graph_change.specs.Bytes.{Length, Grown, Cut, grown_to, sized_to, is_within}
+use Rattle.graph_change.specs.Bytes.{Length, Grown, Cut, grown_to, sized_to, in_run}
 use Rattle.graph_change.specs.Net.{Base, Kept, Made, Gone, Net, EntryChanges, node_after}
 
 -- ---- the new bytes of a file, by blocks
@@ -38,11 +38,11 @@ span at count = if count == 0 then [] else range_with_len (at / UNIT_BYTES) ((at
 
 -- a block with bytes put at a place of it
 abbrev pub put_patch : ℕ → List ℕ → Patch → Patch
-put_patch place bytes old p = if is_within place (length bytes) p then Some (get_or bytes (p - place) 0) else old p
+put_patch place bytes old p = if in_run place (length bytes) p then Some (get_or bytes (p - place) 0) else old p
 
 -- a block with its part of bytes that are put at an offset of the file
 abbrev pub over_patch : ℕ → List ℕ → ℕ → Patch → Patch
-over_patch at bytes b old p = if nat_lt p UNIT_BYTES && is_within at (length bytes) (UNIT_BYTES * b + p) then Some (get_or bytes (UNIT_BYTES * b + p - at) 0) else old p
+over_patch at bytes b old p = if nat_lt p UNIT_BYTES && in_run at (length bytes) (UNIT_BYTES * b + p) then Some (get_or bytes (UNIT_BYTES * b + p - at) 0) else old p
 
 -- with one block's part
 abbrev pub put_block : ℕ → List ℕ → ℕ → Patches → Patches

@@ -4,7 +4,7 @@ use Rattle.std.proofs.lemmas.Bool.{eqb-true}
 use Rattle.std.proofs.Math.Seq.{drop-append-add}
 use Rattle.std.proofs.lemmas.List.{take_at, length-append, length-take, drop-drop, length-replicate, drop-replicate, drop-append-le, replicate-append-replicate}
 use Rattle.std.specs.Prelude.{replicate}
-use Rattle.layout.specs.Bytes.{◌>>=◌, Field, u32, u64, zeros, filled, overwritten, are_zero, within}
+use Rattle.layout.specs.Bytes.{◌>>=◌, Field, u32, u64, zeros, filled, with_text, are_zero, within}
 use Rattle.layout.proofs.Fields.{Takes, u32_long, u64_long, eqb-same, guard_some, test_some, bind_some}
 use Rattle.layout.proofs.Limits.{and_parts}
 
@@ -43,7 +43,7 @@ filled_nothing n = ap zeros (omega arith)
 pub blank_filled : (n : ℕ) (bytes : List ℕ) → length bytes ≡ n → are_zero bytes ≡ true → bytes ≡ filled n []
 blank_filled n bytes long blank = are_zero_zeros bytes blank ∙ ap zeros long ∙ filled_nothing n
 
-pub written_on : (n at : ℕ) (text w old : List ℕ) → old ≡ filled n text → at ≡ length text → length text + length w ≤ n → overwritten at w old ≡ filled n (text ++ w)
+pub written_on : (n at : ℕ) (text w old : List ℕ) → old ≡ filled n text → at ≡ length text → length text + length w ≤ n → with_text at w old ≡ filled n (text ++ w)
 unfolding filled
 written_on n at text w old is there fits =
     let front : take at (text ++ zeros (n - length text)) ≡ text = take_at text (zeros (n - length text)) at (sym there) in
@@ -52,7 +52,7 @@ written_on n at text w old is there fits =
     rw (is, front, far) refl
 
 -- two texts, one behind the other, are one
-pub overwritten_then : (at next : ℕ) (u v old : List ℕ) → at + length u ≡ next → next + length v ≤ length old → overwritten next v (overwritten at u old) ≡ overwritten at (u ++ v) old
+pub overwritten_then : (at next : ℕ) (u v old : List ℕ) → at + length u ≡ next → next + length v ≤ length old → with_text next v (with_text at u old) ≡ with_text at (u ++ v) old
 overwritten_then at next u v old there fits =
     let front : List ℕ = take at old ++ u in
     let rest : List ℕ = drop (at + length u) old in
@@ -66,29 +66,29 @@ overwritten_then at next u v old there fits =
 
 -- and three are
 pub overwritten_thrice : (at second third : ℕ) (u v w old : List ℕ) → at + length u ≡ second → second + length v ≡ third → third + length w ≤ length old
-    → overwritten third w (overwritten second v (overwritten at u old)) ≡ overwritten at (u ++ (v ++ w)) old
+    → with_text third w (with_text second v (with_text at u old)) ≡ with_text at (u ++ (v ++ w)) old
 overwritten_thrice at second third u v w old there next fits =
-    ap (overwritten third w) (overwritten_then at second u v old there (omega (arith, next, fits)))
+    ap (with_text third w) (overwritten_then at second u v old there (omega (arith, next, fits)))
     ∙ overwritten_then at third (u ++ v) w old (omega (arith, there, next, length-append u v)) fits
-    ∙ ap (λ (t : List ℕ). overwritten at t old) (append_assoc u v w)
+    ∙ ap (λ (t : List ℕ). with_text at t old) (append_assoc u v w)
 
-pub written_u32 : (n at x : ℕ) (text old : List ℕ) → old ≡ filled n text → length text ≡ at → at + 4 ≤ n → (overwritten at (u32 x) old ≡ filled n (text ++ u32 x)) × (length (text ++ u32 x) ≡ at + 4)
+pub written_u32 : (n at x : ℕ) (text old : List ℕ) → old ≡ filled n text → length text ≡ at → at + 4 ≤ n → (with_text at (u32 x) old ≡ filled n (text ++ u32 x)) × (length (text ++ u32 x) ≡ at + 4)
 written_u32 n at x text old is long fits =
     (written_on n at text (u32 x) old is (sym long) (omega (arith, u32_long x)), omega (arith, length-append text (u32 x), u32_long x))
 
-pub written_u64 : (n at x : ℕ) (text old : List ℕ) → old ≡ filled n text → length text ≡ at → at + 8 ≤ n → (overwritten at (u64 x) old ≡ filled n (text ++ u64 x)) × (length (text ++ u64 x) ≡ at + 8)
+pub written_u64 : (n at x : ℕ) (text old : List ℕ) → old ≡ filled n text → length text ≡ at → at + 8 ≤ n → (with_text at (u64 x) old ≡ filled n (text ++ u64 x)) × (length (text ++ u64 x) ≡ at + 8)
 written_u64 n at x text old is long fits =
     (written_on n at text (u64 x) old is (sym long) (omega (arith, u64_long x)), omega (arith, length-append text (u64 x), u64_long x))
 
 -- a text over zeros is the text filled up with zeros
-pub over_zeros : (n at : ℕ) (text old : List ℕ) → at + n ≤ length old → length text ≤ n → overwritten at text (overwritten at (zeros n) old) ≡ overwritten at (filled n text) old
+pub over_zeros : (n at : ℕ) (text old : List ℕ) → at + n ≤ length old → length text ≤ n → with_text at text (with_text at (zeros n) old) ≡ with_text at (filled n text) old
 unfolding filled
 over_zeros n at text old fits short =
     let front : List ℕ = take at old in
     let rest : List ℕ = drop (at + n) old in
     let gap : List ℕ = zeros (n - length text) in
     let long : length front ≡ at = omega (arith, fits, length-take at old) in
-    let first : overwritten at (zeros n) old ≡ front ++ (zeros n ++ rest) =
+    let first : with_text at (zeros n) old ≡ front ++ (zeros n ++ rest) =
     ap (λ (k : ℕ). (front ++ zeros n) ++ drop (at + k) old) (zeros_long n) ∙ append_assoc front (zeros n) rest in
     let before : take at (front ++ (zeros n ++ rest)) ≡ front = take_at front (zeros n ++ rest) at long in
     let after : drop (at + length text) (front ++ (zeros n ++ rest)) ≡ gap ++ rest =

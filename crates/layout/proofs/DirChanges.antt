@@ -16,7 +16,7 @@ use Rattle.std.proofs.lemmas.List.{drop_all, append-nil}
 use Rattle.file_graph.specs.declared.effect.Kind.{Kind}
 use Rattle.layout.specs.declared.directory.DirEntry.{DirEntry}
 use Rattle.layout.specs.Places.{is_inode}
-use Rattle.layout.specs.Bytes.{u32, zeros, filled, overwritten, within, all_pairs}
+use Rattle.layout.specs.Bytes.{u32, zeros, filled, with_text, within, all_pairs}
 use Rattle.layout.specs.Directory.{EntryList, kind_byte, entry_text, entries_text, entries_spelling, fits_entry, fits_entries, differ, are_distinct, head_at, entries_at, listed, AreEntries, IsListed, no_entry, entry_of, with_entry, with_last, with_target, without_entry, without_last}
 use Rattle.layout.proofs.Limits.{and_parts}
 use Rattle.layout.proofs.Fields.{u32_long}
@@ -76,28 +76,28 @@ head_now block e =
 
 -- ---- another count
 
-count_set : (owner n m : ℕ) (texts : List ℕ) → overwritten 4 (u32 m) (filled 4096 (head_text owner n ++ texts)) ≡ filled 4096 (head_text owner m ++ texts)
+count_set : (owner n m : ℕ) (texts : List ℕ) → with_text 4 (u32 m) (filled 4096 (head_text owner n ++ texts)) ≡ filled 4096 (head_text owner m ++ texts)
 count_set owner n m texts =
     let split : (k : ℕ) → head_text owner k ++ texts ≡ u32 owner ++ (u32 k ++ (zeros 56 ++ texts)) = λ k. ap (λ (t : List ℕ). t ++ texts) (sym (head_parts owner k)) ∙ simp append_assoc in
-    ap (λ (t : List ℕ). overwritten 4 (u32 m) (filled 4096 t)) (split n)
-    ∙ ap (λ (k : ℕ). overwritten k (u32 m) (filled 4096 (u32 owner ++ (u32 n ++ (zeros 56 ++ texts))))) (sym (u32_long owner))
+    ap (λ (t : List ℕ). with_text 4 (u32 m) (filled 4096 t)) (split n)
+    ∙ ap (λ (k : ℕ). with_text k (u32 m) (filled 4096 (u32 owner ++ (u32 n ++ (zeros 56 ++ texts))))) (sym (u32_long owner))
     ∙ around_place 4096 (u32 owner) (u32 n) (u32 m) (zeros 56 ++ texts) (u32_long m ∙ sym (u32_long n))
     ∙ ap (filled 4096) (sym (split m))
 
 -- ---- one entry more
 
 pub entry_added : (v : EntryList) (e : DirEntry) → Fit v → length v.entries < 56 → length e.name ≤ 64
-    → overwritten 4 (u32 (length v.entries + 1)) (overwritten (64 + 72 * length v.entries) (entry_text e) (entries_spelling v)) ≡ entries_spelling (with_last v e)
+    → with_text 4 (u32 (length v.entries + 1)) (with_text (64 + 72 * length v.entries) (entry_text e) (entries_spelling v)) ≡ entries_spelling (with_last v e)
 entry_added v e f room short =
     let n : ℕ = length v.entries in
     let head : ℕ → List ℕ = head_text v.owner in
     let texts : List ℕ = flat_map entry_text v.entries in
     let long : length (entries_text v) ≡ 64 + 72 * n = omega (arith, length-append (head n) texts, head_text_long v.owner n, entry_texts_long v.entries f.each) in
-    let behind : overwritten (64 + 72 * n) (entry_text e) (entries_spelling v) ≡ filled 4096 (entries_text v ++ entry_text e) =
+    let behind : with_text (64 + 72 * n) (entry_text e) (entries_spelling v) ≡ filled 4096 (entries_text v ++ entry_text e) =
     written_on 4096 (64 + 72 * n) (entries_text v) (entry_text e) (entries_spelling v) refl (sym long) (omega (arith, long, room, entry_text_long e short)) in
     let all : flat_map entry_text (v.entries ++ e ∷ []) ≡ texts ++ entry_text e = flat_map-append entry_text v.entries (e ∷ []) ∙ ap (λ (t : List ℕ). texts ++ t) (append-nil (entry_text e)) in
     let more : n + 1 ≡ length (v.entries ++ e ∷ []) = omega (arith, length-append v.entries (e ∷ [])) in
-    ap (overwritten 4 (u32 (n + 1))) (behind ∙ ap (filled 4096) (append_assoc (head n) texts (entry_text e)))
+    ap (with_text 4 (u32 (n + 1))) (behind ∙ ap (filled 4096) (append_assoc (head n) texts (entry_text e)))
     ∙ count_set v.owner n (n + 1) (texts ++ entry_text e)
     ∙ ap (λ (k : ℕ). filled 4096 (head k ++ (texts ++ entry_text e))) more
     ∙ ap (λ (t : List ℕ). filled 4096 (head (length (v.entries ++ e ∷ [])) ++ t)) (sym all)
@@ -130,7 +130,7 @@ fit_added v e f room fit new = fit_from (with_last v e) (record {
 
 -- ---- the last one goes
 
-cut_off : (n : ℕ) (a x : List ℕ) → length a + length x ≤ n → overwritten (length a) (zeros (length x)) (filled n (a ++ (x ++ []))) ≡ filled n a
+cut_off : (n : ℕ) (a x : List ℕ) → length a + length x ≤ n → with_text (length a) (zeros (length x)) (filled n (a ++ (x ++ []))) ≡ filled n a
 unfolding filled
 cut_off n a x fits =
     let w : List ℕ = zeros (length x) in
@@ -144,7 +144,7 @@ cut_off n a x fits =
     ∙ ap (λ (k : ℕ). a ++ zeros k) (sym split)
 
 pub entry_removed : (v : EntryList) (n : ℕ) → length v.entries ≡ n → list_all fits_entry v.entries ≡ true → 0 < n → n ≤ 56
-    → overwritten 4 (u32 (n - 1)) (overwritten (64 + 72 * (n - 1)) (zeros 72) (entries_spelling v)) ≡ entries_spelling (without_last v)
+    → with_text 4 (u32 (n - 1)) (with_text (64 + 72 * (n - 1)) (zeros 72) (entries_spelling v)) ≡ entries_spelling (without_last v)
 entry_removed v n count each some few =
     let i : ℕ = n - 1 in
     let es : List DirEntry = v.entries in
@@ -156,14 +156,14 @@ entry_removed v n count each some few =
     let front : List ℕ = front_text v i in
     let long : length front ≡ 64 + 72 * i = front_long v i each (omega (arith, within)) in
     let whole : entries_text v ≡ front ++ (entry_text last ++ []) = text_around v i no_entry within ∙ ap (λ (t : List DirEntry). front ++ (entry_text last ++ flat_map entry_text t)) nothing in
-    let cut : overwritten (64 + 72 * i) (zeros 72) (entries_spelling v) ≡ filled 4096 front =
-    ap (λ (t : List ℕ). overwritten (64 + 72 * i) (zeros 72) (filled 4096 t)) whole
-    ∙ ap (λ (k : ℕ). overwritten k (zeros 72) (filled 4096 (front ++ (entry_text last ++ [])))) (sym long)
-    ∙ ap (λ (k : ℕ). overwritten (length front) (zeros k) (filled 4096 (front ++ (entry_text last ++ [])))) (sym size)
+    let cut : with_text (64 + 72 * i) (zeros 72) (entries_spelling v) ≡ filled 4096 front =
+    ap (λ (t : List ℕ). with_text (64 + 72 * i) (zeros 72) (filled 4096 t)) whole
+    ∙ ap (λ (k : ℕ). with_text k (zeros 72) (filled 4096 (front ++ (entry_text last ++ [])))) (sym long)
+    ∙ ap (λ (k : ℕ). with_text (length front) (zeros k) (filled 4096 (front ++ (entry_text last ++ [])))) (sym size)
     ∙ cut_off 4096 front (entry_text last) (omega (arith, long, size, few, some)) in
     let left : length (take i es) ≡ i = omega (arith, length-take i es, within) in
     let one : length es - 1 ≡ i = omega (arith, count) in
-    ap (overwritten 4 (u32 i)) cut
+    ap (with_text 4 (u32 i)) cut
     ∙ count_set v.owner (length es) i (flat_map entry_text (take i es))
     ∙ ap (λ (k : ℕ). filled 4096 (head_text v.owner k ++ flat_map entry_text (take i es))) (sym left)
     ∙ ap (λ (k : ℕ). entries_spelling (record { owner = v.owner; entries = take k es })) (sym one)
@@ -202,7 +202,7 @@ entry_bytes block i e lt =
     ap (take 72) (whole_at block (64 + 72 * i) x s) ∙ take_at (entry_text x) s.rest 72 size
 
 pub entry_copied : (v : EntryList) (i j : ℕ) → fits_entries v ≡ true → i < length v.entries → j < length v.entries
-    → overwritten (64 + 72 * i) (entry_text (entry_of v j)) (entries_spelling v) ≡ entries_spelling (with_entry v i (entry_of v j))
+    → with_text (64 + 72 * i) (entry_text (entry_of v j)) (entries_spelling v) ≡ entries_spelling (with_entry v i (entry_of v j))
 entry_copied v i j fit li lj =
     let f = fit_parts v fit in
     let x : DirEntry = entry_of v j in
@@ -275,7 +275,7 @@ fit_set v i e f fit distinct = fit_from (with_entry v i e) (record {
 })
 
 pub target_set : (v : EntryList) (i inode : ℕ) (k : Kind) → Fit v → i < length v.entries
-    → overwritten (64 + 72 * i + 4) (kind_byte k ∷ []) (overwritten (64 + 72 * i) (u32 inode) (entries_spelling v)) ≡ entries_spelling (with_target v i inode k)
+    → with_text (64 + 72 * i + 4) (kind_byte k ∷ []) (with_text (64 + 72 * i) (u32 inode) (entries_spelling v)) ≡ entries_spelling (with_target v i inode k)
 target_set v i inode k f lt =
     let at : ℕ = 64 + 72 * i in
     let old : DirEntry = entry_of v i in
@@ -289,8 +289,8 @@ target_set v i inode k f lt =
     let same : length w ≡ length x = omega (arith, length-append (u32 inode) (kind_byte k ∷ []), length-append (u32 old.inode) (kind_byte old.kind ∷ []), u32_long inode, u32_long old.inode) in
     let parts : (n : ℕ) (b : ℕ) → (u32 n ++ (b ∷ name)) ++ behind ≡ (u32 n ++ (b ∷ [])) ++ (name ++ behind) = λ n b. simp append_assoc in
     overwritten_then at (at + 4) (u32 inode) (kind_byte k ∷ []) (entries_spelling v) (omega (arith, u32_long inode)) (omega (arith, spelling_long v f, f.few, lt))
-    ∙ ap (λ (t : List ℕ). overwritten at w (filled 4096 t)) (text_around v i no_entry lt ∙ ap (λ (t : List ℕ). front ++ t) (parts old.inode (kind_byte old.kind)))
-    ∙ ap (λ (n : ℕ). overwritten n w (filled 4096 (front ++ (x ++ (name ++ behind))))) (sym long)
+    ∙ ap (λ (t : List ℕ). with_text at w (filled 4096 t)) (text_around v i no_entry lt ∙ ap (λ (t : List ℕ). front ++ t) (parts old.inode (kind_byte old.kind)))
+    ∙ ap (λ (n : ℕ). with_text n w (filled 4096 (front ++ (x ++ (name ++ behind))))) (sym long)
     ∙ around_place 4096 front x w (name ++ behind) same
     ∙ ap (λ (t : List ℕ). filled 4096 (front ++ t)) (sym (parts inode (kind_byte k)))
     ∙ ap (filled 4096) (text_set v i new lt)

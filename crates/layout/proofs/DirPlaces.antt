@@ -14,7 +14,7 @@ use Rattle.std.proofs.Math.Seq.{drop-append-add}
 use Rattle.file_graph.specs.declared.effect.Kind.TheVariants as kind
 use Rattle.layout.specs.declared.directory.DirEntry.{DirEntry}
 use Rattle.layout.specs.Places.{is_inode}
-use Rattle.layout.specs.Bytes.{◌>>=◌, AreBytes, Field, u32, zeros, filled, overwritten, number_at, text_at, items_at, are_zero, within}
+use Rattle.layout.specs.Bytes.{◌>>=◌, AreBytes, Field, u32, zeros, filled, with_text, number_at, text_at, items_at, are_zero, within}
 use Rattle.layout.specs.Directory.{EntryList, kind_byte, entry_text, entries_text, entries_spelling, fits_entry, fits_entries, head_at, entry_at, fields_at, entries_at, entries_of, listed, IsListed, are_distinct, with_entry}
 use Rattle.layout.proofs.Limits.{and_parts}
 use Rattle.layout.proofs.Fields.{bind_some, test_some, some_is, u32_long}
@@ -150,21 +150,21 @@ cut_name block at k name n long fits = rw (tail_at (at + 8) block) (omega (arith
 
 -- ---- one entry for another
 
-replaced : (a x w c : List ℕ) → length w ≡ length x → overwritten (length a) w (a ++ (x ++ c)) ≡ a ++ (w ++ c)
+replaced : (a x w c : List ℕ) → length w ≡ length x → with_text (length a) w (a ++ (x ++ c)) ≡ a ++ (w ++ c)
 replaced a x w c long =
     let front : take (length a) (a ++ (x ++ c)) ≡ a = take_at a (x ++ c) (length a) refl in
     let far : drop (length a + length w) (a ++ (x ++ c)) ≡ c = drop-append-add a (x ++ c) (length w) ∙ drop_at x c (length w) (sym long) in
     rw (front, far) (append_assoc a w c)
 
 -- bytes around a place, filled up
-pub around_place : (n : ℕ) (a x w c : List ℕ) → length w ≡ length x → overwritten (length a) w (filled n (a ++ (x ++ c))) ≡ filled n (a ++ (w ++ c))
+pub around_place : (n : ℕ) (a x w c : List ℕ) → length w ≡ length x → with_text (length a) w (filled n (a ++ (x ++ c))) ≡ filled n (a ++ (w ++ c))
 unfolding filled
 around_place n a x w c long =
     let gap : List ℕ = zeros (n - length (a ++ (x ++ c))) in
     let same : length (a ++ (x ++ c)) ≡ length (a ++ (w ++ c)) = omega (arith, length-append a (x ++ c), length-append x c, length-append a (w ++ c), length-append w c, long) in
     let split : (a ++ (x ++ c)) ++ gap ≡ a ++ (x ++ (c ++ gap)) = simp append_assoc in
     let back : a ++ (w ++ (c ++ gap)) ≡ (a ++ (w ++ c)) ++ gap = simp append_assoc in
-    ap (overwritten (length a) w) split ∙ replaced a x w (c ++ gap) long ∙ back ∙ ap (λ (k : ℕ). (a ++ (w ++ c)) ++ zeros (n - k)) same
+    ap (with_text (length a) w) split ∙ replaced a x w (c ++ gap) long ∙ back ∙ ap (λ (k : ℕ). (a ++ (w ++ c)) ++ zeros (n - k)) same
 
 set_parts : (es : List DirEntry) (i : ℕ) (e : DirEntry) → i < length es → slice_set es i e ≡ take i es ++ e ∷ drop (i + 1) es
 set_parts es i e lt =
@@ -186,7 +186,7 @@ text_set v i e lt =
     ∙ ap (λ (t : List ℕ). head_text v.owner n ++ t) (sym texts)
     ∙ ap (λ (k : ℕ). head_text v.owner k ++ flat_map entry_text (slice_set v.entries i e)) (sym count)
 
-pub entry_set : (v : EntryList) (i : ℕ) (e : DirEntry) → fits_entries v ≡ true → i < length v.entries → length e.name ≤ 64 → overwritten (64 + 72 * i) (entry_text e) (entries_spelling v) ≡ entries_spelling (with_entry v i e)
+pub entry_set : (v : EntryList) (i : ℕ) (e : DirEntry) → fits_entries v ≡ true → i < length v.entries → length e.name ≤ 64 → with_text (64 + 72 * i) (entry_text e) (entries_spelling v) ≡ entries_spelling (with_entry v i e)
 entry_set v i e fit lt short =
     let p = and_parts (fits_list v) (are_distinct v.entries) fit in
     let f = list_fits v p.0 in
@@ -194,8 +194,8 @@ entry_set v i e fit lt short =
     let fx = entry_fits x (all_at fits_entry v.entries i e f.each lt) in
     let same : length (entry_text e) ≡ length (entry_text x) = entry_text_long e short ∙ sym (entry_text_long x (short_name x.name fx.name)) in
     let behind : List ℕ = flat_map entry_text (drop (i + 1) v.entries) in
-    ap (λ (t : List ℕ). overwritten (64 + 72 * i) (entry_text e) (filled 4096 t)) (text_around v i e lt)
-    ∙ ap (λ (k : ℕ). overwritten k (entry_text e) (filled 4096 (front_text v i ++ (entry_text x ++ behind)))) (sym (front_long v i f.each (omega arith)))
+    ap (λ (t : List ℕ). with_text (64 + 72 * i) (entry_text e) (filled 4096 t)) (text_around v i e lt)
+    ∙ ap (λ (k : ℕ). with_text k (entry_text e) (filled 4096 (front_text v i ++ (entry_text x ++ behind)))) (sym (front_long v i f.each (omega arith)))
     ∙ around_place 4096 (front_text v i) (entry_text x) (entry_text e) behind same
     ∙ ap (filled 4096) (text_set v i e lt)
 

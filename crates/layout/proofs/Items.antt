@@ -6,7 +6,7 @@ use Rattle.std.proofs.lemmas.Bool.{and_from}
 use Rattle.std.proofs.lemmas.List.{append-nil, take_more}
 use Rattle.std.proofs.lemmas.Grind.{flat_map-append}
 use Rattle.layout.proofs.Blocks.{written_on}
-use Rattle.layout.specs.Bytes.{◌>>=◌, AreBytes, Field, items_at, filled, overwritten}
+use Rattle.layout.specs.Bytes.{◌>>=◌, AreBytes, Field, items_at, filled, with_text}
 use Rattle.layout.proofs.Limits.{and_parts}
 use Rattle.layout.proofs.Fields.{Takes, Takes-then, bind_some, some_is}
 
@@ -58,7 +58,7 @@ items_pass {A = A} field p each (suc n) bytes x e =
 -- ---- a loop that writes one after the other
 
 pub item_on : {A : Type 0} (text : A → List ℕ) (n at i : ℕ) (head : List ℕ) (xs : List A) (x d : A) (old : List ℕ) → old ≡ filled n (head ++ flat_map text (take i xs)) → length (head ++ flat_map text (take i xs)) ≡ at
-    → at + length (text x) ≤ n → i < length xs → x ≡ get_or xs i d → overwritten at (text x) old ≡ filled n (head ++ flat_map text (take (i + 1) xs))
+    → at + length (text x) ≤ n → i < length xs → x ≡ get_or xs i d → with_text at (text x) old ≡ filled n (head ++ flat_map text (take (i + 1) xs))
 item_on {A = A} text n at i head xs x d old is long fits lt read =
     let so_far : List ℕ = head ++ flat_map text (take i xs) in
     let more : take (i + 1) xs ≡ take i xs ++ x ∷ [] = take_more xs i d lt ∙ ap (λ (y : A). take i xs ++ y ∷ []) (sym read) in

@@ -1,6 +1,6 @@
 -- Where everything stands on the shared media, counted in blocks from the start of a tier.
 use Rattle.std.specs.Prelude.{ℕ, ◌+◌, ◌*◌, ◌-◌, ◌/◌, ◌%◌, ◌≤◌, Option, Some, None, if◌then◌else◌, Bool, ◌&&◌, ◌||◌, nat_le, nat_lt}
-use Rattle.posix_calls.specs.declared.limits.TheConstants.{MAX_INODE}
+pub use Rattle.file_graph.specs.Numbers.{is_inode}
 use Rattle.tier_device.specs.declared.media.Tier.{Tier}
 use Rattle.tier_device.specs.declared.media.Tier.TheVariants as tiers
 use Rattle.layout.specs.declared.places.TheConstants.{MIN_UNITS, MAX_UNITS, MAX_DATA_BLOCKS, SPARE_BLOCKS, FIRST_SLOT_BLOCK, SLOT_SIZE, SLOTS_IN_BLOCK, MARKS_BLOCK, FIRST_NODE_BLOCK, BASE_NODE_BLOCKS, FILE_BLOCKS, DIRECTORY_BLOCKS}
@@ -33,10 +33,6 @@ pub record IsAllowed (s : Sizes) : Type 0 where
   pub block : s.block ≤ MAX_DATA_BLOCKS
   pub slow : s.slow ≤ MAX_DATA_BLOCKS
   pub enough : s.units + SPARE_BLOCKS ≤ s.fast + s.block + s.slow
-
--- whether a number is an inode's
-abbrev pub is_inode : ℕ → Bool
-is_inode inode = nat_le 1 inode && nat_le inode MAX_INODE
 
 -- the block of an inode's slot
 abbrev pub slot_block : ℕ → ℕ

@@ -3,7 +3,7 @@ ghost use Rattle.std.specs.Prelude.{◌≡◌, ◌<◌, ◌≤◌, ◌+◌, ◌*
 ghost use Rattle.std.specs.List.{list_all, position};
 ghost use Rattle.std.specs.Str.{bytes_eq};
 ghost use Rattle.posix_calls.specs.declared.limits.TheConstants.{MAX_NAME};
-ghost use Rattle.layout.specs.Bytes.{u32 as bytes_4, zeros, overwritten};
+ghost use Rattle.layout.specs.Bytes.{u32 as bytes_4, zeros, with_text};
 ghost use Rattle.layout.specs.Directory.{EntryList, AreEntries, listed, are_distinct, kind_byte, entry_text, entries_spelling, fits_entry, fits_entries, entry_of, with_entry, with_last, with_target, without_entry, without_last};
 ghost use Rattle.layout.specs.Lent.{owned};
 
@@ -71,7 +71,7 @@ pub fn set_entry(block: &mut [u8], index: usize, entry: EntryRef<'_>)
     requires long { length block.old ≡ BLOCK }
     requires inside { index < MAX_IN_BLOCK }
     requires short { length entry.name.now ≤ MAX_NAME }
-    ensures text { block.new ≡ overwritten (64 + 72 * index) (entry_text (owned entry.entry)) block.old }
+    ensures text { block.new ≡ with_text (64 + 72 * index) (entry_text (owned entry.entry)) block.old }
     ensures spelling { (v : EntryList) → fits_entries v ≡ true → block.old ≡ entries_spelling v → index < length v.entries → block.new ≡ entries_spelling (with_entry v index (owned entry.entry)) }
     ensures entries { AreEntries block.old → index < length (listed block.old).entries → fits_entry (owned entry.entry) ≡ true → are_distinct (with_entry (listed block.old) index (owned entry.entry)).entries ≡ true
         → AreEntries block.new × (listed block.new ≡ with_entry (listed block.old) index (owned entry.entry)) }
@@ -135,7 +135,7 @@ fn drop_last(block: &mut [u8], count: usize)
 #[tactic(auto, unfolding(crate::specs::Bytes::zeros))]
 fn clear_place(block: &mut [u8], at: usize)
     requires { at + ENTRY_SIZE ≤ length block.old }
-    ensures { block.new ≡ overwritten at (zeros ENTRY_SIZE) block.old }
+    ensures { block.new ≡ with_text at (zeros ENTRY_SIZE) block.old }
 {
     let blank = [0u8; ENTRY_SIZE];
     put(block, at, &blank);

@@ -1,6 +1,6 @@
 // Entries of a directory, at the front of bytes.
 ghost use Rattle.std.specs.Prelude.{◌≡◌, ◌≤◌, ◌+◌, ◌∷◌, [], length, option_map, IfOk, true};
-ghost use Rattle.layout.specs.Bytes.{byte_at, run_at, zeros, filled, overwritten};
+ghost use Rattle.layout.specs.Bytes.{byte_at, run_at, zeros, filled, with_text};
 ghost use Rattle.layout.specs.Directory.{kind_byte, kind_at, front_of, fields_at, entry_at, entry_text};
 ghost use Rattle.layout.specs.Lent.{owned};
 ghost use Rattle.posix_calls.specs.Name.{is_name};
@@ -43,7 +43,7 @@ impl<'a> EntryRef<'a> {
 pub fn put_entry(block: &mut [u8], at: usize, entry: EntryRef<'_>)
     requires within { at + 72 ≤ length block.old }
     requires short { length entry.name.now ≤ MAX_NAME }
-    ensures { block.new ≡ overwritten at (entry_text (owned entry.entry)) block.old }
+    ensures { block.new ≡ with_text at (entry_text (owned entry.entry)) block.old }
 {
     let name = entry.name;
     put_u32(block, at, entry.inode);
@@ -55,7 +55,7 @@ pub fn put_entry(block: &mut [u8], at: usize, entry: EntryRef<'_>)
 fn put_tags(block: &mut [u8], at: usize, kind: Kind, count: usize)
     requires within { at + 4 ≤ length block.old }
     requires few { count ≤ MAX_NAME }
-    ensures { block.new ≡ overwritten at (kind_byte kind ∷ count ∷ 0 ∷ 0 ∷ []) block.old }
+    ensures { block.new ≡ with_text at (kind_byte kind ∷ count ∷ 0 ∷ 0 ∷ []) block.old }
 {
     put(block, at, &[kind_byte(kind), count as u8, 0, 0]);
 }
@@ -63,7 +63,7 @@ fn put_tags(block: &mut [u8], at: usize, kind: Kind, count: usize)
 fn put_name(block: &mut [u8], at: usize, name: &[u8])
     requires within { at + MAX_NAME ≤ length block.old }
     requires short { length name.now ≤ MAX_NAME }
-    ensures { block.new ≡ overwritten at (filled MAX_NAME name.now) block.old }
+    ensures { block.new ≡ with_text at (filled MAX_NAME name.now) block.old }
 {
     put_zeros(block, at);
     put(block, at, name);
@@ -73,7 +73,7 @@ fn put_name(block: &mut [u8], at: usize, name: &[u8])
 #[tactic(auto, unfolding(crate::specs::Bytes::zeros))]
 fn put_zeros(block: &mut [u8], at: usize)
     requires { at + MAX_NAME ≤ length block.old }
-    ensures { block.new ≡ overwritten at (zeros MAX_NAME) block.old }
+    ensures { block.new ≡ with_text at (zeros MAX_NAME) block.old }
 {
     let text = [0u8; MAX_NAME];
     put(block, at, &text);

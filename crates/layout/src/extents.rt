@@ -1,7 +1,7 @@
 ghost use Rattle.std.specs.Prelude.{◌≡◌, ◌≤◌, ◌+◌, length, take, option_map, nat_le, true, IfSome};
 ghost use Rattle.std.specs.List.{list_all};
 ghost use Rattle.layout.specs.Answers.{Reads};
-ghost use Rattle.layout.specs.Bytes.{items_at, overwritten, within, are_zero};
+ghost use Rattle.layout.specs.Bytes.{items_at, with_text, within, are_zero};
 ghost use Rattle.layout.specs.Extents.{extent_text, extents_spelling, is_extent, are_sorted, are_stepping, places_apart, header_at, extent_at, extents_at, extents_of};
 ghost use Rattle.layout.specs.declared.error.What.TheVariants as what;
 
@@ -163,7 +163,7 @@ fn write_block(block: &mut [u8], owner: u32, level: u32, extents: &[Extent])
 
 fn put_extent(block: &mut [u8], at: usize, extent: Extent)
     requires { at + 12 ≤ length block.old }
-    ensures { block.new ≡ overwritten at (extent_text extent) block.old }
+    ensures { block.new ≡ with_text at (extent_text extent) block.old }
 {
     put_u32(block, at, extent.logical);
     put_u32(block, at + 4, extent.length);

@@ -1,6 +1,6 @@
 ghost use Rattle.std.specs.Prelude.{◌≡◌, ◌≤◌, ◌+◌, length, option_map};
 ghost use Rattle.layout.specs.Answers.{answer};
-ghost use Rattle.layout.specs.Bytes.{items_at, overwritten};
+ghost use Rattle.layout.specs.Bytes.{items_at, with_text};
 ghost use Rattle.layout.specs.Marks.{mark_text, marks_spelling, mark_at, marks_at, marks_of};
 ghost use Rattle.layout.specs.declared.error.What.TheVariants as what;
 
@@ -75,7 +75,7 @@ impl Image for Marks {
 
 fn put_mark(block: &mut [u8], at: usize, mark: Mark)
     requires { at + 16 ≤ length block.old }
-    ensures { block.new ≡ overwritten at (mark_text mark) block.old }
+    ensures { block.new ≡ with_text at (mark_text mark) block.old }
 {
     put_u64(block, at, mark.generation);
     put_u32(block, at + 8, mark.done);

@@ -1,6 +1,6 @@
 // Fields written over bytes, from a place on.
 ghost use Rattle.std.specs.Prelude.{◌≡◌, ◌≤◌, ◌+◌, length, true};
-ghost use Rattle.layout.specs.Bytes.{u32 as bytes_4, u64 as bytes_8, zeros, are_zero, overwritten};
+ghost use Rattle.layout.specs.Bytes.{u32 as bytes_4, u64 as bytes_8, zeros, are_zero, with_text};
 
 use byteorder::{ByteOrder, LittleEndian};
 
@@ -14,7 +14,7 @@ pub fn clear(bytes: &mut [u8])
 
 pub fn put(bytes: &mut [u8], at: usize, text: &[u8])
     requires { at + length text.now ≤ length bytes.old }
-    ensures { bytes.new ≡ overwritten at text.now bytes.old }
+    ensures { bytes.new ≡ with_text at text.now bytes.old }
 {
     bytes[at..at + text.len()].copy_from_slice(text);
 }
@@ -22,7 +22,7 @@ pub fn put(bytes: &mut [u8], at: usize, text: &[u8])
 #[tactic(auto, unfolding(crate::specs::Bytes::u32))]
 pub fn put_u32(bytes: &mut [u8], at: usize, n: u32)
     requires { at + 4 ≤ length bytes.old }
-    ensures { bytes.new ≡ overwritten at (bytes_4 n) bytes.old }
+    ensures { bytes.new ≡ with_text at (bytes_4 n) bytes.old }
 {
     let mut text = [0; 4];
     LittleEndian::write_u32(&mut text, n);
@@ -32,7 +32,7 @@ pub fn put_u32(bytes: &mut [u8], at: usize, n: u32)
 #[tactic(auto, unfolding(crate::specs::Bytes::u64))]
 pub fn put_u64(bytes: &mut [u8], at: usize, n: u64)
     requires { at + 8 ≤ length bytes.old }
-    ensures { bytes.new ≡ overwritten at (bytes_8 n) bytes.old }
+    ensures { bytes.new ≡ with_text at (bytes_8 n) bytes.old }
 {
     let mut text = [0; 8];
     LittleEndian::write_u64(&mut text, n);

@@ -7,7 +7,7 @@ use Rattle.file_graph.specs.declared.effect.Effect.{Effect}
 use Rattle.file_graph.specs.declared.effect.Effect.TheVariants as effect
 use Rattle.posix_calls.specs.Name.{is_name}
 use Rattle.log_record.specs.declared.format.TheConstants.{MAKE, ENTER, LEAVE, NAMES, SIZE, BYTES, DROP}
-use Rattle.log_record.specs.Grammar.{◌>>=◌, AreBytes, IsInode, Fits, is_inode, is_extent, fits, u32, u64, kind_byte, effect_bytes, byte_at, run_at, number_at, kind_at, make_at, enter_at, leave_at, names_at, size_at, bytes_at, dropped_at, fields_at, effect_at}
+use Rattle.log_record.specs.Grammar.{◌>>=◌, AreBytes, IsInode, Fits, is_inode, is_write, fits, u32, u64, kind_byte, effect_bytes, byte_at, run_at, number_at, kind_at, make_at, enter_at, leave_at, names_at, size_at, bytes_at, dropped_at, fields_at, effect_at}
 use Rattle.log_record.proofs.Fields.{AreBytes-rest, bind_some, chosen, test_some, some_is, Takes, Takes-then, Takes-cons, u32_takes, u64_takes, u32_again, u64_again, run_takes, run_again, byte_takes, kind_takes}
 
 -- ---- the limits, as a test and as a fact
@@ -40,7 +40,7 @@ Fits-from_fits (effect.Size i size) e =
     let p = and_parts (is_inode i) (leb size 1048576) e in
     (inode_from i p.0, leb-true _ _ p.1)
 Fits-from_fits (effect.Bytes i at new) e =
-    let p = and_parts (is_inode i) (is_extent at (length new)) e in
+    let p = and_parts (is_inode i) (is_write at (length new)) e in
     let q = and_parts (leb 1 (length new) && leb (length new) 65536) (leb (at + length new) 1048576) p.1 in
     let r = and_parts (leb 1 (length new)) (leb (length new) 65536) q.0 in
     (inode_from i p.0, leb-true _ _ r.0, leb-true _ _ r.1, leb-true _ _ q.1)

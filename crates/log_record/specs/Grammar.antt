@@ -1,13 +1,15 @@
 -- Records, the bytes that spell each, and the record that bytes spell.
-use Rattle.std.specs.Prelude.{◌≡◌, ℕ, zero, suc, ◌+◌, ◌^◌, ◌<◌, ◌≤◌, ◌==◌, Bool, true, ◌&&◌, nat_le, List, [], ◌∷◌, ◌++◌, length, take, drop, slice_index, Option, Some, None, if◌then◌else◌}
+use Rattle.std.specs.Prelude.{◌≡◌, ℕ, zero, suc, ◌+◌, ◌^◌, ◌<◌, ◌≤◌, ◌==◌, Bool, true, ◌&&◌, nat_le, List, [], ◌∷◌, ◌++◌, length, drop, Option, Some, None, if◌then◌else◌}
 use Rattle.std.specs.List.{flat_map, AllByRecursion}
-use Rattle.byteorder.specs.Endian.{little_bytes, little_number}
 use Rattle.posix_calls.specs.Name.{is_name}
 use Rattle.posix_calls.specs.declared.limits.TheConstants.{MAX_TRANSFER, MAX_INODE, MAX_NAMES, MAX_FILE}
 use Rattle.file_graph.specs.declared.effect.Kind.{Kind}
 use Rattle.file_graph.specs.declared.effect.Kind.TheVariants as kind
 use Rattle.file_graph.specs.declared.effect.Effect.{Effect}
 use Rattle.file_graph.specs.declared.effect.Effect.TheVariants as effect
+pub use Rattle.file_graph.specs.Numbers.{is_inode}
+pub use Rattle.file_graph.specs.Fields.{◌>>=◌, AreBytes, Field, byte_at, run_at, number_at}
+unfoldable pub use Rattle.file_graph.specs.Fields.{u32, u64}
 use Rattle.log_record.specs.declared.format.Record.{Record}
 use Rattle.log_record.specs.declared.format.TheConstants.{MAX_EFFECTS, MAKE, ENTER, LEAVE, NAMES, SIZE, BYTES, DROP, FILE, DIRECTORY}
 
@@ -36,14 +38,6 @@ pub record IsRecord (r : Record) : Type 0 where
 
 -- ---- the spelling
 
--- four bytes, the lowest first
-unfoldable pub u32 : ℕ → List ℕ
-u32 n = little_bytes 4 n
-
--- eight bytes, the lowest first
-unfoldable pub u64 : ℕ → List ℕ
-u64 n = little_bytes 8 n
-
 -- 1 is a file, 2 a directory
 abbrev pub kind_byte : Kind → ℕ
 kind_byte kind.File = FILE
@@ -64,29 +58,6 @@ abbrev pub spelling : Record → List ℕ
 spelling r = u32 r.units ++ (length r.effects ∷ flat_map effect_bytes r.effects)
 
 -- ---- the reading
-
--- a step, and another on its value; none where either is none
-infixl 10 ◌>>=◌
-abbrev pub ◌>>=◌ : {A B : Type 0} → Option A → (A → Option B) → Option B
-(Some x) >>= f = f x
-None >>= f = None
-
--- a field is a value and the bytes behind it
-abbrev pub Field : Type 0 → Type 0
-Field A = List ℕ → Option (A × List ℕ)
-
--- one byte
-abbrev pub byte_at : Field ℕ
-byte_at [] = None
-byte_at (b ∷ rest) = Some (b, rest)
-
--- so many bytes
-abbrev pub run_at : ℕ → Field (List ℕ)
-run_at n bytes = if nat_le n (length bytes) then Some (take n bytes, drop n bytes) else None
-
--- a number of so many bytes, the lowest first
-abbrev pub number_at : ℕ → Field ℕ
-number_at n bytes = if nat_le n (length bytes) then Some (little_number n (take n bytes), drop n bytes) else None
 
 -- a kind
 abbrev pub kind_at : Field Kind
@@ -153,13 +124,9 @@ fields_at bytes = do
   tag ← byte_at bytes
   if tag.0 == MAKE then make_at tag.1 else (if tag.0 == ENTER then enter_at tag.1 else (if tag.0 == LEAVE then leave_at tag.1 else (if tag.0 == NAMES then names_at tag.1 else (if tag.0 == SIZE then size_at tag.1 else (if tag.0 == BYTES then bytes_at tag.1 else (if tag.0 == DROP then dropped_at tag.1 else None))))))
 
--- whether a number is an inode's
-abbrev pub is_inode : ℕ → Bool
-is_inode i = nat_le 1 i && nat_le i MAX_INODE
-
 -- whether n bytes from an offset on are a write within the greatest file
-abbrev pub is_extent : ℕ → ℕ → Bool
-is_extent at n = nat_le 1 n && nat_le n MAX_TRANSFER && nat_le (at + n) MAX_FILE
+abbrev pub is_write : ℕ → ℕ → Bool
+is_write at n = nat_le 1 n && nat_le n MAX_TRANSFER && nat_le (at + n) MAX_FILE
 
 -- whether an effect keeps the limits
 abbrev pub fits : Effect → Bool
@@ -168,7 +135,7 @@ fits (effect.Enter d i k name) = is_inode d && is_inode i && is_name name
 fits (effect.Leave d name) = is_inode d && is_name name
 fits (effect.Names i n) = is_inode i && nat_le n MAX_NAMES
 fits (effect.Size i size) = is_inode i && nat_le size MAX_FILE
-fits (effect.Bytes i at new) = is_inode i && is_extent at (length new)
+fits (effect.Bytes i at new) = is_inode i && is_write at (length new)
 fits (effect.Drop i) = is_inode i
 
 -- an effect that keeps the limits
@@ -206,10 +173,6 @@ record_of bytes = do
   if length r.1 == 0 then Some r.0 else None
 
 -- ---- bytes that begin with a record
-
--- numbers that are bytes
-abbrev pub AreBytes : List ℕ → Type 0
-AreBytes bytes = (i : ℕ) → slice_index bytes i < 256
 
 -- the first n bytes are the spelling of this record
 pub record Begins (bytes : List ℕ) (r : Record) (n : ℕ) : Type 0 where

@@ -1,6 +1,6 @@
 ghost use Rattle.std.specs.Prelude.{◌≡◌, if◌then◌else◌};
 ghost use Rattle.log_record.specs.Outcome.{Gives, owned};
-ghost use Rattle.log_record.specs.Grammar.{fits, is_inode, is_extent};
+ghost use Rattle.log_record.specs.Grammar.{fits, is_inode, is_write};
 
 use crate::format::RecordError;
 use file_graph::{Effect, Kind};
@@ -58,7 +58,7 @@ impl EffectRef<'_> {
             EffectRef::Leave { directory, name } => is_inode(directory) && Name::is_valid(name),
             EffectRef::Names { inode, names } => is_inode(inode) && names <= MAX_NAMES,
             EffectRef::Size { inode, size } => is_inode(inode) && size <= MAX_FILE,
-            EffectRef::Bytes { inode, at, bytes } => is_inode(inode) && is_extent(at, bytes.len()),
+            EffectRef::Bytes { inode, at, bytes } => is_inode(inode) && is_write(at, bytes.len()),
             EffectRef::Drop { inode } => is_inode(inode),
         }
     }
@@ -149,8 +149,8 @@ fn is_inode(inode: u32) -> bool
 }
 
 // A write of some bytes that ends within the greatest file.
-fn is_extent(at: u64, count: usize) -> bool
-    ensures { result ≡ is_extent at count }
+fn is_write(at: u64, count: usize) -> bool
+    ensures { result ≡ is_write at count }
 {
     1 <= count && count <= MAX_TRANSFER && at <= MAX_FILE && at + count as u64 <= MAX_FILE
 }

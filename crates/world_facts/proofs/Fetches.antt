@@ -13,7 +13,7 @@ use Rattle.file_graph.specs.declared.effect.Effect.{Effect}
 use Rattle.call_effects.specs.Blocks.{block_of, block_at}
 use Rattle.call_effects.specs.NodeView.{NodeView, view_of_node, view_at}
 use Rattle.call_effects.specs.Records.{effects_asked}
-use Rattle.call_effects.specs.Known.{Knowledge, Agrees, HasCopies, IsPlanned, is_within, part_of, with_copy, with_blocks}
+use Rattle.call_effects.specs.Known.{Knowledge, Agrees, HasCopies, IsPlanned, in_run, part_of, with_copy, with_blocks}
 use Rattle.call_effects.proofs.Changes.{fair_of}
 use Rattle.call_effects.proofs.KnownMissing.{stays_known}
 use Rattle.call_effects.proofs.PutBack.{stands_back}
@@ -115,11 +115,11 @@ module _ (w : World) (c i first count names : ℕ) (bytes : List ℕ) (h : Holds
   now_agrees = blocks_agree knew (whole w) (held w) (h.agrees c can.client) i first count names bytes file_is
 
   -- blocks that the client had are those that it got
-  kept_block : (j b : ℕ) (t : Bool) (block : List ℕ) → (j == i && is_within first count b) ≡ t → knew.blocks j b ≡ Some block → cond t (Some (block_of b bytes)) (knew.blocks j b) ≡ Some block
+  kept_block : (j b : ℕ) (t : Bool) (block : List ℕ) → (j == i && in_run first count b) ≡ t → knew.blocks j b ≡ Some block → cond t (Some (block_of b bytes)) (knew.blocks j b) ≡ Some block
   kept_block j b false block test there = there
   kept_block j b true block test there =
       let known = h.agrees c can.client in
-      let same : j ≡ i = eqb-true j i (first_of (j == i) (is_within first count b) test) in
+      let same : j ≡ i = eqb-true j i (first_of (j == i) (in_run first count b) test) in
       let back : known.back i ≡ Some (record { names = names; body = FileBody bytes }) = stands_back (whole w) known.back known.put_back i (record { names = names; body = FileBody bytes }) file_is in
       sym (ap (λ o. option_map (block_of b) (file_bytes o)) back) ∙ ap (λ x. block_at known.back x b) (sym same) ∙ known.blocks j b block there
     where
@@ -130,7 +130,7 @@ module _ (w : World) (c i first count names : ℕ) (bytes : List ℕ) (h : Holds
   held_block : (j b : ℕ) (block : List ℕ) → knows.blocks j b ≡ Some block → holds (w.clients c) j ≡ true
   held_block j b block e = elim (eqb_tells j i) [
     | inl same ↦ ap (holds (w.clients c)) same.1 ∙ can.leased
-    | inr off ↦ stood.leased.blocks j b block (sym (ap (λ t. cond (t && is_within first count b) (Some (block_of b bytes)) (knew.blocks j b)) off.0) ∙ e)
+    | inr off ↦ stood.leased.blocks j b block (sym (ap (λ t. cond (t && in_run first count b) (Some (block_of b bytes)) (knew.blocks j b)) off.0) ∙ e)
   ]
 
   pub blocks_fetched_hold : Holds (blocks_fetched w c i first count bytes)
@@ -146,7 +146,7 @@ module _ (w : World) (c i first count names : ℕ) (bytes : List ℕ) (h : Holds
         leased = record { copies = stood.leased.copies; blocks = held_block };
         pinned = stood.pinned;
         pending = λ b e. let p = stood.pending b e in record {
-          planned = still_planned w h knew knows (h.agrees c can.client) now_agrees (record { nodes = λ j copy there. there; blocks = λ j n block there. kept_block j n (j == i && is_within first count n) block refl there }) refl (λ j g. g) b.call b.new b.operation b.change.effects p.planned;
+          planned = still_planned w h knew knows (h.agrees c can.client) now_agrees (record { nodes = λ j copy there. there; blocks = λ j n block there. kept_block j n (j == i && in_run first count n) block refl there }) refl (λ j g. g) b.call b.new b.operation b.change.effects p.planned;
           some = p.some;
           pinned = p.pinned;
         };

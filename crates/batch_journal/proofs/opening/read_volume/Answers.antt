@@ -2,7 +2,7 @@ use Rattle.std.proofs.Common.{◌≡◌, ◌∙◌, ◌==◌, ◌≤◌, ℕ, Li
 use Rattle.std.proofs.lemmas.Bool.{false≢true}
 use Rattle.tier_device.specs.declared.media.Tier.{Tier}
 use Rattle.tier_device.specs.declared.media.Tier.TheVariants.{Fast}
-use Rattle.batch_journal.specs.Images.{slice, count_of, number_at}
+use Rattle.batch_journal.specs.Images.{slice, count_of, target_at}
 use Rattle.batch_journal.specs.Blocks.{area_of}
 use Rattle.batch_journal.specs.Volume.{Spells, HasSizes, IsHead}
 use Rattle.batch_journal.specs.Damage.{TellsNone, super_block}
@@ -19,7 +19,7 @@ at_most = elim [ true ↦ omega arith | false ↦ omega arith ]
 
 pub read_geometry-requires : goal.read_geometry-requires
 read_geometry-requires g c =
-    let low = at_most (number_at c.read_head.new.head 0 == 0) in
+    let low = at_most (target_at c.read_head.new.head 0 == 0) in
     let size = ap length (c.read_head.ensures.unmoved.reads Fast) in
     omega (arith, c.superblock_in.ensures, low, size, c.requires.size)
 

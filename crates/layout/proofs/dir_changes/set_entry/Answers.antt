@@ -1,5 +1,5 @@
 use Rattle.std.proofs.Common.{◌+◌, ◌*◌, ap, ◌∙◌}
-use Rattle.layout.specs.Bytes.{overwritten}
+use Rattle.layout.specs.Bytes.{with_text}
 use Rattle.layout.specs.Directory.{listed, entry_text, with_entry}
 use Rattle.layout.specs.Lent.{owned}
 use Rattle.layout.proofs.DirPlaces.{entry_set}
@@ -8,7 +8,7 @@ use Rattle.layout.proofs.dir_changes.set_entry.Goals as goal
 
 pub returns-clause-spelling : goal.returns-clause-spelling
 returns-clause-spelling c v fit spelled lt =
-    c.put_entry.ensures ∙ ap (overwritten (64 + 72 * c.args.index) (entry_text (owned c.args.entry))) spelled ∙ entry_set v c.args.index (owned c.args.entry) fit lt c.requires.short
+    c.put_entry.ensures ∙ ap (with_text (64 + 72 * c.args.index) (entry_text (owned c.args.entry))) spelled ∙ entry_set v c.args.index (owned c.args.entry) fit lt c.requires.short
 
 pub returns-clause-entries : goal.returns-clause-entries
 returns-clause-entries c are lt fit distinct =
@@ -18,4 +18,4 @@ returns-clause-entries c are lt fit distinct =
     let s = are in
     let f = fit_parts v s.fit in
     entries_now c.put_entry.new.block (with_entry v i e) (fit_set v i e f fit distinct)
-    (c.put_entry.ensures ∙ ap (overwritten (64 + 72 * i) (entry_text e)) s.spelled ∙ entry_set v i e s.fit lt c.requires.short)
+    (c.put_entry.ensures ∙ ap (with_text (64 + 72 * i) (entry_text e)) s.spelled ∙ entry_set v i e s.fit lt c.requires.short)

@@ -1,5 +1,5 @@
 use Rattle.std.proofs.Common.{◌≡◌, ◌∙◌, ◌+◌, ◌*◌, ℕ, [], ◌∷◌, ap, arith, rules, length, refl}
-use Rattle.layout.specs.Bytes.{u32, overwritten}
+use Rattle.layout.specs.Bytes.{u32, with_text}
 use Rattle.layout.specs.Directory.{listed, kind_byte, entries_spelling, entry_of, with_target}
 use Rattle.layout.specs.declared.directory.DirEntry.{DirEntry}
 use Rattle.layout.proofs.DirChanges.{listed_now, entries_now, fit_parts, fit_set, names_kept, target_set}
@@ -29,8 +29,8 @@ returns c =
     let e : DirEntry = record { inode = c.args.inode; kind = c.args.kind; name = (entry_of v i).name } in
     let is : c.put.new.bytes ≡ entries_spelling (with_target v i c.args.inode c.args.kind) =
     c.put.ensures
-    ∙ ap (λ (b : ℕ). overwritten (64 + 72 * i + 4) (b ∷ []) c.put_u32.new.bytes) c.kind_byte.ensures
-    ∙ ap (overwritten (64 + 72 * i + 4) (kind_byte c.args.kind ∷ [])) (c.put_u32.ensures ∙ ap (overwritten (64 + 72 * i) (u32 c.args.inode)) s.spelled)
+    ∙ ap (λ (b : ℕ). with_text (64 + 72 * i + 4) (b ∷ []) c.put_u32.new.bytes) c.kind_byte.ensures
+    ∙ ap (with_text (64 + 72 * i + 4) (kind_byte c.args.kind ∷ [])) (c.put_u32.ensures ∙ ap (with_text (64 + 72 * i) (u32 c.args.inode)) s.spelled)
     ∙ target_set v i c.args.inode c.args.kind f c.requires.inside in
     let now = entries_now c.put.new.bytes (with_target v i c.args.inode c.args.kind) (fit_set v i e f c.requires.fits (names_kept v.entries i e refl c.requires.inside ∙ f.distinct)) is in
     record { entries = now.0; set = now.1 }

@@ -3,7 +3,7 @@ use Rattle.std.specs.List.{flat_map}
 use Rattle.std.proofs.lemmas.List.{length-append, append-nil, take_all, take_more}
 use Rattle.std.proofs.lemmas.Grind.{flat_map-append}
 use Rattle.layout.specs.declared.directory.DirEntry.{DirEntry}
-use Rattle.layout.specs.Bytes.{u32, filled, overwritten}
+use Rattle.layout.specs.Bytes.{u32, filled, with_text}
 use Rattle.layout.specs.Directory.{entry_text}
 use Rattle.layout.proofs.Blocks.{blank_filled, filled_twice, written_u32}
 use Rattle.layout.proofs.Items.{item_on}
@@ -44,7 +44,7 @@ loop-index-preserved c =
     let texts : List ℕ = flat_map entry_text (take i entries) in
     let long : length (head ++ texts) ≡ 64 + 72 * i = omega (arith, length-append head texts, head_text_long c.args.owner (length entries), c.loop-index.invariant.1) in (
       c.put_entry.ensures
-          ∙ ap (λ (e : DirEntry). overwritten (64 + 72 * i) (entry_text e) c.loop-index.block) lent
+          ∙ ap (λ (e : DirEntry). with_text (64 + 72 * i) (entry_text e) c.loop-index.block) lent
           ∙ item_on entry_text 4096 (64 + 72 * i) i head entries x x c.loop-index.block c.loop-index.invariant.0 long (omega (arith, within, c.requires.few, entry_text_long x short)) within read,
       longer entries i x within read short c.loop-index.invariant.1,
     )

@@ -1,5 +1,5 @@
 use Rattle.std.proofs.Common.{◌+◌, ℕ, List, [], ◌∷◌, length, ap, ◌∙◌, arith}
-use Rattle.layout.specs.Bytes.{u32, filled, overwritten}
+use Rattle.layout.specs.Bytes.{u32, filled, with_text}
 use Rattle.layout.specs.Directory.{kind_byte}
 use Rattle.layout.proofs.Fields.{u32_long}
 use Rattle.layout.proofs.Blocks.{overwritten_thrice, filled_long}
@@ -14,5 +14,5 @@ returns c =
     let tags : List ℕ = kind_byte e.kind ∷ length e.name.now ∷ 0 ∷ 0 ∷ [] in
     let field : List ℕ = filled 64 e.name.now in
     c.put_name.ensures
-    ∙ ap (overwritten (at + 8) field) (c.put_tags.ensures ∙ ap (overwritten (at + 4) tags) c.put_u32.ensures)
+    ∙ ap (with_text (at + 8) field) (c.put_tags.ensures ∙ ap (with_text (at + 4) tags) c.put_u32.ensures)
     ∙ overwritten_thrice at (at + 4) (at + 8) i tags field old (omega (arith, u32_long e.inode)) (omega arith) (omega (arith, c.requires, filled_long 64 e.name.now c.requires.short))
