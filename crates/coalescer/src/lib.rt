@@ -7,7 +7,8 @@
 //! A batch of the shared media takes so many records of a list at once: `longest_run` counts them by their weight, which is a matter of the
 //! records alone (`specs/Weight.antt`).
 //!
-//! A record costs by its bytes and its effects, and by the logarithm of what the records before it touch.
+//! A record costs by its bytes and its effects, and by the logarithm of what the records before it touch, however many they are; an entry
+//! also moves the ones behind it among the changed entries of its directory.
 #![tactic(auto)]
 
 mod laws;
