@@ -4,7 +4,7 @@ use anyhow::{Result, bail};
 use long_media::{FileMedia, RamMedia, Sizes};
 use std::alloc::{AllocError, Global};
 use std::fs;
-use tier_device::{MemMedia, Tier};
+use tier_device::{Media, MemMedia};
 
 /// A kind of medium.
 #[derive(Clone, Copy)]
@@ -45,11 +45,8 @@ pub fn sizes_of(words: &str) -> Result<Sizes> {
 }
 
 fn by_memory(alloc: Global, sizes: Sizes, calls: &str) -> Result<String> {
-    let mut out = String::new(alloc);
-    let mut media = memory(alloc, sizes)?;
-    play(alloc, &mut media, calls, &mut out)?;
-    tell_tiers(alloc, &mut media, &mut out)?;
-    Ok(out)
+    let media = memory(alloc, sizes)?;
+    told_by(alloc, media, calls)
 }
 
 fn memory(alloc: Global, sizes: Sizes) -> Result<MemMedia, AllocError> {
@@ -58,9 +55,14 @@ fn memory(alloc: Global, sizes: Sizes) -> Result<MemMedia, AllocError> {
 }
 
 fn by_ram(alloc: Global, sizes: Sizes, calls: &str) -> Result<String> {
-    let mut out = String::new(alloc);
     let (fast, block, slow) = zeros(alloc, sizes)?;
-    let mut media = RamMedia::of_bytes(fast, block, slow);
+    told_by(alloc, RamMedia::of_bytes(fast, block, slow), calls)
+}
+
+// What a medium answers, and what it then holds.
+fn told_by<M: Media + Drop>(alloc: Global, media: M, calls: &str) -> Result<String> {
+    let mut media = media;
+    let mut out = String::new(alloc);
     play(alloc, &mut media, calls, &mut out)?;
     tell_tiers(alloc, &mut media, &mut out)?;
     Ok(out)

@@ -26,21 +26,33 @@ fn main(rt: HostRuntime) -> Result<ExitCode> {
 
 // How many rows do not hold.
 fn check_table(rt: &HostRuntime) -> Result<u64> {
-    let alloc = rt.alloc();
-    let mut held = 0u64;
-    let mut failed = 0u64;
-    let reader = BufReader::new(alloc, rt.stdin())?;
-    for line in reader.lines(alloc) {
-        let line = line?;
-        if line.is_empty() || line.starts_with('#') {
-            continue;
-        }
-        if check_row(rt, &line)? {
-            held = held.saturating_add(1);
-        } else {
-            failed = failed.saturating_add(1);
-        }
+    let mut counts = Counts { held: 0, failed: 0 };
+    let reader = BufReader::new(rt.alloc(), rt.stdin())?;
+    for line in reader.lines(rt.alloc()) {
+        counts.check(rt, &line?)?;
     }
-    println!(rt; "{held} rows hold, {failed} do not")?;
-    Ok(failed)
+    println!(rt; "{} rows hold, {} do not", counts.held, counts.failed)?;
+    Ok(counts.failed)
+}
+
+// How many rows hold, and how many do not.
+#[derive(Clone, Copy)]
+struct Counts {
+    held: u64,
+    failed: u64,
+}
+
+impl Counts {
+    // A line that is empty or a comment is no row.
+    fn check(&mut self, rt: &HostRuntime, line: &str) -> Result<()> {
+        if line.is_empty() || line.starts_with('#') {
+            return Ok(());
+        }
+        if check_row(rt, line)? {
+            self.held = self.held.saturating_add(1);
+        } else {
+            self.failed = self.failed.saturating_add(1);
+        }
+        Ok(())
+    }
 }

@@ -30,8 +30,23 @@ fn make_medium(rt: &HostRuntime) -> Result<()> {
 }
 
 fn tell_opened(rt: &HostRuntime, path: &str, sizes: Sizes, out: &mut String) -> Result<()> {
-    let first = FileMedia::open(rt, rt.alloc(), path, sizes);
-    put_opened(&first, out)?;
+    tell_beside(
+        rt,
+        path,
+        sizes,
+        &FileMedia::open(rt, rt.alloc(), path, sizes),
+        out,
+    )
+}
+
+fn tell_beside(
+    rt: &HostRuntime,
+    path: &str,
+    sizes: Sizes,
+    first: &Result<FileMedia, FileError<'_>>,
+    out: &mut String,
+) -> Result<()> {
+    put_opened(first, out)?;
     out.push_str("; ")?;
     tell_second(rt, path, sizes, out)?;
     out.push_str("; ")?;
