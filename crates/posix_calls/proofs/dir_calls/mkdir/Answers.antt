@@ -2,6 +2,7 @@ use Rattle.std.proofs.Common.{sym, ◌∙◌, None}
 use Rattle.posix_calls.proofs.Chain.{exits, gives, bind_gives, bind_stops, passes, fails}
 use Rattle.posix_calls.proofs.Walks.{bind_place, bind_place_stops}
 use Rattle.posix_calls.specs.Decide.{mkdir}
+use Rattle.posix_calls.proofs.Wants.{exit_wants, refused_wants}
 use Rattle.posix_calls.proofs.dir_calls.mkdir.Goals as goal
 
 pub returns-in_err-path-clause-tells : goal.returns-in_err-path-clause-tells
@@ -23,3 +24,15 @@ returns-in_err-refuse_if-2-clause-tells g c = exits c.from_residual-in_err-refus
 pub returns-clause-tells : goal.returns-clause-tells
 unfolding mkdir
 returns-clause-tells g c = rw c.in_ok-at.ensures.location (bind_gives _ (c.in_ok-path.ensures.tells _) (bind_place None c.in_ok-path.path _ c.in_ok-to.ensures.tells (λ to_walked to_seen. passes _ _ (sym c.is_there.ensures ∙ c.in_ok-refuse_if.ensures.clear) (passes _ _ (sym c.is_full.ensures ∙ c.in_ok-refuse_if-2.ensures.clear) (gives)))))
+
+pub returns-in_err-path-clause-memory : goal.returns-in_err-path-clause-memory
+returns-in_err-path-clause-memory g c = λ want. c.in_err-path.ensures.memory (exit_wants c.from_residual.ensures.1 want)
+
+pub returns-in_err-to-clause-memory : goal.returns-in_err-to-clause-memory
+returns-in_err-to-clause-memory g c = λ want. absurd (c.in_err-to.ensures.memory (exit_wants c.from_residual-in_err-to.ensures.1 want))
+
+pub returns-in_err-refuse_if-clause-memory : goal.returns-in_err-refuse_if-clause-memory
+returns-in_err-refuse_if-clause-memory g c = refused_wants c.from_residual-in_err-refuse_if.ensures.1 c.in_err-refuse_if.ensures.refused.0
+
+pub returns-in_err-refuse_if-2-clause-memory : goal.returns-in_err-refuse_if-2-clause-memory
+returns-in_err-refuse_if-2-clause-memory g c = refused_wants c.from_residual-in_err-refuse_if-2.ensures.1 c.in_err-refuse_if-2.ensures.refused.0
