@@ -9,10 +9,10 @@ use Rattle.call_effects.proofs.KnownUnits.{planned_units}
 use Rattle.call_effects.proofs.Rises.{growth_local}
 use Rattle.world_facts.specs.Logs.{after_records, is_written, is_touched, units_in, IsPaid, ArePaid, IsNameless, Keeps, NamesNone, NameNone, KeepLimits}
 use Rattle.world_facts.specs.Limits.{IsWithin}
-use Rattle.world_facts.specs.World.{Begun, Status, Client, Account, World, undigested, records_of, change_of, log_of, whole, held, tree_of, moved}
+use Rattle.world_facts.specs.World.{Begun, Status, Client, Account, World, undigested, records_of, change_of, log_of, whole, held, world_state, moved}
 use Rattle.world_facts.specs.Standing.{is_settled, IsPending, Stands}
-use Rattle.world_facts.specs.Invariant.{Holds}
-use Rattle.world_facts.specs.ClientSteps.{CanBegin, begun, IsBegun, given_up, with_client}
+use Rattle.world_facts.specs.Invariant.{IsCoherent}
+use Rattle.world_facts.specs.ClientSteps.{CanBegin, call_begun, IsBegun, given_up, with_client}
 use Rattle.world_facts.proofs.Records.{either, both, append_nil, front_written, written_append, or_neither, units_append}
 use Rattle.world_facts.proofs.Owners.{whole_at}
 use Rattle.world_facts.proofs.Idle.{none_some}
@@ -24,14 +24,14 @@ use Rattle.world_facts.proofs.Within.{planned_within}
 use Rattle.world_facts.proofs.Moved.{quiet, booked_same, before_less, after_less, whole_same, held_same}
 
 -- a client's step that changes neither its records nor what it has open
-pub tree_same : (w : World) (c : ℕ) (g : Graph) (a : Account) (p : Client) → undigested a p ≡ log_of w c → g ≡ w.kernel.shared → p.knows.own ≡ (w.clients c).knows.own → tree_of (moved w c g a p) ≡ tree_of w
+pub tree_same : (w : World) (c : ℕ) (g : Graph) (a : Account) (p : Client) → undigested a p ≡ log_of w c → g ≡ w.kernel.shared → p.knows.own ≡ (w.clients c).knows.own → world_state (moved w c g a p) ≡ world_state w
 tree_same w c g a p log shared own = ap (λ s. state_of s (held (moved w c g a p))) (whole_same w c g a p log shared) ∙ ap (λ o. state_of (whole w) o) (held_same w c g a p own)
 
 -- no record is begun
 pub idle_records : (a : Account) (p : Client) → p.begun ≡ None → records_of a p ≡ undigested a p
 idle_records a p idle = ap (λ o. undigested a p ++ change_of o) idle ∙ append_nil (undigested a p)
 
-module _ (w : World) (c : ℕ) (b : Begun) (h : Holds w) (can : CanBegin w c b) where
+module _ (w : World) (c : ℕ) (b : Begun) (h : IsCoherent w) (can : CanBegin w c b) where
   abbrev old : Client
   old = w.clients c
 
@@ -78,7 +78,7 @@ module _ (w : World) (c : ℕ) (b : Begun) (h : Holds w) (can : CanBegin w c b) 
       (keep_same IsWithin (b.change ∷ []) (whole w) (after_records w.kernel.shared (log_of w c)) (λ i e. own_view i (one_written i e))
       ((λ i within. planned_within old.knows (whole w) (held w) b.call b.new b.operation b.change.effects h.sound (h.agrees c can.client) can.planned (whole_within w h) i), tt))
 
-  pub begun_holds : Holds (begun w c b)
+  pub begun_holds : IsCoherent (call_begun w c b)
   begun_holds =
       let were : old.spare + units_in (records_of account old) ≤ account.units = s.units in
       let before : units_in (records_of account old) ≡ units_in (log_of w c) = ap units_in (idle_records account old can.idle) in
@@ -103,10 +103,10 @@ module _ (w : World) (c : ℕ) (b : Begun) (h : Holds w) (can : CanBegin w c b) 
       (after_less w c (record old { begun = Some b; spare = old.spare - b.change.units }) h can.client (λ i e. e))
       (h.agrees c can.client)
 
-  pub begun_tree : tree_of (begun w c b) ≡ tree_of w
+  pub begun_tree : world_state (call_begun w c b) ≡ world_state w
   begun_tree = tree_same w c w.kernel.shared account (record old { begun = Some b; spare = old.spare - b.change.units }) refl refl refl
 
-module _ (w : World) (c : ℕ) (b : Begun) (h : Holds w) (is : IsBegun w c b) where
+module _ (w : World) (c : ℕ) (b : Begun) (h : IsCoherent w) (is : IsBegun w c b) where
   abbrev was : Client
   was = w.clients c
 
@@ -122,7 +122,7 @@ module _ (w : World) (c : ℕ) (b : Begun) (h : Holds w) (is : IsBegun w c b) wh
   records_were : records_of its was ≡ log_of w c ++ (b.change ∷ [])
   records_were = ap (λ o. log_of w c ++ change_of o) is.there
 
-  pub given_up_holds : Holds (given_up w c b)
+  pub given_up_holds : IsCoherent (given_up w c b)
   given_up_holds =
       let were : was.spare + units_in (records_of its was) ≤ its.units = stood.units in
       let before : units_in (records_of its was) ≡ units_in (log_of w c) + (b.change.units + 0) = ap units_in records_were ∙ units_append (log_of w c) (b.change ∷ []) in
@@ -147,20 +147,20 @@ module _ (w : World) (c : ℕ) (b : Begun) (h : Holds w) (is : IsBegun w c b) wh
       })
       (before_less w c less h is.client (λ i e. e)) (after_less w c less h is.client (λ i e. e)) (h.agrees c is.client)
 
-  pub given_up_tree : tree_of (given_up w c b) ≡ tree_of w
+  pub given_up_tree : world_state (given_up w c b) ≡ world_state w
   given_up_tree = tree_same w c w.kernel.shared its less refl refl refl
 
 -- a client that is not settled has become of another status
-module _ (w : World) (c : ℕ) (status : Status) (h : Holds w) (is_c : is_client c ≡ true) (going : is_settled status ≡ false) where
+module _ (w : World) (c : ℕ) (status : Status) (h : IsCoherent w) (is_c : is_client c ≡ true) (going : is_settled status ≡ false) where
   abbrev turned : Client
   turned = record (w.clients c) { status = status }
 
-  pub turned_holds : Holds (with_client w c turned)
+  pub turned_holds : IsCoherent (with_client w c turned)
   turned_holds =
       let x = h.stands c is_c in
       quiet w c w.kernel.shared (w.kernel.accounts c) turned h is_c refl refl refl (booked_same w c turned h is_c)
       (record { number = x.number; left = record { closed = λ e. both (is_settled status) e going; idle = λ e. both (is_settled status) e going }; marked = x.marked; starts = x.starts; logged = x.logged; units = x.units; numbered = x.numbered; leased = x.leased; pinned = x.pinned; pending = x.pending })
       (before_less w c turned h is_c (λ i e. e)) (after_less w c turned h is_c (λ i e. e)) (h.agrees c is_c)
 
-  pub turned_tree : tree_of (with_client w c turned) ≡ tree_of w
+  pub turned_tree : world_state (with_client w c turned) ≡ world_state w
   turned_tree = tree_same w c w.kernel.shared (w.kernel.accounts c) turned refl refl refl

@@ -9,11 +9,11 @@ use Rattle.file_graph.specs.Units.{charge}
 use Rattle.call_effects.specs.Fits.{IsNew}
 use Rattle.call_effects.proofs.Served.{less_agrees}
 use Rattle.world_facts.specs.Logs.{is_made_in, units_in}
-use Rattle.world_facts.specs.World.{Client, Account, World, records_of, log_of, whole, held, tree_of, at, moved}
+use Rattle.world_facts.specs.World.{Client, Account, World, records_of, log_of, whole, held, world_state, at, moved}
 use Rattle.world_facts.specs.Standing.{IsBooked, Stands}
-use Rattle.world_facts.specs.Invariant.{Holds}
+use Rattle.world_facts.specs.Invariant.{IsCoherent}
 use Rattle.world_facts.specs.LeaseSteps.{also, without}
-use Rattle.world_facts.specs.BookSteps.{HasRoom, units_granted, units_returned, IsUnbooked, number_granted, CanReturn, number_returned, pinned, CanUnpin, unpinned}
+use Rattle.world_facts.specs.BookSteps.{HasRoom, units_granted, units_returned, IsUnbooked, number_granted, CanReturn, number_returned, inode_pinned, CanUnpin, unpinned}
 use Rattle.world_facts.proofs.Records.{both, in_first, in_rest, still_false}
 use Rattle.world_facts.proofs.Owners.{client_is}
 use Rattle.world_facts.proofs.Idle.{none_some}
@@ -41,12 +41,12 @@ to_without has i j off e = same_if j i false (has j) off ∙ e
 -- ---- the book
 
 -- no more numbers in the account, and units that fit
-module _ (w : World) (c : ℕ) (a : Account) (p : Client) (h : Holds w) (is_c : is_client c ≡ true) (fewer : (i : ℕ) → a.numbers i ≡ true → (w.kernel.accounts c).numbers i ≡ true) where
+module _ (w : World) (c : ℕ) (a : Account) (p : Client) (h : IsCoherent w) (is_c : is_client c ≡ true) (fewer : (i : ℕ) → a.numbers i ≡ true → (w.kernel.accounts c).numbers i ≡ true) where
   pub booked_fewer : charge w.kernel.shared + sum_up_to 8 (λ d. (at w.kernel.accounts c a d).units) ≤ w.kernel.capacity → IsBooked (moved w c w.kernel.shared a p).kernel
   booked_fewer fits = booked_moved w c w.kernel.shared a p h is_c (λ i e. h.booked.free c i is_c (fewer i e)) (λ d i is_d other e. h.booked.free d i is_d e) (λ i e. h.booked.range c i is_c (fewer i e)) (λ d i is_d other e. h.booked.alone c d i is_c is_d other (fewer i e)) h.booked.limits fits
 
 -- the same units
-pub fits_same : (w : World) (c : ℕ) (a : Account) (h : Holds w) → is_client c ≡ true → a.units ≡ (w.kernel.accounts c).units → charge w.kernel.shared + sum_up_to 8 (λ d. (at w.kernel.accounts c a d).units) ≤ w.kernel.capacity
+pub fits_same : (w : World) (c : ℕ) (a : Account) (h : IsCoherent w) → is_client c ≡ true → a.units ≡ (w.kernel.accounts c).units → charge w.kernel.shared + sum_up_to 8 (λ d. (at w.kernel.accounts c a d).units) ≤ w.kernel.capacity
 fits_same w c a h is_c same =
     let sums : sum_up_to 8 (λ d. (at w.kernel.accounts c a d).units) + (w.kernel.accounts c).units ≡ sum_up_to 8 (λ d. (w.kernel.accounts d).units) + a.units = units_moved w c w.kernel.shared a (w.clients c) h is_c in
     let fits : charge w.kernel.shared + sum_up_to 8 (λ d. (w.kernel.accounts d).units) ≤ w.kernel.capacity = h.booked.fits in
@@ -54,7 +54,7 @@ fits_same w c a h is_c same =
 
 -- ---- units
 
-module _ (w : World) (c units : ℕ) (h : Holds w) (is_c : is_client c ≡ true) where
+module _ (w : World) (c units : ℕ) (h : IsCoherent w) (is_c : is_client c ≡ true) where
   abbrev old : Client
   old = w.clients c
 
@@ -70,7 +70,7 @@ module _ (w : World) (c units : ℕ) (h : Holds w) (is_c : is_client c ≡ true)
   abbrev poorer : Account
   poorer = record account { units = account.units - units }
 
-  pub units_granted_hold : HasRoom w.kernel units → Holds (units_granted w c units)
+  pub units_granted_hold : HasRoom w.kernel units → IsCoherent (units_granted w c units)
   units_granted_hold room =
       let sums : sum_up_to 8 (λ d. (at w.kernel.accounts c richer d).units) + account.units ≡ sum_up_to 8 (λ d. (w.kernel.accounts d).units) + (account.units + units) = units_moved w c w.kernel.shared richer old h is_c in
       let enough : charge w.kernel.shared + (sum_up_to 8 (λ d. (w.kernel.accounts d).units) + units) ≤ w.kernel.capacity = room in
@@ -80,10 +80,10 @@ module _ (w : World) (c units : ℕ) (h : Holds w) (is_c : is_client c ≡ true)
       (record { number = s.number; left = s.left; marked = s.marked; starts = s.starts; logged = s.logged; units = omega (arith, were); numbered = s.numbered; leased = s.leased; pinned = s.pinned; pending = s.pending })
       (before_less w c (record old { spare = old.spare + units }) h is_c (λ i e. e)) (after_less w c (record old { spare = old.spare + units }) h is_c (λ i e. e)) (h.agrees c is_c)
 
-  pub units_granted_tree : tree_of (units_granted w c units) ≡ tree_of w
+  pub units_granted_tree : world_state (units_granted w c units) ≡ world_state w
   units_granted_tree = tree_same w c w.kernel.shared richer (record old { spare = old.spare + units }) refl refl refl
 
-  pub units_returned_hold : units ≤ old.spare → Holds (units_returned w c units)
+  pub units_returned_hold : units ≤ old.spare → IsCoherent (units_returned w c units)
   units_returned_hold enough =
       let sums : sum_up_to 8 (λ d. (at w.kernel.accounts c poorer d).units) + account.units ≡ sum_up_to 8 (λ d. (w.kernel.accounts d).units) + (account.units - units) = units_moved w c w.kernel.shared poorer old h is_c in
       let fits : charge w.kernel.shared + sum_up_to 8 (λ d. (w.kernel.accounts d).units) ≤ w.kernel.capacity = h.booked.fits in
@@ -93,13 +93,13 @@ module _ (w : World) (c units : ℕ) (h : Holds w) (is_c : is_client c ≡ true)
       (record { number = s.number; left = s.left; marked = s.marked; starts = s.starts; logged = s.logged; units = omega (arith, were, enough); numbered = s.numbered; leased = s.leased; pinned = s.pinned; pending = s.pending })
       (before_less w c (record old { spare = old.spare - units }) h is_c (λ i e. e)) (after_less w c (record old { spare = old.spare - units }) h is_c (λ i e. e)) (h.agrees c is_c)
 
-  pub units_returned_tree : tree_of (units_returned w c units) ≡ tree_of w
+  pub units_returned_tree : world_state (units_returned w c units) ≡ world_state w
   units_returned_tree = tree_same w c w.kernel.shared poorer (record old { spare = old.spare - units }) refl refl refl
 
 -- ---- numbers
 
 -- a number that stands in nobody's account is one of no node of the whole
-pub unbooked_new : (w : World) (i : ℕ) → Holds w → IsUnbooked w.kernel i → IsNew (whole w) i
+pub unbooked_new : (w : World) (i : ℕ) → IsCoherent w → IsUnbooked w.kernel i → IsNew (whole w) i
 unbooked_new w i h free = record {
   low = free.low;
   high = free.high;
@@ -109,7 +109,7 @@ unbooked_new w i h free = record {
     unmade : (d : ℕ) → is_client d ≡ true → is_made_in i (log_of w d) ≡ false
     unmade d is_d = still_false ((w.kernel.accounts d).numbers i) (is_made_in i (log_of w d)) (λ e. (h.stands d is_d).numbered.made i e) (free.nobody d is_d)
 
-module _ (w : World) (c i : ℕ) (h : Holds w) (is_c : is_client c ≡ true) where
+module _ (w : World) (c i : ℕ) (h : IsCoherent w) (is_c : is_client c ≡ true) where
   abbrev was : Client
   was = w.clients c
 
@@ -125,7 +125,7 @@ module _ (w : World) (c i : ℕ) (h : Holds w) (is_c : is_client c ≡ true) whe
   abbrev with_it : Account
   with_it = record its { numbers = also its.numbers i }
 
-  pub number_granted_holds : IsUnbooked w.kernel i → Holds (number_granted w c i)
+  pub number_granted_holds : IsUnbooked w.kernel i → IsCoherent (number_granted w c i)
   number_granted_holds free =
       let known = h.agrees c is_c in
       quiet w c w.kernel.shared with_it with_number h is_c refl refl refl
@@ -167,10 +167,10 @@ module _ (w : World) (c i : ℕ) (h : Holds w) (is_c : is_client c ≡ true) whe
       itself : (i : ℕ) → (i == i) ≡ true
       itself i = elim (eqb_tells i i) [ inl same ↦ same.0 | inr off ↦ absurd (off.1 refl) ]
 
-  pub number_granted_tree : tree_of (number_granted w c i) ≡ tree_of w
+  pub number_granted_tree : world_state (number_granted w c i) ≡ world_state w
   number_granted_tree = tree_same w c w.kernel.shared with_it with_number refl refl refl
 
-module _ (w : World) (c i : ℕ) (h : Holds w) (can : CanReturn w c i) where
+module _ (w : World) (c i : ℕ) (h : IsCoherent w) (can : CanReturn w c i) where
   abbrev had : Client
   had = w.clients c
 
@@ -186,7 +186,7 @@ module _ (w : World) (c i : ℕ) (h : Holds w) (can : CanReturn w c i) where
   abbrev without_it : Account
   without_it = record book { numbers = without book.numbers i }
 
-  pub number_returned_holds : Holds (number_returned w c i)
+  pub number_returned_holds : IsCoherent (number_returned w c i)
   number_returned_holds = quiet w c w.kernel.shared without_it without_number h can.client refl refl refl
       (booked_fewer w c without_it without_number h can.client (λ j e. (of_without book.numbers i j e).1) (fits_same w c without_it h can.client refl))
       (record {
@@ -209,19 +209,19 @@ module _ (w : World) (c i : ℕ) (h : Holds w) (can : CanReturn w c i) where
       (before_less w c without_number h can.client (λ j e. e)) (after_less w c without_number h can.client (λ j e. e))
       (less_agrees had.knows (whole w) (held w) (h.agrees c can.client) without_number.knows (record { client = refl; own = λ n. refl; copies = record { nodes = λ j copy e. e; blocks = λ j b bytes e. e }; granted = λ j e. (of_without had.knows.granted i j e).1 }))
 
-  pub number_returned_tree : tree_of (number_returned w c i) ≡ tree_of w
+  pub number_returned_tree : world_state (number_returned w c i) ≡ world_state w
   number_returned_tree = tree_same w c w.kernel.shared without_it without_number refl refl refl
 
 -- ---- pins
 
-module _ (w : World) (c i : ℕ) (h : Holds w) (is_c : is_client c ≡ true) where
+module _ (w : World) (c i : ℕ) (h : IsCoherent w) (is_c : is_client c ≡ true) where
   abbrev pinner : Client
   pinner = record (w.clients c) { pins = also (w.clients c).pins i }
 
   abbrev pin_book : Account
   pin_book = record (w.kernel.accounts c) { pins = also (w.kernel.accounts c).pins i }
 
-  pub pinned_holds : Holds (pinned w c i)
+  pub pinned_holds : IsCoherent (inode_pinned w c i)
   pinned_holds =
       let x = h.stands c is_c in
       quiet w c w.kernel.shared pin_book pinner h is_c refl refl refl
@@ -246,17 +246,17 @@ module _ (w : World) (c i : ℕ) (h : Holds w) (is_c : is_client c ≡ true) whe
       itself : (i : ℕ) → (i == i) ≡ true
       itself i = elim (eqb_tells i i) [ inl same ↦ same.0 | inr off ↦ absurd (off.1 refl) ]
 
-  pub pinned_tree : tree_of (pinned w c i) ≡ tree_of w
+  pub pinned_tree : world_state (inode_pinned w c i) ≡ world_state w
   pinned_tree = tree_same w c w.kernel.shared pin_book pinner refl refl refl
 
-module _ (w : World) (c i : ℕ) (h : Holds w) (can : CanUnpin w c i) where
+module _ (w : World) (c i : ℕ) (h : IsCoherent w) (can : CanUnpin w c i) where
   abbrev dropper : Client
   dropper = record (w.clients c) { pins = without (w.clients c).pins i }
 
   abbrev drop_book : Account
   drop_book = record (w.kernel.accounts c) { pins = without (w.kernel.accounts c).pins i }
 
-  pub unpinned_holds : Holds (unpinned w c i)
+  pub unpinned_holds : IsCoherent (unpinned w c i)
   unpinned_holds =
       let x = h.stands c can.client in
       quiet w c w.kernel.shared drop_book dropper h can.client refl refl refl
@@ -278,5 +278,5 @@ module _ (w : World) (c i : ℕ) (h : Holds w) (can : CanUnpin w c i) where
       })
       (before_less w c dropper h can.client (λ j e. e)) (after_less w c dropper h can.client (λ j e. e)) (h.agrees c can.client)
 
-  pub unpinned_tree : tree_of (unpinned w c i) ≡ tree_of w
+  pub unpinned_tree : world_state (unpinned w c i) ≡ world_state w
   unpinned_tree = tree_same w c w.kernel.shared drop_book dropper refl refl refl

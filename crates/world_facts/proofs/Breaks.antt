@@ -6,12 +6,12 @@ use Rattle.posix_calls.specs.Tree.{State, refers_to, has_open, is_open}
 use Rattle.posix_calls.proofs.Sums.{any_there}
 use Rattle.file_graph.specs.Graph.{Graph, Node, set_node}
 use Rattle.call_effects.specs.Wholes.{state_of, keep, tree_node}
-use Rattle.world_facts.specs.Logs.{after_records, after_each, AreApart, IsMadeOnce, NameNone}
+use Rattle.world_facts.specs.Logs.{after_records, after_each, LogsAreApart, IsMadeOnce, NameNone}
 use Rattle.world_facts.specs.Broken.{both_counting, one_file, making, dropping, one_open, naming}
 
 -- ---- a record that touches what its client doesn't hold
 
-pub not_apart : AreApart both_counting → ⊥
+pub not_apart : LogsAreApart both_counting → ⊥
 not_apart apart = false≢true (sym (apart 1 2 2 refl refl (λ e. false≢true (ap (λ n. n == 1) e)) refl))
 
 counts_three : Option Node → Bool

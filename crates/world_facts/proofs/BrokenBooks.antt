@@ -1,24 +1,23 @@
 -- What goes wrong in small worlds whose book breaks one part of the invariant each.
-use Rattle.std.proofs.Common.{◌≡◌, ◌≢◌, inl, inr, ℕ, ◌+◌, ◌-◌, ◌≤◌, ◌==◌, ◌||◌, cond, Bool, true, false, [], ◌∷◌, refl, Some, None, Option, ap, sym, ◌∙◌, subst, arith, lit≤}
+use Rattle.std.proofs.Common.{◌≡◌, ◌≢◌, inl, inr, ℕ, ◌-◌, ◌≤◌, cond, true, false, [], ◌∷◌, refl, Some, None, ap, sym, ◌∙◌, subst, arith, lit≤}
 use Rattle.std.specs.Prelude.{is_some, option_map}
 use Rattle.std.proofs.lemmas.Bool.{false≢true}
 use Rattle.std.proofs.lemmas.Bool.Decides.{eqb_tells}
-use Rattle.posix_calls.specs.Tree.{State, Own, refers_to, has_open, is_open}
+use Rattle.posix_calls.specs.Tree.{State, refers_to, has_open, is_open}
 use Rattle.posix_calls.specs.Operations.{is_client}
 use Rattle.posix_calls.proofs.Sums.{any_there}
-use Rattle.file_graph.specs.Graph.{Graph, FileBody}
+use Rattle.file_graph.specs.Graph.{FileBody}
 use Rattle.call_effects.specs.Known.{Agrees}
 use Rattle.call_effects.specs.Wholes.{keep, tree_node}
 use Rattle.world_facts.specs.Limits.{IsWithin, AreWithin}
-use Rattle.world_facts.specs.Logs.{after_records, after_clients, KeepLimits, is_made_in}
-use Rattle.world_facts.specs.World.{Account, log_of, whole, held, tree_of, at}
+use Rattle.world_facts.specs.Logs.{after_records, after_clients, KeepLimits}
+use Rattle.world_facts.specs.World.{Account, log_of, whole, held, world_state}
 use Rattle.world_facts.specs.Standing.{IsBooked, IsNumbered, IsPinned}
 use Rattle.world_facts.specs.LeaseSteps.{write_taken}
 use Rattle.world_facts.specs.BookSteps.{IsUnbooked, units_granted, number_granted}
 use Rattle.world_facts.specs.Halves.{IsOnItsWay, number_received}
 use Rattle.world_facts.specs.ClientSteps.{replied}
-use Rattle.world_facts.specs.KernelSteps.{CanDigest, digested, CanReclaim, reclaimed}
-use Rattle.world_facts.specs.Opening.{idle_account}
+use Rattle.world_facts.specs.KernelSteps.{CanDigest, records_digested, CanReclaim, reclaimed}
 use Rattle.world_facts.specs.Walk.{mkdir_a}
 use Rattle.world_facts.specs.Walk as walked
 use Rattle.world_facts.specs.UnlinkWalk as unlink_walked
@@ -91,7 +90,7 @@ used_broken is = false≢true (sym (is.unused 2 refl))
 pub used_can : CanDigest used_number 1 (making ∷ dropping ∷ []) []
 used_can = record { client = refl; some = λ e. absurd (cc); split = refl }
 
-pub used_lost : IsNumbered ((digested used_number 1 (making ∷ dropping ∷ [])).kernel.accounts 1).numbers ((digested used_number 1 (making ∷ dropping ∷ [])).clients 1).knows.granted (log_of (digested used_number 1 (making ∷ dropping ∷ [])) 1) → ⊥
+pub used_lost : IsNumbered ((records_digested used_number 1 (making ∷ dropping ∷ [])).kernel.accounts 1).numbers ((records_digested used_number 1 (making ∷ dropping ∷ [])).clients 1).knows.granted (log_of (records_digested used_number 1 (making ∷ dropping ∷ [])) 1) → ⊥
 used_lost is = false≢true (is.granted 2 refl)
 
 -- ---- a pin that isn't in the book
@@ -112,7 +111,7 @@ still_open : is_open (held unpinned_file) 2 ≡ true
 unfolding is_open
 still_open = any_there 8 1 (λ c. has_open (held unpinned_file c) 2) (lit≤ tt) (lit≤ tt) (any_there 32 1 (λ n. refers_to 2 (held unpinned_file 1 (n - 1))) (lit≤ tt) (lit≤ tt) refl)
 
-pub unpinned_seen : tree_of (reclaimed unpinned_file 2) ≢ tree_of unpinned_file
+pub unpinned_seen : world_state (reclaimed unpinned_file 2) ≢ world_state unpinned_file
 unfolding after_clients
 unpinned_seen e = false≢true (ap (λ (s : State). is_some (s.tree 2)) e ∙ ap (λ b. is_some (option_map tree_node (keep b (whole unpinned_file 2)))) still_open)
 

@@ -14,12 +14,12 @@ use Rattle.call_effects.specs.Known.{Agrees}
 use Rattle.call_effects.specs.NodeView.{NodeView, FileView, DirView, view_at}
 use Rattle.call_effects.specs.Wholes.{IsSound}
 use Rattle.world_facts.specs.Logs.{after_clients, units_in, ArePaid}
-use Rattle.world_facts.specs.World.{Account, Kernel, all_of, records_of, whole, held, holds, tree_of, at}
+use Rattle.world_facts.specs.World.{Account, Kernel, all_of, records_of, whole, held, has_lease, world_state, at}
 use Rattle.world_facts.specs.Opening.{idle_account}
 use Rattle.world_facts.specs.Standing.{IsMarked, IsLeased, IsPending, IsBooked, IsBeside, Stands}
 use Rattle.world_facts.specs.ClientSteps.{IsBegun, replied}
-use Rattle.world_facts.specs.RegionSteps.{CanSeal, sealed}
-use Rattle.world_facts.specs.KernelSteps.{CanDigest, digested}
+use Rattle.world_facts.specs.RegionSteps.{CanSeal, region_sealed}
+use Rattle.world_facts.specs.KernelSteps.{CanDigest, records_digested}
 use Rattle.world_facts.specs.Walk.{mkdir_a, made}
 use Rattle.world_facts.specs.Broken.{making, marked_past, granted_twice, watching, root_alone, half, misbegun, unpaid, overdrawn}
 use Rattle.world_facts.proofs.Fresh.{fresh_within}
@@ -39,7 +39,7 @@ past_same = each_client made 1 made.kernel.shared (record (made.kernel.accounts 
 pub past_sealed : CanSeal marked_past 1
 past_sealed = record { client = refl; idle = refl; some = λ e. absurd (cc); back = λ e. absurd (cc) }
 
-pub past_lost : tree_of (sealed marked_past 1) ≢ tree_of marked_past
+pub past_lost : world_state (region_sealed marked_past 1) ≢ world_state marked_past
 unfolding after_clients
 past_lost e = false≢true (ap (λ (s : State). is_some (s.tree 2)) e)
 
@@ -123,13 +123,13 @@ watching_stale reads agrees = elim (agrees.put_back 1) [
     view_of : (g back : Graph) → back 1 ≡ g 1 → view_at back 1 ≡ view_at g 1
     view_of g back same = ap (λ o. view_at (λ i. o) 1) same
 
-pub unleased : IsLeased (holds ((watching (λ i. false)).clients 2)) ((watching (λ i. false)).clients 2).knows → ⊥
+pub unleased : IsLeased (has_lease ((watching (λ i. false)).clients 2)) ((watching (λ i. false)).clients 2).knows → ⊥
 unleased is = false≢true (is.copies 1 (view_at fresh 1) refl)
 
 pub beside_broken : IsBeside ((watching root_alone).clients 1) ((watching root_alone).clients 2) → ⊥
 beside_broken apart = false≢true (sym (apart 1 refl))
 
-pub root_leased : IsLeased (holds ((watching root_alone).clients 2)) ((watching root_alone).clients 2).knows
+pub root_leased : IsLeased (has_lease ((watching root_alone).clients 2)) ((watching root_alone).clients 2).knows
 root_leased = record {
   copies = λ i copy e. elim (eqb_tells i 1) [
     | inl same ↦ ap (λ b. b || false) same.0
@@ -218,8 +218,8 @@ too_much k capacity more is =
     let fits : charge k.shared + sum_up_to 8 (λ c. (k.accounts c).units) ≤ k.capacity = is.fits in
     absurd (omega (arith, fits, capacity, more))
 
-pub unpaid_passed : IsBooked (digested (overdrawn unpaid) 1 (unpaid ∷ [])).kernel → ⊥
-unpaid_passed = too_much (digested (overdrawn unpaid) 1 (unpaid ∷ [])).kernel refl one_more
+pub unpaid_passed : IsBooked (records_digested (overdrawn unpaid) 1 (unpaid ∷ [])).kernel → ⊥
+unpaid_passed = too_much (records_digested (overdrawn unpaid) 1 (unpaid ∷ [])).kernel refl one_more
 
-pub unbooked_passed : IsBooked (digested (overdrawn making) 1 (making ∷ [])).kernel → ⊥
-unbooked_passed = too_much (digested (overdrawn making) 1 (making ∷ [])).kernel refl one_more
+pub unbooked_passed : IsBooked (records_digested (overdrawn making) 1 (making ∷ [])).kernel → ⊥
+unbooked_passed = too_much (records_digested (overdrawn making) 1 (making ∷ [])).kernel refl one_more

@@ -1,8 +1,8 @@
 -- A client that died departs, is buried, and its seat is taken again: the whole stays, and what it had open is closed.
-use Rattle.std.proofs.Common.{◌≡◌, ◌≢◌, inl, inr, ℕ, ◌+◌, ◌-◌, ◌≤◌, cond, true, false, refl, Some, None, ap, sym, ◌∙◌, subst, arith}
+use Rattle.std.proofs.Common.{◌≡◌, ◌≢◌, inl, inr, ℕ, ◌+◌, ◌-◌, ◌≤◌, cond, true, refl, Some, None, ap, sym, ◌∙◌, arith}
 use Rattle.std.proofs.lemmas.Bool.{false≢true}
 use Rattle.std.proofs.lemmas.Bool.Decides.{eqb_tells}
-use Rattle.posix_calls.specs.Tree.{Own, Descriptors, with_own, sum_up_to}
+use Rattle.posix_calls.specs.Tree.{Own, Descriptors, sum_up_to}
 use Rattle.posix_calls.specs.Operations.{is_client}
 use Rattle.posix_calls.specs.declared.descriptor.Descriptor.{Descriptor}
 use Rattle.posix_calls.proofs.Sums.{same_if, there_if}
@@ -10,13 +10,12 @@ use Rattle.file_graph.specs.Graph.{Graph}
 use Rattle.file_graph.specs.Units.{charge}
 use Rattle.call_effects.specs.Settled.{without_client}
 use Rattle.call_effects.specs.Wholes.{IsSound, state_of}
-use Rattle.call_effects.specs.Known.{Knowledge, Agrees}
-use Rattle.world_facts.specs.World.{Alive, Settled, Buried, Client, Account, World, undigested, log_of, whole, held, tree_of, at}
-use Rattle.world_facts.specs.Invariant.{Holds}
+use Rattle.call_effects.specs.Known.{Agrees}
+use Rattle.world_facts.specs.World.{Alive, Settled, Buried, Client, Account, World, undigested, log_of, whole, held, world_state, at}
+use Rattle.world_facts.specs.Invariant.{IsCoherent}
 use Rattle.world_facts.specs.Opening.{knows_nothing, idle_client, idle_account}
 use Rattle.world_facts.specs.Standing.{Stands, is_settled}
-use Rattle.world_facts.specs.Burial.{CanDepart, departed, CanBury, buried, CanJoin, joined}
-use Rattle.world_facts.proofs.Records.{both}
+use Rattle.world_facts.specs.Burial.{CanDepart, departed, CanBury, client_buried, CanJoin, joined}
 use Rattle.world_facts.proofs.Idle.{none_some, idle_stands, nothing_left}
 use Rattle.world_facts.proofs.Begins.{tree_same, turned_holds, turned_tree}
 use Rattle.world_facts.proofs.Moved.{both_same, holds_moved, quiet, booked_same, before_less, after_less, units_moved, whole_same, held_moved}
@@ -47,7 +46,7 @@ less_open g held c sound = record {
 
 -- ---- departed
 
-module _ (w : World) (c : ℕ) (h : Holds w) (can : CanDepart w c) where
+module _ (w : World) (c : ℕ) (h : IsCoherent w) (can : CanDepart w c) where
   abbrev account : Account
   account = w.kernel.accounts c
 
@@ -100,7 +99,7 @@ module _ (w : World) (c : ℕ) (h : Holds w) (can : CanDepart w c) where
     granted = known.granted;
   }
 
-  pub departed_holds : Holds (departed w c)
+  pub departed_holds : IsCoherent (departed w c)
   departed_holds = holds_moved w c w.kernel.shared account leaver h can.client
       (booked_same w c leaver h can.client)
       departed_stands
@@ -110,12 +109,12 @@ module _ (w : World) (c : ℕ) (h : Holds w) (can : CanDepart w c) where
       (both_same (λ g o. Agrees leaver.knows g o) whole_stays held_is itself)
       (λ d is_d other. both_same (λ g o. Agrees (w.clients d).knows g o) whole_stays held_is (others d is_d other))
 
-  pub departed_tree : tree_of (departed w c) ≡ state_of (whole w) (without_client (held w) c)
+  pub departed_tree : world_state (departed w c) ≡ state_of (whole w) (without_client (held w) c)
   departed_tree = ap (λ g. state_of g (held (departed w c))) whole_stays ∙ ap (λ o. state_of (whole w) o) held_is
 
 -- ---- buried
 
-module _ (w : World) (c : ℕ) (h : Holds w) (can : CanBury w c) where
+module _ (w : World) (c : ℕ) (h : IsCoherent w) (can : CanBury w c) where
   abbrev mark : ℕ
   mark = (w.kernel.accounts c).mark
 
@@ -168,7 +167,7 @@ module _ (w : World) (c : ℕ) (h : Holds w) (can : CanBury w c) where
     pending = idle.pending;
   }
 
-  pub buried_holds : Holds (buried w c)
+  pub buried_holds : IsCoherent (client_buried w c)
   buried_holds = quiet w c w.kernel.shared empty grave h can.client refl log_same own_same
       (booked_fewer w c empty grave h can.client (λ i e. absurd (false≢true e)) fits)
       buried_stands
@@ -176,14 +175,14 @@ module _ (w : World) (c : ℕ) (h : Holds w) (can : CanBury w c) where
       (λ d is_d other i e. refl)
       nothing_known
 
-  pub buried_tree : tree_of (buried w c) ≡ tree_of w
+  pub buried_tree : world_state (client_buried w c) ≡ world_state w
   buried_tree = tree_same w c w.kernel.shared empty grave log_same refl own_same
 
 -- ---- joined
 
-module _ (w : World) (c : ℕ) (h : Holds w) (can : CanJoin w c) where
-  pub joined_holds : Holds (joined w c)
+module _ (w : World) (c : ℕ) (h : IsCoherent w) (can : CanJoin w c) where
+  pub joined_holds : IsCoherent (joined w c)
   joined_holds = turned_holds w c Alive h can.client refl
 
-  pub joined_tree : tree_of (joined w c) ≡ tree_of w
+  pub joined_tree : world_state (joined w c) ≡ world_state w
   joined_tree = turned_tree w c Alive h can.client refl

@@ -1,10 +1,10 @@
 -- Only a call that reads bytes of a file asks for any, and it has no record.
-use Rattle.std.proofs.Common.{◌≡◌, ◌≢◌, ℕ, zero, suc, ◌+◌, ◌-◌, cond, Bool, true, false, List, [], ◌∷◌, length, nat_lt, refl, Some, None, Option, Ok, Err, Result, ap, sym, ◌∙◌, subst, ◌==◌}
+use Rattle.std.proofs.Common.{◌≡◌, ◌≢◌, ℕ, cond, Bool, true, false, List, [], ◌∷◌, length, nat_lt, refl, Some, None, Option, Ok, Err, Result, ap, ◌∙◌}
 use Rattle.std.specs.FinMap as fin
 use Rattle.posix_calls.specs.Tree.{Own}
-use Rattle.posix_calls.specs.Query.{Seen, File, Dir, Query, Gives, Refuses, IsDir, Look, Range, ◌>>=◌, Part, Found, Known, Unknown, blocks_of, run_part}
-use Rattle.posix_calls.specs.Walk.{Place, refuse, said, entries_at, size_at, names_at, kind_at, directory, directory_if, walk, prefix, is_inode, there, root_place}
-use Rattle.posix_calls.specs.Decide.{opened, number_or, lowest_free, empties, open_there, write_at, replacing, replacing_dir, renamed, described, open_path, close, pread, pwrite, truncate, mkdir, rmdir, link, unlink, rename, list_path, stat, decide}
+use Rattle.posix_calls.specs.Query.{Seen, File, Dir, Query, Gives, Refuses, IsDir, Look, Range, ◌>>=◌, Part, Found, Known, Unknown, run_part}
+use Rattle.posix_calls.specs.Walk.{Place, refuse, said, entries_at, size_at, names_at, kind_at, directory, directory_if, walk, is_inode, there, root_place}
+use Rattle.posix_calls.specs.Decide.{opened, number_or, empties, open_there, write_at, replacing, replacing_dir, renamed, described, open_path, close, pread, pwrite, truncate, mkdir, rmdir, link, unlink, rename, list_path, stat, decide}
 use Rattle.posix_calls.specs.declared.call.Call.{Call}
 use Rattle.posix_calls.specs.declared.call.Call.TheVariants as call
 use Rattle.posix_calls.specs.declared.call.Flags.{Flags}
@@ -14,7 +14,7 @@ use Rattle.posix_calls.specs.declared.errno.Errno.{Errno}
 use Rattle.posix_calls.specs.declared.errno.Errno.TheVariants as errno
 use Rattle.posix_calls.specs.declared.operation.Missing.TheVariants as missing
 use Rattle.posix_calls.specs.declared.operation.Operation.{Operation}
-use Rattle.posix_calls.specs.declared.operation.Operation.TheVariants.{Tell, OpenFile, CloseFile, Resize}
+use Rattle.posix_calls.specs.declared.operation.Operation.TheVariants.{Tell, CloseFile}
 use Rattle.posix_calls.specs.declared.operation.Replaced.TheVariants.{OldFile}
 use Rattle.file_graph.specs.declared.effect.Effect.{Effect}
 use Rattle.call_effects.specs.Effects.{recounted}

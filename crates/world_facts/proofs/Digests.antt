@@ -13,10 +13,10 @@ use Rattle.call_effects.specs.Wholes.{IsSound, state_of}
 use Rattle.call_effects.specs.Known.{Agrees}
 use Rattle.world_facts.specs.Logs.{after_records, is_written, is_made_in, IsMadeOnce, units_in, IsPaid, ArePaid, IsNameless, Keeps, NamesNone, NameNone, KeepLimits}
 use Rattle.world_facts.specs.Limits.{IsWithin}
-use Rattle.world_facts.specs.World.{Client, Account, World, undigested, records_of, change_of, log_of, all_of, whole, held, tree_of, at}
+use Rattle.world_facts.specs.World.{Client, Account, World, undigested, records_of, change_of, log_of, all_of, whole, held, world_state, at}
 use Rattle.world_facts.specs.Standing.{IsBooked, Stands}
-use Rattle.world_facts.specs.Invariant.{Holds}
-use Rattle.world_facts.specs.KernelSteps.{CanDigest, digested}
+use Rattle.world_facts.specs.Invariant.{IsCoherent}
+use Rattle.world_facts.specs.KernelSteps.{CanDigest, records_digested}
 use Rattle.world_facts.proofs.Records.{either, both, records_stay, front_unwritten, rest_written, units_append}
 use Rattle.world_facts.proofs.Owners.{digested_whole}
 use Rattle.world_facts.proofs.Made.{records_none, front_unmade, rest_made, rest_unmade, once_rest, once_apart, made_append}
@@ -34,7 +34,7 @@ drop_more m n xs low =
     ∙ ap (λ k. drop (k + n) (take m xs ++ drop m xs)) (sym (length-take-le m xs low))
     ∙ drop-append-add (take m xs) (drop m xs) n
 
-module _ (w : World) (c : ℕ) (first rest : List Record) (h : Holds w) (can : CanDigest w c first rest) where
+module _ (w : World) (c : ℕ) (first rest : List Record) (h : IsCoherent w) (can : CanDigest w c first rest) where
   abbrev p : Client
   p = w.clients c
 
@@ -91,14 +91,14 @@ module _ (w : World) (c : ℕ) (first rest : List Record) (h : Holds w) (can : C
 
   -- ---- the whole stays
 
-  pub digest_keeps : whole (digested w c first) ≡ whole w
-  digest_keeps = λ t i. digested_whole (log_of w) (log_of (digested w c first)) w.kernel.shared c first later can.client (apart_logs w h) log_was (log_there w c shared after p ∙ log_is) (log_else w c shared after p) i t
+  pub digest_keeps : whole (records_digested w c first) ≡ whole w
+  digest_keeps = λ t i. digested_whole (log_of w) (log_of (records_digested w c first)) w.kernel.shared c first later can.client (apart_logs w h) log_was (log_there w c shared after p ∙ log_is) (log_else w c shared after p) i t
 
-  open_same : held (digested w c first) ≡ held w
+  open_same : held (records_digested w c first) ≡ held w
   open_same = held_same w c shared after p refl
 
-  pub digested_tree : tree_of (digested w c first) ≡ tree_of w
-  digested_tree = ap (λ g. state_of g (held (digested w c first))) digest_keeps ∙ ap (λ o. state_of (whole w) o) open_same
+  pub digested_tree : world_state (records_digested w c first) ≡ world_state w
+  digested_tree = ap (λ g. state_of g (held (records_digested w c first))) digest_keeps ∙ ap (λ o. state_of (whole w) o) open_same
 
   -- ---- units
 
@@ -144,7 +144,7 @@ module _ (w : World) (c : ℕ) (first rest : List Record) (h : Holds w) (can : C
     | inr clean ↦ clean
   ]
 
-  book : IsBooked (digested w c first).kernel
+  book : IsBooked (records_digested w c first).kernel
   book = booked_moved w c shared after p h can.client
       (λ i e. records_none w.kernel.shared first i (h.booked.free c i can.client (still i e).0) (still i e).1)
       (λ d i is_d other e. records_none w.kernel.shared first i (h.booked.free d i is_d e) (elim (either (is_made_in i first)) [
@@ -187,7 +187,7 @@ module _ (w : World) (c : ℕ) (first rest : List Record) (h : Holds w) (can : C
   beside d i is_d other e = sym (records_stay w.kernel.shared first i (front_unwritten i first (later ++ change_of p.begun)
       (ap (is_written i) (sym all_was) ∙ facts.apart_all w h d c i is_d can.client (λ same. other (sym same)) e)))
 
-  pub digested_holds : Holds (digested w c first)
+  pub digested_holds : IsCoherent (records_digested w c first)
   digested_holds = holds_moved w c shared after p h can.client book own
       (λ d is_d other. let x = h.stands d is_d in record {
         number = x.number;

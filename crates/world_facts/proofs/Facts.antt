@@ -11,16 +11,16 @@ use Rattle.log_record.specs.declared.format.Record.{Record}
 use Rattle.call_effects.specs.Effects.{effects_by, stored_at, recounted}
 use Rattle.call_effects.specs.Known.{IsPlanned}
 use Rattle.call_effects.proofs.KnownSteps.{planned_answer}
-use Rattle.world_facts.specs.Logs.{is_written, is_made, AreApart, Keeps}
+use Rattle.world_facts.specs.Logs.{is_written, is_made, LogsAreApart, Keeps}
 use Rattle.world_facts.specs.Limits.{IsWithin, AreWithin}
-use Rattle.world_facts.specs.World.{World, change_of, holds, log_of, all_of, whole, held}
-use Rattle.world_facts.specs.Invariant.{Holds}
+use Rattle.world_facts.specs.World.{World, change_of, has_lease, log_of, all_of, whole, held}
+use Rattle.world_facts.specs.Invariant.{IsCoherent}
 use Rattle.world_facts.proofs.Records.{either, both, in_rest, still_false, front_written}
 use Rattle.world_facts.proofs.Owners.{IsOwner, owner_of, whole_at}
 use Rattle.world_facts.proofs.Along.{along_front}
 use Rattle.world_facts.proofs.Keeping.{through}
 
-pub apart_less : (old new : ℕ → List Record) → ((d i : ℕ) → is_client d ≡ true → is_written i (new d) ≡ true → is_written i (old d) ≡ true) → AreApart old → AreApart new
+pub apart_less : (old new : ℕ → List Record) → ((d i : ℕ) → is_client d ≡ true → is_written i (new d) ≡ true → is_written i (old d) ≡ true) → LogsAreApart old → LogsAreApart new
 apart_less old new less apart c d i is_c is_d other e = still_false (is_written i (old d)) (is_written i (new d)) (less d i is_d) (apart c d i is_c is_d other (less c i is_c e))
 
 -- an operation makes a node of its new number alone
@@ -48,28 +48,28 @@ made_is_new names new i (Move from to x is_dir Nothing) e = absurd (false≢true
 made_is_new names new i (Move from to x is_dir (OldFile j)) e = absurd (false≢true e)
 made_is_new names new i (Move from to x is_dir (OldDir j)) e = absurd (false≢true e)
 
-module _ (w : World) (h : Holds w) where
+module _ (w : World) (h : IsCoherent w) where
   -- what a client writes no other holds
-  pub written_alone : (c d i : ℕ) → is_client c ≡ true → is_client d ≡ true → d ≢ c → is_written i (all_of w c) ≡ true → holds (w.clients d) i ≡ false
+  pub written_alone : (c d i : ℕ) → is_client c ≡ true → is_client d ≡ true → d ≢ c → is_written i (all_of w c) ≡ true → has_lease (w.clients d) i ≡ false
   written_alone c d i is_c is_d other e = h.beside c d is_c is_d other i ((h.stands c is_c).logged.leased i e)
 
   -- and what a client holds no other writes
-  pub held_alone : (c d i : ℕ) → is_client c ≡ true → is_client d ≡ true → d ≢ c → holds (w.clients c) i ≡ true → is_written i (all_of w d) ≡ false
+  pub held_alone : (c d i : ℕ) → is_client c ≡ true → is_client d ≡ true → d ≢ c → has_lease (w.clients c) i ≡ true → is_written i (all_of w d) ≡ false
   held_alone c d i is_c is_d other has = elim (either (is_written i (all_of w d))) [
-    | inl there ↦ both (holds (w.clients c) i) has (written_alone d c i is_d is_c (λ same. other (sym same)) there)
+    | inl there ↦ both (has_lease (w.clients c) i) has (written_alone d c i is_d is_c (λ same. other (sym same)) there)
     | inr clean ↦ clean
   ]
 
-  pub writing_holds : (c i : ℕ) → (w.clients c).writes i ≡ true → holds (w.clients c) i ≡ true
+  pub writing_holds : (c i : ℕ) → (w.clients c).writes i ≡ true → has_lease (w.clients c) i ≡ true
   writing_holds c i e = in_rest ((w.clients c).reads i) ((w.clients c).writes i) e
 
-  pub apart_all : AreApart (all_of w)
+  pub apart_all : LogsAreApart (all_of w)
   apart_all c d i is_c is_d other e = held_alone c d i is_c is_d other (writing_holds c i ((h.stands c is_c).logged.leased i e))
 
-  pub apart_logs : AreApart (log_of w)
+  pub apart_logs : LogsAreApart (log_of w)
   apart_logs = apart_less (all_of w) (log_of w) (λ d i is_d e. front_written i (log_of w d) (change_of (w.clients d).begun) e) apart_all
 
-  pub owned : (c i : ℕ) → is_client c ≡ true → holds (w.clients c) i ≡ true → IsOwner (log_of w) c i
+  pub owned : (c i : ℕ) → is_client c ≡ true → has_lease (w.clients c) i ≡ true → IsOwner (log_of w) c i
   owned c i is_c has = record { client = is_c; others = λ d is_d other. still_false (is_written i (all_of w d)) (is_written i (log_of w d)) (λ e. front_written i (log_of w d) (change_of (w.clients d).begun) e) (held_alone c d i is_c is_d other has) }
 
   -- the whole is within the limits

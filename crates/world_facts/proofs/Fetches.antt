@@ -18,9 +18,9 @@ use Rattle.call_effects.proofs.Changes.{fair_of}
 use Rattle.call_effects.proofs.KnownMissing.{stays_known}
 use Rattle.call_effects.proofs.PutBack.{stands_back}
 use Rattle.call_effects.proofs.Served.{copy_agrees, blocks_agree}
-use Rattle.world_facts.specs.World.{Begun, Client, World, holds, log_of, whole, held, tree_of}
+use Rattle.world_facts.specs.World.{Begun, Client, World, has_lease, log_of, whole, held, world_state}
 use Rattle.world_facts.specs.Standing.{IsPending, Stands}
-use Rattle.world_facts.specs.Invariant.{Holds}
+use Rattle.world_facts.specs.Invariant.{IsCoherent}
 use Rattle.world_facts.specs.LeaseSteps.{own_view, CanFetch, fetched, CanRead, blocks_fetched}
 use Rattle.world_facts.proofs.Owners.{whole_at}
 use Rattle.world_facts.proofs.Idle.{none_some}
@@ -29,7 +29,7 @@ use Rattle.world_facts.proofs.Begins.{tree_same}
 use Rattle.world_facts.proofs.Moved.{quiet, booked_same, before_less, after_less}
 
 -- a planned call stays one with more copies
-pub still_planned : (w : World) (h : Holds w) (k more : Knowledge) → Agrees k (whole w) (held w) → Agrees more (whole w) (held w) → HasCopies more k → more.own ≡ k.own → ((i : ℕ) → k.granted i ≡ true → more.granted i ≡ true)
+pub still_planned : (w : World) (h : IsCoherent w) (k more : Knowledge) → Agrees k (whole w) (held w) → Agrees more (whole w) (held w) → HasCopies more k → more.own ≡ k.own → ((i : ℕ) → k.granted i ≡ true → more.granted i ≡ true)
     → (call : Call) (new : ℕ) (operation : Operation) (es : List Effect) → IsPlanned k call new operation es → IsPlanned more call new operation es
 still_planned w h k more less agrees all own granted call new operation es plan =
     let fair = fair_of (whole w) (held w) h.sound in
@@ -39,11 +39,11 @@ still_planned w h k more less agrees all own granted call new operation es plan 
       number = λ m. granted new (plan.number m);
     }
 
-module _ (w : World) (c i : ℕ) (h : Holds w) (is_c : is_client c ≡ true) (leased : holds (w.clients c) i ≡ true) where
+module _ (w : World) (c i : ℕ) (h : IsCoherent w) (is_c : is_client c ≡ true) (leased : has_lease (w.clients c) i ≡ true) where
   view_is : whole w i ≡ own_view w c i
   view_is = whole_at (log_of w) w.kernel.shared c i (owned w h c i is_c leased)
 
-module _ (w : World) (c i : ℕ) (h : Holds w) (can : CanFetch w c i) where
+module _ (w : World) (c i : ℕ) (h : IsCoherent w) (can : CanFetch w c i) where
   abbrev k : Knowledge
   k = (w.clients c).knows
 
@@ -81,21 +81,21 @@ module _ (w : World) (c i : ℕ) (h : Holds w) (can : CanFetch w c i) where
         | inr off ↦ ap (λ t. cond t (Some (view_at (own_view w c) i)) (k.copies j)) off.0 ∙ there
       ]
 
-  held_copy : (j : ℕ) (copy : Option NodeView) → more.copies j ≡ Some copy → holds (w.clients c) j ≡ true
+  held_copy : (j : ℕ) (copy : Option NodeView) → more.copies j ≡ Some copy → has_lease (w.clients c) j ≡ true
   held_copy j copy e = elim (eqb_tells j i) [
-    | inl same ↦ ap (holds (w.clients c)) same.1 ∙ can.leased
+    | inl same ↦ ap (has_lease (w.clients c)) same.1 ∙ can.leased
     | inr off ↦ s.leased.copies j copy (sym (ap (λ t. cond t (Some (view_at (own_view w c) i)) (k.copies j)) off.0) ∙ e)
   ]
 
-  pub fetched_holds : Holds (fetched w c i)
+  pub fetched_holds : IsCoherent (fetched w c i)
   fetched_holds = quiet w c w.kernel.shared (w.kernel.accounts c) p h can.client refl refl refl (booked_same w c p h can.client)
       (record { number = s.number; left = s.left; marked = s.marked; starts = s.starts; logged = s.logged; units = s.units; numbered = s.numbered; leased = record { copies = held_copy; blocks = s.leased.blocks }; pinned = s.pinned; pending = pending })
       (before_less w c p h can.client (λ j e. e)) (after_less w c p h can.client (λ j e. e)) agrees
 
-  pub fetched_tree : tree_of (fetched w c i) ≡ tree_of w
+  pub fetched_tree : world_state (fetched w c i) ≡ world_state w
   fetched_tree = tree_same w c w.kernel.shared (w.kernel.accounts c) p refl refl refl
 
-module _ (w : World) (c i first count names : ℕ) (bytes : List ℕ) (h : Holds w) (can : CanRead w c i names bytes) where
+module _ (w : World) (c i first count names : ℕ) (bytes : List ℕ) (h : IsCoherent w) (can : CanRead w c i names bytes) where
   abbrev knew : Knowledge
   knew = (w.clients c).knows
 
@@ -127,13 +127,13 @@ module _ (w : World) (c i first count names : ℕ) (bytes : List ℕ) (h : Holds
       first_of true y e = refl
       first_of false y e = e
 
-  held_block : (j b : ℕ) (block : List ℕ) → knows.blocks j b ≡ Some block → holds (w.clients c) j ≡ true
+  held_block : (j b : ℕ) (block : List ℕ) → knows.blocks j b ≡ Some block → has_lease (w.clients c) j ≡ true
   held_block j b block e = elim (eqb_tells j i) [
-    | inl same ↦ ap (holds (w.clients c)) same.1 ∙ can.leased
+    | inl same ↦ ap (has_lease (w.clients c)) same.1 ∙ can.leased
     | inr off ↦ stood.leased.blocks j b block (sym (ap (λ t. cond (t && in_run first count b) (Some (block_of b bytes)) (knew.blocks j b)) off.0) ∙ e)
   ]
 
-  pub blocks_fetched_hold : Holds (blocks_fetched w c i first count bytes)
+  pub blocks_fetched_hold : IsCoherent (blocks_fetched w c i first count bytes)
   blocks_fetched_hold = quiet w c w.kernel.shared (w.kernel.accounts c) reader h can.client refl refl refl (booked_same w c reader h can.client)
       (record {
         number = stood.number;
@@ -153,5 +153,5 @@ module _ (w : World) (c i first count names : ℕ) (bytes : List ℕ) (h : Holds
       })
       (before_less w c reader h can.client (λ j e. e)) (after_less w c reader h can.client (λ j e. e)) now_agrees
 
-  pub blocks_fetched_tree : tree_of (blocks_fetched w c i first count bytes) ≡ tree_of w
+  pub blocks_fetched_tree : world_state (blocks_fetched w c i first count bytes) ≡ world_state w
   blocks_fetched_tree = tree_same w c w.kernel.shared (w.kernel.accounts c) reader refl refl refl

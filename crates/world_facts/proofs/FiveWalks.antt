@@ -1,5 +1,5 @@
 -- Each step of the walk of five nodes may be taken.
-use Rattle.std.proofs.Common.{◌≡◌, ◌≢◌, inl, inr, ℕ, ◌+◌, ◌-◌, ◌==◌, ◌||◌, cond, Bool, true, false, [], ◌∷◌, refl, Some, Ok, ap, sym, ◌∙◌, arith}
+use Rattle.std.proofs.Common.{◌≡◌, ◌≢◌, inl, inr, ℕ, ◌+◌, ◌-◌, ◌==◌, ◌||◌, true, false, [], ◌∷◌, refl, Ok, ap, sym, ◌∙◌, arith}
 use Rattle.std.specs.Prelude.{min, is_some}
 use Rattle.std.specs.FinMap as fin
 use Rattle.std.proofs.lemmas.Bool.{false≢true}
@@ -20,13 +20,13 @@ use Rattle.call_effects.specs.Records.{units_asked}
 use Rattle.call_effects.specs.Wholes.{without_kinds}
 use Rattle.call_effects.proofs.GrowthAsked.{len_seen}
 use Rattle.call_effects.proofs.Rises.{len_inserted}
-use Rattle.world_facts.specs.Logs.{is_touched, IsNameless}
-use Rattle.world_facts.specs.World.{holds, tree_of}
-use Rattle.world_facts.specs.Invariant.{Holds}
-use Rattle.world_facts.specs.ClientSteps.{CanBegin, IsBegun}
+use Rattle.world_facts.specs.Logs.{IsNameless}
+use Rattle.world_facts.specs.World.{has_lease, world_state}
+use Rattle.world_facts.specs.Invariant.{IsCoherent}
+use Rattle.world_facts.specs.ClientSteps.{CanBegin}
 use Rattle.world_facts.specs.LeaseSteps.{IsUnheld, CanFetch, CanGive, write_taken, fetched}
 use Rattle.world_facts.specs.BookSteps.{IsUnbooked, number_granted}
-use Rattle.world_facts.specs.RegionSteps.{sealed, taken_back}
+use Rattle.world_facts.specs.RegionSteps.{region_sealed, taken_back}
 use Rattle.world_facts.specs.KernelSteps.{CanReclaim}
 use Rattle.world_facts.specs.UnlinkWalk.{unlink_a}
 use Rattle.world_facts.specs.PairWalk as pair
@@ -48,61 +48,61 @@ ruleset parts = (part_bind, part_gives, part_refuses, part_is_dir, part_look)
 
 -- ---- the lease on the open file passes on
 
-pair_holds : Holds pair.made
+pair_holds : IsCoherent pair.made
 pair_holds = replied_holds pair.beside 2 pair.mkdir_b beside_holds still_begun
 
-back_holds : Holds walked.back
+back_holds : IsCoherent walked.back
 back_holds = current_wiped_holds (taken_back pair.made 1) 1 (taken_back_holds pair.made 1 pair_holds (record { client = refl; away = refl; digested = refl })) refl
 
 pub can_give : CanGive walked.back 1 2
 can_give = record { client = refl; idle = refl; clean = refl }
 
-passed_holds : Holds walked.passed
+passed_holds : IsCoherent walked.passed
 passed_holds = given_holds walked.back 1 2 back_holds can_give
 
 four_unbooked : IsUnbooked walked.passed.kernel 4
 four_unbooked = record { low = omega arith; high = omega arith; none = refl; nobody = λ d is_d. eight (λ d. (walked.passed.kernel.accounts d).numbers 4 ≡ false) refl refl refl refl refl refl refl refl d (is_low d is_d) (is_high d is_d) }
 
-with_four : Holds (number_granted walked.passed 2 4)
+with_four : IsCoherent (number_granted walked.passed 2 4)
 with_four = number_granted_holds walked.passed 2 4 passed_holds refl four_unbooked
 
 five_unbooked : IsUnbooked (number_granted walked.passed 2 4).kernel 5
 five_unbooked = record { low = omega arith; high = omega arith; none = refl; nobody = λ d is_d. eight (λ d. ((number_granted walked.passed 2 4).kernel.accounts d).numbers 5 ≡ false) refl refl refl refl refl refl refl refl d (is_low d is_d) (is_high d is_d) }
 
-granted_holds : Holds walked.granted
+granted_holds : IsCoherent walked.granted
 granted_holds = number_granted_holds (number_granted walked.passed 2 4) 2 5 with_four refl five_unbooked
 
 four_unheld : IsUnheld walked.granted 2 4
-four_unheld d is_d other = eight (λ d. holds (walked.granted.clients d) 4 ≡ false) refl refl refl refl refl refl refl refl d (is_low d is_d) (is_high d is_d)
+four_unheld d is_d other = eight (λ d. has_lease (walked.granted.clients d) 4 ≡ false) refl refl refl refl refl refl refl refl d (is_low d is_d) (is_high d is_d)
 
-four_holds : Holds (write_taken walked.granted 2 4)
+four_holds : IsCoherent (write_taken walked.granted 2 4)
 four_holds = write_taken_holds walked.granted 2 4 granted_holds refl four_unheld
 
 five_unheld : IsUnheld (write_taken walked.granted 2 4) 2 5
-five_unheld d is_d other = eight (λ d. holds ((write_taken walked.granted 2 4).clients d) 5 ≡ false) refl refl refl refl refl refl refl refl d (is_low d is_d) (is_high d is_d)
+five_unheld d is_d other = eight (λ d. has_lease ((write_taken walked.granted 2 4).clients d) 5 ≡ false) refl refl refl refl refl refl refl refl d (is_low d is_d) (is_high d is_d)
 
-five_holds : Holds (write_taken (write_taken walked.granted 2 4) 2 5)
+five_holds : IsCoherent (write_taken (write_taken walked.granted 2 4) 2 5)
 five_holds = write_taken_holds (write_taken walked.granted 2 4) 2 5 four_holds refl five_unheld
 
 two_unheld : IsUnheld (write_taken (write_taken walked.granted 2 4) 2 5) 2 2
-two_unheld d is_d other = eight (λ d. holds ((write_taken (write_taken walked.granted 2 4) 2 5).clients d) 2 ≡ false) refl refl refl refl refl refl refl refl d (is_low d is_d) (is_high d is_d)
+two_unheld d is_d other = eight (λ d. has_lease ((write_taken (write_taken walked.granted 2 4) 2 5).clients d) 2 ≡ false) refl refl refl refl refl refl refl refl d (is_low d is_d) (is_high d is_d)
 
-holding_holds : Holds walked.holding
+holding_holds : IsCoherent walked.holding
 holding_holds = write_taken_holds (write_taken (write_taken walked.granted 2 4) 2 5) 2 2 five_holds refl two_unheld
 
 fetch_three : CanFetch walked.holding 2 3
 fetch_three = record { client = refl; leased = refl; missing = inl refl; clear = λ none. absurd (false≢true (sym (ap is_some none))) }
 
-three_known : Holds (fetched walked.holding 2 3)
+three_known : IsCoherent (fetched walked.holding 2 3)
 three_known = fetched_holds walked.holding 2 3 holding_holds fetch_three
 
 fetch_two : CanFetch (fetched walked.holding 2 3) 2 2
 fetch_two = record { client = refl; leased = refl; missing = inl refl; clear = λ none. absurd (false≢true (sym (ap is_some none))) }
 
-known_holds : Holds walked.known
+known_holds : IsCoherent walked.known
 known_holds = fetched_holds (fetched walked.holding 2 3) 2 2 three_known fetch_two
 
-ready_holds : Holds walked.ready
+ready_holds : IsCoherent walked.ready
 ready_holds = pinned_holds walked.known 2 5 known_holds refl
 
 -- ---- a directory in the directory
@@ -138,13 +138,13 @@ can_make = record {
   pinned = λ what e. none_some what e;
 }
 
-making_holds : Holds walked.making
+making_holds : IsCoherent walked.making
 making_holds = begun_holds walked.ready 2 walked.mkdir_x ready_holds can_make
 
-made_holds : Holds walked.made
+made_holds : IsCoherent walked.made
 made_holds = replied_holds walked.making 2 walked.mkdir_x making_holds (record { client = refl; there = refl; known = λ e. absurd (cc) })
 
-pub made_step : Step (tree_of walked.making) 2 walked.mkdir_x.call Done (tree_of walked.made)
+pub made_step : Step (world_state walked.making) 2 walked.mkdir_x.call Done (world_state walked.made)
 made_step = replied_step walked.making 2 walked.mkdir_x making_holds (record { client = refl; there = refl; known = λ e. absurd (cc) })
 
 -- ---- a file in it
@@ -182,13 +182,13 @@ can_open = record {
   pinned = λ what e. let same : (0, record { inode = 5; reads = true; writes = true }) ≡ what = cc in ap (λ o. (walked.made.clients 2).pins o.1.inode) (sym same);
 }
 
-opening_holds : Holds walked.opening
+opening_holds : IsCoherent walked.opening
 opening_holds = begun_holds walked.made 2 walked.open_y made_holds can_open
 
-opened_holds : Holds walked.opened
+opened_holds : IsCoherent walked.opened
 opened_holds = replied_holds walked.opening 2 walked.open_y opening_holds (record { client = refl; there = refl; known = λ e. absurd (cc) })
 
-pub opened_step : Step (tree_of walked.opening) 2 walked.open_y.call (Opened 0) (tree_of walked.opened)
+pub opened_step : Step (world_state walked.opening) 2 walked.open_y.call (Opened 0) (world_state walked.opened)
 opened_step = replied_step walked.opening 2 walked.open_y opening_holds (record { client = refl; there = refl; known = λ e. absurd (cc) })
 
 -- ---- the file that client 1 has open loses its name
@@ -217,19 +217,19 @@ can_unlink = record {
   pinned = λ what e. none_some what e;
 }
 
-unlinking_holds : Holds walked.unlinking
+unlinking_holds : IsCoherent walked.unlinking
 unlinking_holds = begun_holds walked.opened 2 unlink_a opened_holds can_unlink
 
-unlinked_holds : Holds walked.unlinked
+unlinked_holds : IsCoherent walked.unlinked
 unlinked_holds = replied_holds walked.unlinking 2 unlink_a unlinking_holds (record { client = refl; there = refl; known = λ e. absurd (cc) })
 
-pub unlinked_step : Step (tree_of walked.unlinking) 2 unlink_a.call Done (tree_of walked.unlinked)
+pub unlinked_step : Step (world_state walked.unlinking) 2 unlink_a.call Done (world_state walked.unlinked)
 unlinked_step = replied_step walked.unlinking 2 unlink_a unlinking_holds (record { client = refl; there = refl; known = λ e. absurd (cc) })
 
 -- ---- digested
 
-pub kept_holds : Holds walked.kept
-kept_holds = digested_holds (sealed walked.unlinked 2) 2 (pair.mkdir_b.change ∷ walked.mkdir_x.change ∷ walked.open_y.change ∷ unlink_a.change ∷ []) []
+pub kept_holds : IsCoherent walked.kept
+kept_holds = digested_holds (region_sealed walked.unlinked 2) 2 (pair.mkdir_b.change ∷ walked.mkdir_x.change ∷ walked.open_y.change ∷ unlink_a.change ∷ []) []
     (sealed_holds walked.unlinked 2 unlinked_holds (record { client = refl; idle = refl; some = λ e. absurd (cc); back = λ e. absurd (cc) }))
     (record { client = refl; some = λ e. absurd (cc); split = refl })
 

@@ -1,19 +1,18 @@
 -- A client forgets some of what it knows.
-use Rattle.std.proofs.Common.{◌≡◌, ℕ, List, true, refl, Some, None, Option, ap, sym, ◌∙◌}
-use Rattle.posix_calls.specs.Operations.{is_client}
+use Rattle.std.proofs.Common.{◌≡◌, ℕ, List, refl, Some, Option, sym, ◌∙◌}
 use Rattle.call_effects.specs.Blocks.{range_by}
-use Rattle.call_effects.specs.Known.{Knowledge, Agrees, part_of}
+use Rattle.call_effects.specs.Known.{Knowledge, part_of}
 use Rattle.call_effects.proofs.Served.{less_agrees}
-use Rattle.world_facts.specs.World.{Begun, Client, World, whole, held, tree_of}
+use Rattle.world_facts.specs.World.{Begun, Client, World, whole, held, world_state}
 use Rattle.world_facts.specs.Standing.{IsPending, Stands}
-use Rattle.world_facts.specs.Invariant.{Holds}
+use Rattle.world_facts.specs.Invariant.{IsCoherent}
 use Rattle.world_facts.specs.LeaseSteps.{CanForget, forgotten, CanForgetBlocks, blocks_forgotten}
 use Rattle.world_facts.proofs.Idle.{none_some}
 use Rattle.world_facts.proofs.Begins.{tree_same}
 use Rattle.world_facts.proofs.Moved.{quiet, booked_same, before_less, after_less}
 use Rattle.world_facts.proofs.Bytes.{same_call, same_effects}
 
-module _ (w : World) (c : ℕ) (less : Knowledge) (h : Holds w) (can : CanForget w c less) where
+module _ (w : World) (c : ℕ) (less : Knowledge) (h : IsCoherent w) (can : CanForget w c less) where
   abbrev p : Client
   p = record (w.clients c) { knows = less }
 
@@ -23,16 +22,16 @@ module _ (w : World) (c : ℕ) (less : Knowledge) (h : Holds w) (can : CanForget
   own_same : less.own ≡ (w.clients c).knows.own
   own_same = λ t n. can.fewer.own n t
 
-  pub forgotten_holds : Holds (forgotten w c less)
+  pub forgotten_holds : IsCoherent (forgotten w c less)
   forgotten_holds = quiet w c w.kernel.shared (w.kernel.accounts c) p h can.client refl refl own_same (booked_same w c p h can.client)
       (record { number = can.fewer.client ∙ s.number; left = record { closed = λ e n. can.fewer.own n ∙ s.left.closed e n; idle = s.left.idle }; marked = s.marked; starts = s.starts; logged = s.logged; units = s.units; numbered = record { made = s.numbered.made; once = s.numbered.once; granted = λ i e. s.numbered.granted i (can.fewer.granted i e); unused = λ i e. s.numbered.unused i (can.fewer.granted i e) }; leased = record { copies = λ i copy e. s.leased.copies i copy (can.fewer.copies.nodes i copy e); blocks = λ i b bytes e. s.leased.blocks i b bytes (can.fewer.copies.blocks i b bytes e) }; pinned = record { opened = λ n o e. s.pinned.opened n o (sym (can.fewer.own n) ∙ e); booked = s.pinned.booked }; pending = λ b e. none_some b (sym can.idle ∙ e) })
       (before_less w c p h can.client (λ i e. e)) (after_less w c p h can.client (λ i e. e))
       (less_agrees (w.clients c).knows (whole w) (held w) (h.agrees c can.client) less can.fewer)
 
-  pub forgotten_tree : tree_of (forgotten w c less) ≡ tree_of w
+  pub forgotten_tree : world_state (forgotten w c less) ≡ world_state w
   forgotten_tree = tree_same w c w.kernel.shared (w.kernel.accounts c) p refl refl own_same
 
-module _ (w : World) (c : ℕ) (fewer : ℕ → ℕ → Option (List ℕ)) (h : Holds w) (can : CanForgetBlocks w c fewer) where
+module _ (w : World) (c : ℕ) (fewer : ℕ → ℕ → Option (List ℕ)) (h : IsCoherent w) (can : CanForgetBlocks w c fewer) where
   abbrev k : Knowledge
   k = (w.clients c).knows
 
@@ -56,11 +55,11 @@ module _ (w : World) (c : ℕ) (fewer : ℕ → ℕ → Option (List ℕ)) (h : 
     pinned = y.pinned;
   }
 
-  pub blocks_forgotten_hold : Holds (blocks_forgotten w c fewer)
+  pub blocks_forgotten_hold : IsCoherent (blocks_forgotten w c fewer)
   blocks_forgotten_hold = quiet w c w.kernel.shared (w.kernel.accounts c) q h can.client refl refl refl (booked_same w c q h can.client)
       (record { number = t.number; left = t.left; marked = t.marked; starts = t.starts; logged = t.logged; units = t.units; numbered = t.numbered; leased = record { copies = t.leased.copies; blocks = λ i b bytes e. t.leased.blocks i b bytes (can.known i b bytes e) }; pinned = t.pinned; pending = still_pending })
       (before_less w c q h can.client (λ i e. e)) (after_less w c q h can.client (λ i e. e))
       (less_agrees k (whole w) (held w) (h.agrees c can.client) left (record { client = refl; own = λ n. refl; copies = record { nodes = λ j copy e. e; blocks = can.known }; granted = λ j e. e }))
 
-  pub blocks_forgotten_tree : tree_of (blocks_forgotten w c fewer) ≡ tree_of w
+  pub blocks_forgotten_tree : world_state (blocks_forgotten w c fewer) ≡ world_state w
   blocks_forgotten_tree = tree_same w c w.kernel.shared (w.kernel.accounts c) q refl refl refl

@@ -1,10 +1,10 @@
 -- The graph of a root alone is within the limits.
-use Rattle.std.proofs.Common.{◌≡◌, ◌≢◌, inl, inr, ℕ, ◌≤◌, cond, List, Bool, None, Some, Option, sym, ◌∙◌, ap, subst, arith, refl}
+use Rattle.std.proofs.Common.{◌≡◌, inl, inr, ℕ, cond, List, None, Some, sym, ◌∙◌, ap, subst, arith, refl}
 use Rattle.std.specs.FinMap as fin
 use Rattle.std.proofs.lemmas.Bool.Decides.{eqb_tells}
 use Rattle.posix_calls.specs.Content.{Entries}
 use Rattle.posix_calls.proofs.Counts.{order}
-use Rattle.file_graph.specs.Graph.{Node, DirBody, fresh}
+use Rattle.file_graph.specs.Graph.{DirBody, fresh}
 use Rattle.file_graph.specs.declared.effect.Kind.{Kind}
 use Rattle.world_facts.specs.Limits.{AreEntriesWithin, IsNodeWithin, IsWithin, AreWithin}
 use Rattle.world_facts.proofs.Idle.{none_some}

@@ -1,5 +1,5 @@
 -- Where nobody holds anything and no log has a record, all of it holds.
-use Rattle.std.proofs.Common.{◌≡◌, inl, inr, ℕ, zero, suc, ◌≤◌, Bool, true, false, cond, [], ◌++◌, ◌-◌, drop, refl, Some, None, Option, ap, sym, ◌∙◌, subst, arith}
+use Rattle.std.proofs.Common.{◌≡◌, inl, ℕ, zero, suc, ◌≤◌, Bool, true, false, cond, [], ◌++◌, ◌-◌, drop, refl, Some, None, Option, ap, sym, ◌∙◌, subst, arith}
 use Rattle.std.proofs.lemmas.Bool.{false≢true}
 use Rattle.posix_calls.specs.Tree.{sum_up_to}
 use Rattle.posix_calls.specs.Operations.{is_client}
@@ -11,9 +11,9 @@ use Rattle.call_effects.specs.Wholes.{IsSound, state_of}
 use Rattle.log_record.specs.declared.format.Record.{Record}
 use Rattle.world_facts.specs.Limits.{AreWithin}
 use Rattle.world_facts.specs.Logs.{after_clients, is_written, ArePaid, NameNone, KeepLimits, units_in, is_made_in, IsMadeOnce}
-use Rattle.world_facts.specs.World.{records_of, whole, held, tree_of}
+use Rattle.world_facts.specs.World.{records_of, whole, held, world_state}
 use Rattle.world_facts.specs.Standing.{Stands}
-use Rattle.world_facts.specs.Invariant.{Holds}
+use Rattle.world_facts.specs.Invariant.{IsCoherent}
 use Rattle.world_facts.specs.Opening.{idle_client, idle_account, idle_world}
 
 pub none_some : {A : Type 0} {P : Type 0} (x : A) → ◌≡◌ {A = Option A} None (Some x) → P
@@ -61,7 +61,7 @@ idle_stands g c past = record {
     empty : (past : ℕ) → records_of (idle_account past) (idle_client c past) ≡ []
     empty past = ap (λ rs. rs ++ []) (nothing_left (past - past))
 
-pub idle_holds : (capacity : ℕ) (g : Graph) → charge g ≤ capacity → IsSound g nobody → AreWithin g → Holds (idle_world capacity g)
+pub idle_holds : (capacity : ℕ) (g : Graph) → charge g ≤ capacity → IsSound g nobody → AreWithin g → IsCoherent (idle_world capacity g)
 idle_holds capacity g fits sound within =
     let nothing : sum_up_to 8 (λ c. 0) ≡ 0 = all_zero 8 (λ c. 0) (λ c. refl) in
     let sound_now : IsSound (whole (idle_world capacity g)) (held (idle_world capacity g)) = subst (λ h. IsSound (whole (idle_world capacity g)) h) (sym (idle_held capacity g)) (subst (λ h. IsSound h nobody) (sym (idle_whole capacity g)) sound) in
@@ -81,5 +81,5 @@ idle_holds capacity g fits sound within =
       };
     }
 
-pub idle_tree : (capacity : ℕ) (g : Graph) → tree_of (idle_world capacity g) ≡ state_of g nobody
+pub idle_tree : (capacity : ℕ) (g : Graph) → world_state (idle_world capacity g) ≡ state_of g nobody
 idle_tree capacity g = ap (λ h. state_of h (held (idle_world capacity g))) (idle_whole capacity g) ∙ ap (λ h. state_of g h) (idle_held capacity g)

@@ -20,9 +20,9 @@ use Rattle.call_effects.specs.Known.{Knowledge, Agrees, IsPlanned, knows_after}
 use Rattle.call_effects.proofs.Blocks.{mapped}
 use Rattle.call_effects.proofs.KnownSteps.{planned_sound}
 use Rattle.call_effects.proofs.KnownAfter.{agrees_after, other_agrees}
-use Rattle.world_facts.specs.World.{World, holds, whole, held}
+use Rattle.world_facts.specs.World.{World, has_lease, whole, held}
 use Rattle.world_facts.specs.Standing.{IsLeased, IsPinned, OpensPinned}
-use Rattle.world_facts.specs.Invariant.{Holds}
+use Rattle.world_facts.specs.Invariant.{IsCoherent}
 use Rattle.world_facts.proofs.Records.{either, both, or_first, or_rest, or_joined}
 use Rattle.world_facts.proofs.Idle.{none_some}
 use Rattle.world_facts.proofs.Facts.{writing_holds, granted_alone}
@@ -96,7 +96,7 @@ granted_apart k new i operation es e m same =
 
 -- ---- the whole after a planned call
 
-module _ (w : World) (c : ℕ) (h : Holds w) (is_c : is_client c ≡ true) (call : Call) (new : ℕ) (operation : Operation) (es : List Effect)
+module _ (w : World) (c : ℕ) (h : IsCoherent w) (is_c : is_client c ≡ true) (call : Call) (new : ℕ) (operation : Operation) (es : List Effect)
     (planned : IsPlanned (w.clients c).knows call new operation es) (leased : (i : ℕ) → is_among i (touches es) ≡ true → (w.clients c).writes i ≡ true) where
   abbrev k : Knowledge
   k = (w.clients c).knows
@@ -117,9 +117,9 @@ module _ (w : World) (c : ℕ) (h : Holds w) (is_c : is_client c ≡ true) (call
   own_agrees_after = subst (λ d. Agrees (knows_after k new operation es) after (with_own (held w) d (own_after new k.own operation))) numbered (agrees_after k (whole w) (held w) call new operation es h.sound (h.agrees c is_c) planned)
 
   -- what another holds is not touched
-  beside : (d i : ℕ) → is_client d ≡ true → d ≢ c → holds (w.clients d) i ≡ true → is_among i (touches es) ≡ false
+  beside : (d i : ℕ) → is_client d ≡ true → d ≢ c → has_lease (w.clients d) i ≡ true → is_among i (touches es) ≡ false
   beside d i is_d other has = elim (either (is_among i (touches es))) [
-    | inl there ↦ both (holds (w.clients d) i) has (h.beside c d is_c is_d other i (leased i there))
+    | inl there ↦ both (has_lease (w.clients d) i) has (h.beside c d is_c is_d other i (leased i there))
     | inr clean ↦ clean
   ]
 
@@ -132,7 +132,7 @@ module _ (w : World) (c : ℕ) (h : Holds w) (is_c : is_client c ≡ true) (call
       (λ i b bytes e. beside d i is_d other ((h.stands d is_d).leased.blocks i b bytes e))
       (λ m. granted_alone w h c d new is_c is_d other (planned.number m)))
 
-  pub leased_after : IsLeased (holds (w.clients c)) (knows_after k new operation es)
+  pub leased_after : IsLeased (has_lease (w.clients c)) (knows_after k new operation es)
   leased_after = record {
     copies = λ i copy e. let was = mapped (view_after es i) (k.copies i) copy e in (h.stands c is_c).leased.copies i was.0 was.1;
     blocks = λ i b bytes e. elim (either (is_among i (touches es))) [

@@ -7,9 +7,9 @@ use Rattle.posix_calls.proofs.Sums.{same_if}
 use Rattle.call_effects.specs.Known.{Knowledge, IsForgetful}
 use Rattle.call_effects.proofs.Served.{less_agrees}
 use Rattle.world_facts.specs.Logs.{is_written}
-use Rattle.world_facts.specs.World.{Client, World, records_of, holds, whole, held, tree_of}
+use Rattle.world_facts.specs.World.{Client, World, records_of, has_lease, whole, held, world_state}
 use Rattle.world_facts.specs.Standing.{Stands}
-use Rattle.world_facts.specs.Invariant.{Holds}
+use Rattle.world_facts.specs.Invariant.{IsCoherent}
 use Rattle.world_facts.specs.LeaseSteps.{also, without, IsUnwritten, IsUnheld, read_taken, write_taken, CanGive, forgetting, given}
 use Rattle.world_facts.proofs.Records.{both, or_first, or_rest, or_neither, in_first, in_rest}
 use Rattle.world_facts.proofs.Idle.{none_some}
@@ -23,7 +23,7 @@ or_more false b x y f g e = in_rest x y (g e)
 
 -- ---- taken
 
-module _ (w : World) (c i : ℕ) (h : Holds w) (is_c : is_client c ≡ true) where
+module _ (w : World) (c i : ℕ) (h : IsCoherent w) (is_c : is_client c ≡ true) where
   abbrev reader : Client
   reader = record (w.clients c) { reads = also (w.clients c).reads i }
 
@@ -33,13 +33,13 @@ module _ (w : World) (c i : ℕ) (h : Holds w) (is_c : is_client c ≡ true) whe
   s : Stands w.kernel.shared (w.kernel.accounts c) c (w.clients c)
   s = h.stands c is_c
 
-  reader_holds : (j : ℕ) → holds (w.clients c) j ≡ true → holds reader j ≡ true
+  reader_holds : (j : ℕ) → has_lease (w.clients c) j ≡ true → has_lease reader j ≡ true
   reader_holds j e = or_more ((w.clients c).reads j) ((w.clients c).writes j) (also (w.clients c).reads i j) ((w.clients c).writes j) (in_rest (j == i) ((w.clients c).reads j)) (λ x. x) e
 
-  writer_holds : (j : ℕ) → holds (w.clients c) j ≡ true → holds writer j ≡ true
+  writer_holds : (j : ℕ) → has_lease (w.clients c) j ≡ true → has_lease writer j ≡ true
   writer_holds j e = or_more ((w.clients c).reads j) ((w.clients c).writes j) ((w.clients c).reads j) (also (w.clients c).writes i j) (λ x. x) (in_rest (j == i) ((w.clients c).writes j)) e
 
-  pub read_taken_holds : IsUnwritten w c i → Holds (read_taken w c i)
+  pub read_taken_holds : IsUnwritten w c i → IsCoherent (read_taken w c i)
   read_taken_holds free = quiet w c w.kernel.shared (w.kernel.accounts c) reader h is_c refl refl refl (booked_same w c reader h is_c)
       (record { number = s.number; left = s.left; marked = s.marked; starts = s.starts; logged = s.logged; units = s.units; numbered = s.numbered; leased = record { copies = λ j copy e. reader_holds j (s.leased.copies j copy e); blocks = λ j b bytes e. reader_holds j (s.leased.blocks j b bytes e) }; pinned = s.pinned; pending = s.pending })
       (before_less w c reader h is_c (λ j e. e))
@@ -49,7 +49,7 @@ module _ (w : World) (c i : ℕ) (h : Holds w) (is_c : is_client c ≡ true) whe
       ])
       (h.agrees c is_c)
 
-  pub write_taken_holds : IsUnheld w c i → Holds (write_taken w c i)
+  pub write_taken_holds : IsUnheld w c i → IsCoherent (write_taken w c i)
   write_taken_holds free = quiet w c w.kernel.shared (w.kernel.accounts c) writer h is_c refl refl refl (booked_same w c writer h is_c)
       (record {
         number = s.number;
@@ -64,19 +64,19 @@ module _ (w : World) (c i : ℕ) (h : Holds w) (is_c : is_client c ≡ true) whe
         pending = s.pending;
       })
       (λ d is_d other j e. elim (eqb_tells j i) [
-        | inl same ↦ ap (holds (w.clients d)) same.1 ∙ free d is_d other
+        | inl same ↦ ap (has_lease (w.clients d)) same.1 ∙ free d is_d other
         | inr off ↦ h.beside c d is_c is_d other j (ap (λ t. t || (w.clients c).writes j) (sym off.0) ∙ e)
       ])
       (λ d is_d other j e. elim (eqb_tells j i) [
-        | inl same ↦ both (holds (w.clients d) j) (writing_holds w h d j e) (ap (holds (w.clients d)) same.1 ∙ free d is_d other)
+        | inl same ↦ both (has_lease (w.clients d) j) (writing_holds w h d j e) (ap (has_lease (w.clients d)) same.1 ∙ free d is_d other)
         | inr off ↦ ap (λ t. (w.clients c).reads j || (t || (w.clients c).writes j)) off.0 ∙ h.beside d c is_d is_c (λ same. other (sym same)) j e
       ])
       (h.agrees c is_c)
 
-  pub read_taken_tree : tree_of (read_taken w c i) ≡ tree_of w
+  pub read_taken_tree : world_state (read_taken w c i) ≡ world_state w
   read_taken_tree = tree_same w c w.kernel.shared (w.kernel.accounts c) reader refl refl refl
 
-  pub write_taken_tree : tree_of (write_taken w c i) ≡ tree_of w
+  pub write_taken_tree : world_state (write_taken w c i) ≡ world_state w
   write_taken_tree = tree_same w c w.kernel.shared (w.kernel.accounts c) writer refl refl refl
 
 -- ---- given
@@ -98,7 +98,7 @@ forgets k i = record {
   granted = λ j e. e;
 }
 
-module _ (w : World) (c i : ℕ) (h : Holds w) (can : CanGive w c i) where
+module _ (w : World) (c i : ℕ) (h : IsCoherent w) (can : CanGive w c i) where
   abbrev giver : Client
   giver = record (w.clients c) { reads = without (w.clients c).reads i; writes = without (w.clients c).writes i; knows = forgetting (w.clients c).knows i }
 
@@ -117,13 +117,13 @@ module _ (w : World) (c i : ℕ) (h : Holds w) (can : CanGive w c i) where
   fewer : (has : ℕ → Bool) (j : ℕ) → has j ≡ false → without has i j ≡ false
   fewer has j e = elim (eqb_tells j i) [ inl same ↦ ap (λ t. cond t false (has j)) same.0 | inr off ↦ ap (λ t. cond t false (has j)) off.0 ∙ e ]
 
-  giver_holds : (j : ℕ) → j ≢ i → holds (w.clients c) j ≡ true → holds giver j ≡ true
+  giver_holds : (j : ℕ) → j ≢ i → has_lease (w.clients c) j ≡ true → has_lease giver j ≡ true
   giver_holds j off e = ap (λ t. t || without (w.clients c).writes i j) (still (w.clients c).reads j off) ∙ ap (λ t. (w.clients c).reads j || t) (still (w.clients c).writes j off) ∙ e
 
   giver_clean : is_written i (records_of (w.kernel.accounts c) (w.clients c)) ≡ false
   giver_clean = ap (is_written i) (idle_records (w.kernel.accounts c) (w.clients c) can.idle) ∙ can.clean
 
-  pub given_holds : Holds (given w c i)
+  pub given_holds : IsCoherent (given w c i)
   given_holds = quiet w c w.kernel.shared (w.kernel.accounts c) giver h can.client refl refl refl (booked_same w c giver h can.client)
       (record {
         number = stood.number;
@@ -139,8 +139,8 @@ module _ (w : World) (c i : ℕ) (h : Holds w) (can : CanGive w c i) where
         units = stood.units;
         numbered = stood.numbered;
         leased = record {
-          copies = λ j copy e. kept_if (holds giver j ≡ true) j i ((w.clients c).knows.copies j) copy e (λ off there. giver_holds j off (stood.leased.copies j copy there));
-          blocks = λ j b bytes e. kept_if (holds giver j ≡ true) j i ((w.clients c).knows.blocks j b) bytes e (λ off there. giver_holds j off (stood.leased.blocks j b bytes there));
+          copies = λ j copy e. kept_if (has_lease giver j ≡ true) j i ((w.clients c).knows.copies j) copy e (λ off there. giver_holds j off (stood.leased.copies j copy there));
+          blocks = λ j b bytes e. kept_if (has_lease giver j ≡ true) j i ((w.clients c).knows.blocks j b) bytes e (λ off there. giver_holds j off (stood.leased.blocks j b bytes there));
         };
         pinned = stood.pinned;
         pending = λ b e. none_some b (sym can.idle ∙ e);
@@ -149,5 +149,5 @@ module _ (w : World) (c i : ℕ) (h : Holds w) (can : CanGive w c i) where
       (after_less w c giver h can.client (λ j e. or_neither (without (w.clients c).reads i j) (without (w.clients c).writes i j) (fewer (w.clients c).reads j (or_first ((w.clients c).reads j) ((w.clients c).writes j) e)) (fewer (w.clients c).writes j (or_rest ((w.clients c).reads j) ((w.clients c).writes j) e))))
       (less_agrees (w.clients c).knows (whole w) (held w) (h.agrees c can.client) (forgetting (w.clients c).knows i) (forgets (w.clients c).knows i))
 
-  pub given_tree : tree_of (given w c i) ≡ tree_of w
+  pub given_tree : world_state (given w c i) ≡ world_state w
   given_tree = tree_same w c w.kernel.shared (w.kernel.accounts c) giver refl refl refl

@@ -1,5 +1,5 @@
 -- Each entry of the kernel keeps its book, what is sealed, and what is said of clients' parts.
-use Rattle.std.proofs.Common.{◌≡◌, ◌≢◌, inl, inr, ℕ, ◌+◌, ◌-◌, ◌<◌, ◌≤◌, ◌||◌, Bool, true, false, List, [], ◌++◌, length, take, drop, refl, None, ap, sym, ◌∙◌, subst, arith}
+use Rattle.std.proofs.Common.{◌≡◌, ◌≢◌, inl, inr, ℕ, ◌+◌, ◌-◌, ◌<◌, ◌≤◌, ◌||◌, Bool, true, false, List, ◌++◌, length, drop, refl, None, ap, sym, ◌∙◌, subst, arith}
 use Rattle.std.specs.Prelude.{◌&&◌, not}
 use Rattle.std.proofs.lemmas.Bool.{false≢true}
 use Rattle.std.proofs.lemmas.Bool.Decides.{eqb_tells}
@@ -12,15 +12,14 @@ use Rattle.file_graph.specs.Graph.{Graph, set_node}
 use Rattle.file_graph.specs.Units.{charge}
 use Rattle.log_record.specs.declared.format.Record.{Record}
 use Rattle.world_facts.specs.Limits.{IsWithin}
-use Rattle.world_facts.specs.Logs.{after_records, is_written, is_made_in, IsMadeOnce, units_in, IsPaid, ArePaid, IsNameless, Along, Keeps, NamesNone, NameNone, KeepLimits}
-use Rattle.world_facts.specs.World.{Account, Client, Kernel, World, undigested, records_of, change_of, log_of, at}
-use Rattle.world_facts.specs.Standing.{IsLogged, IsBooked, Stands}
-use Rattle.world_facts.specs.Invariant.{Holds}
+use Rattle.world_facts.specs.Logs.{after_records, is_written, is_made_in, IsMadeOnce, units_in, IsPaid, IsNameless, Along, Keeps, NamesNone}
+use Rattle.world_facts.specs.World.{Account, Client, Kernel, undigested, records_of, change_of, at}
+use Rattle.world_facts.specs.Standing.{IsLogged, Stands}
 use Rattle.world_facts.specs.Opening.{idle_account}
 use Rattle.world_facts.specs.LeaseSteps.{also, without}
 use Rattle.world_facts.specs.BookSteps.{HasRoom, IsUnbooked}
 use Rattle.world_facts.specs.KernelSteps.{CanReclaim}
-use Rattle.world_facts.specs.Machine.{Machine, IsRunning, Sealed, sealed_of, left_of, StandsSealed, kernel_with, with_account, CanAccept, accept, CanDigestNext, account_after, digest, book_units, unbook_units, book_number, unbook_number, book_pin, unbook_pin, bury, reclaim}
+use Rattle.world_facts.specs.Machine.{Machine, IsRunning, Sealed, sealed_of, left_of, StandsSealed, with_account, CanAccept, accept, CanDigestNext, account_after, digest, book_units, unbook_units, book_number, unbook_number, book_pin, unbook_pin, bury, reclaim}
 use Rattle.world_facts.proofs.Records.{either, both, records_stay, front_written, rest_written, units_append}
 use Rattle.world_facts.proofs.Made.{records_none, rest_made, once_rest, once_front, once_apart, made_append}
 use Rattle.world_facts.proofs.Along.{along_rest, along_front}

@@ -3,17 +3,15 @@ use Rattle.std.proofs.Common.{◌≡◌, ◌≢◌, inl, inr, ℕ, ◌+◌, ◌<
 use Rattle.std.proofs.lemmas.Bool.Decides.{eqb_tells}
 use Rattle.posix_calls.specs.Tree.{Own, Descriptors, with_own, sum_up_to}
 use Rattle.posix_calls.specs.Operations.{is_client}
-use Rattle.posix_calls.proofs.Sums.{same_if, there_if, one_changes}
 use Rattle.file_graph.specs.Graph.{Graph}
 use Rattle.file_graph.specs.Units.{charge}
 use Rattle.call_effects.specs.Wholes.{IsSound}
 use Rattle.call_effects.specs.Known.{Agrees}
 use Rattle.world_facts.specs.Limits.{AreWithin}
 use Rattle.world_facts.specs.Logs.{after_clients}
-use Rattle.world_facts.specs.World.{Client, Account, World, undigested, records_of, holds, log_of, all_of, whole, held, at, moved}
+use Rattle.world_facts.specs.World.{Client, Account, World, undigested, records_of, has_lease, log_of, all_of, whole, held, at, moved}
 use Rattle.world_facts.specs.Standing.{Stands, IsBooked, IsBeside}
-use Rattle.world_facts.specs.Invariant.{Holds}
-use Rattle.world_facts.proofs.Records.{either, both}
+use Rattle.world_facts.specs.Invariant.{IsCoherent}
 use Rattle.world_facts.proofs.Kernels.{each}
 use Rattle.world_facts.proofs.Kernels as kernels
 
@@ -74,7 +72,7 @@ at_same {A} f c = λ t d. there d t
       | inr other ↦ ap (λ b. cond b (f c) (f d)) other.0
     ]
 
-module _ (w : World) (c : ℕ) (g : Graph) (a : Account) (p : Client) (h : Holds w) (is_c : is_client c ≡ true) where
+module _ (w : World) (c : ℕ) (g : Graph) (a : Account) (p : Client) (h : IsCoherent w) (is_c : is_client c ≡ true) where
   pub holds_moved : IsBooked (moved w c g a p).kernel
       → Stands g a c p
       → ((d : ℕ) → is_client d ≡ true → d ≢ c → Stands g (w.kernel.accounts d) d (w.clients d))
@@ -83,7 +81,7 @@ module _ (w : World) (c : ℕ) (g : Graph) (a : Account) (p : Client) (h : Holds
       → IsSound (whole (moved w c g a p)) (held (moved w c g a p))
       → Agrees p.knows (whole (moved w c g a p)) (held (moved w c g a p))
       → ((d : ℕ) → is_client d ≡ true → d ≢ c → Agrees (w.clients d).knows (whole (moved w c g a p)) (held (moved w c g a p)))
-      → Holds (moved w c g a p)
+      → IsCoherent (moved w c g a p)
   holds_moved booked own others before after sound own_agrees agrees = record {
     booked = booked;
     stands = each_client w c g a p (λ d b q. is_client d ≡ true → Stands g b d q) (λ is. own) (λ d other is_d. others d is_d other);
@@ -117,7 +115,7 @@ module _ (w : World) (c : ℕ) (g : Graph) (a : Account) (p : Client) (h : Holds
       → IsBooked (moved w c g a p).kernel → Stands g a c p
       → ((d : ℕ) → is_client d ≡ true → d ≢ c → IsBeside p (w.clients d))
       → ((d : ℕ) → is_client d ≡ true → d ≢ c → IsBeside (w.clients d) p)
-      → Agrees p.knows (whole w) (held w) → Holds (moved w c g a p)
+      → Agrees p.knows (whole w) (held w) → IsCoherent (moved w c g a p)
   quiet shared log own booked stands before after agrees =
       let same : whole (moved w c g a p) ≡ whole w = whole_same w c g a p log shared in
       let open_same : held (moved w c g a p) ≡ held w = held_same w c g a p own in
@@ -129,7 +127,7 @@ module _ (w : World) (c : ℕ) (g : Graph) (a : Account) (p : Client) (h : Holds
 -- ---- steps of a client alone
 
 -- the client with these leases and this part of its account keeps what holds of it and the others
-module _ (w : World) (c : ℕ) (p : Client) (h : Holds w) (is_c : is_client c ≡ true) where
+module _ (w : World) (c : ℕ) (p : Client) (h : IsCoherent w) (is_c : is_client c ≡ true) where
   abbrev same_account : Account
   same_account = w.kernel.accounts c
 
@@ -140,5 +138,5 @@ module _ (w : World) (c : ℕ) (p : Client) (h : Holds w) (is_c : is_client c �
   pub before_less : ((i : ℕ) → p.writes i ≡ true → (w.clients c).writes i ≡ true) → (d : ℕ) → is_client d ≡ true → d ≢ c → IsBeside p (w.clients d)
   before_less less d is_d other i e = h.beside c d is_c is_d other i (less i e)
 
-  pub after_less : ((i : ℕ) → holds (w.clients c) i ≡ false → holds p i ≡ false) → (d : ℕ) → is_client d ≡ true → d ≢ c → IsBeside (w.clients d) p
+  pub after_less : ((i : ℕ) → has_lease (w.clients c) i ≡ false → has_lease p i ≡ false) → (d : ℕ) → is_client d ≡ true → d ≢ c → IsBeside (w.clients d) p
   after_less less d is_d other i e = less i (h.beside d c is_d is_c (λ same. other (sym same)) i e)

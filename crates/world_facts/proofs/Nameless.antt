@@ -1,5 +1,5 @@
 -- No call gives a name to a file that has none, so no record does.
-use Rattle.std.proofs.Common.{◌≡◌, ◌≢◌, ◌⊎◌, inl, inr, ℕ, ◌+◌, ◌-◌, ◌≤◌, ◌||◌, cond, Bool, true, false, List, [], ◌∷◌, refl, Some, None, Option, Ok, Err, ap, sym, ◌∙◌, subst, arith, ◌==◌}
+use Rattle.std.proofs.Common.{◌≡◌, ◌⊎◌, inl, inr, ℕ, ◌+◌, ◌-◌, ◌≤◌, ◌||◌, cond, Bool, true, false, List, [], ◌∷◌, refl, Some, None, Option, Ok, Err, ap, sym, ◌∙◌, subst, arith, ◌==◌}
 use Rattle.std.proofs.lemmas.Bool.Decides.{eqb_tells}
 use Rattle.posix_calls.specs.Tree.{Own, Descriptors}
 use Rattle.posix_calls.specs.Query.{Seen, File, Dir, Query, Gives, Look, ◌>>=◌, View, run}
@@ -18,8 +18,6 @@ use Rattle.file_graph.specs.Graph.{Graph, Node, FileBody, after_effect, after_ef
 use Rattle.file_graph.specs.declared.effect.Effect.{Effect}
 use Rattle.file_graph.specs.declared.effect.Effect.TheVariants as effect
 use Rattle.file_graph.specs.declared.effect.Kind.TheVariants as kind
-use Rattle.file_graph.proofs.Touches.{untouched, alone}
-use Rattle.log_record.specs.declared.format.Record.{Record}
 use Rattle.call_effects.specs.Effects.{stored, effects_by, stored_at, recounted}
 use Rattle.call_effects.specs.Wholes.{IsSound, kind_of, one_if, graph_view}
 use Rattle.call_effects.specs.Fits.{IsNew, IsEmptyDir, Fits}
@@ -30,8 +28,7 @@ use Rattle.call_effects.proofs.Changes.{IsFair, fair_of, named, has_name}
 use Rattle.call_effects.proofs.Facts.{Leads, named_at}
 use Rattle.call_effects.proofs.KnownSteps.{planned_answer}
 use Rattle.call_effects.proofs.Steps.{answer_fits}
-use Rattle.world_facts.specs.Logs.{after_records, is_touched, is_written, is_made, is_made_in, IsNameless, NameNone}
-use Rattle.world_facts.proofs.Records.{either, in_first, in_rest, or_first, or_rest}
+use Rattle.world_facts.specs.Logs.{IsNameless}
 use Rattle.world_facts.proofs.Idle.{none_some}
 
 -- ---- effects

@@ -2,11 +2,11 @@
 use Rattle.std.proofs.Common.{◌≡◌, ℕ, List, [], refl, ap, sym, ◌∙◌}
 use Rattle.file_graph.specs.Graph.{Graph}
 use Rattle.log_record.specs.declared.format.Record.{Record}
-use Rattle.world_facts.specs.Logs.{after_clients, after_each, AreApart, IsOrder}
+use Rattle.world_facts.specs.Logs.{after_clients, after_each, LogsAreApart, IsOrder}
 use Rattle.world_facts.proofs.Owners.{ended_whole}
 use Rattle.world_facts.proofs.Idle.{no_records}
 
-pub orders_same : (logs : ℕ → List Record) (g : Graph) (cs : List ℕ) → AreApart logs → IsOrder cs → after_each logs g cs ≡ after_clients logs g 8
+pub orders_same : (logs : ℕ → List Record) (g : Graph) (cs : List ℕ) → LogsAreApart logs → IsOrder cs → after_each logs g cs ≡ after_clients logs g 8
 orders_same logs g cs apart order = λ t i. at i t
   where
     at : (i : ℕ) → after_each logs g cs i ≡ after_clients logs g 8 i

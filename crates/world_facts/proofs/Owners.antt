@@ -5,7 +5,7 @@ use Rattle.std.proofs.lemmas.Bool.{false≢true}
 use Rattle.posix_calls.specs.Operations.{is_client}
 use Rattle.file_graph.specs.Graph.{Graph, is_among}
 use Rattle.log_record.specs.declared.format.Record.{Record}
-use Rattle.world_facts.specs.Logs.{after_records, after_clients, after_each, is_written, AreApart, IsDistinct, IsOrder}
+use Rattle.world_facts.specs.Logs.{after_records, after_clients, after_each, is_written, LogsAreApart, IsDistinct, IsOrder}
 use Rattle.world_facts.proofs.Records.{either, both, in_rest, in_first, records_alone, records_stay, records_append, front_unwritten, rest_unwritten}
 
 -- ---- the numbers of clients
@@ -67,7 +67,7 @@ writer (suc n) logs i =
     ]
 
 -- every inode has one: who writes it, or else anyone
-pub owner_of : (logs : ℕ → List Record) (i : ℕ) → AreApart logs → (c : ℕ) × IsOwner logs c i
+pub owner_of : (logs : ℕ → List Record) (i : ℕ) → LogsAreApart logs → (c : ℕ) × IsOwner logs c i
 owner_of logs i apart =
     elim (writer 8 logs i) [
       | inl found ↦ let is = client_is found.0 found.1 found.2 in (found.0, record { client = is; others = λ d is_d other. apart found.0 d i is is_d other found.3 })
@@ -77,7 +77,7 @@ owner_of logs i apart =
 -- ---- steps of the logs
 
 -- Records go from the front of a log into the shared graph.
-pub digested_whole : (old new : ℕ → List Record) (g : Graph) (c : ℕ) (first rest : List Record) → is_client c ≡ true → AreApart old → old c ≡ first ++ rest → new c ≡ rest → ((d : ℕ) → d ≢ c → new d ≡ old d)
+pub digested_whole : (old new : ℕ → List Record) (g : Graph) (c : ℕ) (first rest : List Record) → is_client c ≡ true → LogsAreApart old → old c ≡ first ++ rest → new c ≡ rest → ((d : ℕ) → d ≢ c → new d ≡ old d)
     → (i : ℕ) → after_clients new (after_records g first) 8 i ≡ after_clients old g 8 i
 digested_whole old new g c first rest is_c apart was is same i =
     let o = owner_of old i apart in
@@ -101,7 +101,7 @@ digested_whole old new g c first rest is_c apart was is same i =
     ]
 
 -- Records come to the end of a log.
-pub appended_whole : (old new : ℕ → List Record) (g : Graph) (c : ℕ) (more : List Record) → is_client c ≡ true → AreApart new → new c ≡ old c ++ more → ((d : ℕ) → d ≢ c → new d ≡ old d)
+pub appended_whole : (old new : ℕ → List Record) (g : Graph) (c : ℕ) (more : List Record) → is_client c ≡ true → LogsAreApart new → new c ≡ old c ++ more → ((d : ℕ) → d ≢ c → new d ≡ old d)
     → (i : ℕ) → after_clients new g 8 i ≡ after_records (after_clients old g 8) more i
 appended_whole old new g c more is_c apart is same i =
     let o = owner_of new i apart in
@@ -153,7 +153,7 @@ each_at (d ∷ cs) logs g c i there once others =
     ]
 
 -- records that come to the ends of all logs, in whatever order of the clients
-pub ended_whole : (old new more : ℕ → List Record) (g : Graph) (cs : List ℕ) → AreApart new → ((c : ℕ) → is_client c ≡ true → new c ≡ old c ++ more c) → IsOrder cs
+pub ended_whole : (old new more : ℕ → List Record) (g : Graph) (cs : List ℕ) → LogsAreApart new → ((c : ℕ) → is_client c ≡ true → new c ≡ old c ++ more c) → IsOrder cs
     → (i : ℕ) → after_clients new g 8 i ≡ after_each more (after_clients old g 8) cs i
 ended_whole old new more g cs apart is order i =
     let o = owner_of new i apart in

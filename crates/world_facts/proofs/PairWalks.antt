@@ -23,13 +23,13 @@ use Rattle.call_effects.specs.Wholes.{without_kinds}
 use Rattle.call_effects.proofs.GrowthAsked.{len_seen}
 use Rattle.call_effects.proofs.Rises.{len_inserted}
 use Rattle.world_facts.specs.Logs.{after_clients, is_touched}
-use Rattle.world_facts.specs.World.{holds, log_of, all_of, tree_of}
-use Rattle.world_facts.specs.Invariant.{Holds}
-use Rattle.world_facts.specs.Stop.{Leaves, Stores, stored}
+use Rattle.world_facts.specs.World.{has_lease, log_of, all_of, world_state}
+use Rattle.world_facts.specs.Invariant.{IsCoherent}
+use Rattle.world_facts.specs.Stop.{Leaves, Stores, stored_graph}
 use Rattle.world_facts.specs.ClientSteps.{CanBegin, IsBegun, replied}
 use Rattle.world_facts.specs.LeaseSteps.{IsUnheld, CanFetch, CanGive, given}
 use Rattle.world_facts.specs.BookSteps.{HasRoom, IsUnbooked, units_granted}
-use Rattle.world_facts.specs.RegionSteps.{sealed}
+use Rattle.world_facts.specs.RegionSteps.{region_sealed}
 use Rattle.world_facts.specs.UnlinkWalk as opened
 use Rattle.world_facts.specs.PairWalk as walked
 use Rattle.world_facts.proofs.Idle.{none_some}
@@ -49,14 +49,14 @@ ruleset parts = (part_bind, part_gives, part_refuses, part_is_dir, part_look)
 
 -- ---- units, a number and a lease for client 2
 
-returned_holds : Holds walked.returned
+returned_holds : IsCoherent walked.returned
 returned_holds = units_returned_hold opened.known 1 4 known_holds refl (omega arith)
 
 room : HasRoom walked.returned.kernel 4
 unfolding sum_up_to
 room = omega arith
 
-with_units : Holds (units_granted walked.returned 2 4)
+with_units : IsCoherent (units_granted walked.returned 2 4)
 with_units = units_granted_hold walked.returned 2 4 returned_holds refl room
 
 unbooked : IsUnbooked (units_granted walked.returned 2 4).kernel 3
@@ -67,39 +67,39 @@ unbooked = record {
   nobody = λ d is_d. eight (λ d. ((units_granted walked.returned 2 4).kernel.accounts d).numbers 3 ≡ false) refl refl refl refl refl refl refl refl d (is_low d is_d) (is_high d is_d);
 }
 
-granted_holds : Holds walked.granted
+granted_holds : IsCoherent walked.granted
 granted_holds = number_granted_holds (units_granted walked.returned 2 4) 2 3 with_units refl unbooked
 
 three_unheld : IsUnheld walked.granted 2 3
-three_unheld d is_d other = eight (λ d. holds (walked.granted.clients d) 3 ≡ false) refl refl refl refl refl refl refl refl d (is_low d is_d) (is_high d is_d)
+three_unheld d is_d other = eight (λ d. has_lease (walked.granted.clients d) 3 ≡ false) refl refl refl refl refl refl refl refl d (is_low d is_d) (is_high d is_d)
 
-three_holds : Holds walked.held_three
+three_holds : IsCoherent walked.held_three
 three_holds = write_taken_holds walked.granted 2 3 granted_holds refl three_unheld
 
 -- ---- client 1's record is digested, and the root passed on
 
-kept_holds : Holds walked.kept
-kept_holds = digested_holds (sealed walked.held_three 1) 1 (opened.open_a.change ∷ []) [] (sealed_holds walked.held_three 1 three_holds (record { client = refl; idle = refl; some = λ e. absurd (cc); back = λ e. absurd (cc) })) (record { client = refl; some = λ e. absurd (cc); split = refl })
+kept_holds : IsCoherent walked.kept
+kept_holds = digested_holds (region_sealed walked.held_three 1) 1 (opened.open_a.change ∷ []) [] (sealed_holds walked.held_three 1 three_holds (record { client = refl; idle = refl; some = λ e. absurd (cc); back = λ e. absurd (cc) })) (record { client = refl; some = λ e. absurd (cc); split = refl })
 
-back_holds : Holds walked.back
+back_holds : IsCoherent walked.back
 back_holds = taken_back_holds walked.kept 1 kept_holds (record { client = refl; away = refl; digested = refl })
 
 pub can_give : CanGive walked.back 1 1
 can_give = record { client = refl; idle = refl; clean = refl }
 
-given_root : Holds (given walked.back 1 1)
+given_root : IsCoherent (given walked.back 1 1)
 given_root = given_holds walked.back 1 1 back_holds can_give
 
 root_unheld : IsUnheld (given walked.back 1 1) 2 1
-root_unheld d is_d other = eight (λ d. holds ((given walked.back 1 1).clients d) 1 ≡ false) refl refl refl refl refl refl refl refl d (is_low d is_d) (is_high d is_d)
+root_unheld d is_d other = eight (λ d. has_lease ((given walked.back 1 1).clients d) 1 ≡ false) refl refl refl refl refl refl refl refl d (is_low d is_d) (is_high d is_d)
 
-passed_holds : Holds walked.passed
+passed_holds : IsCoherent walked.passed
 passed_holds = write_taken_holds (given walked.back 1 1) 2 1 given_root refl root_unheld
 
 can_fetch : CanFetch walked.passed 2 1
 can_fetch = record { client = refl; leased = refl; missing = inl refl; clear = λ none. absurd (false≢true (sym (ap is_some none))) }
 
-ready_holds : Holds walked.ready
+ready_holds : IsCoherent walked.ready
 ready_holds = fetched_holds walked.passed 2 1 passed_holds can_fetch
 
 -- ---- both begin
@@ -140,7 +140,7 @@ can_make = record {
   pinned = λ what e. none_some what e;
 }
 
-one_holds : Holds walked.one
+one_holds : IsCoherent walked.one
 one_holds = begun_holds walked.ready 2 walked.mkdir_b ready_holds can_make
 
 write_comes : run_part (part_of (walked.one.clients 1).knows) (pwrite (walked.one.clients 1).knows.own 0 0 (7 ∷ [])) ≡ Known (Ok walked.write_7.operation)
@@ -164,7 +164,7 @@ can_write = record {
   pinned = λ what e. none_some what e;
 }
 
-pub two_hold : Holds walked.two
+pub two_hold : IsCoherent walked.two
 two_hold = begun_holds walked.one 1 walked.write_7 one_holds can_write
 
 -- ---- a stop
@@ -175,14 +175,14 @@ leaves first second c is_c = elim ((c == 1 && first) || (c == 2 && second)) as (
 pub outcomes : (first second : Bool) → Stores walked.two (walked.left first second)
 outcomes first second = stop_stores walked.two (walked.left first second) two_hold (leaves first second)
 
-pub written_if : (first second : Bool) → file_bytes (stored walked.two (walked.left first second) 2) ≡ Some (cond first (7 ∷ []) [])
+pub written_if : (first second : Bool) → file_bytes (stored_graph walked.two (walked.left first second) 2) ≡ Some (cond first (7 ∷ []) [])
 unfolding after_clients
 written_if true true = refl
 written_if true false = refl
 written_if false true = refl
 written_if false false = refl
 
-pub made_if : (first second : Bool) → is_some (stored walked.two (walked.left first second) 3) ≡ second
+pub made_if : (first second : Bool) → is_some (stored_graph walked.two (walked.left first second) 3) ≡ second
 unfolding after_clients
 made_if true true = refl
 made_if true false = refl
@@ -191,17 +191,17 @@ made_if false false = refl
 
 -- ---- a digest beside the begun call
 
-written_holds : Holds walked.written
+written_holds : IsCoherent walked.written
 written_holds = replied_holds walked.two 1 walked.write_7 two_hold (record { client = refl; there = refl; known = λ e. absurd (cc) })
 
-pub written_step : Step (tree_of walked.two) 1 walked.write_7.call (Wrote 1) (tree_of (replied walked.two 1 walked.write_7))
+pub written_step : Step (world_state walked.two) 1 walked.write_7.call (Wrote 1) (world_state (replied walked.two 1 walked.write_7))
 written_step = replied_step walked.two 1 walked.write_7 two_hold (record { client = refl; there = refl; known = λ e. absurd (cc) })
 
-pub beside_holds : Holds walked.beside
-beside_holds = digested_holds (sealed walked.written 1) 1 (walked.write_7.change ∷ []) [] (sealed_holds walked.written 1 written_holds (record { client = refl; idle = refl; some = λ e. absurd (cc); back = λ e. absurd (cc) })) (record { client = refl; some = λ e. absurd (cc); split = refl })
+pub beside_holds : IsCoherent walked.beside
+beside_holds = digested_holds (region_sealed walked.written 1) 1 (walked.write_7.change ∷ []) [] (sealed_holds walked.written 1 written_holds (record { client = refl; idle = refl; some = λ e. absurd (cc); back = λ e. absurd (cc) })) (record { client = refl; some = λ e. absurd (cc); split = refl })
 
 pub still_begun : IsBegun walked.beside 2 walked.mkdir_b
 still_begun = record { client = refl; there = refl; known = λ e. absurd (cc) }
 
-pub made_step : Step (tree_of walked.beside) 2 walked.mkdir_b.call Done (tree_of walked.made)
+pub made_step : Step (world_state walked.beside) 2 walked.mkdir_b.call Done (world_state walked.made)
 made_step = replied_step walked.beside 2 walked.mkdir_b beside_holds still_begun

@@ -15,10 +15,10 @@ use Rattle.call_effects.specs.Wholes.{IsSound, state_of}
 use Rattle.call_effects.specs.Fits.{IsUnusedFile}
 use Rattle.call_effects.specs.Known.{Agrees}
 use Rattle.call_effects.proofs.Unused.{same_state, sound_still, agrees_still}
-use Rattle.world_facts.specs.Logs.{is_made, is_made_in, ArePaid, IsNameless, Keeps, NamesNone}
+use Rattle.world_facts.specs.Logs.{is_made, is_made_in, ArePaid, IsNameless, NamesNone}
 use Rattle.world_facts.specs.Limits.{IsWithin}
-use Rattle.world_facts.specs.World.{Begun, World, change_of, log_of, all_of, whole, held, tree_of}
-use Rattle.world_facts.specs.Invariant.{Holds}
+use Rattle.world_facts.specs.World.{Begun, World, change_of, log_of, all_of, whole, held, world_state}
+use Rattle.world_facts.specs.Invariant.{IsCoherent}
 use Rattle.world_facts.specs.KernelSteps.{CanReclaim, reclaimed}
 use Rattle.world_facts.proofs.Records.{either, both, or_first, or_rest, records_alone}
 use Rattle.world_facts.proofs.Owners.{client_is, owner_of, whole_at}
@@ -77,7 +77,7 @@ module _ (i : ℕ) where
       )
 
 -- what is open is pinned in the book
-open_pinned : (w : World) (i : ℕ) → Holds w → ((c : ℕ) → is_client c ≡ true → (w.kernel.accounts c).pins i ≡ false) → is_open (held w) i ≡ false
+open_pinned : (w : World) (i : ℕ) → IsCoherent w → ((c : ℕ) → is_client c ≡ true → (w.kernel.accounts c).pins i ≡ false) → is_open (held w) i ≡ false
 unfolding is_open
 open_pinned w i h unpinned = elim (either (any_up_to 8 (λ c. has_open (held w c) i))) [
   | inl there ↦ let c = any_is 8 (λ c. has_open (held w c) i) there in absurd (by_client c.k (client_is c.k c.low c.high) c.passes)
@@ -98,13 +98,13 @@ open_pinned w i h unpinned = elim (either (any_up_to 8 (λ c. has_open (held w c
         both ((w.kernel.accounts c).pins i) ((h.stands c is_c).pinned.booked i (subst (λ j. (w.clients c).pins j ≡ true) o.2 ((h.stands c is_c).pinned.opened (n.k - 1) o.0 own))) (unpinned c is_c)
 
 -- a file of the shared graph that has no name there has none in the whole
-pub nameless_whole : (w : World) (i : ℕ) → Holds w → IsNameless (w.kernel.shared i) → IsNameless (whole w i)
+pub nameless_whole : (w : World) (i : ℕ) → IsCoherent w → IsNameless (w.kernel.shared i) → IsNameless (whole w i)
 nameless_whole w i h file =
     let o = owner_of (log_of w) i (apart_logs w h) in
     let none = along_front NamesNone (log_of w o.0) (change_of (w.clients o.0).begun) w.kernel.shared ((h.stands o.0 o.1.client).logged.unnamed) in
     subst IsNameless (sym (whole_at (log_of w) w.kernel.shared o.0 i o.1)) (through (λ j o. IsNameless o) (log_of w o.0) w.kernel.shared i none file)
 
-module _ (w : World) (i : ℕ) (h : Holds w) (can : CanReclaim w.kernel i) where
+module _ (w : World) (i : ℕ) (h : IsCoherent w) (can : CanReclaim w.kernel i) where
   abbrev shared : Graph
   shared = set_node w.kernel.shared i None
 
@@ -159,10 +159,10 @@ module _ (w : World) (i : ℕ) (h : Holds w) (can : CanReclaim w.kernel i) where
   unused : IsUnusedFile (whole w) (held w) i
   unused = let file = nameless_whole w i h can.file in record { bytes = file.bytes; is = file.is; closed = open_pinned w i h can.unpinned }
 
-  pub reclaimed_tree : tree_of (reclaimed w i) ≡ tree_of w
+  pub reclaimed_tree : world_state (reclaimed w i) ≡ world_state w
   reclaimed_tree = ap (λ g. state_of g (held w)) reclaimed_whole ∙ same_state (whole w) (held w) i unused
 
-  pub reclaimed_holds : Holds (reclaimed w i)
+  pub reclaimed_holds : IsCoherent (reclaimed w i)
   reclaimed_holds =
       let less : charge shared ≤ charge w.kernel.shared = charge_less i w.kernel.shared shared gone else_same in
       let fits : charge w.kernel.shared + sum_up_to 8 (λ d. (w.kernel.accounts d).units) ≤ w.kernel.capacity = h.booked.fits in

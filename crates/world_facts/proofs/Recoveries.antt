@@ -14,10 +14,10 @@ use Rattle.call_effects.specs.Wholes.{IsSound, state_of}
 use Rattle.call_effects.proofs.Settled.{closed_state, settled_state}
 use Rattle.call_effects.proofs.Unused.{same_state, sound_still}
 use Rattle.world_facts.specs.Limits.{IsWithin, AreWithin}
-use Rattle.world_facts.specs.Logs.{after_records, after_clients, is_written, units_in, AreApart, IsPaid, ArePaid, Keeps, KeepLimits, IsNameless}
+use Rattle.world_facts.specs.Logs.{after_records, after_clients, is_written, units_in, LogsAreApart, IsPaid, ArePaid, Keeps, KeepLimits, IsNameless}
 use Rattle.world_facts.specs.Recovery.{IsRecoverable}
 use Rattle.world_facts.specs.World.{at}
-use Rattle.world_facts.proofs.Records.{either, both, records_stay, rest_written, front_unwritten, units_append}
+use Rattle.world_facts.proofs.Records.{either, records_stay, rest_written, front_unwritten, units_append}
 use Rattle.world_facts.proofs.Owners.{is_low, is_high, client_is, owner_of, whole_at, digested_whole}
 use Rattle.world_facts.proofs.Facts.{apart_less}
 use Rattle.world_facts.proofs.Keeping.{through, keep_same}
@@ -26,7 +26,7 @@ use Rattle.world_facts.proofs.Paid.{paid_same, charge_records}
 use Rattle.world_facts.proofs.Reclaims.{charge_less}
 
 -- the graph after all clients' records is within the limits
-pub after_all_within : (g : Graph) (logs : ℕ → List Record) → AreApart logs → AreWithin g → ((c : ℕ) → is_client c ≡ true → KeepLimits g (logs c)) → AreWithin (after_clients logs g 8)
+pub after_all_within : (g : Graph) (logs : ℕ → List Record) → LogsAreApart logs → AreWithin g → ((c : ℕ) → is_client c ≡ true → KeepLimits g (logs c)) → AreWithin (after_clients logs g 8)
 after_all_within g logs apart within keep i =
     let o = owner_of logs i apart in
     subst (IsWithin i) (sym (whole_at logs g o.0 i o.1)) (through IsWithin (logs o.0) g i (keep o.0 o.1.client) (within i))

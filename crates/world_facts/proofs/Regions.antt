@@ -1,15 +1,15 @@
 -- A region is sealed, comes back and is wiped: the records that are not digested stay.
-use Rattle.std.proofs.Common.{◌≡◌, ℕ, ◌+◌, ◌-◌, ◌≤◌, Bool, true, false, List, [], ◌++◌, length, drop, refl, ap, sym, ◌∙◌, subst, arith}
+use Rattle.std.proofs.Common.{◌≡◌, ℕ, ◌+◌, ◌-◌, ◌≤◌, Bool, true, List, [], ◌++◌, length, drop, refl, ap, sym, ◌∙◌, subst, arith}
 use Rattle.std.proofs.lemmas.Bool.{false≢true}
 use Rattle.std.proofs.Math.ListN.{drop_of_length-le}
 use Rattle.posix_calls.specs.Operations.{is_client}
 use Rattle.log_record.specs.declared.format.Record.{Record}
 use Rattle.world_facts.specs.Logs.{units_in}
-use Rattle.world_facts.specs.World.{Region, Wiped, Away, Back, Client, World, records_of, change_of, log_of, tree_of}
+use Rattle.world_facts.specs.World.{Region, Wiped, Away, Back, Client, World, records_of, change_of, log_of, world_state}
 use Rattle.world_facts.specs.Standing.{IsMarked, StartsWiped, IsLogged, IsNumbered, Stands}
-use Rattle.world_facts.specs.Invariant.{Holds}
+use Rattle.world_facts.specs.Invariant.{IsCoherent}
 use Rattle.world_facts.specs.ClientSteps.{with_client}
-use Rattle.world_facts.specs.RegionSteps.{CanSeal, sealed, CanTakeBack, taken_back, is_wiped, CanWipeOther, other_wiped, CanWipeCurrent, current_wiped}
+use Rattle.world_facts.specs.RegionSteps.{CanSeal, region_sealed, CanTakeBack, taken_back, is_wiped, other_wiped, current_wiped}
 use Rattle.world_facts.proofs.Records.{append_nil}
 use Rattle.world_facts.proofs.Begins.{tree_same}
 use Rattle.world_facts.proofs.Moved.{quiet, booked_same, before_less, after_less}
@@ -25,7 +25,7 @@ nothing_sealed : (n : ℕ) (sealed current : List Record) → length sealed ≤ 
 nothing_sealed n sealed current low = ap (λ rs. rs ++ current) (drop_of_length-le sealed low)
 
 -- The regions of a client are other ones, with the same undigested records.
-module _ (w : World) (c : ℕ) (h : Holds w) (is_c : is_client c ≡ true) (past : ℕ) (newly current : List Record) (other : Region) (ready : Bool)
+module _ (w : World) (c : ℕ) (h : IsCoherent w) (is_c : is_client c ≡ true) (past : ℕ) (newly current : List Record) (other : Region) (ready : Bool)
     (log : drop ((w.kernel.accounts c).mark - past) newly ++ current ≡ log_of w c) (marked : IsMarked (w.kernel.accounts c).mark past newly other) (starts : StartsWiped ready current (w.clients c).begun) where
   abbrev p : Client
   p = record (w.clients c) { past = past; sealed = newly; current = current; other = other; ready = ready }
@@ -36,7 +36,7 @@ module _ (w : World) (c : ℕ) (h : Holds w) (is_c : is_client c ≡ true) (past
   all : records_of (w.kernel.accounts c) p ≡ records_of (w.kernel.accounts c) (w.clients c)
   all = ap (λ rs. rs ++ change_of (w.clients c).begun) log
 
-  pub regions_hold : Holds (with_client w c p)
+  pub regions_hold : IsCoherent (with_client w c p)
   regions_hold = quiet w c w.kernel.shared (w.kernel.accounts c) p h is_c refl log refl (booked_same w c p h is_c)
       (record {
         number = s.number;
@@ -52,12 +52,12 @@ module _ (w : World) (c : ℕ) (h : Holds w) (is_c : is_client c ≡ true) (past
       })
       (before_less w c p h is_c (λ i e. e)) (after_less w c p h is_c (λ i e. e)) (h.agrees c is_c)
 
-  pub regions_tree : tree_of (with_client w c p) ≡ tree_of w
+  pub regions_tree : world_state (with_client w c p) ≡ world_state w
   regions_tree = tree_same w c w.kernel.shared (w.kernel.accounts c) p log refl refl
 
 -- ---- sealed
 
-module _ (w : World) (c : ℕ) (h : Holds w) (can : CanSeal w c) where
+module _ (w : World) (c : ℕ) (h : IsCoherent w) (can : CanSeal w c) where
   marks : IsMarked (w.kernel.accounts c).mark (w.clients c).past (w.clients c).sealed (w.clients c).other
   marks = (h.stands c can.client).marked
 
@@ -83,15 +83,15 @@ module _ (w : World) (c : ℕ) (h : Holds w) (can : CanSeal w c) where
   nothing_yet : StartsWiped (is_wiped other) [] (w.clients c).begun
   nothing_yet = record { records = λ e. refl; idle = λ e. can.idle }
 
-  pub sealed_holds : Holds (sealed w c)
+  pub sealed_holds : IsCoherent (region_sealed w c)
   sealed_holds = regions_hold w c h can.client (w.clients c).past (w.clients c).current [] Away (is_wiped other) log_sealed still_marked nothing_yet
 
-  pub sealed_tree : tree_of (sealed w c) ≡ tree_of w
+  pub sealed_tree : world_state (region_sealed w c) ≡ world_state w
   sealed_tree = regions_tree w c h can.client (w.clients c).past (w.clients c).current [] Away (is_wiped other) log_sealed still_marked nothing_yet
 
 -- ---- back
 
-module _ (w : World) (c : ℕ) (h : Holds w) (can : CanTakeBack w c) where
+module _ (w : World) (c : ℕ) (h : IsCoherent w) (can : CanTakeBack w c) where
   abbrev mark : ℕ
   mark = (w.kernel.accounts c).mark
 
@@ -105,15 +105,15 @@ module _ (w : World) (c : ℕ) (h : Holds w) (can : CanTakeBack w c) where
   back_marked : IsMarked mark mark [] Back
   back_marked = record { low = omega arith; high = omega arith; some = λ e. absurd (cc); none = λ other. refl }
 
-  pub taken_back_holds : Holds (taken_back w c)
+  pub taken_back_holds : IsCoherent (taken_back w c)
   taken_back_holds = regions_hold w c h can.client mark [] (w.clients c).current Back (w.clients c).ready log_back back_marked starts
 
-  pub taken_back_tree : tree_of (taken_back w c) ≡ tree_of w
+  pub taken_back_tree : world_state (taken_back w c) ≡ world_state w
   taken_back_tree = regions_tree w c h can.client mark [] (w.clients c).current Back (w.clients c).ready log_back back_marked starts
 
 -- ---- wiped
 
-module _ (w : World) (c : ℕ) (h : Holds w) (is_c : is_client c ≡ true) where
+module _ (w : World) (c : ℕ) (h : IsCoherent w) (is_c : is_client c ≡ true) where
   abbrev cleaner : Client
   cleaner = w.clients c
 
@@ -129,14 +129,14 @@ module _ (w : World) (c : ℕ) (h : Holds w) (is_c : is_client c ≡ true) where
   written : StartsWiped true cleaner.current cleaner.begun
   written = record { records = λ e. absurd (false≢true (sym e)); idle = λ e. absurd (false≢true (sym e)) }
 
-  pub other_wiped_holds : cleaner.other ≡ Back → Holds (other_wiped w c)
+  pub other_wiped_holds : cleaner.other ≡ Back → IsCoherent (other_wiped w c)
   other_wiped_holds back = regions_hold w c h is_c cleaner.past cleaner.sealed cleaner.current Wiped cleaner.ready refl (beside back) started
 
-  pub other_wiped_tree : cleaner.other ≡ Back → tree_of (other_wiped w c) ≡ tree_of w
+  pub other_wiped_tree : cleaner.other ≡ Back → world_state (other_wiped w c) ≡ world_state w
   other_wiped_tree back = regions_tree w c h is_c cleaner.past cleaner.sealed cleaner.current Wiped cleaner.ready refl (beside back) started
 
-  pub current_wiped_holds : Holds (current_wiped w c)
+  pub current_wiped_holds : IsCoherent (current_wiped w c)
   current_wiped_holds = regions_hold w c h is_c cleaner.past cleaner.sealed cleaner.current cleaner.other true refl was_marked written
 
-  pub current_wiped_tree : tree_of (current_wiped w c) ≡ tree_of w
+  pub current_wiped_tree : world_state (current_wiped w c) ≡ world_state w
   current_wiped_tree = regions_tree w c h is_c cleaner.past cleaner.sealed cleaner.current cleaner.other true refl was_marked written

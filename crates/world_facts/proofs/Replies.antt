@@ -14,10 +14,10 @@ use Rattle.file_graph.specs.declared.effect.Effect.{Effect}
 use Rattle.call_effects.specs.Wholes.{IsSound, state_of}
 use Rattle.call_effects.specs.Known.{Agrees, IsPlanned, part_of, knows_after}
 use Rattle.call_effects.proofs.KnownSteps.{planned_step, refused_step}
-use Rattle.world_facts.specs.Logs.{is_written, is_touched, is_made, is_made_in, units_in, ArePaid, NameNone, KeepLimits, AreApart}
-use Rattle.world_facts.specs.World.{Begun, Client, Account, World, undigested, records_of, change_of, log_of, all_of, whole, held, tree_of}
+use Rattle.world_facts.specs.Logs.{is_written, is_touched, is_made, is_made_in, units_in, ArePaid, NameNone, KeepLimits, LogsAreApart}
+use Rattle.world_facts.specs.World.{Begun, Client, Account, World, undigested, records_of, change_of, log_of, all_of, whole, held, world_state}
 use Rattle.world_facts.specs.Standing.{is_settled, IsNumbered, Stands}
-use Rattle.world_facts.specs.Invariant.{Holds}
+use Rattle.world_facts.specs.Invariant.{IsCoherent}
 use Rattle.world_facts.specs.ClientSteps.{CanAnswer, answered, IsBegun, replied}
 use Rattle.world_facts.proofs.Records.{either, both, append_nil, front_written, rest_written, in_first}
 use Rattle.world_facts.proofs.Owners.{appended_whole}
@@ -28,20 +28,20 @@ use Rattle.world_facts.proofs.Knowing.{pinned_after, granted_before, granted_apa
 use Rattle.world_facts.proofs.Moved.{both_same, holds_moved, booked_same, before_less, after_less, whole_same, held_moved, log_there, log_else}
 
 -- a step of what a client knows is one of the tree
-module _ (w : World) (c : ℕ) (h : Holds w) (is_c : is_client c ≡ true) where
+module _ (w : World) (c : ℕ) (h : IsCoherent w) (is_c : is_client c ≡ true) where
   pub known_step : (call : Call) (new : ℕ) (operation : Operation) (es : List Effect) → IsPlanned (w.clients c).knows call new operation es
-      → Step (tree_of w) c call (reply_of operation) (state_of (after_effects (whole w) es) (with_own (held w) c (own_after new (w.clients c).knows.own operation)))
+      → Step (world_state w) c call (reply_of operation) (state_of (after_effects (whole w) es) (with_own (held w) c (own_after new (w.clients c).knows.own operation)))
   known_step call new operation es planned =
-      subst (λ d. Step (tree_of w) d call (reply_of operation) (state_of (after_effects (whole w) es) (with_own (held w) d (own_after new (w.clients c).knows.own operation)))) (h.stands c is_c).number
+      subst (λ d. Step (world_state w) d call (reply_of operation) (state_of (after_effects (whole w) es) (with_own (held w) d (own_after new (w.clients c).knows.own operation)))) (h.stands c is_c).number
       (planned_step (w.clients c).knows (whole w) (held w) h.sound (h.agrees c is_c) call new operation es planned)
 
   -- a call that is refused by what the client knows
-  pub refused : (call : Call) (e : Errno) → run_part (part_of (w.clients c).knows) (decide (w.clients c).knows.own call) ≡ Known (Err e) → Step (tree_of w) c call (reply.Failed e) (tree_of w)
-  refused call e known = subst (λ d. Step (tree_of w) d call (reply.Failed e) (tree_of w)) (h.stands c is_c).number (refused_step (w.clients c).knows (whole w) (held w) h.sound (h.agrees c is_c) call e known)
+  pub refused : (call : Call) (e : Errno) → run_part (part_of (w.clients c).knows) (decide (w.clients c).knows.own call) ≡ Known (Err e) → Step (world_state w) c call (reply.Failed e) (world_state w)
+  refused call e known = subst (λ d. Step (world_state w) d call (reply.Failed e) (world_state w)) (h.stands c is_c).number (refused_step (w.clients c).knows (whole w) (held w) h.sound (h.agrees c is_c) call e known)
 
 -- ---- without a record
 
-module _ (w : World) (c : ℕ) (call : Call) (new : ℕ) (operation : Operation) (h : Holds w) (can : CanAnswer w c call new operation) where
+module _ (w : World) (c : ℕ) (call : Call) (new : ℕ) (operation : Operation) (h : IsCoherent w) (can : CanAnswer w c call new operation) where
   abbrev told : Client
   told = record (w.clients c) { knows = knows_after (w.clients c).knows new operation [] }
 
@@ -54,7 +54,7 @@ module _ (w : World) (c : ℕ) (call : Call) (new : ℕ) (operation : Operation)
   touches_none : (i : ℕ) → is_among i (touches []) ≡ true → (w.clients c).writes i ≡ true
   touches_none i e = absurd (false≢true e)
 
-  pub answered_holds : Holds (answered w c new operation)
+  pub answered_holds : IsCoherent (answered w c new operation)
   answered_holds =
       let s = h.stands c can.client in
       holds_moved w c w.kernel.shared (w.kernel.accounts c) told h can.client
@@ -77,12 +77,12 @@ module _ (w : World) (c : ℕ) (call : Call) (new : ℕ) (operation : Operation)
       (both_same (λ g o. Agrees (knows_after (w.clients c).knows new operation []) g o) told_whole told_held (own_agrees_after w c h can.client call new operation [] can.planned touches_none))
       (λ d is_d other. both_same (λ g o. Agrees (w.clients d).knows g o) told_whole told_held (others_agree_after w c h can.client call new operation [] can.planned touches_none d is_d other))
 
-  pub answered_step : Step (tree_of w) c call (reply_of operation) (tree_of (answered w c new operation))
-  answered_step = both_same (λ g o. Step (tree_of w) c call (reply_of operation) (state_of g o)) told_whole told_held (known_step w c h can.client call new operation [] can.planned)
+  pub answered_step : Step (world_state w) c call (reply_of operation) (world_state (answered w c new operation))
+  answered_step = both_same (λ g o. Step (world_state w) c call (reply_of operation) (state_of g o)) told_whole told_held (known_step w c h can.client call new operation [] can.planned)
 
 -- ---- with its record
 
-module _ (w : World) (c : ℕ) (b : Begun) (h : Holds w) (is : IsBegun w c b) where
+module _ (w : World) (c : ℕ) (b : Begun) (h : IsCoherent w) (is : IsBegun w c b) where
   abbrev was : Client
   was = w.clients c
 
@@ -114,7 +114,7 @@ module _ (w : World) (c : ℕ) (b : Begun) (h : Holds w) (is : IsBegun w c b) wh
   new_log : log_of (replied w c b) c ≡ log_of w c ++ (b.change ∷ [])
   new_log = log_there w c w.kernel.shared account logged ∙ log_is
 
-  logs_apart : AreApart (log_of (replied w c b))
+  logs_apart : LogsAreApart (log_of (replied w c b))
   logs_apart = apart_less (all_of w) (log_of (replied w c b)) (λ d i is_d e. elim (◌==◌ d c) as (λ t. (d == c) ≡ t → is_written i (all_of w d) ≡ true) [
     | true ↦ λ same. here d i (eqb-true d c same) e
     | false ↦ λ off. there d i (λ same. both (d == c) (eq-eqb d c same) off) e
@@ -156,7 +156,7 @@ module _ (w : World) (c : ℕ) (b : Begun) (h : Holds w) (is : IsBegun w c b) wh
         | inr off ↦ both (is_made_in i (log_of w c ++ (b.change ∷ []))) e (unmade_append i (log_of w c) (b.change ∷ []) clean (ap (λ x. x || false) off))
       ]
 
-  pub replied_holds : Holds (replied w c b)
+  pub replied_holds : IsCoherent (replied w c b)
   replied_holds =
       holds_moved w c w.kernel.shared account logged h is.client
       (booked_same w c logged h is.client)
@@ -178,5 +178,5 @@ module _ (w : World) (c : ℕ) (b : Begun) (h : Holds w) (is : IsBegun w c b) wh
       (both_same (λ g o. Agrees logged.knows g o) replied_whole held_is (own_agrees_after w c h is.client b.call b.new b.operation b.change.effects planned leased))
       (λ d is_d other. both_same (λ g o. Agrees (w.clients d).knows g o) replied_whole held_is (others_agree_after w c h is.client b.call b.new b.operation b.change.effects planned leased d is_d other))
 
-  pub replied_step : Step (tree_of w) c b.call (reply_of b.operation) (tree_of (replied w c b))
-  replied_step = both_same (λ g o. Step (tree_of w) c b.call (reply_of b.operation) (state_of g o)) replied_whole held_is (known_step w c h is.client b.call b.new b.operation b.change.effects planned)
+  pub replied_step : Step (world_state w) c b.call (reply_of b.operation) (world_state (replied w c b))
+  replied_step = both_same (λ g o. Step (world_state w) c b.call (reply_of b.operation) (state_of g o)) replied_whole held_is (known_step w c h is.client b.call b.new b.operation b.change.effects planned)

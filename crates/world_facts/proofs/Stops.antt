@@ -18,11 +18,11 @@ use Rattle.call_effects.proofs.KnownSteps.{planned_step, planned_sound}
 use Rattle.call_effects.proofs.KnownAfter.{other_agrees}
 use Rattle.world_facts.specs.Limits.{IsWithin}
 use Rattle.world_facts.specs.Recovery.{IsRecoverable}
-use Rattle.world_facts.specs.Logs.{after_records, after_clients, after_each, is_written, is_touched, units_in, IsPaid, ArePaid, Keeps, KeepLimits, AreApart, IsDistinct, IsOrder}
-use Rattle.world_facts.specs.World.{Begun, World, change_of, records_of, log_of, all_of, holds, whole, held, tree_of, at}
-use Rattle.world_facts.specs.Invariant.{Holds}
+use Rattle.world_facts.specs.Logs.{after_records, after_each, is_written, is_touched, units_in, IsPaid, ArePaid, Keeps, KeepLimits, LogsAreApart, IsDistinct, IsOrder}
+use Rattle.world_facts.specs.World.{Begun, World, change_of, records_of, log_of, all_of, has_lease, whole, held, world_state, at}
+use Rattle.world_facts.specs.Invariant.{IsCoherent}
 use Rattle.world_facts.specs.Outcome.{Unfinished, AreSomeOf}
-use Rattle.world_facts.specs.Stop.{Leaves, stored, begun_calls, Stores}
+use Rattle.world_facts.specs.Stop.{Leaves, stored_graph, begun_calls, Stores}
 use Rattle.world_facts.proofs.Records.{either, both, in_first, in_rest, append_nil, front_written, rest_written, units_append}
 use Rattle.world_facts.proofs.Owners.{is_low, is_high, client_is, ended_whole, first_in, among_rest}
 use Rattle.world_facts.proofs.Facts.{apart_all, apart_less, granted_alone}
@@ -74,11 +74,11 @@ the_order = record {
 
 -- ---- begun calls, one after another
 
-module _ (w : World) (h : Holds w) where
+module _ (w : World) (h : IsCoherent w) where
   -- what other clients hold a begun record doesn't touch
-  begun_beside : (c d i : ℕ) (b : Begun) → is_client c ≡ true → is_client d ≡ true → d ≢ c → (w.clients c).begun ≡ Some b → holds (w.clients d) i ≡ true → is_among i (touches b.change.effects) ≡ false
+  begun_beside : (c d i : ℕ) (b : Begun) → is_client c ≡ true → is_client d ≡ true → d ≢ c → (w.clients c).begun ≡ Some b → has_lease (w.clients d) i ≡ true → is_among i (touches b.change.effects) ≡ false
   begun_beside c d i b is_c is_d other begun has = elim (either (is_among i (touches b.change.effects))) [
-    | inl there ↦ both (holds (w.clients d) i) has (h.beside c d is_c is_d other i ((h.stands c is_c).logged.leased i
+    | inl there ↦ both (has_lease (w.clients d) i) has (h.beside c d is_c is_d other i ((h.stands c is_c).logged.leased i
         (ap (λ o. is_written i (log_of w c ++ change_of o)) begun ∙ rest_written i (log_of w c) (b.change ∷ []) (in_first (is_touched i b.change) false there))))
     | inr clean ↦ clean
   ]
@@ -176,7 +176,7 @@ picked_end : (left log rs : List Record) (l : (left ≡ log) ⊎ (left ≡ log +
 picked_end left log rs (inl none) = none ∙ sym (append_nil log)
 picked_end left log rs (inr all) = all
 
-module _ (w : World) (logs : ℕ → List Record) (h : Holds w) (left : Leaves w logs) where
+module _ (w : World) (logs : ℕ → List Record) (h : IsCoherent w) (left : Leaves w logs) where
   -- what is left of the begun records
   abbrev more_of : (c : ℕ) → (is_client c ≡ true) ⊎ (is_client c ≡ false) → List Record
   more_of c (inl is) = picked (left c is) (change_of (w.clients c).begun)
@@ -193,7 +193,7 @@ module _ (w : World) (logs : ℕ → List Record) (h : Holds w) (left : Leaves w
   logs_end c (inl is) is_c = picked_end (logs c) (log_of w c) (change_of (w.clients c).begun) (left c is)
   logs_end c (inr out) is_c = both (is_client c) is_c out
 
-  pub stop_apart : AreApart logs
+  pub stop_apart : LogsAreApart logs
   stop_apart = apart_less (all_of w) logs (λ d i is_d e. elim (left d is_d) [
     | inl none ↦ front_written i (log_of w d) (change_of (w.clients d).begun) (ap (is_written i) (sym none) ∙ e)
     | inr all ↦ ap (is_written i) (sym all) ∙ e
@@ -234,28 +234,28 @@ module _ (w : World) (logs : ℕ → List Record) (h : Holds w) (left : Leaves w
   ends = begun_run w h more (λ c is_c. some_more c (either (is_client c)) is_c) all_clients (begun_calls w) (whole w) (held w)
       (record { once = the_order.once; clients = the_order.clients; sound = h.sound; agrees = λ c there. h.agrees c (the_order.clients c there) }) (λ c there. refl)
 
-  stored_is : stored w logs ≡ after_each more (whole w) all_clients
+  stored_is : stored_graph w logs ≡ after_each more (whole w) all_clients
   stored_is = λ t i. ended_whole (log_of w) logs more w.kernel.shared all_clients stop_apart (λ c is_c. logs_end c (either (is_client c)) is_c) the_order i t
 
-  stop_recoverable : IsSound (stored w logs) ends.last → IsRecoverable w.kernel.capacity w.kernel.shared logs
+  stop_recoverable : IsSound (stored_graph w logs) ends.last → IsRecoverable w.kernel.capacity w.kernel.shared logs
   stop_recoverable sound =
       let units : sum_up_to 8 (λ c. units_in (logs c)) ≤ sum_up_to 8 (λ c. (w.kernel.accounts c).units) = booked_units 8 (omega arith) in
       let fits : charge w.kernel.shared + sum_up_to 8 (λ c. (w.kernel.accounts c).units) ≤ w.kernel.capacity = h.booked.fits in
-      record { apart = stop_apart; limits = h.booked.limits; keep = stop_keeps; paid = stop_paid; fits = omega (arith, units, fits); sound = closed_sound (stored w logs) ends.last sound }
+      record { apart = stop_apart; limits = h.booked.limits; keep = stop_keeps; paid = stop_paid; fits = omega (arith, units, fits); sound = closed_sound (stored_graph w logs) ends.last sound }
 
   pub stop_stores : Stores w logs
   stop_stores =
-      let sound : IsSound (stored w logs) ends.last = subst (λ g. IsSound g ends.last) (sym stored_is) ends.sound in
+      let sound : IsSound (stored_graph w logs) ends.last = subst (λ g. IsSound g ends.last) (sym stored_is) ends.sound in
       let found = stop_recoverable sound in
       record {
         recoverable = found;
-        well_formed = settled_well_formed (stored w logs) ends.last sound;
-        within = settled_within (stored w logs) ends.last sound (seen_within (stored w logs) ends.last (tree_within (stored w logs) ends.last sound (after_all_within w.kernel.shared logs stop_apart found.limits found.keep)));
+        well_formed = settled_well_formed (stored_graph w logs) ends.last sound;
+        within = settled_within (stored_graph w logs) ends.last sound (seen_within (stored_graph w logs) ends.last (tree_within (stored_graph w logs) ends.last sound (after_all_within w.kernel.shared logs stop_apart found.limits found.keep)));
         outcome = record {
           more = ends.turns;
-          last = state_of (stored w logs) ends.last;
+          last = state_of (stored_graph w logs) ends.last;
           some_of = ends.some_of;
-          run = subst (λ g. Run (tree_of w) ends.turns (state_of g ends.last)) (sym stored_is) ends.run;
-          settled = settled_state (stored w logs) ends.last sound;
+          run = subst (λ g. Run (world_state w) ends.turns (state_of g ends.last)) (sym stored_is) ends.run;
+          settled = settled_state (stored_graph w logs) ends.last sound;
         };
       }

@@ -14,12 +14,12 @@ use Rattle.posix_calls.proofs.Directory.{lists}
 use Rattle.call_effects.specs.Known.{part_of}
 use Rattle.call_effects.specs.Records.{units_asked}
 use Rattle.world_facts.specs.Logs.{is_touched, IsNameless}
-use Rattle.world_facts.specs.World.{tree_of}
-use Rattle.world_facts.specs.Invariant.{Holds}
+use Rattle.world_facts.specs.World.{world_state}
+use Rattle.world_facts.specs.Invariant.{IsCoherent}
 use Rattle.world_facts.specs.ClientSteps.{CanAnswer, CanBegin, IsBegun}
 use Rattle.world_facts.specs.LeaseSteps.{CanFetch}
 use Rattle.world_facts.specs.BookSteps.{CanUnpin}
-use Rattle.world_facts.specs.RegionSteps.{sealed}
+use Rattle.world_facts.specs.RegionSteps.{region_sealed}
 use Rattle.world_facts.specs.KernelSteps.{CanReclaim}
 use Rattle.world_facts.specs.Walk as made
 use Rattle.world_facts.specs.UnlinkWalk as walked
@@ -53,7 +53,7 @@ eight P a b d e f g h i (suc (suc (suc (suc (suc (suc (suc (suc (suc n))))))))) 
 
 -- ---- open
 
-start_holds : Holds walked.ready
+start_holds : IsCoherent walked.ready
 start_holds = pinned_holds made.ready 1 2 ready_holds refl
 
 open_comes : run_part (part_of (walked.ready.clients 1).knows) (open_path (λ n. None) (47 ∷ 97 ∷ []) (record { read = true; write = true; create = true; exclusive = false; truncate = false })) ≡ Known (Ok walked.open_a.operation)
@@ -77,16 +77,16 @@ can_open = record {
   pinned = λ what e. let same : (0, record { inode = 2; reads = true; writes = true }) ≡ what = cc in ap (λ o. (walked.ready.clients 1).pins o.1.inode) (sym same);
 }
 
-opening_holds : Holds walked.opening
+opening_holds : IsCoherent walked.opening
 opening_holds = begun_holds walked.ready 1 walked.open_a start_holds can_open
 
 opening_begun : IsBegun walked.opening 1 walked.open_a
 opening_begun = record { client = refl; there = refl; known = λ e. absurd (cc) }
 
-pub opened_holds : Holds walked.opened
+pub opened_holds : IsCoherent walked.opened
 opened_holds = replied_holds walked.opening 1 walked.open_a opening_holds opening_begun
 
-pub opened_step : Step (tree_of walked.opening) 1 walked.open_a.call (Opened 0) (tree_of walked.opened)
+pub opened_step : Step (world_state walked.opening) 1 walked.open_a.call (Opened 0) (world_state walked.opened)
 opened_step = replied_step walked.opening 1 walked.open_a opening_holds opening_begun
 
 -- ---- unlink
@@ -94,7 +94,7 @@ opened_step = replied_step walked.opening 1 walked.open_a opening_holds opening_
 can_fetch : CanFetch walked.opened 1 2
 can_fetch = record { client = refl; leased = refl; missing = inl refl; clear = λ none. absurd (false≢true (sym (ap is_some none))) }
 
-pub known_holds : Holds walked.known
+pub known_holds : IsCoherent walked.known
 known_holds = fetched_holds walked.opened 1 2 opened_holds can_fetch
 
 unlink_comes : run_part (part_of (walked.known.clients 1).knows) (unlink (47 ∷ 97 ∷ [])) ≡ Known (Ok walked.unlink_a.operation)
@@ -118,22 +118,22 @@ can_unlink = record {
     wider : (i : ℕ) → is_touched i walked.unlink_a.change ≡ true → is_touched i made.mkdir_a.change ≡ true
     wider i e = elim (2 == i) as (λ b. (1 == i || (b || false)) ≡ true → (b || (1 == i || (b || false))) ≡ true) [ true ↦ λ e. refl | false ↦ λ e. e ] e
 
-unlinking_holds : Holds walked.unlinking
+unlinking_holds : IsCoherent walked.unlinking
 unlinking_holds = begun_holds walked.known 1 walked.unlink_a known_holds can_unlink
 
 unlinking_begun : IsBegun walked.unlinking 1 walked.unlink_a
 unlinking_begun = record { client = refl; there = refl; known = λ e. absurd (cc) }
 
-pub unlinked_holds : Holds walked.unlinked
+pub unlinked_holds : IsCoherent walked.unlinked
 unlinked_holds = replied_holds walked.unlinking 1 walked.unlink_a unlinking_holds unlinking_begun
 
-pub unlinked_step : Step (tree_of walked.unlinking) 1 walked.unlink_a.call Done (tree_of walked.unlinked)
+pub unlinked_step : Step (world_state walked.unlinking) 1 walked.unlink_a.call Done (world_state walked.unlinked)
 unlinked_step = replied_step walked.unlinking 1 walked.unlink_a unlinking_holds unlinking_begun
 
 -- ---- digested
 
-pub kept_holds : Holds walked.kept
-kept_holds = digested_holds (sealed walked.unlinked 1) 1 (walked.open_a.change ∷ walked.unlink_a.change ∷ []) [] (sealed_holds walked.unlinked 1 unlinked_holds (record { client = refl; idle = refl; some = λ e. absurd (cc); back = λ e. absurd (cc) })) (record { client = refl; some = λ e. absurd (cc); split = refl })
+pub kept_holds : IsCoherent walked.kept
+kept_holds = digested_holds (region_sealed walked.unlinked 1) 1 (walked.open_a.change ∷ walked.unlink_a.change ∷ []) [] (sealed_holds walked.unlinked 1 unlinked_holds (record { client = refl; idle = refl; some = λ e. absurd (cc); back = λ e. absurd (cc) })) (record { client = refl; some = λ e. absurd (cc); split = refl })
 
 pub kept_nameless : IsNameless (walked.kept.kernel.shared 2)
 kept_nameless = record { bytes = []; is = refl }
@@ -157,10 +157,10 @@ can_close = record {
   pinned = λ what e. none_some what e;
 }
 
-pub closed_holds : Holds walked.closed
+pub closed_holds : IsCoherent walked.closed
 closed_holds = answered_holds walked.kept 1 walked.close_0 0 walked.closing kept_holds can_close
 
-pub closed_step : Step (tree_of walked.kept) 1 walked.close_0 Done (tree_of walked.closed)
+pub closed_step : Step (world_state walked.kept) 1 walked.close_0 Done (world_state walked.closed)
 closed_step = answered_step walked.kept 1 walked.close_0 0 walked.closing kept_holds can_close
 
 can_unpin : CanUnpin walked.closed 1 2
@@ -173,7 +173,7 @@ can_unpin = record {
   ];
 }
 
-released_holds : Holds walked.released
+released_holds : IsCoherent walked.released
 released_holds = unpinned_holds walked.closed 1 2 closed_holds can_unpin
 
 pub can_reclaim : CanReclaim walked.released.kernel 2
@@ -182,8 +182,8 @@ can_reclaim = record {
   unpinned = λ c is_c. eight (λ c. (walked.released.kernel.accounts c).pins 2 ≡ false) refl refl refl refl refl refl refl refl c (is_low c is_c) (is_high c is_c);
 }
 
-pub emptied_holds : Holds walked.emptied
+pub emptied_holds : IsCoherent walked.emptied
 emptied_holds = reclaimed_holds walked.released 2 released_holds can_reclaim
 
-pub emptied_tree : tree_of walked.emptied ≡ tree_of walked.released
+pub emptied_tree : world_state walked.emptied ≡ world_state walked.released
 emptied_tree = reclaimed_tree walked.released 2 released_holds can_reclaim

@@ -27,9 +27,9 @@ use Rattle.call_effects.specs.Known.{Knowledge, IsPlanned, part_of}
 use Rattle.posix_calls.proofs.Counts.{order}
 use Rattle.call_effects.proofs.GrowthAsked.{len_seen}
 use Rattle.world_facts.specs.Logs.{is_touched}
-use Rattle.world_facts.specs.World.{log_of, all_of, holds, tree_of}
+use Rattle.world_facts.specs.World.{log_of, all_of, has_lease, world_state}
 use Rattle.world_facts.specs.Stop.{Stores}
-use Rattle.world_facts.specs.Invariant.{Holds}
+use Rattle.world_facts.specs.Invariant.{IsCoherent}
 use Rattle.world_facts.specs.ClientSteps.{CanBegin, IsBegun}
 use Rattle.world_facts.specs.LeaseSteps.{IsUnheld, CanFetch, CanGive, write_taken, given}
 use Rattle.world_facts.specs.BookSteps.{HasRoom, IsUnbooked}
@@ -82,38 +82,38 @@ planned = record { comes = comes; effects = simp parts refl; number = λ m. refl
 
 -- ---- up to the call
 
-start_holds : Holds walked.start
+start_holds : IsCoherent walked.start
 start_holds = idle_holds (charge fresh + 10) fresh (omega arith) fresh_sound fresh_within
 
 room : HasRoom walked.start.kernel 10
 room = let nothing : sum_up_to 8 (λ c. 0) ≡ 0 = all_zero 8 (λ c. 0) (λ c. refl) in omega (arith, nothing)
 
-with_units : Holds (units_granted walked.start 1 10)
+with_units : IsCoherent (units_granted walked.start 1 10)
 with_units = units_granted_hold walked.start 1 10 start_holds refl room
 
 unbooked : IsUnbooked (units_granted walked.start 1 10).kernel 2
 unbooked = record { low = omega arith; high = omega arith; none = refl; nobody = λ d is_d. each walked.start.kernel.accounts 1 (record (walked.start.kernel.accounts 1) { units = 10 }) (λ d a. a.numbers 2 ≡ false) refl (λ d other. refl) d }
 
-granted_holds : Holds walked.granted
+granted_holds : IsCoherent walked.granted
 granted_holds = number_granted_holds (units_granted walked.start 1 10) 1 2 with_units refl unbooked
 
 -- nobody else holds anything
 root_unheld : IsUnheld walked.granted 1 1
-root_unheld d is_d other = each (units_granted walked.start 1 10).clients 1 (walked.granted.clients 1) (λ d p. d ≢ 1 → holds p 1 ≡ false) (λ off. absurd (off refl)) (λ d off again. each walked.start.clients 1 ((units_granted walked.start 1 10).clients 1) (λ d p. d ≢ 1 → holds p 1 ≡ false) (λ off. absurd (off refl)) (λ d off again. refl) d off) d other
+root_unheld d is_d other = each (units_granted walked.start 1 10).clients 1 (walked.granted.clients 1) (λ d p. d ≢ 1 → has_lease p 1 ≡ false) (λ off. absurd (off refl)) (λ d off again. each walked.start.clients 1 ((units_granted walked.start 1 10).clients 1) (λ d p. d ≢ 1 → has_lease p 1 ≡ false) (λ off. absurd (off refl)) (λ d off again. refl) d off) d other
 
-with_root : Holds (write_taken walked.granted 1 1)
+with_root : IsCoherent (write_taken walked.granted 1 1)
 with_root = write_taken_holds walked.granted 1 1 granted_holds refl root_unheld
 
 new_unheld : IsUnheld (write_taken walked.granted 1 1) 1 2
-new_unheld d is_d other = each walked.granted.clients 1 ((write_taken walked.granted 1 1).clients 1) (λ d p. d ≢ 1 → holds p 2 ≡ false) (λ off. absurd (off refl)) (λ d off again. each (units_granted walked.start 1 10).clients 1 (walked.granted.clients 1) (λ d p. d ≢ 1 → holds p 2 ≡ false) (λ off. absurd (off refl)) (λ d off again. each walked.start.clients 1 ((units_granted walked.start 1 10).clients 1) (λ d p. d ≢ 1 → holds p 2 ≡ false) (λ off. absurd (off refl)) (λ d off again. refl) d off) d off) d other
+new_unheld d is_d other = each walked.granted.clients 1 ((write_taken walked.granted 1 1).clients 1) (λ d p. d ≢ 1 → has_lease p 2 ≡ false) (λ off. absurd (off refl)) (λ d off again. each (units_granted walked.start 1 10).clients 1 (walked.granted.clients 1) (λ d p. d ≢ 1 → has_lease p 2 ≡ false) (λ off. absurd (off refl)) (λ d off again. each walked.start.clients 1 ((units_granted walked.start 1 10).clients 1) (λ d p. d ≢ 1 → has_lease p 2 ≡ false) (λ off. absurd (off refl)) (λ d off again. refl) d off) d off) d other
 
-holding_holds : Holds walked.holding
+holding_holds : IsCoherent walked.holding
 holding_holds = write_taken_holds (write_taken walked.granted 1 1) 1 2 with_root refl new_unheld
 
 can_fetch : CanFetch walked.holding 1 1
 can_fetch = record { client = refl; leased = refl; missing = inl refl; clear = λ none. absurd (let clash : None ≡ fresh 1 = sym none in cc) }
 
-pub ready_holds : Holds walked.ready
+pub ready_holds : IsCoherent walked.ready
 ready_holds = fetched_holds walked.holding 1 1 holding_holds can_fetch
 
 -- ---- the call
@@ -147,37 +147,37 @@ can_begin = record {
   pinned = λ what e. none_some what e;
 }
 
-pub making_holds : Holds walked.making
+pub making_holds : IsCoherent walked.making
 making_holds = begun_holds walked.ready 1 walked.mkdir_a ready_holds can_begin
 
 pub is_begun : IsBegun walked.making 1 walked.mkdir_a
 is_begun = record { client = refl; there = refl; known = λ e. absurd (cc) }
 
-made_holds : Holds walked.made
+made_holds : IsCoherent walked.made
 made_holds = replied_holds walked.making 1 walked.mkdir_a making_holds is_begun
 
 -- ---- digested, and passed on
 
-handed_holds : Holds walked.handed
+handed_holds : IsCoherent walked.handed
 handed_holds = sealed_holds walked.made 1 made_holds (record { client = refl; idle = refl; some = λ e. absurd (cc); back = λ e. absurd (cc) })
 
-kept_holds : Holds walked.kept
+kept_holds : IsCoherent walked.kept
 kept_holds = digested_holds walked.handed 1 (walked.mkdir_a.change ∷ []) [] handed_holds (record { client = refl; some = λ e. absurd (cc); split = refl })
 
-back_holds : Holds walked.back
+back_holds : IsCoherent walked.back
 back_holds = taken_back_holds walked.kept 1 kept_holds (record { client = refl; away = refl; digested = refl })
 
 can_give : CanGive walked.back 1 2
 can_give = record { client = refl; idle = refl; clean = refl }
 
 -- whoever else there is held nothing while client 1 held the directory's inode for writing
-pub passed_holds : Holds walked.passed
+pub passed_holds : IsCoherent walked.passed
 passed_holds = write_taken_holds (given walked.back 1 2) 2 2 (given_holds walked.back 1 2 back_holds can_give) refl
-    (λ d is_d other. each walked.back.clients 1 ((given walked.back 1 2).clients 1) (λ d p. is_client d ≡ true → holds p 2 ≡ false) (λ is. refl) (λ d off is. back_holds.beside 1 d refl is off 2 refl) d is_d)
+    (λ d is_d other. each walked.back.clients 1 ((given walked.back 1 2).clients 1) (λ d p. is_client d ≡ true → has_lease p 2 ≡ false) (λ is. refl) (λ d off is. back_holds.beside 1 d refl is off 2 refl) d is_d)
 
 -- ---- the tree on the way
 
-pub making_tree : tree_of walked.making ≡ opening
+pub making_tree : world_state walked.making ≡ opening
 making_tree =
     begun_tree walked.ready 1 walked.mkdir_a ready_holds can_begin
     ∙ fetched_tree walked.holding 1 1 holding_holds can_fetch
@@ -188,10 +188,10 @@ making_tree =
     ∙ idle_tree (charge fresh + 10) fresh
     ∙ fresh_state
 
-pub made_step : Step opening 1 walked.mkdir_a.call Done (tree_of walked.made)
-made_step = subst (λ s. Step s 1 walked.mkdir_a.call Done (tree_of walked.made)) making_tree (replied_step walked.making 1 walked.mkdir_a making_holds is_begun)
+pub made_step : Step opening 1 walked.mkdir_a.call Done (world_state walked.made)
+made_step = subst (λ s. Step s 1 walked.mkdir_a.call Done (world_state walked.made)) making_tree (replied_step walked.making 1 walked.mkdir_a making_holds is_begun)
 
-pub passed_tree : tree_of walked.passed ≡ tree_of walked.made
+pub passed_tree : world_state walked.passed ≡ world_state walked.made
 passed_tree =
     write_taken_tree (given walked.back 1 2) 2 2 (given_holds walked.back 1 2 back_holds can_give) refl
     ∙ given_tree walked.back 1 2 back_holds can_give

@@ -1,5 +1,5 @@
 -- A graph whose nodes are within the limits, and its tree.
-use Rattle.std.proofs.Common.{◌≡◌, ℕ, ◌+◌, ◌≤◌, List, length, true, refl, Some, None, Option, Ok, ap, sym, ◌∙◌, subst, arith, ◌==◌}
+use Rattle.std.proofs.Common.{◌≡◌, ℕ, ◌+◌, ◌≤◌, List, length, true, refl, Some, None, Option, ap, sym, ◌∙◌, subst, arith, ◌==◌}
 use Rattle.std.specs.Prelude.{option_map}
 use Rattle.std.specs.FinMap as fin
 use Rattle.posix_calls.specs.Content.{Entries}
@@ -15,7 +15,7 @@ use Rattle.file_graph.specs.declared.effect.Kind.{Kind}
 use Rattle.file_graph.specs.declared.effect.Effect.{Effect}
 use Rattle.call_effects.specs.Effects.{stored}
 use Rattle.call_effects.specs.Known.{Knowledge, Agrees, IsPlanned}
-use Rattle.call_effects.specs.Wholes.{IsSound, tree_of, tree_body, tree_node, without_kinds, body_kind, kind_of, one_if}
+use Rattle.call_effects.specs.Wholes.{IsSound, tree_of, tree_body, tree_node, body_kind, kind_of, one_if}
 use Rattle.call_effects.proofs.GrowthAsked.{len_seen}
 use Rattle.call_effects.proofs.Inodes.{get_inodes}
 use Rattle.call_effects.proofs.KnownSteps.{planned_answer, planned_sound}

@@ -43,8 +43,8 @@ number_returned w c i = moved w c w.kernel.shared (record (w.kernel.accounts c) 
 
 -- ---- pins
 
-abbrev pub pinned : World → ℕ → ℕ → World
-pinned w c i = moved w c w.kernel.shared (record (w.kernel.accounts c) { pins = also (w.kernel.accounts c).pins i }) (record (w.clients c) { pins = also (w.clients c).pins i })
+abbrev pub inode_pinned : World → ℕ → ℕ → World
+inode_pinned w c i = moved w c w.kernel.shared (record (w.kernel.accounts c) { pins = also (w.kernel.accounts c).pins i }) (record (w.clients c) { pins = also (w.clients c).pins i })
 
 -- an idle client drops a pin of what it has not open
 pub record CanUnpin (w : World) (c i : ℕ) : Type 0 where

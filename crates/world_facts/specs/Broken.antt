@@ -10,7 +10,7 @@ use Rattle.call_effects.specs.NodeView.{view_at}
 use Rattle.call_effects.specs.Known.{with_copy}
 use Rattle.world_facts.specs.World.{Begun, Away, World, moved}
 use Rattle.world_facts.specs.Opening.{knows_nothing, idle_client, idle_account, idle_world}
-use Rattle.world_facts.specs.ClientSteps.{with_client, begun}
+use Rattle.world_facts.specs.ClientSteps.{with_client, call_begun}
 use Rattle.world_facts.specs.BookSteps.{number_granted}
 use Rattle.world_facts.specs.Halves.{number_booked}
 use Rattle.world_facts.specs.Walk as walked
@@ -70,7 +70,7 @@ abbrev pub half : Begun
 half = record { call = walked.mkdir_a.call; new = 2; operation = walked.mkdir_a.operation; change = record { units = 2; effects = effect.Make 2 kind.Directory ∷ [] } }
 
 abbrev pub misbegun : World
-misbegun = begun walked.ready 1 half
+misbegun = call_begun walked.ready 1 half
 
 -- ---- a record that raises the graph, and no unit for it in the book; the root alone fills the capacity
 

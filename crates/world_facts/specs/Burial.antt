@@ -22,8 +22,8 @@ pub record CanBury (w : World) (c : ℕ) : Type 0 where
   pub back : (w.clients c).other ≢ Away
 
 -- nothing is left of it but its mark and its regions
-abbrev pub buried : World → ℕ → World
-buried w c = moved w c w.kernel.shared (idle_account (w.kernel.accounts c).mark) (record (idle_client c (w.kernel.accounts c).mark) { other = (w.clients c).other; ready = (w.clients c).ready; status = Buried })
+abbrev pub client_buried : World → ℕ → World
+client_buried w c = moved w c w.kernel.shared (idle_account (w.kernel.accounts c).mark) (record (idle_client c (w.kernel.accounts c).mark) { other = (w.clients c).other; ready = (w.clients c).ready; status = Buried })
 
 -- a new client takes its seat, once both regions are wiped
 pub record CanJoin (w : World) (c : ℕ) : Type 0 where

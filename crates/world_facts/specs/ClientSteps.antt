@@ -42,8 +42,8 @@ pub record CanBegin (w : World) (c : ℕ) (b : Begun) : Type 0 where
   pub enough : b.change.units ≤ (w.clients c).spare
   pub pinned : OpensPinned (w.clients c).pins b.new b.operation
 
-abbrev pub begun : World → ℕ → Begun → World
-begun w c b = with_client w c (record (w.clients c) { begun = Some b; spare = (w.clients c).spare - b.change.units })
+abbrev pub call_begun : World → ℕ → Begun → World
+call_begun w c b = with_client w c (record (w.clients c) { begun = Some b; spare = (w.clients c).spare - b.change.units })
 
 -- ---- what becomes of it
 

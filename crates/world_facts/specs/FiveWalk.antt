@@ -5,11 +5,11 @@ use Rattle.posix_calls.specs.declared.operation.Operation.TheVariants.{NewDir, N
 use Rattle.file_graph.specs.declared.effect.Kind.TheVariants as kind
 use Rattle.file_graph.specs.declared.effect.Effect.TheVariants as effect
 use Rattle.world_facts.specs.World.{Begun, World}
-use Rattle.world_facts.specs.ClientSteps.{begun, replied}
+use Rattle.world_facts.specs.ClientSteps.{call_begun, replied}
 use Rattle.world_facts.specs.LeaseSteps.{write_taken, given, fetched}
-use Rattle.world_facts.specs.BookSteps.{number_granted, pinned}
-use Rattle.world_facts.specs.RegionSteps.{sealed, taken_back, current_wiped}
-use Rattle.world_facts.specs.KernelSteps.{digested}
+use Rattle.world_facts.specs.BookSteps.{number_granted, inode_pinned}
+use Rattle.world_facts.specs.RegionSteps.{region_sealed, taken_back, current_wiped}
+use Rattle.world_facts.specs.KernelSteps.{records_digested}
 use Rattle.world_facts.specs.UnlinkWalk.{unlink_a}
 use Rattle.world_facts.specs.PairWalk.{mkdir_b}
 use Rattle.world_facts.specs.PairWalk as pair
@@ -50,27 +50,27 @@ abbrev pub known : World
 known = fetched (fetched holding 2 3) 2 2
 
 abbrev pub ready : World
-ready = pinned known 2 5
+ready = inode_pinned known 2 5
 
 -- it makes a directory and a file in it, and unlinks `/a`
 abbrev pub making : World
-making = begun ready 2 mkdir_x
+making = call_begun ready 2 mkdir_x
 
 abbrev pub made : World
 made = replied making 2 mkdir_x
 
 abbrev pub opening : World
-opening = begun made 2 open_y
+opening = call_begun made 2 open_y
 
 abbrev pub opened : World
 opened = replied opening 2 open_y
 
 abbrev pub unlinking : World
-unlinking = begun opened 2 unlink_a
+unlinking = call_begun opened 2 unlink_a
 
 abbrev pub unlinked : World
 unlinked = replied unlinking 2 unlink_a
 
 -- its four records are digested
 abbrev pub kept : World
-kept = digested (sealed unlinked 2) 2 (mkdir_b.change ∷ mkdir_x.change ∷ open_y.change ∷ unlink_a.change ∷ [])
+kept = records_digested (region_sealed unlinked 2) 2 (mkdir_b.change ∷ mkdir_x.change ∷ open_y.change ∷ unlink_a.change ∷ [])

@@ -6,7 +6,7 @@ use Rattle.call_effects.specs.Known.{Agrees}
 use Rattle.world_facts.specs.World.{World, whole, held}
 use Rattle.world_facts.specs.Standing.{Stands, IsBooked, IsBeside}
 
-pub record Holds (w : World) : Type 0 where
+pub record IsCoherent (w : World) : Type 0 where
   pub booked : IsBooked w.kernel
   pub stands : (c : ℕ) → is_client c ≡ true → Stands w.kernel.shared (w.kernel.accounts c) c (w.clients c)
   -- leases are legal

@@ -15,8 +15,8 @@ pub record CanDigest (w : World) (c : ℕ) (first rest : List Record) : Type 0 w
   pub split : drop ((w.kernel.accounts c).mark - (w.clients c).past) (w.clients c).sealed ≡ first ++ rest
 
 -- their effects, the mark, their units and the numbers of their new nodes move at once
-abbrev pub digested : World → ℕ → List Record → World
-digested w c first = moved w c (after_records w.kernel.shared first) (record (w.kernel.accounts c) { mark = (w.kernel.accounts c).mark + length first; units = (w.kernel.accounts c).units - units_in first; numbers = λ i. (w.kernel.accounts c).numbers i && not (is_made_in i first) }) (w.clients c)
+abbrev pub records_digested : World → ℕ → List Record → World
+records_digested w c first = moved w c (after_records w.kernel.shared first) (record (w.kernel.accounts c) { mark = (w.kernel.accounts c).mark + length first; units = (w.kernel.accounts c).units - units_in first; numbers = λ i. (w.kernel.accounts c).numbers i && not (is_made_in i first) }) (w.clients c)
 
 -- ---- a file is reclaimed
 

@@ -6,7 +6,7 @@ use Rattle.call_effects.specs.Blocks.{block_of}
 use Rattle.call_effects.specs.NodeView.{view_at}
 use Rattle.call_effects.specs.Known.{Knowledge, IsForgetful, with_copy, with_blocks}
 use Rattle.world_facts.specs.Logs.{after_records, is_written}
-use Rattle.world_facts.specs.World.{World, holds, log_of}
+use Rattle.world_facts.specs.World.{World, has_lease, log_of}
 use Rattle.world_facts.specs.ClientSteps.{with_client}
 
 abbrev pub also : (ℕ → Bool) → ℕ → ℕ → Bool
@@ -23,7 +23,7 @@ IsUnwritten w c i = (d : ℕ) → is_client d ≡ true → d ≢ c → (w.client
 
 -- nobody else holds it
 abbrev pub IsUnheld : World → ℕ → ℕ → Type 0
-IsUnheld w c i = (d : ℕ) → is_client d ≡ true → d ≢ c → holds (w.clients d) i ≡ false
+IsUnheld w c i = (d : ℕ) → is_client d ≡ true → d ≢ c → has_lease (w.clients d) i ≡ false
 
 abbrev pub read_taken : World → ℕ → ℕ → World
 read_taken w c i = with_client w c (record (w.clients c) { reads = also (w.clients c).reads i })
@@ -54,7 +54,7 @@ own_view w c = after_records w.kernel.shared (log_of w c)
 
 pub record CanFetch (w : World) (c i : ℕ) : Type 0 where
   pub client : is_client c ≡ true
-  pub leased : holds (w.clients c) i ≡ true
+  pub leased : has_lease (w.clients c) i ≡ true
   -- while a call is begun only what is missing is fetched
   pub missing : ((w.clients c).begun ≡ None) ⊎ ((w.clients c).knows.copies i ≡ None)
   -- where nothing stands the client has no blocks
@@ -67,7 +67,7 @@ fetched w c i = with_client w c (record (w.clients c) { knows = with_copy (w.cli
 
 pub record CanRead (w : World) (c i names : ℕ) (bytes : List ℕ) : Type 0 where
   pub client : is_client c ≡ true
-  pub leased : holds (w.clients c) i ≡ true
+  pub leased : has_lease (w.clients c) i ≡ true
   pub file : own_view w c i ≡ Some (record { names = names; body = FileBody bytes })
 
 abbrev pub blocks_fetched : World → ℕ → ℕ → ℕ → ℕ → List ℕ → World

@@ -90,8 +90,8 @@ abbrev pub KeepLimits : Graph → List Record → Type 0
 KeepLimits g rs = Along (Keeps IsWithin) g rs
 
 -- no inode is written by records of two clients
-abbrev pub AreApart : (ℕ → List Record) → Type 0
-AreApart logs = (c d i : ℕ) → is_client c ≡ true → is_client d ≡ true → d ≢ c → is_written i (logs c) ≡ true → is_written i (logs d) ≡ false
+abbrev pub LogsAreApart : (ℕ → List Record) → Type 0
+LogsAreApart logs = (c d i : ℕ) → is_client c ≡ true → is_client d ≡ true → d ≢ c → is_written i (logs c) ≡ true → is_written i (logs d) ≡ false
 
 -- none stands in it twice
 abbrev pub IsDistinct : List ℕ → Type 0

@@ -6,11 +6,11 @@ use Rattle.file_graph.specs.declared.effect.Kind.TheVariants as kind
 use Rattle.file_graph.specs.declared.effect.Effect.TheVariants as effect
 use Rattle.log_record.specs.declared.format.Record.{Record}
 use Rattle.world_facts.specs.World.{Begun, World, log_of, all_of}
-use Rattle.world_facts.specs.ClientSteps.{begun, replied}
+use Rattle.world_facts.specs.ClientSteps.{call_begun, replied}
 use Rattle.world_facts.specs.LeaseSteps.{write_taken, given, fetched}
 use Rattle.world_facts.specs.BookSteps.{units_granted, units_returned, number_granted}
-use Rattle.world_facts.specs.RegionSteps.{sealed, taken_back}
-use Rattle.world_facts.specs.KernelSteps.{digested}
+use Rattle.world_facts.specs.RegionSteps.{region_sealed, taken_back}
+use Rattle.world_facts.specs.KernelSteps.{records_digested}
 use Rattle.world_facts.specs.UnlinkWalk.{open_a, known}
 
 -- `mkdir /b`, where the directory gets the number 3
@@ -43,7 +43,7 @@ held_three = write_taken granted 2 3
 
 -- client 1's record is digested
 abbrev pub kept : World
-kept = digested (sealed held_three 1) 1 (open_a.change ∷ [])
+kept = records_digested (region_sealed held_three 1) 1 (open_a.change ∷ [])
 
 abbrev pub back : World
 back = taken_back kept 1
@@ -57,10 +57,10 @@ ready = fetched passed 2 1
 
 -- both have a call begun
 abbrev pub one : World
-one = begun ready 2 mkdir_b
+one = call_begun ready 2 mkdir_b
 
 abbrev pub two : World
-two = begun one 1 write_7
+two = call_begun one 1 write_7
 
 -- what a stop leaves: of each client's begun record all or nothing
 abbrev pub left : (first second : Bool) → ℕ → List Record
@@ -71,7 +71,7 @@ abbrev pub written : World
 written = replied two 1 write_7
 
 abbrev pub beside : World
-beside = digested (sealed written 1) 1 (write_7.change ∷ [])
+beside = records_digested (region_sealed written 1) 1 (write_7.change ∷ [])
 
 abbrev pub made : World
 made = replied beside 2 mkdir_b

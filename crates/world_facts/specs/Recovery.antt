@@ -9,11 +9,11 @@ use Rattle.log_record.specs.declared.format.Record.{Record}
 use Rattle.call_effects.specs.Settled.{nobody}
 use Rattle.call_effects.specs.Wholes.{IsSound}
 use Rattle.world_facts.specs.Limits.{AreWithin}
-use Rattle.world_facts.specs.Logs.{after_clients, units_in, AreApart, ArePaid, KeepLimits}
+use Rattle.world_facts.specs.Logs.{after_clients, units_in, LogsAreApart, ArePaid, KeepLimits}
 
 pub record IsRecoverable (capacity : ℕ) (g : Graph) (logs : ℕ → List Record) : Type 0 where
   -- no inode is written by the records of two clients
-  pub apart : AreApart logs
+  pub apart : LogsAreApart logs
   -- the graph is within the limits, and each client's records keep it so and are paid for, whether others come before them or not
   pub limits : AreWithin g
   pub keep : (c : ℕ) → is_client c ≡ true → KeepLimits g (logs c)

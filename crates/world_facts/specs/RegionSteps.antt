@@ -16,8 +16,8 @@ pub record CanSeal (w : World) (c : ℕ) : Type 0 where
   pub some : (w.clients c).current ≢ []
   pub back : (w.clients c).other ≢ Away
 
-abbrev pub sealed : World → ℕ → World
-sealed w c = with_client w c (record (w.clients c) { sealed = (w.clients c).current; current = []; other = Away; ready = is_wiped (w.clients c).other })
+abbrev pub region_sealed : World → ℕ → World
+region_sealed w c = with_client w c (record (w.clients c) { sealed = (w.clients c).current; current = []; other = Away; ready = is_wiped (w.clients c).other })
 
 -- all its records are digested
 pub record CanTakeBack (w : World) (c : ℕ) : Type 0 where

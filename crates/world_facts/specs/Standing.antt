@@ -12,7 +12,7 @@ use Rattle.call_effects.specs.NodeView.{NodeView}
 use Rattle.call_effects.specs.Known.{Knowledge, IsPlanned}
 use Rattle.world_facts.specs.Logs.{is_written, is_made_in, IsMadeOnce, units_in, ArePaid, NameNone, KeepLimits}
 use Rattle.world_facts.specs.Limits.{AreWithin}
-use Rattle.world_facts.specs.World.{Begun, Region, Away, Status, Settled, Buried, Client, Account, Kernel, undigested, records_of, holds}
+use Rattle.world_facts.specs.World.{Begun, Region, Away, Status, Settled, Buried, Client, Account, Kernel, undigested, records_of, has_lease}
 
 -- ---- one client's part beside the kernel's
 
@@ -83,7 +83,7 @@ pub record Stands (g : Graph) (a : Account) (c : ℕ) (p : Client) : Type 0 wher
   -- the book has the units of its records and the spare ones, and those that are on their way to it or back
   pub units : p.spare + units_in (records_of a p) ≤ a.units
   pub numbered : IsNumbered a.numbers p.knows.granted (undigested a p)
-  pub leased : IsLeased (holds p) p.knows
+  pub leased : IsLeased (has_lease p) p.knows
   pub pinned : IsPinned a.pins p.pins p.knows.own
   pub pending : (b : Begun) → p.begun ≡ Some b → IsPending p.knows p.pins b
   pub left : HasLeft p.status p.knows.own p.begun
@@ -104,4 +104,4 @@ pub record IsBooked (k : Kernel) : Type 0 where
 
 -- what one holds for writing the other doesn't hold
 abbrev pub IsBeside : Client → Client → Type 0
-IsBeside p q = (i : ℕ) → p.writes i ≡ true → holds q i ≡ false
+IsBeside p q = (i : ℕ) → p.writes i ≡ true → has_lease q i ≡ false

@@ -10,15 +10,15 @@ use Rattle.call_effects.specs.Wholes.{state_of}
 use Rattle.world_facts.specs.Logs.{after_clients}
 use Rattle.world_facts.specs.Recovery.{IsRecoverable}
 use Rattle.world_facts.specs.Outcome.{Unfinished, IsOutcome}
-use Rattle.world_facts.specs.World.{World, change_of, log_of, tree_of}
+use Rattle.world_facts.specs.World.{World, change_of, log_of, world_state}
 
 -- in place of each log it leaves the log, or the log and the begun record
 abbrev pub Leaves : World → (ℕ → List Record) → Type 0
 Leaves w logs = (c : ℕ) → is_client c ≡ true → (logs c ≡ log_of w c) ⊎ (logs c ≡ log_of w c ++ change_of (w.clients c).begun)
 
 -- the shared graph after all of these logs
-abbrev pub stored : World → (ℕ → List Record) → Graph
-stored w logs = after_clients logs w.kernel.shared MAX_CLIENTS
+abbrev pub stored_graph : World → (ℕ → List Record) → Graph
+stored_graph w logs = after_clients logs w.kernel.shared MAX_CLIENTS
 
 -- the calls that have begun a record
 abbrev pub begun_calls : World → Unfinished
@@ -28,6 +28,6 @@ begun_calls w c = if is_client c then option_map (λ b. b.call) (w.clients c).be
 -- some of the begun calls
 pub record Stores (w : World) (logs : ℕ → List Record) : Type 0 where
   pub recoverable : IsRecoverable w.kernel.capacity w.kernel.shared logs
-  pub well_formed : IsWellFormed (state_of (settled_graph (stored w logs)) nobody)
-  pub within : IsWithinLimits (state_of (settled_graph (stored w logs)) nobody).tree
-  pub outcome : IsOutcome (tree_of w) [] (begun_calls w) (state_of (settled_graph (stored w logs)) nobody)
+  pub well_formed : IsWellFormed (state_of (settled_graph (stored_graph w logs)) nobody)
+  pub within : IsWithinLimits (state_of (settled_graph (stored_graph w logs)) nobody).tree
+  pub outcome : IsOutcome (world_state w) [] (begun_calls w) (state_of (settled_graph (stored_graph w logs)) nobody)

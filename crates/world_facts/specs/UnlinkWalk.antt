@@ -7,11 +7,11 @@ use Rattle.posix_calls.specs.declared.operation.Operation.TheVariants.{NewFile, 
 use Rattle.file_graph.specs.declared.effect.Kind.TheVariants as kind
 use Rattle.file_graph.specs.declared.effect.Effect.TheVariants as effect
 use Rattle.world_facts.specs.World.{Begun, World}
-use Rattle.world_facts.specs.ClientSteps.{answered, begun, replied}
+use Rattle.world_facts.specs.ClientSteps.{answered, call_begun, replied}
 use Rattle.world_facts.specs.LeaseSteps.{fetched}
-use Rattle.world_facts.specs.BookSteps.{pinned, unpinned}
-use Rattle.world_facts.specs.RegionSteps.{sealed}
-use Rattle.world_facts.specs.KernelSteps.{digested, reclaimed}
+use Rattle.world_facts.specs.BookSteps.{inode_pinned, unpinned}
+use Rattle.world_facts.specs.RegionSteps.{region_sealed}
+use Rattle.world_facts.specs.KernelSteps.{records_digested, reclaimed}
 use Rattle.world_facts.specs.Walk as walked
 
 -- `open /a`, which makes a file of the number 2, open under 0
@@ -40,10 +40,10 @@ closing = CloseFile 2 0
 
 -- client 1 has the number 2, and holds it and the root for writing; it pins the number
 abbrev pub ready : World
-ready = pinned walked.ready 1 2
+ready = inode_pinned walked.ready 1 2
 
 abbrev pub opening : World
-opening = begun ready 1 open_a
+opening = call_begun ready 1 open_a
 
 abbrev pub opened : World
 opened = replied opening 1 open_a
@@ -53,14 +53,14 @@ abbrev pub known : World
 known = fetched opened 1 2
 
 abbrev pub unlinking : World
-unlinking = begun known 1 unlink_a
+unlinking = call_begun known 1 unlink_a
 
 abbrev pub unlinked : World
 unlinked = replied unlinking 1 unlink_a
 
 -- both records are digested: the shared graph has the file, without a name
 abbrev pub kept : World
-kept = digested (sealed unlinked 1) 1 (open_a.change ∷ unlink_a.change ∷ [])
+kept = records_digested (region_sealed unlinked 1) 1 (open_a.change ∷ unlink_a.change ∷ [])
 
 -- it is closed, and the pin dropped
 abbrev pub closed : World

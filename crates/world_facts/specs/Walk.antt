@@ -8,11 +8,11 @@ use Rattle.file_graph.specs.declared.effect.Kind.TheVariants as kind
 use Rattle.file_graph.specs.declared.effect.Effect.TheVariants as effect
 use Rattle.world_facts.specs.World.{Begun, World}
 use Rattle.world_facts.specs.Opening.{opening_world}
-use Rattle.world_facts.specs.ClientSteps.{begun, replied}
+use Rattle.world_facts.specs.ClientSteps.{call_begun, replied}
 use Rattle.world_facts.specs.LeaseSteps.{write_taken, given, fetched}
 use Rattle.world_facts.specs.BookSteps.{units_granted, number_granted}
-use Rattle.world_facts.specs.RegionSteps.{sealed, taken_back}
-use Rattle.world_facts.specs.KernelSteps.{digested}
+use Rattle.world_facts.specs.RegionSteps.{region_sealed, taken_back}
+use Rattle.world_facts.specs.KernelSteps.{records_digested}
 
 -- `mkdir /a`, where the directory gets the number 2
 abbrev pub mkdir_a : Begun
@@ -40,17 +40,17 @@ ready = fetched holding 1 1
 
 -- its call has begun
 abbrev pub making : World
-making = begun ready 1 mkdir_a
+making = call_begun ready 1 mkdir_a
 
 abbrev pub made : World
 made = replied making 1 mkdir_a
 
 -- its region is sealed, digested and back
 abbrev pub handed : World
-handed = sealed made 1
+handed = region_sealed made 1
 
 abbrev pub kept : World
-kept = digested handed 1 (mkdir_a.change ∷ [])
+kept = records_digested handed 1 (mkdir_a.change ∷ [])
 
 abbrev pub back : World
 back = taken_back kept 1

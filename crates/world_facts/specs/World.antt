@@ -90,8 +90,8 @@ abbrev pub records_of : Account → Client → List Record
 records_of a p = undigested a p ++ change_of p.begun
 
 -- whether a client holds an inode
-abbrev pub holds : Client → ℕ → Bool
-holds p i = p.reads i || p.writes i
+abbrev pub has_lease : Client → ℕ → Bool
+has_lease p i = p.reads i || p.writes i
 
 -- ---- the whole
 
@@ -113,8 +113,8 @@ abbrev pub held : World → Descriptors
 held w = held_by w.clients
 
 -- the one tree that the world stands for
-abbrev pub tree_of : World → State
-tree_of w = state_of (whole w) (held w)
+abbrev pub world_state : World → State
+world_state w = state_of (whole w) (held w)
 
 -- ---- a world in which one client's part changes
 

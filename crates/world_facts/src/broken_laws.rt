@@ -5,12 +5,12 @@ ghost use Rattle.file_graph.specs.Graph.{Graph, fresh, set_node};
 ghost use Rattle.call_effects.specs.Known.{Agrees};
 ghost use Rattle.call_effects.specs.Wholes.{IsSound, state_of};
 ghost use Rattle.world_facts.specs.Limits.{AreWithin};
-ghost use Rattle.world_facts.specs.Logs.{after_records, after_each, units_in, AreApart, IsMadeOnce, ArePaid, NameNone, KeepLimits};
-ghost use Rattle.world_facts.specs.World.{log_of, all_of, records_of, whole, held, holds, tree_of};
+ghost use Rattle.world_facts.specs.Logs.{after_records, after_each, units_in, LogsAreApart, IsMadeOnce, ArePaid, NameNone, KeepLimits};
+ghost use Rattle.world_facts.specs.World.{log_of, all_of, records_of, whole, held, has_lease, world_state};
 ghost use Rattle.world_facts.specs.Standing.{IsMarked, IsNumbered, IsLeased, IsPinned, IsPending, IsBooked, IsBeside, Stands};
 ghost use Rattle.world_facts.specs.ClientSteps.{IsBegun, replied};
-ghost use Rattle.world_facts.specs.RegionSteps.{CanSeal, sealed};
-ghost use Rattle.world_facts.specs.KernelSteps.{CanDigest, digested, CanReclaim, reclaimed};
+ghost use Rattle.world_facts.specs.RegionSteps.{CanSeal, region_sealed};
+ghost use Rattle.world_facts.specs.KernelSteps.{CanDigest, records_digested, CanReclaim, reclaimed};
 ghost use Rattle.world_facts.specs.BookSteps.{IsUnbooked, number_granted};
 ghost use Rattle.world_facts.specs.Halves.{IsOnItsWay, number_received};
 ghost use Rattle.world_facts.specs.Walk.{mkdir_a, made};
@@ -18,7 +18,7 @@ ghost use Rattle.world_facts.specs.Broken.{counting, taken_number, far_number, u
 
 /// Where two clients write one inode, which takes a lease that one of them doesn't hold, the order of their digests is seen.
 pub fn writing_without_a_lease_is_seen()
-    ensures broken { AreApart both_counting → ⊥ }
+    ensures broken { LogsAreApart both_counting → ⊥ }
     ensures seen { after_each both_counting one_file (1 ∷ 2 ∷ []) ≢ after_each both_counting one_file (2 ∷ 1 ∷ []) }
 {}
 
@@ -48,7 +48,7 @@ pub fn mark_past_its_records_loses_a_call()
     ensures broken { IsMarked (marked_past.kernel.accounts 1).mark (marked_past.clients 1).past (marked_past.clients 1).sealed (marked_past.clients 1).other → ⊥ }
     ensures same { (c : ℕ) → all_of marked_past c ≡ all_of made c }
     ensures can { CanSeal marked_past 1 }
-    ensures lost { tree_of (sealed marked_past 1) ≢ tree_of marked_past }
+    ensures lost { world_state (region_sealed marked_past 1) ≢ world_state marked_past }
 {}
 
 /// Where a number is in two hands, one client's answer leaves the other with a number at which a node stands.
@@ -61,7 +61,7 @@ pub fn number_in_two_hands_is_taken()
 
 /// A copy that a client keeps without a lease is right for now, and stale after another client's answer.
 pub fn copy_without_a_lease_goes_stale()
-    ensures broken { IsLeased (holds ((watching (λ i. false)).clients 2)) ((watching (λ i. false)).clients 2).knows → ⊥ }
+    ensures broken { IsLeased (has_lease ((watching (λ i. false)).clients 2)) ((watching (λ i. false)).clients 2).knows → ⊥ }
     ensures begun { IsBegun (watching (λ i. false)) 1 mkdir_a }
     ensures known { Agrees ((watching (λ i. false)).clients 2).knows (whole (watching (λ i. false))) (held (watching (λ i. false))) }
     ensures stale { Agrees ((replied (watching (λ i. false)) 1 mkdir_a).clients 2).knows (whole (replied (watching (λ i. false)) 1 mkdir_a)) (held (replied (watching (λ i. false)) 1 mkdir_a)) → ⊥ }
@@ -88,7 +88,7 @@ pub fn unpaid_record_passes_the_capacity()
     ensures broken { ArePaid fresh (unpaid ∷ []) → ⊥ }
     ensures booked { IsBooked (overdrawn unpaid).kernel }
     ensures can { CanDigest (overdrawn unpaid) 1 (unpaid ∷ []) [] }
-    ensures passed { IsBooked (digested (overdrawn unpaid) 1 (unpaid ∷ [])).kernel → ⊥ }
+    ensures passed { IsBooked (records_digested (overdrawn unpaid) 1 (unpaid ∷ [])).kernel → ⊥ }
 {}
 
 /// So does that of a record whose units are not in the book.
@@ -97,7 +97,7 @@ pub fn unbooked_units_pass_the_capacity()
     ensures paid { ArePaid fresh (making ∷ []) }
     ensures booked { IsBooked (overdrawn making).kernel }
     ensures can { CanDigest (overdrawn making) 1 (making ∷ []) [] }
-    ensures passed { IsBooked (digested (overdrawn making) 1 (making ∷ [])).kernel → ⊥ }
+    ensures passed { IsBooked (records_digested (overdrawn making) 1 (making ∷ [])).kernel → ⊥ }
 {}
 
 /// Where the book has a number that a node of the shared graph has, its client takes it for a free one.
@@ -125,14 +125,14 @@ pub fn number_without_an_account_is_granted_again()
 pub fn used_number_loses_its_account()
     ensures broken { IsNumbered (used_number.kernel.accounts 1).numbers (used_number.clients 1).knows.granted (log_of used_number 1) → ⊥ }
     ensures can { CanDigest used_number 1 (making ∷ dropping ∷ []) [] }
-    ensures lost { IsNumbered ((digested used_number 1 (making ∷ dropping ∷ [])).kernel.accounts 1).numbers ((digested used_number 1 (making ∷ dropping ∷ [])).clients 1).knows.granted (log_of (digested used_number 1 (making ∷ dropping ∷ [])) 1) → ⊥ }
+    ensures lost { IsNumbered ((records_digested used_number 1 (making ∷ dropping ∷ [])).kernel.accounts 1).numbers ((records_digested used_number 1 (making ∷ dropping ∷ [])).clients 1).knows.granted (log_of (records_digested used_number 1 (making ∷ dropping ∷ [])) 1) → ⊥ }
 {}
 
 /// Where a client counts on a pin that is not in the book, the file that it has open is reclaimed.
 pub fn pin_without_the_book_is_no_pin()
     ensures broken { IsPinned (unpinned_file.kernel.accounts 1).pins (unpinned_file.clients 1).pins (unpinned_file.clients 1).knows.own → ⊥ }
     ensures can { CanReclaim unpinned_file.kernel 2 }
-    ensures seen { tree_of (reclaimed unpinned_file 2) ≢ tree_of unpinned_file }
+    ensures seen { world_state (reclaimed unpinned_file 2) ≢ world_state unpinned_file }
 {}
 
 /// Where a record takes a node past a limit, its digest makes a shared graph that can't be spelled.

@@ -6,41 +6,41 @@ ghost use Rattle.posix_calls.specs.declared.descriptor.Descriptor.{Descriptor};
 ghost use Rattle.file_graph.specs.Graph.{set_node, after_effects};
 ghost use Rattle.log_record.specs.declared.format.Record.{Record};
 ghost use Rattle.world_facts.specs.Logs.{IsNameless};
-ghost use Rattle.world_facts.specs.World.{Begun, World, whole, tree_of};
+ghost use Rattle.world_facts.specs.World.{Begun, World, whole, world_state};
 ghost use Rattle.world_facts.specs.ClientSteps.{IsBegun, replied};
-ghost use Rattle.world_facts.specs.KernelSteps.{CanDigest, digested, CanReclaim, reclaimed};
-ghost use Rattle.world_facts.specs.Invariant.{Holds};
+ghost use Rattle.world_facts.specs.KernelSteps.{CanDigest, records_digested, CanReclaim, reclaimed};
+ghost use Rattle.world_facts.specs.Invariant.{IsCoherent};
 
 /// The first undigested records of a sealed region go into the shared graph, with their mark, units and numbers: the whole is the
 /// same, whatever else the clients have logged or begun.
 pub fn records_may_be_digested()
-    ensures holds { (w : World) (c : ℕ) (first rest : List Record) → Holds w → CanDigest w c first rest → Holds (digested w c first) }
-    ensures whole { (w : World) (c : ℕ) (first rest : List Record) → Holds w → CanDigest w c first rest → whole (digested w c first) ≡ whole w }
-    ensures tree { (w : World) (c : ℕ) (first rest : List Record) → Holds w → CanDigest w c first rest → tree_of (digested w c first) ≡ tree_of w }
+    ensures holds { (w : World) (c : ℕ) (first rest : List Record) → IsCoherent w → CanDigest w c first rest → IsCoherent (records_digested w c first) }
+    ensures whole { (w : World) (c : ℕ) (first rest : List Record) → IsCoherent w → CanDigest w c first rest → whole (records_digested w c first) ≡ whole w }
+    ensures tree { (w : World) (c : ℕ) (first rest : List Record) → IsCoherent w → CanDigest w c first rest → world_state (records_digested w c first) ≡ world_state w }
 {}
 
 /// A file that has no name in the shared graph has none in the whole: no call gives a name to a file that has none, so no record that
 /// is not digested does.
 pub fn nameless_file_stays_nameless()
-    ensures { (w : World) (i : ℕ) → Holds w → IsNameless (w.kernel.shared i) → IsNameless (whole w i) }
+    ensures { (w : World) (i : ℕ) → IsCoherent w → IsNameless (w.kernel.shared i) → IsNameless (whole w i) }
 {}
 
 /// A file that has no name in the shared graph, and that nobody has pinned, is reclaimed, also where a client has a lease on it or a
 /// copy, or has records that are not digested.
 pub fn unused_file_may_be_reclaimed()
-    ensures holds { (w : World) (i : ℕ) → Holds w → CanReclaim w.kernel i → Holds (reclaimed w i) }
-    ensures whole { (w : World) (i : ℕ) → Holds w → CanReclaim w.kernel i → whole (reclaimed w i) ≡ set_node (whole w) i None }
-    ensures tree { (w : World) (i : ℕ) → Holds w → CanReclaim w.kernel i → tree_of (reclaimed w i) ≡ tree_of w }
+    ensures holds { (w : World) (i : ℕ) → IsCoherent w → CanReclaim w.kernel i → IsCoherent (reclaimed w i) }
+    ensures whole { (w : World) (i : ℕ) → IsCoherent w → CanReclaim w.kernel i → whole (reclaimed w i) ≡ set_node (whole w) i None }
+    ensures tree { (w : World) (i : ℕ) → IsCoherent w → CanReclaim w.kernel i → world_state (reclaimed w i) ≡ world_state w }
 {}
 
 /// A call that has begun its record stays begun while records are digested, its own client's too, and its answer makes of the whole
 /// what it would have made before.
 pub fn digest_leaves_begun_calls()
-    ensures begun { (w : World) (c d : ℕ) (b : Begun) (first rest : List Record) → Holds w → IsBegun w c b → CanDigest w d first rest → IsBegun (digested w d first) c b }
-    ensures answered { (w : World) (c d : ℕ) (b : Begun) (first rest : List Record) → Holds w → IsBegun w c b → CanDigest w d first rest → whole (replied (digested w d first) c b) ≡ after_effects (whole w) b.change.effects }
+    ensures begun { (w : World) (c d : ℕ) (b : Begun) (first rest : List Record) → IsCoherent w → IsBegun w c b → CanDigest w d first rest → IsBegun (records_digested w d first) c b }
+    ensures answered { (w : World) (c d : ℕ) (b : Begun) (first rest : List Record) → IsCoherent w → IsBegun w c b → CanDigest w d first rest → whole (replied (records_digested w d first) c b) ≡ after_effects (whole w) b.change.effects }
 {}
 
 /// A file that a client has open can't be reclaimed, also where it has lost its last name: it is pinned.
 pub fn open_file_is_not_reclaimed()
-    ensures { (w : World) (c n : ℕ) (o : Descriptor) → Holds w → is_client c ≡ true → (w.clients c).knows.own n ≡ Some o → CanReclaim w.kernel o.inode → ⊥ }
+    ensures { (w : World) (c n : ℕ) (o : Descriptor) → IsCoherent w → is_client c ≡ true → (w.clients c).knows.own n ≡ Some o → CanReclaim w.kernel o.inode → ⊥ }
 {}

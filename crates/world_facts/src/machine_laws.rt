@@ -8,11 +8,11 @@ ghost use Rattle.world_facts.specs.Logs.{after_records, is_written, is_made_in};
 ghost use Rattle.world_facts.specs.World.{Account, Client, World, records_of};
 ghost use Rattle.world_facts.specs.Standing.{Stands};
 ghost use Rattle.world_facts.specs.BookSteps.{HasRoom, IsUnbooked};
-ghost use Rattle.world_facts.specs.KernelSteps.{CanReclaim, digested, reclaimed};
+ghost use Rattle.world_facts.specs.KernelSteps.{CanReclaim, records_digested, reclaimed};
 ghost use Rattle.world_facts.specs.Halves.{units_booked, units_unbooked, number_booked, number_unbooked, pin_booked, pin_unbooked};
-ghost use Rattle.world_facts.specs.Burial.{buried};
+ghost use Rattle.world_facts.specs.Burial.{client_buried};
 ghost use Rattle.world_facts.specs.Machine.{Machine, IsRunning, Sealed, sealed_of, left_of, StandsSealed, CanAccept, accept, CanDigestNext, account_after, digest, book_units, unbook_units, book_number, unbook_number, book_pin, unbook_pin, bury, reclaim};
-ghost use Rattle.world_facts.specs.Invariant.{Holds};
+ghost use Rattle.world_facts.specs.Invariant.{IsCoherent};
 
 /// Each entry keeps what holds of the kernel alone.
 pub fn kernel_keeps_its_book()
@@ -47,7 +47,7 @@ pub fn parts_stand_where_they_write()
 
 /// The kernel's entries are what the world's steps make of the kernel's part.
 pub fn kernel_entries_are_steps_of_the_world()
-    ensures digest { (w : World) (accepted : ℕ → ℕ) (c : ℕ) (first : List Record) → (digest (record { kernel = w.kernel; accepted = accepted }) c first).kernel ≡ (digested w c first).kernel }
+    ensures digest { (w : World) (accepted : ℕ → ℕ) (c : ℕ) (first : List Record) → (digest (record { kernel = w.kernel; accepted = accepted }) c first).kernel ≡ (records_digested w c first).kernel }
     ensures reclaim { (w : World) (accepted : ℕ → ℕ) (i : ℕ) → (reclaim (record { kernel = w.kernel; accepted = accepted }) i).kernel ≡ (reclaimed w i).kernel }
     ensures book_units { (w : World) (accepted : ℕ → ℕ) (c units : ℕ) → (book_units (record { kernel = w.kernel; accepted = accepted }) c units).kernel ≡ (units_booked w c units).kernel }
     ensures unbook_units { (w : World) (accepted : ℕ → ℕ) (c units : ℕ) → (unbook_units (record { kernel = w.kernel; accepted = accepted }) c units).kernel ≡ (units_unbooked w c units).kernel }
@@ -55,5 +55,5 @@ pub fn kernel_entries_are_steps_of_the_world()
     ensures unbook_number { (w : World) (accepted : ℕ → ℕ) (c i : ℕ) → (unbook_number (record { kernel = w.kernel; accepted = accepted }) c i).kernel ≡ (number_unbooked w c i).kernel }
     ensures book_pin { (w : World) (accepted : ℕ → ℕ) (c i : ℕ) → (book_pin (record { kernel = w.kernel; accepted = accepted }) c i).kernel ≡ (pin_booked w c i).kernel }
     ensures unbook_pin { (w : World) (accepted : ℕ → ℕ) (c i : ℕ) → (unbook_pin (record { kernel = w.kernel; accepted = accepted }) c i).kernel ≡ (pin_unbooked w c i).kernel }
-    ensures bury { (w : World) (accepted : ℕ → ℕ) (c : ℕ) → (bury (record { kernel = w.kernel; accepted = accepted }) c).kernel ≡ (buried w c).kernel }
+    ensures bury { (w : World) (accepted : ℕ → ℕ) (c : ℕ) → (bury (record { kernel = w.kernel; accepted = accepted }) c).kernel ≡ (client_buried w c).kernel }
 {}

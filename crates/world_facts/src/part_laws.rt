@@ -7,16 +7,16 @@ ghost use Rattle.call_effects.specs.Wholes.{IsSound};
 ghost use Rattle.call_effects.specs.Known.{Agrees};
 ghost use Rattle.world_facts.specs.World.{Client, Account, World, undigested, log_of, whole, held, moved};
 ghost use Rattle.world_facts.specs.Standing.{Stands, IsBooked, IsBeside};
-ghost use Rattle.world_facts.specs.Invariant.{Holds};
+ghost use Rattle.world_facts.specs.Invariant.{IsCoherent};
 
 /// A client's part, its account and the shared graph may become any others, if the book holds, the part stands beside the kernel's
 /// new one, each other part does, the leases of both are legal, and the whole is sound and as all clients know it.
 pub fn one_part_may_move()
-    ensures { (w : World) (c : ℕ) (g : Graph) (a : Account) (p : Client) → Holds w → is_client c ≡ true → IsBooked (moved w c g a p).kernel → Stands g a c p → ((d : ℕ) → is_client d ≡ true → d ≢ c → Stands g (w.kernel.accounts d) d (w.clients d)) → ((d : ℕ) → is_client d ≡ true → d ≢ c → IsBeside p (w.clients d)) → ((d : ℕ) → is_client d ≡ true → d ≢ c → IsBeside (w.clients d) p) → IsSound (whole (moved w c g a p)) (held (moved w c g a p)) → Agrees p.knows (whole (moved w c g a p)) (held (moved w c g a p)) → ((d : ℕ) → is_client d ≡ true → d ≢ c → Agrees (w.clients d).knows (whole (moved w c g a p)) (held (moved w c g a p))) → Holds (moved w c g a p) }
+    ensures { (w : World) (c : ℕ) (g : Graph) (a : Account) (p : Client) → IsCoherent w → is_client c ≡ true → IsBooked (moved w c g a p).kernel → Stands g a c p → ((d : ℕ) → is_client d ≡ true → d ≢ c → Stands g (w.kernel.accounts d) d (w.clients d)) → ((d : ℕ) → is_client d ≡ true → d ≢ c → IsBeside p (w.clients d)) → ((d : ℕ) → is_client d ≡ true → d ≢ c → IsBeside (w.clients d) p) → IsSound (whole (moved w c g a p)) (held (moved w c g a p)) → Agrees p.knows (whole (moved w c g a p)) (held (moved w c g a p)) → ((d : ℕ) → is_client d ≡ true → d ≢ c → Agrees (w.clients d).knows (whole (moved w c g a p)) (held (moved w c g a p))) → IsCoherent (moved w c g a p) }
 {}
 
 /// Where the shared graph, the client's undigested records and what it has open stay, nothing is to be shown of the other parts but
 /// that the leases are legal, and nothing of the whole.
 pub fn quiet_part_may_move()
-    ensures { (w : World) (c : ℕ) (g : Graph) (a : Account) (p : Client) → Holds w → is_client c ≡ true → g ≡ w.kernel.shared → undigested a p ≡ log_of w c → p.knows.own ≡ (w.clients c).knows.own → IsBooked (moved w c g a p).kernel → Stands g a c p → ((d : ℕ) → is_client d ≡ true → d ≢ c → IsBeside p (w.clients d)) → ((d : ℕ) → is_client d ≡ true → d ≢ c → IsBeside (w.clients d) p) → Agrees p.knows (whole w) (held w) → Holds (moved w c g a p) }
+    ensures { (w : World) (c : ℕ) (g : Graph) (a : Account) (p : Client) → IsCoherent w → is_client c ≡ true → g ≡ w.kernel.shared → undigested a p ≡ log_of w c → p.knows.own ≡ (w.clients c).knows.own → IsBooked (moved w c g a p).kernel → Stands g a c p → ((d : ℕ) → is_client d ≡ true → d ≢ c → IsBeside p (w.clients d)) → ((d : ℕ) → is_client d ≡ true → d ≢ c → IsBeside (w.clients d) p) → Agrees p.knows (whole w) (held w) → IsCoherent (moved w c g a p) }
 {}

@@ -8,8 +8,7 @@ ghost use Rattle.file_graph.specs.Units.{charge};
 ghost use Rattle.log_record.specs.declared.format.Record.{Record};
 ghost use Rattle.posix_calls.specs.Tree.{Descriptors};
 ghost use Rattle.call_effects.specs.Settled.{nobody, settled_graph};
-ghost use Rattle.call_effects.specs.Wholes as graphs;
-ghost use Rattle.call_effects.specs.Wholes.{IsSound, state_of};
+ghost use Rattle.call_effects.specs.Wholes.{IsSound, state_of, tree_of};
 ghost use Rattle.world_facts.specs.Limits.{AreWithin};
 ghost use Rattle.world_facts.specs.Logs.{after_records, after_clients, IsNameless};
 ghost use Rattle.world_facts.specs.World.{at};
@@ -42,6 +41,6 @@ pub fn nameless_file_may_be_dropped()
 
 /// The nodes of a sound graph are within the limits exactly where its tree is.
 pub fn limits_are_those_of_the_nodes()
-    ensures nodes { (g : Graph) (held : Descriptors) → IsSound g held → IsWithinLimits (graphs.tree_of g) → AreWithin g }
-    ensures tree { (g : Graph) (held : Descriptors) → IsSound g held → AreWithin g → IsWithinLimits (graphs.tree_of g) }
+    ensures nodes { (g : Graph) (held : Descriptors) → IsSound g held → IsWithinLimits (tree_of g) → AreWithin g }
+    ensures tree { (g : Graph) (held : Descriptors) → IsSound g held → AreWithin g → IsWithinLimits (tree_of g) }
 {}

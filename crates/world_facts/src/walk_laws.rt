@@ -6,12 +6,12 @@ ghost use Rattle.posix_calls.specs.Operations.{Step};
 ghost use Rattle.posix_calls.specs.declared.call.Reply.TheVariants.{Done, Opened, Wrote};
 ghost use Rattle.file_graph.specs.Graph.{file_bytes};
 ghost use Rattle.world_facts.specs.Logs.{IsNameless};
-ghost use Rattle.world_facts.specs.World.{log_of, all_of, tree_of};
-ghost use Rattle.world_facts.specs.Invariant.{Holds};
+ghost use Rattle.world_facts.specs.World.{log_of, all_of, world_state};
+ghost use Rattle.world_facts.specs.Invariant.{IsCoherent};
 ghost use Rattle.world_facts.specs.ClientSteps.{IsBegun, replied};
 ghost use Rattle.world_facts.specs.LeaseSteps.{CanGive};
 ghost use Rattle.world_facts.specs.KernelSteps.{CanReclaim};
-ghost use Rattle.world_facts.specs.Stop.{Stores, stored};
+ghost use Rattle.world_facts.specs.Stop.{Stores, stored_graph};
 ghost use Rattle.world_facts.specs.Walk.{mkdir_a, making, made, passed};
 ghost use Rattle.world_facts.specs.UnlinkWalk as unlink_walk;
 ghost use Rattle.world_facts.specs.PairWalk as pair_walk;
@@ -21,27 +21,27 @@ ghost use Rattle.world_facts.specs.FiveWalk as five_walk;
 /// one still, and a stop stores that, or that after the call. Its answer is the call's step. Then its region is sealed, digested and
 /// back, and the lease on the new directory, on which nothing is undigested, goes to client 2: the tree is that after the call.
 pub fn small_world_walks()
-    ensures begun { Holds making }
-    ensures unchanged { tree_of making ≡ opening }
-    ensures answered { Step opening 1 mkdir_a.call Done (tree_of made) }
+    ensures begun { IsCoherent making }
+    ensures unchanged { world_state making ≡ opening }
+    ensures answered { Step opening 1 mkdir_a.call Done (world_state made) }
     ensures stopped_without { Stores making (log_of making) }
     ensures stopped_with { Stores making (all_of making) }
-    ensures passed { Holds passed }
-    ensures same { tree_of passed ≡ tree_of made }
+    ensures passed { IsCoherent passed }
+    ensures same { world_state passed ≡ world_state made }
 {}
 
 /// From the same world on, client 1 pins the number, opens `/a` with it, and unlinks `/a` while it is open. Both records are digested:
 /// the file has no name in the shared graph, and can't be reclaimed, for it is open. After the close and without the pin it is.
 pub fn small_world_unlinks_an_open_file()
-    ensures opened { Step (tree_of unlink_walk.opening) 1 unlink_walk.open_a.call (Opened 0) (tree_of unlink_walk.opened) }
-    ensures unlinked { Step (tree_of unlink_walk.unlinking) 1 unlink_walk.unlink_a.call Done (tree_of unlink_walk.unlinked) }
-    ensures kept { Holds unlink_walk.kept }
+    ensures opened { Step (world_state unlink_walk.opening) 1 unlink_walk.open_a.call (Opened 0) (world_state unlink_walk.opened) }
+    ensures unlinked { Step (world_state unlink_walk.unlinking) 1 unlink_walk.unlink_a.call Done (world_state unlink_walk.unlinked) }
+    ensures kept { IsCoherent unlink_walk.kept }
     ensures nameless { IsNameless (unlink_walk.kept.kernel.shared 2) }
     ensures pinned { CanReclaim unlink_walk.kept.kernel 2 → ⊥ }
-    ensures closed { Step (tree_of unlink_walk.kept) 1 unlink_walk.close_0 Done (tree_of unlink_walk.closed) }
+    ensures closed { Step (world_state unlink_walk.kept) 1 unlink_walk.close_0 Done (world_state unlink_walk.closed) }
     ensures can { CanReclaim unlink_walk.released.kernel 2 }
-    ensures reclaimed { Holds unlink_walk.emptied }
-    ensures unseen { tree_of unlink_walk.emptied ≡ tree_of unlink_walk.released }
+    ensures reclaimed { IsCoherent unlink_walk.emptied }
+    ensures unseen { world_state unlink_walk.emptied ≡ world_state unlink_walk.released }
 {}
 
 /// With the file open, client 1 has its record digested and gives the root to client 2, which begins `mkdir /b`; client 1 begins a
@@ -49,14 +49,14 @@ pub fn small_world_unlinks_an_open_file()
 /// the other call is begun, whose answer is a step still.
 pub fn small_world_of_two_clients()
     ensures given { CanGive pair_walk.back 1 1 }
-    ensures begun { Holds pair_walk.two }
+    ensures begun { IsCoherent pair_walk.two }
     ensures stopped { (first second : Bool) → Stores pair_walk.two (pair_walk.left first second) }
-    ensures byte { (first second : Bool) → file_bytes (stored pair_walk.two (pair_walk.left first second) 2) ≡ Some (if first then 7 ∷ [] else []) }
-    ensures directory { (first second : Bool) → is_some (stored pair_walk.two (pair_walk.left first second) 3) ≡ second }
-    ensures written { Step (tree_of pair_walk.two) 1 pair_walk.write_7.call (Wrote 1) (tree_of (replied pair_walk.two 1 pair_walk.write_7)) }
-    ensures beside { Holds pair_walk.beside }
+    ensures byte { (first second : Bool) → file_bytes (stored_graph pair_walk.two (pair_walk.left first second) 2) ≡ Some (if first then 7 ∷ [] else []) }
+    ensures directory { (first second : Bool) → is_some (stored_graph pair_walk.two (pair_walk.left first second) 3) ≡ second }
+    ensures written { Step (world_state pair_walk.two) 1 pair_walk.write_7.call (Wrote 1) (world_state (replied pair_walk.two 1 pair_walk.write_7)) }
+    ensures beside { IsCoherent pair_walk.beside }
     ensures still { IsBegun pair_walk.beside 2 pair_walk.mkdir_b }
-    ensures made { Step (tree_of pair_walk.beside) 2 pair_walk.mkdir_b.call Done (tree_of pair_walk.made) }
+    ensures made { Step (world_state pair_walk.beside) 2 pair_walk.mkdir_b.call Done (world_state pair_walk.made) }
 {}
 
 /// Client 1's region comes back, and it gives the lease on the file that it has open to client 2, which makes `/b/x` and `/b/y` and
@@ -64,10 +64,10 @@ pub fn small_world_of_two_clients()
 /// byte that client 1 wrote, since client 1 has it open.
 pub fn small_world_of_five_nodes()
     ensures given { CanGive five_walk.back 1 2 }
-    ensures made { Step (tree_of five_walk.making) 2 five_walk.mkdir_x.call Done (tree_of five_walk.made) }
-    ensures opened { Step (tree_of five_walk.opening) 2 five_walk.open_y.call (Opened 0) (tree_of five_walk.opened) }
-    ensures unlinked { Step (tree_of five_walk.unlinking) 2 unlink_walk.unlink_a.call Done (tree_of five_walk.unlinked) }
-    ensures kept { Holds five_walk.kept }
+    ensures made { Step (world_state five_walk.making) 2 five_walk.mkdir_x.call Done (world_state five_walk.made) }
+    ensures opened { Step (world_state five_walk.opening) 2 five_walk.open_y.call (Opened 0) (world_state five_walk.opened) }
+    ensures unlinked { Step (world_state five_walk.unlinking) 2 unlink_walk.unlink_a.call Done (world_state five_walk.unlinked) }
+    ensures kept { IsCoherent five_walk.kept }
     ensures nodes { map (λ i. is_some (five_walk.kept.kernel.shared i)) (1 ∷ 2 ∷ 3 ∷ 4 ∷ 5 ∷ 6 ∷ []) ≡ true ∷ true ∷ true ∷ true ∷ true ∷ false ∷ [] }
     ensures nameless { IsNameless (five_walk.kept.kernel.shared 2) }
     ensures byte { file_bytes (five_walk.kept.kernel.shared 2) ≡ Some (7 ∷ []) }
