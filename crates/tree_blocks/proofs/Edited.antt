@@ -7,36 +7,26 @@ use Rattle.std.proofs.lemmas.Bool.{cases_Bool, lt-ltb, le-ltb}
 use Rattle.file_graph.specs.declared.effect.Kind.{Kind}
 use Rattle.file_graph.specs.declared.effect.Kind.TheVariants as kind
 use Rattle.file_graph.specs.Graph.{Node, FileBody, DirBody}
-use Rattle.graph_change.specs.Bytes.{Length, Grown, Cut, BytesChange, length_after, left, byte_after, bytes_after}
+use Rattle.graph_change.specs.Bytes.{BytesChange, length_after, byte_after, bytes_after}
 use Rattle.graph_change.specs.Net.{Base, Kept, Made, Gone, Net, based, edited, node_after}
 use Rattle.graph_change.specs.Change.{Change, Changes, new_change, net_of, change_at, changed}
 use Rattle.graph_change.proofs.Law.{empty_at, coalesced_law}
 use Rattle.tree_blocks.specs.Inode.{Blocks, Inode, byte_of, file_bytes, IsZeroFrom, node_by, node_of, graph_of, IsConsistentBy, IsConsistent}
-use Rattle.tree_blocks.specs.After.{started, kept_byte, byte_with, IsFileAfter, BodyAfter, IsAfter, AreAfter}
-use Rattle.tree_blocks.proofs.Files.{length_file, byte_read}
+use Rattle.tree_blocks.specs.After.{started, IsFileAfter, BodyAfter, IsInodeAfter, AreInodesAfter}
+use Rattle.tree_blocks.proofs.Files.{length_file}
 use Rattle.tree_blocks.proofs.Alike.{mapped_same, node_same, consistent_same}
 
 -- ---- a file
 
-abbrev or_kept : Option ℕ → ℕ → ℕ
-or_kept o x = elim o [ None ↦ x | Some b ↦ b ]
-
-kept_is : (e : Length) (b : Blocks) (size at : ℕ) → IsZeroFrom size b → left e (file_bytes b size) at ≡ kept_byte e (byte_of b) at
-kept_is (Grown to) b size at zeros = byte_read b size at zeros
-kept_is (Cut least to) b size at zeros = ap (λ x. cond (nat_lt at least) x 0) (byte_read b size at zeros)
-
-byte_is : (c : BytesChange) (b : Blocks) (size at : ℕ) → IsZeroFrom size b → byte_after c (file_bytes b size) at ≡ byte_with c (byte_of b) at
-byte_is c b size at zeros = ap (or_kept (c.new at)) (kept_is c.length b size at zeros)
-
 module _ (c : BytesChange) (size : ℕ) (old : Blocks) (new_size : ℕ) (new : Blocks) (after : IsFileAfter c size old new_size new) where
   zero_after : IsZeroFrom new_size new
-  zero_after at ge = after.bytes at ∙ ap (λ b. cond b (byte_with c (byte_of old) at) 0) (le-ltb at new_size ge)
+  zero_after at ge = after.bytes at ∙ ap (λ b. cond b (byte_after c (file_bytes old size) at) 0) (le-ltb at new_size ge)
 
-  bytes_are : IsZeroFrom size old → file_bytes new new_size ≡ bytes_after c (file_bytes old size)
+  bytes_are : file_bytes new new_size ≡ bytes_after c (file_bytes old size)
   unfolding bytes_after
-  bytes_are zeros =
+  bytes_are =
       mapped_same (byte_of new) (byte_after c (file_bytes old size)) 0 new_size (λ at lt.
-      after.bytes at ∙ ap (λ b. cond b (byte_with c (byte_of old) at) 0) (lt-ltb at new_size (omega (arith, lt))) ∙ sym (byte_is c old size at zeros))
+      after.bytes at ∙ ap (λ b. cond b (byte_after c (file_bytes old size) at) 0) (lt-ltb at new_size (omega (arith, lt))))
       ∙ ap (λ k. map (byte_after c (file_bytes old size)) (range_with_len 0 k)) (after.size ∙ ap (length_after c.length) (sym (length_file old size)))
 
 -- ---- one inode
@@ -45,7 +35,7 @@ edited_by : (number : ℕ) (k : Option Kind) (c : Net) (old new : Inode) → IsC
     → (node_by k new.names new.size new.blocks ≡ option_map (edited c) (node_by k old.names old.size old.blocks)) × IsConsistentBy number k new.size new.blocks
 edited_by number None c old new is after = (refl, tt)
 edited_by number (Some kind.File) c old new is after = (
-  λ t. Some (record { names = after.0 t; body = FileBody (bytes_are c.bytes old.size old.blocks new.size new.blocks after.1 is t) }),
+  λ t. Some (record { names = after.0 t; body = FileBody (bytes_are c.bytes old.size old.blocks new.size new.blocks after.1 t) }),
   zero_after c.bytes old.size old.blocks new.size new.blocks after.1,
 )
 edited_by number (Some kind.Directory) c old new is after = (λ t. Some (record { names = after.0 t; body = DirBody (after.1.entries t) }), after.1.directory)
@@ -66,7 +56,7 @@ started_consistent number (Made kind.File) old is = no_bytes
 started_consistent number (Made kind.Directory) old is = record { parts = λ k lt. absurd (omega (arith, lt)); distinct = λ i j lt. absurd (omega (arith, lt)) }
 started_consistent number Gone old is = tt
 
-pub node_law : (number : ℕ) (c : Net) (old new : Inode) → IsConsistent number old → IsAfter number c old new → (node_of new ≡ node_after c (node_of old)) × IsConsistent number new
+pub node_law : (number : ℕ) (c : Net) (old new : Inode) → IsConsistent number old → IsInodeAfter number c old new → (node_of new ≡ node_after c (node_of old)) × IsConsistent number new
 node_law number c old new is after =
     let start = started c.base old in
     let one = edited_by number start.kind c start new (started_consistent number c.base old is) after.body in (
@@ -84,7 +74,7 @@ missing : (o : Option Change) → is_some o ≡ false → unwrap_or o (new_chang
 missing None e = refl
 missing (Some c) e = absurd cc
 
-pub graph_law : (cs : Changes) (old new : ℕ → Inode) → ((i : ℕ) → IsConsistent i (old i)) → AreAfter cs old new
+pub graph_law : (cs : Changes) (old new : ℕ → Inode) → ((i : ℕ) → IsConsistent i (old i)) → AreInodesAfter cs old new
     → (graph_of new ≡ changed cs (graph_of old)) × ((i : ℕ) → IsConsistent i (new i))
 graph_law cs old new is after = ((λ t i. (each i).0 t), λ i. (each i).1) where
   each : (i : ℕ) → (graph_of new i ≡ changed cs (graph_of old) i) × IsConsistent i (new i)

@@ -3,6 +3,7 @@ pub mod Directories
 pub mod Distinct
 pub mod Edited
 pub mod Entering
+pub mod FileBlocks
 pub mod Files
 pub mod Finding
 pub mod Held

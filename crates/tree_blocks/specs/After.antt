@@ -3,10 +3,10 @@ use Rattle.std.specs.Prelude.{◌≡◌, ◌≢◌, ◌⊎◌, ℕ, ◌+◌, ◌
 use Rattle.std.specs.FinMap as fin
 use Rattle.file_graph.specs.declared.effect.Kind.{Kind}
 use Rattle.file_graph.specs.declared.effect.Kind.TheVariants as kind
-use Rattle.graph_change.specs.Bytes.{Length, Grown, Cut, BytesChange, length_after}
+use Rattle.graph_change.specs.Bytes.{BytesChange, length_after, byte_after}
 use Rattle.graph_change.specs.Net.{Base, Kept, Made, Gone, EntryChanges, Net, names_after, entries_after}
 use Rattle.graph_change.specs.Change.{Changes, net_of, change_at}
-use Rattle.tree_blocks.specs.Inode.{Blocks, Entry, Inode, byte_of, entry_at, named, IsAbsent, IsDirectory, blank_inode, AreAlike}
+use Rattle.tree_blocks.specs.Inode.{Blocks, Entry, Inode, byte_of, file_bytes, entry_at, named, IsAbsent, IsDirectory, blank_inode, AreAlike}
 
 -- what the rest of a change starts from: the inode that was there, or one without names and blocks
 abbrev pub started : Base → Inode → Inode
@@ -16,19 +16,10 @@ started Gone old = blank_inode None
 
 -- ---- a file
 
--- the byte at a place, or zero where it was cut off
-abbrev pub kept_byte : Length → (ℕ → ℕ) → ℕ → ℕ
-kept_byte (Grown to) old at = old at
-kept_byte (Cut least to) old at = if nat_lt at least then old at else 0
-
--- the byte at a place after a change, where the file goes so far
-abbrev pub byte_with : BytesChange → (ℕ → ℕ) → ℕ → ℕ
-byte_with c old at = elim (c.new at) [ None ↦ kept_byte c.length old at | Some b ↦ b ]
-
 -- a file after a change of its bytes: its size, and each byte of its blocks, which are zero behind the size
 pub record IsFileAfter (c : BytesChange) (old_size : ℕ) (old : Blocks) (new_size : ℕ) (new : Blocks) : Type 0 where
   pub size : new_size ≡ length_after c.length old_size
-  pub bytes : (at : ℕ) → byte_of new at ≡ (if nat_lt at new_size then byte_with c (byte_of old) at else 0)
+  pub bytes : (at : ℕ) → byte_of new at ≡ (if nat_lt at new_size then byte_after c (file_bytes old old_size) at else 0)
 
 -- ---- a directory
 
@@ -37,18 +28,18 @@ pub record IsDirectoryAfter (number : ℕ) (c : EntryChanges) (old_size : ℕ) (
   pub entries : named (entry_at new) new_size ≡ entries_after c (named (entry_at old) old_size)
   pub directory : IsDirectory number new_size new
 
--- one entry entered at a place: that of the entry which has its name, or else the one behind the last entry; all others stay
-pub record IsEntered (place : ℕ) (e : Entry) (old_count : ℕ) (old : ℕ → Entry) (new_count : ℕ) (new : ℕ → Entry) : Type 0 where
-  pub at_name : ((place < old_count) × ((old place).0 ≡ e.0) × (new_count ≡ old_count)) ⊎ ((place ≡ old_count) × IsAbsent e.0 old old_count × (new_count ≡ old_count + 1))
-  pub there : new place ≡ e
-  pub others : (i : ℕ) → i < old_count → i ≢ place → new i ≡ old i
+-- one entry entered under a number: that of the entry which has its name, or else the one behind the last entry; all others stay
+pub record IsEntered (number : ℕ) (e : Entry) (old_count : ℕ) (old : ℕ → Entry) (new_count : ℕ) (new : ℕ → Entry) : Type 0 where
+  pub at_name : ((number < old_count) × ((old number).0 ≡ e.0) × (new_count ≡ old_count)) ⊎ ((number ≡ old_count) × IsAbsent e.0 old old_count × (new_count ≡ old_count + 1))
+  pub there : new number ≡ e
+  pub others : (i : ℕ) → i < old_count → i ≢ number → new i ≡ old i
 
--- the entry at a place taken out, where the last one stands then; all others stay
-pub record IsTakenOut (place : ℕ) (old_count : ℕ) (old : ℕ → Entry) (new_count : ℕ) (new : ℕ → Entry) : Type 0 where
-  pub inside : place < old_count
+-- the entry of a number taken out, where the last one stands then; all others stay
+pub record IsTakenOut (number : ℕ) (old_count : ℕ) (old : ℕ → Entry) (new_count : ℕ) (new : ℕ → Entry) : Type 0 where
+  pub inside : number < old_count
   pub count : new_count ≡ old_count - 1
-  pub moved : place < old_count - 1 → new place ≡ old (old_count - 1)
-  pub others : (i : ℕ) → i < old_count - 1 → i ≢ place → new i ≡ old i
+  pub moved : number < old_count - 1 → new number ≡ old (old_count - 1)
+  pub others : (i : ℕ) → i < old_count - 1 → i ≢ number → new i ≡ old i
 
 -- ---- an inode
 
@@ -63,12 +54,12 @@ pub record IsEdited (number : ℕ) (c : Net) (old new : Inode) : Type 0 where
   pub body : BodyAfter number old.kind c old new
 
 -- an inode after a net change
-abbrev pub IsAfter : ℕ → Net → Inode → Inode → Type 0
-IsAfter number c old new = IsEdited number c (started c.base old) new
+abbrev pub IsInodeAfter : ℕ → Net → Inode → Inode → Type 0
+IsInodeAfter number c old new = IsEdited number c (started c.base old) new
 
 -- ---- all inodes
 
 -- each inode that is changed is as its change makes it, and all others read as they did
-pub record AreAfter (cs : Changes) (old new : ℕ → Inode) : Type 0 where
-  pub changed : (i : ℕ) → fin.contains_key cs i ≡ true → IsAfter i (net_of (change_at cs i)) (old i) (new i)
+pub record AreInodesAfter (cs : Changes) (old new : ℕ → Inode) : Type 0 where
+  pub changed : (i : ℕ) → fin.contains_key cs i ≡ true → IsInodeAfter i (net_of (change_at cs i)) (old i) (new i)
   pub others : (i : ℕ) → fin.contains_key cs i ≡ false → AreAlike (old i) (new i)

@@ -58,6 +58,6 @@ pub record HaveOneMore (owner count : ℕ) (e : Entry) (old new : List (List ℕ
   pub others : (k : ℕ) → k ≢ count / MAX_IN_BLOCK → numbered new k ≡ numbered old k
 
 -- the blocks of a directory of which the last entry stands at the place of another, and not behind the others; `last` is its number
-pub record HaveOneLess (owner last place : ℕ) (old new : Blocks) : Type 0 where
+pub record HaveOneLess (owner last number : ℕ) (old new : Blocks) : Type 0 where
   pub directory : IsDirectory owner last new
-  pub taken : IsTakenOut place (last + 1) (entry_at old) last (entry_at new)
+  pub taken : IsTakenOut number (last + 1) (entry_at old) last (entry_at new)

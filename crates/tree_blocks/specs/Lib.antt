@@ -1,3 +1,4 @@
 pub mod After
 pub mod Directory
+pub mod FileBlock
 pub mod Inode

@@ -5,20 +5,20 @@ ghost use Rattle.std.specs.FinMap as fin;
 ghost use Rattle.graph_change.specs.Net.{Net, node_after};
 ghost use Rattle.graph_change.specs.Change.{Changes, changed};
 ghost use Rattle.tree_blocks.specs.Inode.{Inode, Entry, node_of, graph_of, named, AreDistinct, IsConsistent};
-ghost use Rattle.tree_blocks.specs.After.{IsEntered, IsTakenOut, IsAfter, AreAfter};
+ghost use Rattle.tree_blocks.specs.After.{IsEntered, IsTakenOut, IsInodeAfter, AreInodesAfter};
 
 /// A consistent inode after a net change is the node after that change, and is consistent.
 pub fn inode_after_is_node_after()
-    ensures { (number : ℕ) (c : Net) (old new : Inode) → IsConsistent number old → IsAfter number c old new → (node_of new ≡ node_after c (node_of old)) × IsConsistent number new }
+    ensures { (number : ℕ) (c : Net) (old new : Inode) → IsConsistent number old → IsInodeAfter number c old new → (node_of new ≡ node_after c (node_of old)) × IsConsistent number new }
 {}
 
 /// Consistent inodes after a change of many are the graph after that change, and are consistent.
 pub fn inodes_after_are_graph_after()
-    ensures { (cs : Changes) (old new : ℕ → Inode) → ((i : ℕ) → IsConsistent i (old i)) → AreAfter cs old new → (graph_of new ≡ changed cs (graph_of old)) × ((i : ℕ) → IsConsistent i (new i)) }
+    ensures { (cs : Changes) (old new : ℕ → Inode) → ((i : ℕ) → IsConsistent i (old i)) → AreInodesAfter cs old new → (graph_of new ≡ changed cs (graph_of old)) × ((i : ℕ) → IsConsistent i (new i)) }
 {}
 
 /// Where no two entries have one name, so it is after one is entered or taken out, and the entries by name have it then or no longer.
 pub fn entries_change_by_name()
-    ensures entered { (place : ℕ) (e : Entry) (n m : ℕ) (old new : ℕ → Entry) → AreDistinct old n → IsEntered place e n old m new → (named new m ≡ fin.insert (named old n) e.0 e.1) × AreDistinct new m }
-    ensures taken { (place n m : ℕ) (old new : ℕ → Entry) → AreDistinct old n → IsTakenOut place n old m new → (named new m ≡ fin.remove (named old n) (old place).0) × AreDistinct new m }
+    ensures entered { (number : ℕ) (e : Entry) (n m : ℕ) (old new : ℕ → Entry) → AreDistinct old n → IsEntered number e n old m new → (named new m ≡ fin.insert (named old n) e.0 e.1) × AreDistinct new m }
+    ensures taken { (number n m : ℕ) (old new : ℕ → Entry) → AreDistinct old n → IsTakenOut number n old m new → (named new m ≡ fin.remove (named old n) (old number).0) × AreDistinct new m }
 {}

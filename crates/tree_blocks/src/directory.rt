@@ -4,11 +4,11 @@ ghost use Rattle.layout.specs.Places.{is_inode};
 ghost use Rattle.layout.specs.Lent.{owned};
 ghost use Rattle.layout.specs.Directory.{fits_entry};
 ghost use Rattle.layout.specs.declared.directory.TheConstants.{MAX_IN_BLOCK};
-ghost use Rattle.tree_blocks.specs.Inode.{plain, named, IsAbsent};
+ghost use Rattle.tree_blocks.specs.Inode.{plain, named, blocks_for, IsAbsent};
 ghost use Rattle.std.specs.FinMap as fin;
 ghost use Rattle.graph_change.specs.Net.{entries_after};
 ghost use Rattle.tree_blocks.specs.After.{IsEntered, IsTakenOut, IsDirectoryAfter};
-ghost use Rattle.tree_blocks.specs.Directory.{EntryBlocks, IsHeld, LeadToInodes, numbered, entries_of};
+ghost use Rattle.tree_blocks.specs.Directory.{EntryBlocks, IsHeld, LeadToInodes, coming, numbered, entries_of};
 
 use crate::changing::{are_too_many, change_names, coming};
 use crate::entry_blocks::{add_to, find_in, take_from};
@@ -20,7 +20,7 @@ use posix_calls::MAX_ENTRIES;
 use std::alloc::{AllocError, Global};
 use std::marker::Model;
 
-/// A directory in memory: its blocks, one behind the other. Entry n stands in block n / 56 at place n % 56.
+/// A directory in memory: its blocks, one behind the other. Entry n is entry n % 56 of block n / 56.
 #[derive(Debug, Drop)]
 pub struct Directory {
     alloc: Global,
@@ -66,6 +66,14 @@ impl Directory {
         }
     }
 
+    /// The inode of the directory.
+    pub fn owner(&self) -> u32
+        ensures owner { result ≡ self.now.owner }
+        ensures inode { is_inode result ≡ true }
+    {
+        self.owner
+    }
+
     /// How many entries there are.
     pub fn len(&self) -> usize
         ensures len { result ≡ self.now.count }
@@ -80,6 +88,14 @@ impl Directory {
         ensures held { IsHeld self.now }
     {
         &self.blocks
+    }
+
+    /// The vector of the blocks, in their order, without a copy.
+    pub fn into_blocks(self) -> Vec<[u8; BLOCK]>
+        ensures blocks { result.items ≡ self.blocks }
+        ensures held { IsHeld self }
+    {
+        self.blocks
     }
 
     /// The number of the entry of a name.
@@ -184,11 +200,12 @@ impl Directory {
     }
 
     /// Changes what stands under some names: an entry that comes is entered, or `None` takes the entry of the name out if there is one. `Full` where more entries would be
-    /// there in the end than a directory may have; `Memory` where there was none for the blocks that come. The directory stays as it was then.
+    /// there in the end than a directory may have; `Memory` where there was none for the blocks that may come. The directory stays as it was then.
     pub fn change(&mut self, changes: &NameMap<Option<(u32, Kind)>>) -> Result<(), EnterError>
         requires { LeadToInodes (fin.entries changes.now) }
         ensures changed { OnOk result (IsDirectoryAfter self.old.owner changes.now self.old.count (numbered self.old.blocks) self.new.count (numbered self.new.blocks)) }
         ensures owner { self.new.owner ≡ self.old.owner }
+        ensures memory { result ≡ Err EnterError.Memory → blocks_for self.old.count < blocks_for (self.old.count + coming (fin.entries changes.now)) }
         ensures full { result ≡ Err EnterError.Full ↔ MAX_ENTRIES < fin.len (entries_after changes.now (named (entries_of self.old) self.old.count)) }
         ensures refused { OnErr result (self.new ≡ self.old) }
     {

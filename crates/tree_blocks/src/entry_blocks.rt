@@ -113,33 +113,33 @@ pub fn fill_block(blocks: &mut [[u8; BLOCK]], count: usize, entry: EntryRef<'_>)
 }
 
 // Puts the last entry at the place of another, which may be itself, and nothing at its own.
-pub fn put_last_at(blocks: &mut [[u8; BLOCK]], place: usize, last: usize)
-    requires inside { place ≤ last }
+pub fn put_last_at(blocks: &mut [[u8; BLOCK]], number: usize, last: usize)
+    requires inside { number ≤ last }
     requires long { length blocks.old ≡ blocks_for (last + 1) }
     requires directory { (owner : ℕ) × IsDirectory owner (last + 1) (numbered blocks.old) }
-    ensures less { (owner : ℕ) → IsDirectory owner (last + 1) (numbered blocks.old) → HaveOneLess owner last place (numbered blocks.old) (numbered blocks.new) }
-    ensures others { (k : ℕ) → k ≢ place / MAX_IN_BLOCK → k ≢ last / MAX_IN_BLOCK → numbered blocks.new k ≡ numbered blocks.old k }
+    ensures less { (owner : ℕ) → IsDirectory owner (last + 1) (numbered blocks.old) → HaveOneLess owner last number (numbered blocks.old) (numbered blocks.new) }
+    ensures others { (k : ℕ) → k ≢ number / MAX_IN_BLOCK → k ≢ last / MAX_IN_BLOCK → numbered blocks.new k ≡ numbered blocks.old k }
     ensures long { length blocks.new ≡ length blocks.old }
 {
-    let to = place / MAX_IN_BLOCK;
+    let to = number / MAX_IN_BLOCK;
     let from = last / MAX_IN_BLOCK;
     if to == from {
-        take_entry(&mut blocks[to], place % MAX_IN_BLOCK);
+        take_entry(&mut blocks[to], number % MAX_IN_BLOCK);
     } else {
-        move_last(blocks, to, place % MAX_IN_BLOCK, from);
+        move_last(blocks, to, number % MAX_IN_BLOCK, from);
     }
 }
 
 // Takes an entry out, in whose place the last one stands then, and the block that has none any more.
-pub fn take_from(blocks: &mut Vec<[u8; BLOCK]>, place: usize, last: usize)
-    requires inside { place ≤ last }
+pub fn take_from(blocks: &mut Vec<[u8; BLOCK]>, number: usize, last: usize)
+    requires inside { number ≤ last }
     requires long { length blocks.old.items ≡ blocks_for (last + 1) }
     requires directory { (owner : ℕ) × IsDirectory owner (last + 1) (numbered blocks.old.items) }
-    ensures less { (owner : ℕ) → IsDirectory owner (last + 1) (numbered blocks.old.items) → HaveOneLess owner last place (numbered blocks.old.items) (numbered blocks.new.items) }
-    ensures others { (k : ℕ) → k ≢ place / MAX_IN_BLOCK → k ≢ last / MAX_IN_BLOCK → numbered blocks.new.items k ≡ numbered blocks.old.items k }
+    ensures less { (owner : ℕ) → IsDirectory owner (last + 1) (numbered blocks.old.items) → HaveOneLess owner last number (numbered blocks.old.items) (numbered blocks.new.items) }
+    ensures others { (k : ℕ) → k ≢ number / MAX_IN_BLOCK → k ≢ last / MAX_IN_BLOCK → numbered blocks.new.items k ≡ numbered blocks.old.items k }
     ensures long { length blocks.new.items ≡ blocks_for last }
     ensures capacity { vec_capacity blocks.new ≡ vec_capacity blocks.old }
 {
-    put_last_at(blocks, place, last);
+    put_last_at(blocks, number, last);
     blocks.truncate(last.div_ceil(MAX_IN_BLOCK));
 }

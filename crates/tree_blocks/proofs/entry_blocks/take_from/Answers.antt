@@ -12,8 +12,8 @@ returns-clause-less c owner is =
     let new : List (List ℕ) = c.put_last_at.new.blocks in
     let lent : c.deref_mut.result.now ≡ bs = c.deref_mut.ensures.value in
     let here : IsDirectory owner (c.args.last + 1) (numbered c.deref_mut.result.now) = subst (λ (l : List (List ℕ)). IsDirectory owner (c.args.last + 1) (numbered l)) (sym lent) is in
-    let one : HaveOneLess owner c.args.last c.args.place (numbered c.deref_mut.result.now) (numbered new) = c.put_last_at.ensures.less owner here in
-    let two : HaveOneLess owner c.args.last c.args.place (numbered bs) (numbered new) = subst (λ (l : List (List ℕ)). HaveOneLess owner c.args.last c.args.place (numbered l) (numbered new)) lent one in
+    let one : HaveOneLess owner c.args.last c.args.number (numbered c.deref_mut.result.now) (numbered new) = c.put_last_at.ensures.less owner here in
+    let two : HaveOneLess owner c.args.last c.args.number (numbered bs) (numbered new) = subst (λ (l : List (List ℕ)). HaveOneLess owner c.args.last c.args.number (numbered l) (numbered new)) lent one in
     let cut : c.truncate.new.self.items ≡ take c.div_ceil.result new = c.truncate.ensures.items ∙ ap (take c.div_ceil.result) (written_back c.args.blocks.now.len new bs (c.put_last_at.ensures.long ∙ c.deref_mut.ensures.len)) in
-    less_cut owner c.args.last c.args.place (numbered bs) (numbered new) (numbered c.truncate.new.self.items) two
+    less_cut owner c.args.last c.args.number (numbered bs) (numbered new) (numbered c.truncate.new.self.items) two
     (λ k lt. ap (λ (l : List (List ℕ)). numbered l k) cut ∙ get_or-take c.div_ceil.result new k [] (omega (arith, lt, c.div_ceil.ensures)))

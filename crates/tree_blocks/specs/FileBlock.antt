@@ -1,0 +1,37 @@
+-- A block of a file after a change of the file's bytes.
+use Rattle.std.specs.Prelude.{◌≡◌, ℕ, ◌-◌, ◌*◌, ◌<◌, min, nat_lt, nat_le, Bool, true, false, List, map, get_or, Option, Some, None}
+use Rattle.std.specs.List.{range_with_len}
+use Rattle.layout.specs.declared.places.TheConstants.{BLOCK}
+use Rattle.graph_change.specs.Bytes.{Length, Grown, Cut, BytesChange, byte_after}
+use Rattle.graph_change.specs.Change.{Change, Patch, blank, patch_at, writes_block}
+use Rattle.graph_change.specs.View.{patch_of}
+use Rattle.tree_blocks.specs.Inode.{Blocks}
+
+-- what is put into it, if anything is
+abbrev pub put_in : Option (List ℕ × List Bool) → Patch
+put_in None = blank
+put_in (Some b) = patch_of b
+
+-- how many of its bytes are kept
+abbrev pub kept_in : Length → ℕ → ℕ
+kept_in (Grown to) k = BLOCK
+kept_in (Cut least to) k = min BLOCK (least - BLOCK * k)
+
+-- the change of block k, as that of a file of its bytes alone
+abbrev pub in_block : Length → Patch → ℕ → BytesChange
+in_block len patch k = record { length = Cut (kept_in len k) BLOCK; new = patch }
+
+-- the block after it; one that no tier holds was zeros
+abbrev pub block_after : Length → Patch → ℕ → List ℕ → List ℕ
+block_after len patch k old = map (byte_after (in_block len patch k) old) (range_with_len 0 BLOCK)
+
+-- whether a block begins where the file was cut off, or behind
+abbrev pub is_cut_off : Length → ℕ → Bool
+is_cut_off (Grown to) k = false
+is_cut_off (Cut least to) k = nat_le least (BLOCK * k)
+
+-- the blocks that have to be written are, those behind a cut read as zero, and all others read as they did
+pub record AreWritten (c : Change) (old new : Blocks) : Type 0 where
+  pub written : (k : ℕ) → writes_block c k ≡ true → new k ≡ block_after c.length (patch_at c.patches k) k (old k)
+  pub gone : (k p : ℕ) → writes_block c k ≡ false → is_cut_off c.length k ≡ true → p < BLOCK → get_or (new k) p 0 ≡ 0
+  pub others : (k p : ℕ) → writes_block c k ≡ false → is_cut_off c.length k ≡ false → p < BLOCK → get_or (new k) p 0 ≡ get_or (old k) p 0

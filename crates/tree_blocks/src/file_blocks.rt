@@ -1,0 +1,57 @@
+//! Blocks of a file, as a change of its bytes makes them.
+
+ghost use Rattle.std.specs.Prelude.{◌≡◌, ◌≤◌, ◌-◌, ◌++◌, ℕ, length, take, replicate, option_map};
+ghost use Rattle.graph_change.specs.Bytes.{length_after, IsTidy};
+ghost use Rattle.graph_change.specs.Change.{Change, net_of};
+ghost use Rattle.graph_change.specs.View.{length_of};
+ghost use Rattle.layout.specs.declared.places.TheConstants.{BLOCK};
+ghost use Rattle.tree_blocks.specs.Inode.{Blocks, IsZeroFrom};
+ghost use Rattle.tree_blocks.specs.After.{IsFileAfter};
+ghost use Rattle.tree_blocks.specs.FileBlock.{put_in, kept_in, block_after, AreWritten};
+
+use graph_change::{BlockChange, NodeLength};
+use layout::BLOCK;
+
+/// Makes of a block of a file what a change of the file makes of it: its bytes are zero from where the file was cut, and then those stand there that are put into it. A
+/// block that no tier holds is passed as zeros.
+pub fn change_block(block: &mut [u8], number: u64, len: NodeLength, put: Option<&BlockChange>)
+    requires { length block.old ≡ BLOCK }
+    ensures { block.new ≡ block_after (length_of len) (put_in (option_map (λ b. b.now) put.entry)) number block.old }
+{
+    cut_block(block, kept_in(number, len));
+    match put {
+        Some(change) => change.put_over(block),
+        None => {}
+    }
+}
+
+// How many bytes of a block are kept.
+fn kept_in(number: u64, len: NodeLength) -> usize
+    ensures kept { result ≡ kept_in (length_of len) number }
+    ensures few { result ≤ BLOCK }
+{
+    let NodeLength::Cut { least, .. } = len else {
+        return BLOCK;
+    };
+    let whole = least / BLOCK as u64;
+    if number < whole {
+        return BLOCK;
+    }
+    if whole < number {
+        return 0;
+    }
+    (least % BLOCK as u64) as usize
+}
+
+// Writes zeros from a place on.
+fn cut_block(block: &mut [u8], place: usize)
+    requires { place ≤ length block.old }
+    ensures { block.new ≡ take place block.old ++ replicate (length block.old - place) 0 }
+{
+    block[place..].fill(0);
+}
+
+/// Where the blocks that a change has to write are written so, and all others read as they did or as zero behind a cut, the file is that after the change.
+pub fn blocks_after_are_file_after()
+    ensures { (c : Change) (old_size new_size : ℕ) (old new : Blocks) → IsTidy (net_of c).bytes → IsZeroFrom old_size old → new_size ≡ length_after c.length old_size → AreWritten c old new → IsFileAfter (net_of c).bytes old_size old new_size new }
+{}
