@@ -46,7 +46,7 @@ other_root g fast i (slots.Directory names entries touch root) blocks Fast other
 other_root g fast i (slots.Directory names entries touch root) blocks Block other is = refl
 other_root g fast i (slots.Directory names entries touch root) blocks Slow other is = refl
 
-other_place : (g : Sizes) (s : Store) (i : ℕ) (t : Tier) (k : ℕ) → t ≢ Fast → (inode g s i).kind ≡ Some kind.Directory → place g s i t k ≡ None
+pub other_place : (g : Sizes) (s : Store) (i : ℕ) (t : Tier) (k : ℕ) → t ≢ Fast → (inode g s i).kind ≡ Some kind.Directory → place g s i t k ≡ None
 unfolding extents_read
 other_place g s i t k other is = ap (λ o. place_of (unwrap_or o []) k) (other_root g (s Fast) i (slot g s i) (logical g s i) t other is)
 

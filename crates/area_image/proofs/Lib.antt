@@ -7,3 +7,5 @@ pub mod Rewriting
 pub mod Lists
 pub mod Complete
 pub mod Torn
+pub mod Tails
+pub mod Twins

@@ -9,13 +9,21 @@ use Rattle.batch_journal.specs.Course.{Unmoved}
 use Rattle.batch_journal.proofs.Courses.{unmoved_on, tiers_same}
 use Rattle.area_image.specs.declared.error.AreaError.{AreaError}
 use Rattle.area_image.specs.declared.error.AreaError.TheVariants as errors
-use Rattle.area_image.specs.Store.{store_of}
+use Rattle.layout.specs.Places.{Sizes}
+use Rattle.area_image.specs.Store.{Store, store_of}
 use Rattle.area_image.specs.Looks.{Looks}
 
 module _ {M : Type 0} (moment : M → ℕ) (seen : M → Tier → List ℕ) (left : M → ℕ → Tier → List ℕ → Type 0) (faults : M → ℕ) where
   -- the store is the same
   pub store_same : {T : Type 0} (old new : JournalView M) (r : Result T AreaError) → Looks moment seen left faults old new r → store_of (seen new.media) ≡ store_of (seen old.media)
   store_same old new r looks = ap store_of (tiers_same (seen old.media) (seen new.media) looks.unmoved.reads)
+
+  -- what holds of geometry and store still holds, and held before
+  pub carried : {T : Type 0} (P : Sizes → Store → Type 0) (old new : JournalView M) (r : Result T AreaError) → Looks moment seen left faults old new r → P old.geometry (store_of (seen old.media)) → P new.geometry (store_of (seen new.media))
+  carried P old new r looks p = subst (λ (g : Sizes). P g (store_of (seen new.media))) (sym looks.geometry) (subst (P old.geometry) (sym (store_same old new r looks)) p)
+
+  pub carried_back : {T : Type 0} (P : Sizes → Store → Type 0) (old new : JournalView M) (r : Result T AreaError) → Looks moment seen left faults old new r → P new.geometry (store_of (seen new.media)) → P old.geometry (store_of (seen old.media))
+  carried_back P old new r looks p = subst (λ (g : Sizes). P g (store_of (seen old.media))) looks.geometry (subst (P new.geometry) (store_same old new r looks) p)
 
   -- another answer, decided without the device
   pub looks_other : {T U : Type 0} (old new : JournalView M) (x : T) (r : Result U AreaError) → Looks moment seen left faults old new (Ok x) → IfErr r (λ e. e ≢ errors.DeviceFault) → Looks moment seen left faults old new r

@@ -5,3 +5,4 @@ pub mod Damage
 pub mod Map
 pub mod Looks
 pub mod Rewrites
+pub mod Checks

@@ -2,6 +2,7 @@
 #![tactic(auto)]
 
 mod change_laws;
+mod entries;
 mod error;
 mod extents;
 mod inode;
@@ -10,6 +11,7 @@ mod marks;
 mod places;
 mod reading;
 mod slots;
+mod tail;
 mod tiers;
 
 pub use change_laws::{free_blocks_have_no_use, rewritten_inodes_are_spelled};

@@ -73,7 +73,7 @@ fn file_blocks(size: u64) -> u64
     size / BLOCK as u64 + if rest == 0 { 0 } else { 1 }
 }
 
-fn entry_blocks(entries: u64) -> u64
+pub fn entry_blocks(entries: u64) -> u64
     ensures { result ≡ (entries + (MAX_IN_BLOCK - 1)) / MAX_IN_BLOCK }
 {
     let rest = entries % MAX_IN_BLOCK as u64;

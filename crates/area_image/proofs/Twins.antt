@@ -1,0 +1,278 @@
+-- A directory, block by block.
+use Rattle.std.proofs.Common.{◌≡◌, ◌≢◌, ◌≤◌, ◌<◌, ◌+◌, ◌-◌, ◌*◌, ◌/◌, ◌%◌, ℕ, zero, suc, [], ◌∷◌, List, ◌++◌, length, get_or, Bool, true, false, refl, sym, ap, subst, ◌∙◌, arith, Option, Some, None, inl, inr, ◌⊎◌}
+use Rattle.std.specs.Prelude.{Result, Ok, Err, min, not, IsSome, is_some, nat_lt, nat_le}
+use Rattle.std.specs.List.{list_all}
+use Rattle.std.specs.Str.{bytes_eq}
+use Rattle.std.proofs.lemmas.Bool.{cases_eq, cases_lt, and_parts, or_right, le-leb, false≢true, true≢false}
+use Rattle.std.proofs.lemmas.Slice.Eq.{bytes_eq-Decides}
+use Rattle.std.proofs.lemmas.List.{get_or_append_left, get_or_push, length_push}
+use Rattle.tier_device.specs.declared.media.Tier.{Tier}
+use Rattle.tier_device.specs.declared.media.Tier.TheVariants.{Fast, Block, Slow}
+use Rattle.file_graph.specs.declared.effect.Kind.TheVariants as kind
+use Rattle.batch_journal.specs.Blocks.{is_home}
+use Rattle.layout.proofs.Pairs.{all_at}
+use Rattle.layout.proofs.DirChanges.{fit_parts, listed_now}
+use Rattle.layout.proofs.DirPlaces.{names_differ}
+use Rattle.layout.specs.Bytes.{all_pairs}
+use Rattle.layout.specs.Directory.{EntryList, AreEntries, listed, entries_of, entry_of, no_entry, differ, are_distinct}
+use Rattle.layout.specs.declared.directory.DirEntry.{DirEntry}
+use Rattle.layout.specs.Answers.{answer}
+use Rattle.layout.specs.declared.error.LayoutError.{LayoutError}
+use Rattle.layout.specs.declared.error.What.{What}
+use Rattle.layout.specs.declared.error.What.TheVariants as what
+use Rattle.layout.specs.Places.{Sizes, slot_block}
+use Rattle.tree_blocks.specs.Inode.{Blocks, Entry, IsDirectoryBlock, IsDirectory, AreDistinct, entry_at, entries_in, blocks_for, plain}
+use Rattle.tree_blocks.specs.Directory.{numbered}
+use Rattle.tree_blocks.proofs.Held.{entry_is}
+use Rattle.area_image.specs.Store.{Store, slot, length_of, extents_read, place, logical, inode}
+use Rattle.area_image.specs.Reads.{IsRoom}
+use Rattle.area_image.proofs.Damages.{at_fast, other_place}
+use Rattle.area_image.specs.Checks.{IsEntries, IsSlotDamageOf, IsEntryDamageOf, HasName, HasSameName, AreFirstBlocks}
+
+-- what is entries is read as such
+pub entries_read : (block : List ℕ) → AreEntries block → entries_of block ≡ Some (listed block)
+entries_read block are = names_differ block (listed_now block are) (fit_parts (listed block) are.fit).distinct
+
+err_ok : (r : Result EntryList LayoutError) (e : LayoutError) (v : EntryList) → r ≡ Err e → r ≡ Ok v → ⊥
+err_ok r e v err ok = cc
+
+pub not_read : (w : What) (at : ℕ) (block : List ℕ) (e : LayoutError) → AreEntries block → Err e ≡ answer w at (entries_of block) → ⊥
+not_read w at block e are is = err_ok (answer w at (entries_of block)) e (listed block) (sym is) (ap (answer w at) (entries_read block are))
+
+same_names : (a b : DirEntry) → differ a b ≡ true → a.name ≡ b.name → ⊥
+same_names a b apart same = true≢false (sym ((bytes_eq-Decides a.name b.name).1 same) ∙ flip (bytes_eq a.name b.name) apart) where
+  flip : (t : Bool) → not t ≡ true → t ≡ false
+  flip true e = sym e
+  flip false e = refl
+
+-- two entries of one block have two names
+one_name : (es : List DirEntry) → are_distinct es ≡ true → (i j : ℕ) → i < length es → j < length es → (get_or es i no_entry).name ≡ (get_or es j no_entry).name → i ≡ j
+one_name [] d i j li lj same = absurd (omega arith)
+one_name (x ∷ es) d zero zero li lj same = refl
+one_name (x ∷ es) d zero (suc j) li lj same = absurd (same_names x (get_or es j no_entry) (all_at (differ x) es j no_entry (and_parts (list_all (differ x) es) (all_pairs differ es) d).0 (omega arith)) same)
+one_name (x ∷ es) d (suc i) zero li lj same = absurd (same_names x (get_or es i no_entry) (all_at (differ x) es i no_entry (and_parts (list_all (differ x) es) (all_pairs differ es) d).0 (omega arith)) (sym same))
+one_name (x ∷ es) d (suc i) (suc j) li lj same = ap suc (one_name es (and_parts (list_all (differ x) es) (all_pairs differ es) d).1 i j (omega arith) (omega arith) same)
+
+pub name_of : (b : Blocks) (e : ℕ) → (entry_at b e).0 ≡ (entry_of (listed (b (e / 56))) (e % 56)).name
+name_of b e = ap (λ (x : Entry). x.0) (entry_is b e (listed (b (e / 56))) refl)
+
+pub count_small : (n k e : ℕ) → e < n → e / 56 ≡ k → e % 56 < entries_in n k
+count_small n k e lt at = omega (arith, lt, at)
+
+module _ (i n : ℕ) (b : Blocks) where
+  entry_inside : (e : ℕ) → e < n → IsDirectoryBlock i n (e / 56) (b (e / 56)) → e % 56 < length (listed (b (e / 56))).entries
+  entry_inside e lt part = let small : e % 56 < entries_in n (e / 56) = count_small n (e / 56) e lt refl in subst (λ m. e % 56 < m) (sym part.count_is) small
+
+  module _ (k : ℕ) (parts : (j : ℕ) → j < k + 1 → IsDirectoryBlock i n j (b j)) (new : HasSameName b k (b k) → ⊥) where
+    -- an entry of block k, and one before it
+    apart : (e f : ℕ) → e < n → f < n → e / 56 ≡ k → f / 56 < k → (entry_at b e).0 ≡ (entry_at b f).0 → ⊥
+    apart e f le lf here before same =
+        let inside_e = entry_inside e le (parts (e / 56) (omega (arith, here))) in
+        let inside_f = entry_inside f lf (parts (f / 56) (omega (arith, before))) in
+        new (record {
+          entry = e % 56;
+          inside = subst (λ j. e % 56 < length (listed (b j)).entries) here inside_e;
+          other = record {
+            block = f / 56;
+            within = before;
+            entry = f % 56;
+            inside = inside_f;
+            same = sym (name_of b f) ∙ sym same ∙ name_of b e ∙ ap (λ j. (entry_of (listed (b j)) (e % 56)).name) here;
+          };
+        })
+
+    inside_one : (e f : ℕ) → e < n → f < n → e / 56 ≡ k → f / 56 ≡ k → (entry_at b e).0 ≡ (entry_at b f).0 → e ≡ f
+    inside_one e f le lf here there same =
+        let part = parts k (omega arith) in
+        let inside_e = subst (λ j. e % 56 < length (listed (b j)).entries) here (entry_inside e le (parts (e / 56) (omega (arith, here)))) in
+        let inside_f = subst (λ j. f % 56 < length (listed (b j)).entries) there (entry_inside f lf (parts (f / 56) (omega (arith, there)))) in
+        let names : (entry_of (listed (b k)) (e % 56)).name ≡ (entry_of (listed (b k)) (f % 56)).name =
+        sym (ap (λ j. (entry_of (listed (b j)) (e % 56)).name) here) ∙ sym (name_of b e) ∙ same ∙ name_of b f ∙ ap (λ j. (entry_of (listed (b j)) (f % 56)).name) there in
+        let rest : e % 56 ≡ f % 56 = one_name (listed (b k)).entries (fit_parts (listed (b k)) part.entries.fit).distinct (e % 56) (f % 56) inside_e inside_f names in
+        omega (arith, here, there, rest)
+
+    pub distinct_on : AreDistinct (entry_at b) (min n (56 * k)) → AreDistinct (entry_at b) (min n (56 * (k + 1)))
+    distinct_on old e f le lf same =
+        let e_in : e < n = omega (arith, le) in
+        let f_in : f < n = omega (arith, lf) in
+        let e_last : e / 56 ≤ k = omega (arith, le) in
+        let f_last : f / 56 ≤ k = omega (arith, lf) in
+        elim (cases_lt (e / 56) k) [
+          | inl e_before ↦ elim (cases_lt (f / 56) k) [
+            | inl f_before ↦ old e f (omega (arith, e_in, e_before)) (omega (arith, f_in, f_before)) same
+            | inr f_here ↦ absurd (apart f e f_in e_in (omega (arith, f_here, f_last)) e_before (sym same))
+          ]
+          | inr e_here ↦ elim (cases_lt (f / 56) k) [
+            | inl f_before ↦ absurd (apart e f e_in f_in (omega (arith, e_here, e_last)) f_before same)
+            | inr f_here ↦ inside_one e f e_in f_in (omega (arith, e_here, e_last)) (omega (arith, f_here, f_last)) same
+          ]
+        ]
+
+-- ---- where its blocks lie
+
+none_some : (o : Option ℕ) (p : ℕ) → o ≡ None → o ≡ Some p → ⊥
+none_some o p none some = let e : None ≡ Some p = sym none ∙ some in false≢true (ap is_some e)
+
+pub directory_tier : (g : Sizes) (s : Store) (i : ℕ) (t : Tier) (k p : ℕ) → (inode g s i).kind ≡ Some kind.Directory → place g s i t k ≡ Some p → t ≡ Fast
+directory_tier g s i Fast k p dir is = refl
+directory_tier g s i Block k p dir is = absurd (none_some (place g s i Block k) p (other_place g s i Block k (λ e. cc) dir) is)
+directory_tier g s i Slow k p dir is = absurd (none_some (place g s i Slow k) p (other_place g s i Slow k (λ e. cc) dir) is)
+
+pub block_at : (g : Sizes) (s : Store) (i : ℕ) (t : Tier) (k p : ℕ) → (inode g s i).kind ≡ Some kind.Directory → place g s i t k ≡ Some p → logical g s i k ≡ s t p
+block_at g s i t k p dir is =
+    let fast = directory_tier g s i t k p dir is in
+    at_fast g s i k p (subst (λ (u : Tier). place g s i u k ≡ Some p) fast is) ∙ ap (λ (u : Tier). s u p) (sym fast)
+
+pub room_home : (g : Sizes) (t : Tier) (k : ℕ) → IsRoom g t k → t ≡ Fast → is_home k ≡ true
+room_home g t k room fast =
+    let r : IsRoom g Fast k = subst (λ (u : Tier). IsRoom g u k) fast room in
+    let first : 292 ≤ k = r.first in
+    or_right (nat_lt k 34) (nat_le 292 k) (le-leb 292 k first)
+
+-- ---- damage
+
+module _ (g : Sizes) (s : Store) (i n : ℕ) (dir : IsEntries g s i n) where
+  pub lacks : (k : ℕ) → k < blocks_for n → IsSome (extents_read g s i Fast) → place g s i Fast k ≡ None → IsSlotDamageOf g s i what.Slot (slot_block i)
+  lacks k lt read none = record {
+    damage = record {
+      structure = refl;
+      inode = i;
+      is = dir.number;
+      at = refl;
+      wrong = inr (record { kind = dir.kind_is; block = k; within = subst (λ m. k < m) (sym dir.blocks) lt; read = read; none = none });
+    };
+    of_it = refl;
+  }
+
+  pub no_part : (k p : ℕ) → k < blocks_for n → place g s i Fast k ≡ Some p → (IsDirectoryBlock i n k (logical g s i k) → ⊥) → IsEntryDamageOf g s i what.DirBlock p
+  no_part k p lt at wrong = record {
+    damage = record {
+      structure = refl;
+      inode = i;
+      is = dir.number;
+      kind = dir.kind_is;
+      number = k;
+      within = subst (λ m. k < m) (sym dir.blocks) lt;
+      at = at;
+      wrong = inl (λ part. wrong (subst (λ m. IsDirectoryBlock i m k (logical g s i k)) dir.size_is part));
+    };
+    of_it = refl;
+  }
+
+  pub twin : (k p : ℕ) → k < blocks_for n → place g s i Fast k ≡ Some p → IsDirectoryBlock i n k (logical g s i k) → ((j : ℕ) → j < k → IsDirectoryBlock i n j (logical g s i j)) → HasSameName (logical g s i) k (logical g s i k) → IsEntryDamageOf g s i what.DirBlock p
+  twin k p lt at part parts same =
+      let x = same in
+      let o = same.other in
+      let mine = part.count_is in
+      let count_o = (parts o.block o.within).count_is in
+      let inside_e : x.entry < entries_in n k = subst (λ m. x.entry < m) mine x.inside in
+      let inside_f : o.entry < entries_in n o.block = subst (λ m. o.entry < m) count_o o.inside in
+      let e : ℕ = 56 * k + x.entry in
+      let f : ℕ = 56 * o.block + o.entry in
+      let e_block : e / 56 ≡ k = omega (arith, inside_e) in
+      let f_block : f / 56 ≡ o.block = omega (arith, inside_f) in
+      let e_rest : e % 56 ≡ x.entry = omega (arith, inside_e) in
+      let f_rest : f % 56 ≡ o.entry = omega (arith, inside_f) in
+      let b : Blocks = logical g s i in
+      let name_e : (entry_at b e).0 ≡ (entry_of (listed (b k)) x.entry).name = name_of b e ∙ (λ q. (entry_of (listed (b (e_block q))) (e_rest q)).name) in
+      let name_f : (entry_at b f).0 ≡ (entry_of (listed (b o.block)) o.entry).name = name_of b f ∙ (λ q. (entry_of (listed (b (f_block q))) (f_rest q)).name) in
+      let e_in : e < n = omega (arith, inside_e) in
+      let f_in : f < n = omega (arith, inside_f) in
+      let size : (inode g s i).size ≡ n = dir.size_is in
+      let before = o.within in
+      record {
+        damage = record {
+          structure = refl;
+          inode = i;
+          is = dir.number;
+          kind = dir.kind_is;
+          number = k;
+          within = subst (λ m. k < m) (sym dir.blocks) lt;
+          at = at;
+          wrong = inr (record {
+            entry = e;
+            other = f;
+            in_block = e_block;
+            one_within = subst (λ m. e < m) (sym size) e_in;
+            other_within = subst (λ m. f < m) (sym size) f_in;
+            differ = λ is. omega (arith, e_block, f_block, before, is);
+            here = subst (λ m. IsDirectoryBlock i m k (b k)) (sym size) part;
+            there = subst (λ m. IsDirectoryBlock i m (f / 56) (b (f / 56))) (sym size) (subst (λ j. IsDirectoryBlock i n j (b j)) (sym f_block) (parts o.block o.within));
+            same = name_e ∙ sym o.same ∙ sym name_f;
+          });
+        };
+        of_it = refl;
+      }
+
+-- ---- the first blocks, one more and all
+
+module _ (g : Sizes) (s : Store) (i n : ℕ) where
+  pub first_none : AreFirstBlocks g s i n []
+  first_none = record { each = λ k lt. absurd (omega (arith, lt)); parts = λ k lt. absurd (omega (arith, lt)); distinct = λ e f le lf same. absurd (omega (arith, le)) }
+
+  module _ (bs : List (List ℕ)) (old : AreFirstBlocks g s i n bs) where
+    pub part_there : (k : ℕ) → k < length bs → IsDirectoryBlock i n k (logical g s i k)
+    part_there k lt = subst (IsDirectoryBlock i n k) (old.each k lt) (old.parts k lt)
+
+    pub same_there : (block : List ℕ) → HasSameName (logical g s i) (length bs) block → HasSameName (numbered bs) (length bs) block
+    same_there block h =
+        let o = h.other in
+        let is : logical g s i o.block ≡ numbered bs o.block = sym (old.each o.block o.within) in
+        record {
+          entry = h.entry;
+          inside = h.inside;
+          other = record {
+            block = o.block;
+            within = o.within;
+            entry = o.entry;
+            inside = subst (λ (b : List ℕ). o.entry < length (listed b).entries) is o.inside;
+            same = sym (ap (λ (b : List ℕ). (entry_of (listed b) o.entry).name) is) ∙ o.same;
+          };
+        }
+
+    pub same_back : (block : List ℕ) → HasSameName (numbered bs) (length bs) block → HasSameName (logical g s i) (length bs) block
+    same_back block h =
+        let o = h.other in
+        let is : numbered bs o.block ≡ logical g s i o.block = old.each o.block o.within in
+        record {
+          entry = h.entry;
+          inside = h.inside;
+          other = record {
+            block = o.block;
+            within = o.within;
+            entry = o.entry;
+            inside = subst (λ (b : List ℕ). o.entry < length (listed b).entries) is o.inside;
+            same = sym (ap (λ (b : List ℕ). (entry_of (listed b) o.entry).name) is) ∙ o.same;
+          };
+        }
+
+    pub first_all : length bs ≡ blocks_for n → IsDirectory i n (logical g s i)
+    first_all long = record {
+      parts = λ k lt. part_there k (omega (arith, long, lt));
+      distinct = λ e f le lf same. old.distinct e f (omega (arith, long, le)) (omega (arith, long, lf)) same;
+    }
+
+    module _ (b : List ℕ) (is : b ≡ logical g s i (length bs)) (part : IsDirectoryBlock i n (length bs) b) (new : HasSameName (numbered bs) (length bs) b → ⊥) where
+      each_more : (k : ℕ) → k < length bs + 1 → numbered (bs ++ b ∷ []) k ≡ logical g s i k
+      each_more k lt = elim (cases_lt k (length bs)) [
+        | inl before ↦ get_or_append_left bs (b ∷ []) [] k before ∙ old.each k before
+        | inr past ↦ let here : length bs ≡ k = omega (arith, lt, past) in get_or_push bs b [] k here ∙ is ∙ ap (logical g s i) here
+      ]
+
+      parts_more : (k : ℕ) → k < length bs + 1 → IsDirectoryBlock i n k (logical g s i k)
+      parts_more k lt = elim (cases_lt k (length bs)) [
+        | inl before ↦ part_there k before
+        | inr past ↦ let here : length bs ≡ k = omega (arith, lt, past) in subst (λ j. IsDirectoryBlock i n j (logical g s i j)) here (subst (IsDirectoryBlock i n (length bs)) is part)
+      ]
+
+      long_more : length (bs ++ b ∷ []) ≡ length bs + 1
+      long_more = length_push bs b
+
+      pub first_more : AreFirstBlocks g s i n (bs ++ b ∷ [])
+      first_more =
+          let more = distinct_on i n (logical g s i) (length bs) parts_more (λ h. new (same_there b (subst (HasSameName (logical g s i) (length bs)) (sym is) h))) old.distinct in
+          record {
+            each = λ k lt. each_more k (subst (λ m. k < m) long_more lt);
+            parts = λ k lt. let lt' = subst (λ m. k < m) long_more lt in subst (IsDirectoryBlock i n k) (sym (each_more k lt')) (parts_more k lt');
+            distinct = subst (λ m. AreDistinct (entry_at (logical g s i)) (min n (56 * m))) (sym long_more) more;
+          }

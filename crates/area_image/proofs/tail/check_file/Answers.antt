@@ -1,0 +1,59 @@
+use Rattle.std.proofs.Common.{◌≡◌, ◌<◌, ◌/◌, ◌%◌, ◌∙◌, Some, ℕ, List, drop, true, false, length, refl, sym, ap, subst}
+use Rattle.layout.specs.Bytes.{are_zero}
+use Rattle.layout.specs.Places.{Sizes, tier_blocks}
+use Rattle.layout.specs.declared.error.What.{What}
+use Rattle.layout.specs.declared.error.What.TheVariants as what
+use Rattle.area_image.specs.Store.{Store, store_of, slot, length_of, place, logical}
+use Rattle.area_image.specs.Reads.{IsRoom, IsPlaced}
+use Rattle.area_image.specs.Checks.{IsTailDamageOf}
+use Rattle.area_image.proofs.Parts.{on_damage}
+use Rattle.area_image.proofs.Damages.{logical_is}
+use Rattle.area_image.proofs.Tails.{place_is, placed_by, zero_whole, zero_none, zero_last, tail_damage}
+use Rattle.area_image.proofs.tail.check_file.Goals as goal
+
+pub returns-then-rest-eq0-clause-zero : goal.returns-then-rest-eq0-clause-zero
+returns-then-rest-eq0-clause-zero g c =
+    let old = c.args.journal.now in
+    zero_whole old.geometry (store_of (g.M.Media.seen old.media)) c.args.inode c.args.size c.requires.file c.if-rest-eq0.true
+
+pub block_number-at-requires : goal.block_number-at-requires
+block_number-at-requires g c =
+    let old = c.args.journal.now in
+    let p = placed_by old.geometry (store_of (g.M.Media.seen old.media)) c.args.inode c.args.found.now c.requires.found c.in-Some.tier (c.args.size / 4096) c.in-Some.place c.in-Some.ensures.some in
+    subst (λ (x : Sizes). c.in-Some.place < tier_blocks x c.in-Some.tier) (sym c.geometry-geometry.ensures) p.room.last
+
+pub read_tail-requires-clause-room : goal.read_tail-requires-clause-room
+read_tail-requires-clause-room g c =
+    let old = c.args.journal.now in
+    let p = placed_by old.geometry (store_of (g.M.Media.seen old.media)) c.args.inode c.args.found.now c.requires.found c.in-Some.tier (c.args.size / 4096) c.in-Some.place c.in-Some.ensures.some in
+    subst (λ (n : ℕ). IsRoom old.geometry c.in-Some.tier n) (sym c.block_number-at.ensures) p.room
+
+pub returns-in-Ok-clause-zero : goal.returns-in-Ok-clause-zero
+returns-in-Ok-clause-zero g c =
+    let old = c.args.journal.now in
+    let s : Store = store_of (g.M.Media.seen old.media) in
+    let t = c.in-Some.tier in
+    let k : ℕ = c.args.size / 4096 in
+    let there : place old.geometry s c.args.inode t k ≡ Some c.in-Some.place = place_is old.geometry s c.args.inode c.args.found.now c.requires.found t k ∙ c.in-Some.ensures.some in
+    let read : logical old.geometry s c.args.inode k ≡ s t c.block_number-at.result = logical_is old.geometry s c.args.inode c.requires.once t k c.in-Some.place there ∙ ap (s t) (sym c.block_number-at.ensures) in
+    zero_last old.geometry s c.args.inode c.args.size c.requires.file (s t c.block_number-at.result) read c.in-Ok.ensures.zero
+
+pub returns-in-Err-clause-damaged : goal.returns-in-Err-clause-damaged
+returns-in-Err-clause-damaged g c =
+    let old = c.args.journal.now in
+    let s : Store = store_of (g.M.Media.seen old.media) in
+    let i = c.args.inode in
+    let t = c.in-Some.tier in
+    let k : ℕ = c.args.size / 4096 in
+    let at : ℕ = c.block_number-at.result in
+    let there : place old.geometry s i t k ≡ Some at = place_is old.geometry s i c.args.found.now c.requires.found t k ∙ c.in-Some.ensures.some ∙ ap Some (sym c.block_number-at.ensures) in
+    on_damage c.in-Err.error (λ part block is.
+    let damage : (length (s t at) ≡ 4096) × (are_zero (drop (c.args.size % 4096) (s t at)) ≡ false) → IsTailDamageOf old.geometry s i what.FileData at = λ (x : (length (s t at) ≡ 4096) × (are_zero (drop (c.args.size % 4096) (s t at)) ≡ false)). tail_damage old.geometry s i c.args.size c.requires.file t at there x.0 x.1 in
+    let here : IsTailDamageOf old.geometry s i what.FileData at = damage (is.2, is.3) in
+    subst (λ (w : What). IsTailDamageOf old.geometry s i w block) (sym is.0) (subst (IsTailDamageOf old.geometry s i what.FileData) (sym is.1) here)) c.in-Err.ensures.damaged
+
+pub returns-in-None-clause-zero : goal.returns-in-None-clause-zero
+returns-in-None-clause-zero g c =
+    let old = c.args.journal.now in
+    let s : Store = store_of (g.M.Media.seen old.media) in
+    zero_none old.geometry s c.args.inode c.args.size c.requires.file (λ t. place_is old.geometry s c.args.inode c.args.found.now c.requires.found t (c.args.size / 4096) ∙ c.in-None.ensures.none t)

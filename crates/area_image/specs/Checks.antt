@@ -1,0 +1,92 @@
+-- What is checked of an inode whose slot and extents are read.
+use Rattle.std.specs.Prelude.{◌≡◌, ◌+◌, ◌-◌, ◌/◌, ◌<◌, ◌*◌, ◌⊎◌, min, ℕ, List, length, true, Some, IsSome}
+use Rattle.tier_device.specs.declared.media.Tier.{Tier}
+use Rattle.file_graph.specs.declared.effect.Kind.{Kind}
+use Rattle.file_graph.specs.declared.effect.Kind.TheVariants as kind
+use Rattle.layout.specs.declared.error.What.{What}
+use Rattle.layout.specs.declared.places.TheConstants.{BLOCK}
+use Rattle.layout.specs.declared.directory.TheConstants.{MAX_IN_BLOCK}
+use Rattle.layout.specs.Places.{Sizes, is_inode}
+use Rattle.layout.specs.Directory.{listed, entry_of}
+use Rattle.tree_blocks.specs.Inode.{Blocks, IsDirectoryBlock, AreDistinct, entry_at, blocks_for}
+use Rattle.tree_blocks.specs.Directory.{numbered}
+use Rattle.area_image.specs.Store.{Store, logical, slot, length_of, extents_read, place, inode}
+use Rattle.area_image.specs.Damage.{IsSlotDamage, IsExtentDamage, IsEntryDamage, IsTailDamage}
+use Rattle.area_image.specs.Map.{in_tier, extents_in}
+use Rattle.area_image.specs.declared.tiers.InodeExtents.{InodeExtents}
+
+-- What is read are the extents of inode i.
+abbrev pub HasFound : Sizes → Store → ℕ → InodeExtents → Type 0
+HasFound g s i x = (t : Tier) → extents_read g s i t ≡ Some (extents_in (in_tier x t))
+
+-- No two tiers map one logical block of inode i.
+abbrev pub IsOnce : Sizes → Store → ℕ → Type 0
+IsOnce g s i = (t u : Tier) (k : ℕ) → IsSome (place g s i t k) → IsSome (place g s i u k) → t ≡ u
+
+-- Inode i is a file of this size.
+pub record IsFile (g : Sizes) (s : Store) (i size : ℕ) : Type 0 where
+  pub number : is_inode i ≡ true
+  pub kind_is : (inode g s i).kind ≡ Some kind.File
+  pub size_is : (inode g s i).size ≡ size
+  pub blocks : length_of (slot g s i) ≡ (size + (BLOCK - 1)) / BLOCK
+
+-- Inode i is a directory of so many entries.
+pub record IsEntries (g : Sizes) (s : Store) (i entries : ℕ) : Type 0 where
+  pub number : is_inode i ≡ true
+  pub kind_is : (inode g s i).kind ≡ Some kind.Directory
+  pub size_is : (inode g s i).size ≡ entries
+  pub blocks : length_of (slot g s i) ≡ (entries + (MAX_IN_BLOCK - 1)) / MAX_IN_BLOCK
+
+-- ---- damage of one inode
+
+pub record IsSlotDamageOf (g : Sizes) (s : Store) (i : ℕ) (part : What) (block : ℕ) : Type 0 where
+  pub damage : IsSlotDamage g s part block
+  pub of_it : damage.inode ≡ i
+
+pub record IsExtentDamageOf (g : Sizes) (s : Store) (i : ℕ) (part : What) (block : ℕ) : Type 0 where
+  pub damage : IsExtentDamage g s part block
+  pub of_it : damage.inode ≡ i
+
+pub record IsEntryDamageOf (g : Sizes) (s : Store) (i : ℕ) (part : What) (block : ℕ) : Type 0 where
+  pub damage : IsEntryDamage g s part block
+  pub of_it : damage.inode ≡ i
+
+pub record IsTailDamageOf (g : Sizes) (s : Store) (i : ℕ) (part : What) (block : ℕ) : Type 0 where
+  pub damage : IsTailDamage g s part block
+  pub of_it : damage.number ≡ i
+
+-- A block of a directory, or its slot, shows that some entries are not there.
+abbrev pub IsDirectoryDamageOf : Sizes → Store → ℕ → What → ℕ → Type 0
+IsDirectoryDamageOf g s i part block = IsSlotDamageOf g s i part block ⊎ IsEntryDamageOf g s i part block
+
+-- Damage that an inode shows by itself.
+abbrev pub IsOwnDamage : Sizes → Store → ℕ → What → ℕ → Type 0
+IsOwnDamage g s i part block = IsSlotDamageOf g s i part block ⊎ IsExtentDamageOf g s i part block ⊎ IsEntryDamageOf g s i part block ⊎ IsTailDamageOf g s i part block
+
+-- ---- a directory, block by block
+
+-- Some entry of the first so many blocks has this name.
+pub record HasName (blocks : Blocks) (count : ℕ) (name : List ℕ) : Type 0 where
+  pub block : ℕ
+  pub within : block < count
+  pub entry : ℕ
+  pub inside : entry < length (listed (blocks block)).entries
+  pub same : (entry_of (listed (blocks block)) entry).name ≡ name
+
+-- Some entry of a block has the name of one of the first so many blocks.
+pub record HasSameName (blocks : Blocks) (count : ℕ) (block : List ℕ) : Type 0 where
+  pub entry : ℕ
+  pub inside : entry < length (listed block).entries
+  pub other : HasName blocks count (entry_of (listed block) entry).name
+
+-- These are the first blocks of a directory of so many entries.
+pub record AreFirstBlocks (g : Sizes) (s : Store) (i entries : ℕ) (blocks : List (List ℕ)) : Type 0 where
+  pub each : (k : ℕ) → k < length blocks → numbered blocks k ≡ logical g s i k
+  pub parts : (k : ℕ) → k < length blocks → IsDirectoryBlock i entries k (numbered blocks k)
+  pub distinct : AreDistinct (entry_at (logical g s i)) (min entries (MAX_IN_BLOCK * length blocks))
+
+-- Some block of a directory is that part of it: it is held in memory.
+pub record HasPart (g : Sizes) (s : Store) (i entries : ℕ) : Type 0 where
+  pub number : ℕ
+  pub within : number < blocks_for entries
+  pub part : IsDirectoryBlock i entries number (logical g s i number)
