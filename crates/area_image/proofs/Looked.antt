@@ -57,6 +57,10 @@ module _ {M : Type 0} (moment : M → ℕ) (seen : M → Tier → List ℕ) (lef
     fault = looks.fault;
   }
 
+  -- another answer of a call that has answered
+  pub looks_answer : {T U : Type 0} (old new : JournalView M) (x : T) (y : U) → Looks moment seen left faults old new (Ok x) → Looks moment seen left faults old new (Ok y)
+  looks_answer old new x y looks = looks_other old new x (Ok y) looks tt
+
   -- one call behind another
   pub looks_on : {T U : Type 0} (old mid new : JournalView M) (x : T) (r : Result U AreaError) → Looks moment seen left faults old mid (Ok x) → Looks moment seen left faults mid new r → Looks moment seen left faults old new r
   looks_on old mid new x (Ok y) first second = record {

@@ -2,6 +2,7 @@
 #![tactic(auto)]
 
 mod change_laws;
+mod directory;
 mod entries;
 mod error;
 mod extents;
