@@ -1,3 +1,4 @@
 pub mod Charges
+pub mod Fields
 pub mod Maps
 pub mod Touches
