@@ -27,10 +27,18 @@ fn time_appends(
     over: Over<'_>,
 ) -> Result<Sum, Failure> {
     keep_freed_memory(desk.alloc(), 64 * REGION_SIZE)?;
-    let mut appends = Appends {
-        entry: write_of(desk.alloc(), bytes)?,
-        sum: Sum::new(),
-    };
+    let entry = write_of(desk.alloc(), bytes)?;
+    time_all(desk, entry, times, over)
+}
+
+fn time_all(
+    desk: &mut Desk<'_>,
+    entry: Record,
+    times: u64,
+    over: Over<'_>,
+) -> Result<Sum, Failure> {
+    let sum = Sum::new();
+    let mut appends = Appends { entry, sum };
     fill_all(desk, &mut appends, over, times)?;
     Ok(appends.sum)
 }
@@ -70,7 +78,7 @@ fn count_at_end(count: u64, error: RegionError) -> Result<u64, Failure> {
     if error == RegionError::RegionFull && 0 < count {
         return Ok(count);
     }
-    Err(Failure::Region(error))
+    Err(Failure::from(error))
 }
 
 fn time_of_copies(desk: &mut Desk<'_>, bytes: usize) -> Result<Sum, Failure> {

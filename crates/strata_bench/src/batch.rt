@@ -6,7 +6,7 @@ ghost use Rattle.tier_device.specs.declared.media.Tier.TheVariants.{Fast};
 ghost use Rattle.batch_journal.specs.Blocks.{AreJournaled};
 ghost use Rattle.batch_journal.specs.Volume.{KeepsGeometry};
 
-use crate::desk::{Desk, bytes_of, keep_freed_memory, time_copies};
+use crate::desk::{Desk, bytes_of, keep_room, time_copies};
 use crate::failure::Failure;
 use batch_journal::{Batch, Journal, JournalError, MAX_IMAGES};
 use layout::{BLOCK, FIRST_NODE_BLOCK, Geometry, Super};
@@ -47,11 +47,11 @@ const LONGEST: Times = Times {
 /// medium of the default sizes is opened. Each is the best of some tries.
 pub fn run(desk: &mut Desk<'_>, images: usize) -> Result<(), Failure> {
     if MAX_IMAGES < images {
-        return Err(Failure::Told("a batch has up to 256 images"));
+        return Err(Failure::new("a batch has up to 256 images"));
     }
     match Geometry::new(1_024, 512, 1_024, 1_024) {
         Some(geometry) => time_commits(desk, &geometry, images as u32),
-        None => Err(Failure::Told("there are no such media")),
+        None => Err(Failure::new("there are no such media")),
     }
 }
 
@@ -59,12 +59,24 @@ fn time_commits(desk: &mut Desk<'_>, geometry: &Geometry, images: u32) -> Result
     requires { images ≤ 256 }
 {
     let batch = batch_of(desk.alloc(), images)?;
-    let mut best = LONGEST;
-    for _ in 0..TRIES {
-        best = best.best(one_try(desk, geometry, &batch, images)?);
-    }
+    let best = best_of(desk, geometry, &batch, images)?;
     report(desk, images as usize, best);
     Ok(())
+}
+
+fn best_of(
+    desk: &mut Desk<'_>,
+    geometry: &Geometry,
+    batch: &Batch,
+    images: u32,
+) -> Result<Times, Failure>
+    requires { images ≤ 256 }
+{
+    let mut best = LONGEST;
+    for _ in 0..TRIES {
+        best = best.best(one_try(desk, geometry, batch, images)?);
+    }
+    Ok(best)
 }
 
 fn report(desk: &mut Desk<'_>, images: usize, best: Times) {
@@ -110,24 +122,27 @@ fn time_on<M: Media + Drop>(
     match Journal::reopen(desk.alloc(), media) {
         Ok(mut journal) => {
             let open = desk.since(start);
-            Ok((open, time_turns(desk, &mut journal, batch)?))
+            time_turns(desk, &mut journal, batch, open)
         }
-        Err((error, _media)) => Err(Failure::Journal(error)),
+        Err((error, _media)) => Err(Failure::from(error)),
     }
 }
 
-// The allocator keeps as much memory as the media keep of the commits.
+// Beside the time of the opening.
 fn time_turns<M: Media>(
     desk: &mut Desk<'_>,
     journal: &mut Journal<M>,
     batch: &Batch,
-) -> Result<u128, Failure> {
-    keep_freed_memory(desk.alloc(), 30_000_000)?;
-    keep_freed_memory(desk.alloc(), 28_000_000)?;
+    open: u128,
+) -> Result<(u128, u128), Failure> {
+    // As much as the media keep of the commits.
+    keep_room(desk.alloc(), 30_000_000)?;
     let start = desk.now();
-    match commit_all(journal, batch) {
-        Ok(()) => Ok(desk.since(start)),
-        Err(error) => Err(Failure::Journal(error)),
+    let committed = commit_all(journal, batch);
+    let commit = desk.since(start);
+    match committed {
+        Ok(()) => Ok((open, commit)),
+        Err(error) => Err(Failure::from(error)),
     }
 }
 

@@ -1,5 +1,5 @@
 // Calls as a client answers them: decided over a graph, their record appended to a region, and then answered.
-use crate::desk::{Desk, Sum, bytes_of};
+use crate::desk::{Desk, Sum, add, bytes_of};
 use crate::failure::Failure;
 use crate::regions::{Over, Work, append, fill_all};
 use call_effects::{growth_of, record_of};
@@ -26,15 +26,23 @@ const TURNS: u64 = 60;
 /// Tells the time of each kind of call, of a file's first block written, a directory made, and the same removed. Over one medium
 /// at least so many calls are made.
 pub fn run(desk: &mut Desk<'_>, times: u64, over: Over<'_>) -> Result<(), Failure> {
-    let mut calls = Calls {
-        client: Client::new(desk.alloc())?,
-        asked: timed_calls(desk.alloc())?,
-    };
-    fill_all(desk, &mut calls, over, times)?;
-    for call in &calls.asked {
+    let calls = Calls::new(desk.alloc())?;
+    run_over(desk, calls, times, over)
+}
+
+fn run_over(desk: &mut Desk<'_>, calls: Calls, times: u64, over: Over<'_>) -> Result<(), Failure> {
+    let mut calls = calls;
+    let filled = fill_all(desk, &mut calls, over, times);
+    if filled.is_ok() {
+        tell_all(desk, &calls.asked);
+    }
+    filled
+}
+
+fn tell_all(desk: &mut Desk<'_>, asked: &[Timed]) {
+    for call in asked {
         desk.tell(name_of(&call.call), call.sum.each(), " ns");
     }
-    Ok(())
 }
 
 // A client and the calls that it asks in turn.
@@ -42,6 +50,17 @@ pub fn run(desk: &mut Desk<'_>, times: u64, over: Over<'_>) -> Result<(), Failur
 struct Calls {
     client: Client,
     asked: Vec<Timed>,
+}
+
+impl Calls {
+    fn new(alloc: Global) -> Result<Self, Failure> {
+        let asked = timed_calls(alloc)?;
+        let graph = graph_of_one_file(alloc)?;
+        Ok(Calls {
+            client: Client::new(graph),
+            asked,
+        })
+    }
 }
 
 impl Work for Calls {
@@ -64,11 +83,21 @@ fn turn<M: Media>(
     asked: &mut [Timed],
 ) -> Result<(), Failure> {
     for call in asked {
-        let start = desk.now();
-        client.answer(desk.alloc(), region, &call.call)?;
-        call.sum.add(1, desk.since(start));
+        let time = time_of(desk, client, region, &call.call)?;
+        call.sum.add(1, time);
     }
     Ok(())
+}
+
+fn time_of<M: Media>(
+    desk: &mut Desk<'_>,
+    client: &mut Client,
+    region: &mut Region<M>,
+    call: &Call,
+) -> Result<u128, Failure> {
+    let start = desk.now();
+    client.answer(desk.alloc(), region, call)?;
+    Ok(desk.since(start))
 }
 
 // A call that is asked again and again, and the time that it took.
@@ -85,16 +114,24 @@ impl Timed {
     }
 }
 
-fn timed_calls(alloc: Global) -> Result<Vec<Timed>, Failure> {
+fn timed_calls(alloc: Global) -> Result<Vec<Timed>, AllocError> {
     let bytes = Bytes::from_vec(bytes_of(alloc, 0x61, BLOCK)?);
     let made = Bytes::copy_of(alloc, b"/a")?;
     let removed = Bytes::copy_of(alloc, b"/a")?;
-    let calls = [
-        Timed::new(write_of(bytes)),
-        Timed::new(Call::Mkdir { path: made }),
-        Timed::new(Call::Rmdir { path: removed }),
-    ];
-    Ok(Vec::from_array(alloc, calls)?)
+    all_timed(alloc, bytes, made, removed)
+}
+
+fn all_timed(
+    alloc: Global,
+    bytes: Bytes,
+    made: Bytes,
+    removed: Bytes,
+) -> Result<Vec<Timed>, AllocError> {
+    let mut calls = Vec::new(alloc);
+    add(&mut calls, Timed::new(write_of(bytes)))?;
+    add(&mut calls, Timed::new(Call::Mkdir { path: made }))?;
+    add(&mut calls, Timed::new(Call::Rmdir { path: removed }))?;
+    Ok(calls)
 }
 
 fn name_of(call: &Call) -> &'static str {
@@ -121,12 +158,11 @@ struct Client {
 }
 
 impl Client {
-    fn new(alloc: Global) -> Result<Self, Failure> {
-        let graph = graph_of_one_file(alloc)?;
-        Ok(Client {
+    fn new(graph: PlainGraph) -> Self {
+        Client {
             graph,
             own: file_open(),
-        })
+        }
     }
 
     // Once it returns the record is kept, and the graph is as the call leaves it.
@@ -137,40 +173,51 @@ impl Client {
         call: &Call,
     ) -> Result<(), Failure> {
         let entry = self.recorded(alloc, call)?;
-        append(region, &entry)?;
+        self.keep(region, &entry)
+    }
+
+    fn keep<M: Media>(&mut self, region: &mut Region<M>, entry: &Record) -> Result<(), Failure> {
+        append(region, entry)?;
         apply_all(&mut self.graph, entry.effects.as_slice())?;
         Ok(())
     }
 
     fn recorded(&self, alloc: Global, call: &Call) -> Result<Record, Failure> {
         let tree = GraphAnswers { graph: &self.graph };
-        match decide(alloc, &tree, &self.own, call) {
-            Ok(operation) => record_from(alloc, &tree, operation),
-            Err(_) => Err(Failure::Told("a call was refused")),
-        }
+        let operation = told(decide(alloc, &tree, &self.own, call), "a call was refused")?;
+        record_from(alloc, &tree, operation)
     }
 }
 
+// The operation is handed on in any case, so that no exit drops it.
 fn record_from(
     alloc: Global,
     tree: &GraphAnswers<'_>,
     operation: Operation,
 ) -> Result<Record, Failure> {
-    match growth_of(tree, &operation) {
-        Ok(units) => record_with(alloc, tree, operation, units),
-        Err(_) => Err(Failure::Told("a call's growth is not known")),
+    let units = told(growth_of(tree, &operation), "a call's growth is not known");
+    let made = record_of(alloc, tree, operation, NEW, units.unwrap_or(0));
+    some(units, told(made, NO_RECORD))
+}
+
+const NO_RECORD: &str = "a call has no record";
+
+fn some(
+    units: Result<u32, Failure>,
+    made: Result<Option<Record>, Failure>,
+) -> Result<Record, Failure> {
+    units?;
+    match made? {
+        Some(entry) => Ok(entry),
+        None => Err(Failure::new(NO_RECORD)),
     }
 }
 
-fn record_with(
-    alloc: Global,
-    tree: &GraphAnswers<'_>,
-    operation: Operation,
-    units: u32,
-) -> Result<Record, Failure> {
-    match record_of(alloc, tree, operation, NEW, units) {
-        Ok(Some(entry)) => Ok(entry),
-        _ => Err(Failure::Told("a call has no record")),
+// What is wrong tells no more than this. Over any types, it is one place to the check of borrows, however many variants they have.
+fn told<T, E: Drop>(found: Result<T, E>, what: &'static str) -> Result<T, Failure> {
+    match found {
+        Ok(value) => Ok(value),
+        Err(_) => Err(Failure::new(what)),
     }
 }
 
@@ -188,9 +235,9 @@ fn file_open() -> OwnDescriptors {
 }
 
 fn graph_of_one_file(alloc: Global) -> Result<PlainGraph, Failure> {
-    let effects = making(file_name(alloc)?);
+    let name = file_name(alloc)?;
     let mut graph = PlainGraph::with_root(alloc)?;
-    apply_all(&mut graph, &effects)?;
+    apply_all(&mut graph, &making(name))?;
     Ok(graph)
 }
 
@@ -216,8 +263,5 @@ fn making(name: Name) -> [Effect; 3] {
 }
 
 fn file_name(alloc: Global) -> Result<Name, Failure> {
-    match Name::from_vec(b"f".to_vec(alloc)?) {
-        Ok(name) => Ok(name),
-        Err(_) => Err(Failure::Told("no name")),
-    }
+    told(Name::from_vec(b"f".to_vec(alloc)?), "no name")
 }

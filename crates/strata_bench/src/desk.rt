@@ -76,7 +76,7 @@ impl<'a> Desk<'a> {
     /// Whether the clock and the output never failed.
     pub fn end(&self) -> Result<(), Failure> {
         if self.has_failed {
-            return Err(Failure::Told("the clock or the output failed"));
+            return Err(Failure::new("the clock or the output failed"));
         }
         Ok(())
     }
@@ -119,6 +119,11 @@ impl Sum {
     }
 }
 
+/// Adds a value. Over any type it is one place to the check of borrows, however many variants it has.
+pub fn add<T: Drop>(to: &mut Vec<T>, value: T) -> Result<(), AllocError> {
+    Ok(to.push(value)?)
+}
+
 /// So many equal bytes.
 pub fn bytes_of(alloc: Global, byte: u8, count: usize) -> Result<Vec<u8>, AllocError> {
     Ok(vec![in alloc; byte; count]?)
@@ -129,6 +134,13 @@ pub fn bytes_of(alloc: Global, byte: u8, count: usize) -> Result<Vec<u8>, AllocE
 pub fn keep_freed_memory(alloc: Global, count: usize) -> Result<(), AllocError> {
     let _block = bytes_of(alloc, 0x61, count)?;
     Ok(())
+}
+
+/// Has the allocator keep so much memory, or a little less, whose pages are there from now on: the first time that so much is freed it goes
+/// back to the system, and from then on it stays.
+pub fn keep_room(alloc: Global, count: usize) -> Result<(), AllocError> {
+    keep_freed_memory(alloc, count)?;
+    keep_freed_memory(alloc, count - count / 16)
 }
 
 /// Copies the bytes to each place of the buffer, one after the other, and tells their number and time.

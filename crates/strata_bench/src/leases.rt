@@ -140,9 +140,26 @@ struct Times {
     eight: u128,
 }
 
+impl Times {
+    fn best(&self, other: Times) -> Times {
+        Times {
+            bare: self.bare.min(other.bare),
+            read: self.read.min(other.read),
+            write: self.write.min(other.write),
+            eight: self.eight.min(other.eight),
+        }
+    }
+}
+
+const LONGEST: Times = Times {
+    bare: u128::MAX,
+    read: u128::MAX,
+    write: u128::MAX,
+    eight: u128::MAX,
+};
+
 fn one_try<R: Threads + Sync>(threads: &R, desk: &mut Desk<'_>) -> Result<Times, Failure> {
-    let read = one_client(desk, Kind::Read)?;
-    let write = one_client(desk, Kind::Write)?;
+    let (read, write) = alone(desk)?;
     let eight = eight_clients(threads, desk, Kind::Write)?;
     let bare = bare_word(desk);
     Ok(Times {
@@ -153,14 +170,17 @@ fn one_try<R: Threads + Sync>(threads: &R, desk: &mut Desk<'_>) -> Result<Times,
     })
 }
 
+// Of reading and of writing.
+fn alone(desk: &mut Desk<'_>) -> Result<(u128, u128), Failure> {
+    let read = one_client(desk, Kind::Read)?;
+    let write = one_client(desk, Kind::Write)?;
+    Ok((read, write))
+}
+
 fn best_of<R: Threads + Sync>(threads: &R, desk: &mut Desk<'_>) -> Result<Times, Failure> {
-    let mut best = one_try(threads, desk)?;
-    for _ in 1..TRIES {
-        let times = one_try(threads, desk)?;
-        best.bare = best.bare.min(times.bare);
-        best.read = best.read.min(times.read);
-        best.write = best.write.min(times.write);
-        best.eight = best.eight.min(times.eight);
+    let mut best = LONGEST;
+    for _ in 0..TRIES {
+        best = best.best(one_try(threads, desk)?);
     }
     Ok(best)
 }
@@ -169,6 +189,11 @@ fn best_of<R: Threads + Sync>(threads: &R, desk: &mut Desk<'_>) -> Result<Times,
 /// inodes apart take in the time in which one thread takes one. Each is the best of some tries.
 pub fn run<R: Threads + Sync>(threads: &R, desk: &mut Desk<'_>) -> Result<(), Failure> {
     let best = best_of(threads, desk)?;
+    tell(desk, best);
+    Ok(())
+}
+
+fn tell(desk: &mut Desk<'_>, best: Times) {
     desk.tell_tenths("fetch_or of a bare word", best.bare, " ns");
     desk.tell_tenths("take a read lease and give it", best.read, " ns");
     desk.tell_ratio("times a fetch_or", best.read, best.bare);
@@ -180,5 +205,4 @@ pub fn run<R: Threads + Sync>(threads: &R, desk: &mut Desk<'_>) -> Result<(), Fa
         one,
         best.eight,
     );
-    Ok(())
 }

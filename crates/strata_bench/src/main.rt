@@ -15,6 +15,7 @@ use anyhow::{Context, Result, bail};
 use desk::Desk;
 use failure::Failure;
 use options::Asked;
+use regions::Over;
 use std::env;
 use std::process::ExitCode;
 use std::thread::Threads;
@@ -40,9 +41,13 @@ fn refused(rt: &HostRuntime, error: &clap::Error) -> Result<ExitCode> {
 // Only `main` can start threads, so it hands over what does.
 fn timed<R: Threads + Sync>(threads: &R, rt: &HostRuntime, asked: &Asked<'_>) -> Result<ExitCode> {
     let mut desk = Desk::new(rt)?;
-    match measure(threads, &mut desk, asked) {
+    ended(measure(threads, &mut desk, asked))
+}
+
+fn ended(measured: Result<(), Failure>) -> Result<ExitCode> {
+    match measured {
         Ok(()) => Ok(ExitCode::SUCCESS),
-        Err(failure) => bail!("{failure}"),
+        Err(failure) => bail!("{}", failure.why),
     }
 }
 
@@ -55,12 +60,24 @@ fn measure<R: Threads + Sync>(
     if asked.leases {
         leases::run(threads, desk)?;
     }
+    if asked.append.is_some() || asked.calls {
+        measure_logged(desk, asked, asked.over()?)?;
+    }
+    measure_rest(desk, asked)
+}
+
+// What is logged to a medium.
+fn measure_logged(desk: &mut Desk<'_>, asked: &Asked<'_>, over: Over<'_>) -> Result<(), Failure> {
     if let Some(bytes) = asked.append {
-        append::run(desk, bytes as usize, asked.times, asked.over()?)?;
+        append::run(desk, bytes as usize, asked.times, over)?;
     }
     if asked.calls {
-        calls::run(desk, asked.times, asked.over()?)?;
+        return calls::run(desk, asked.times, over);
     }
+    Ok(())
+}
+
+fn measure_rest(desk: &mut Desk<'_>, asked: &Asked<'_>) -> Result<(), Failure> {
     if let Some(images) = asked.batch {
         batch::run(desk, images as usize)?;
     }

@@ -1,4 +1,5 @@
 // What the words of the command line ask for.
+use crate::desk::add;
 use crate::failure::Failure;
 use crate::regions::Over;
 use clap::{Arg, ArgAction, ArgMatches, Command, Error, value_parser};
@@ -29,11 +30,11 @@ pub struct Asked<'a> {
 impl<'a> Asked<'a> {
     /// The medium that is logged to.
     pub fn over(&self) -> Result<Over<'a>, Failure> {
-        match (self.media, self.path) {
-            ("mem", None) => Ok(Over::Memory),
-            ("ram", None) => Ok(Over::Ram),
-            ("file", Some(path)) => Ok(Over::File(path)),
-            _ => Err(Failure::Told("--media is mem, ram, or file with a path")),
+        match self.path {
+            None if self.media == "mem" => Ok(Over::Memory),
+            None if self.media == "ram" => Ok(Over::Ram),
+            Some(path) if self.media == "file" => Ok(Over::File(path)),
+            _ => Err(Failure::new("--media is mem, ram, or file with a path")),
         }
     }
 
@@ -65,41 +66,94 @@ fn from_matches<'a>(matches: &ArgMatches<'a>) -> Asked<'a> {
 }
 
 fn command<'a>(alloc: Global) -> Result<Command<'a>, AllocError> {
-    let args = Vec::from_array(alloc, args(alloc))?;
+    let args = args(alloc)?;
     Command::new(alloc, "strata_bench").about(ABOUT).args(args)
 }
 
-fn args<'a>(alloc: Global) -> [Arg<'a>; 8] {
-    [
-        number(alloc, "append", "BYTES", 1, 65_537).help(
-            "Time appends of records that write so many bytes, 1 to 65536",
-        ),
-        text(alloc, "media", "KIND").help(
-            "The medium that is logged to: mem (with a record of its calls), ram (with none), or file, made at PATH",
-        ),
-        path(alloc),
-        number(alloc, "times", "COUNT", 0, i64::MAX).help(
-            "Over ram or file make at least so many appends or calls, by default 630",
-        ),
-        flag(alloc, "calls").help(
-            "Time calls that are decided over a graph and logged, before they are answered",
-        ),
-        number(alloc, "batch", "IMAGES", 1, 257).help(
-            "Time commits of batches of so many images, 1 to 256",
-        ),
-        flag(alloc, "leases").help(
-            "Time leases that are taken and given, alone and in eight threads",
-        ),
-        flag(alloc, "script").help(
-            "Time the calls of a file tree in memory, over a thousand files",
-        ),
-    ]
+fn args<'a>(alloc: Global) -> Result<Vec<Arg<'a>>, AllocError> {
+    let mut args = Vec::new(alloc);
+    for word in &WORDS {
+        add(&mut args, arg_of(alloc, word))?;
+    }
+    Ok(args)
 }
 
-fn path<'a>(alloc: Global) -> Arg<'a> {
-    Arg::new(alloc, "path")
+// A word of the command line. They stand in a table, since a list of arguments is dear in one function.
+#[derive(Clone, Copy)]
+struct Word {
+    name: &'static str,
+    form: Form,
+    help: &'static str,
+}
+
+#[derive(Clone, Copy)]
+enum Form {
+    Path,
+    Flag,
+    Text(&'static str),
+    // Of a range without its end.
+    Number(&'static str, i64, i64),
+}
+
+const WORDS: [Word; 8] = [
+    Word {
+        name: "append",
+        form: Form::Number("BYTES", 1, 65_537),
+        help: "Time appends of records that write so many bytes, 1 to 65536",
+    },
+    Word {
+        name: "media",
+        form: Form::Text("KIND"),
+        help: "The medium that is logged to: mem (with a record of its calls), ram (with none), or file, made at PATH",
+    },
+    Word {
+        name: "path",
+        form: Form::Path,
+        help: "The file that --media file makes, and takes away at the end",
+    },
+    Word {
+        name: "times",
+        form: Form::Number("COUNT", 0, i64::MAX),
+        help: "Over ram or file make at least so many appends or calls, by default 630",
+    },
+    Word {
+        name: "calls",
+        form: Form::Flag,
+        help: "Time calls that are decided over a graph and logged, before they are answered",
+    },
+    Word {
+        name: "batch",
+        form: Form::Number("IMAGES", 1, 257),
+        help: "Time commits of batches of so many images, 1 to 256",
+    },
+    Word {
+        name: "leases",
+        form: Form::Flag,
+        help: "Time leases that are taken and given, alone and in eight threads",
+    },
+    Word {
+        name: "script",
+        form: Form::Flag,
+        help: "Time the calls of a file tree in memory, over a thousand files",
+    },
+];
+
+fn arg_of<'a>(alloc: Global, word: &Word) -> Arg<'a> {
+    form_of(alloc, word).help(word.help)
+}
+
+fn form_of<'a>(alloc: Global, word: &Word) -> Arg<'a> {
+    match word.form {
+        Form::Path => path(alloc, word.name),
+        Form::Flag => flag(alloc, word.name),
+        Form::Text(value) => text(alloc, word.name, value),
+        Form::Number(value, first, end) => number(alloc, word.name, value, first, end),
+    }
+}
+
+fn path<'a>(alloc: Global, name: &'a str) -> Arg<'a> {
+    Arg::new(alloc, name)
         .value_name("PATH")
-        .help("The file that --media file makes, and takes away at the end")
         .action(ArgAction::Set)
 }
 
@@ -114,7 +168,6 @@ fn text<'a>(alloc: Global, name: &'a str, value: &'a str) -> Arg<'a> {
         .action(ArgAction::Set)
 }
 
-// A number of a range without its end.
 fn number<'a>(alloc: Global, name: &'a str, value: &'a str, first: i64, end: i64) -> Arg<'a> {
     text(alloc, name, value).value_parser(value_parser!(u64).range(first..end))
 }

@@ -74,9 +74,20 @@ fn fill_once<W: Work, M: Media + Drop>(
 ) -> Result<(), Failure>
     requires { AtRest (M.seen media) (M.left media (M.moment media)) Fast }
 {
-    let mut region = reopened(desk.alloc(), media)?;
-    work.fill(desk, &mut region)?;
-    Ok(())
+    let region = reopened(desk.alloc(), media)?;
+    filled(desk, work, region)
+}
+
+fn filled<W: Work, M: Media + Drop>(
+    desk: &mut Desk<'_>,
+    work: &mut W,
+    region: Region<M>,
+) -> Result<(), Failure> {
+    let mut region = region;
+    match work.fill(desk, &mut region) {
+        Ok(_count) => Ok(()),
+        Err(failure) => Err(failure),
+    }
 }
 
 fn over_ram<W: Work>(desk: &mut Desk<'_>, work: &mut W, times: u64) -> Result<(), Failure> {
@@ -99,11 +110,11 @@ fn over_file<W: Work>(
 fn removed(desk: &Desk<'_>, path: &str) -> Result<(), Failure> {
     match fs::remove_file(desk.host(), path) {
         Ok(()) => Ok(()),
-        Err(_) => Err(Failure::Told("the file can't be taken away")),
+        Err(_) => Err(Failure::new("the file can't be taken away")),
     }
 }
 
-// Fills the region and empties it again, until at least so many records were appended.
+// Fills a region of the medium and empties it again, until at least so many records were appended.
 fn over_one<W: Work, M: Media + Drop>(
     desk: &mut Desk<'_>,
     work: &mut W,
@@ -112,24 +123,41 @@ fn over_one<W: Work, M: Media + Drop>(
 ) -> Result<(), Failure>
     requires { AtRest (M.seen media) (M.left media (M.moment media)) Fast }
 {
-    let mut region = reopened(desk.alloc(), media)?;
+    let mut media = media;
     let mut done = 0u64;
     for _ in 0..u64::MAX {
         if times <= done {
             break;
         }
-        done = done.saturating_add(work.fill(desk, &mut region)?);
-        region = emptied(desk.alloc(), region)?;
+        media = filled_and_emptied(desk, work, media, &mut done)?;
     }
     Ok(())
 }
 
-// The region of the same medium with no record: its first gate is closed.
-fn emptied<M: Media + Drop>(alloc: Global, region: Region<M>) -> Result<Region<M>, Failure> {
-    let mut media = region.into_media();
+// Counts the records that were appended.
+fn filled_and_emptied<W: Work, M: Media + Drop>(
+    desk: &mut Desk<'_>,
+    work: &mut W,
+    media: M,
+    done: &mut u64,
+) -> Result<M, Failure>
+    requires { AtRest (M.seen media) (M.left media (M.moment media)) Fast }
+    ensures { IfOk result (λ m. AtRest (M.seen m) (M.left m (M.moment m)) Fast) }
+{
+    let mut region = reopened(desk.alloc(), media)?;
+    let count = work.fill(desk, &mut region)?;
+    *done = done.saturating_add(count);
+    emptied(region.into_media())
+}
+
+// The same medium with no record in its region, whose first gate is closed.
+fn emptied<M: Media + Drop>(media: M) -> Result<M, Failure>
+    ensures { IfOk result (λ m. AtRest (M.seen m) (M.left m (M.moment m)) Fast) }
+{
+    let mut media = media;
     match close(&mut media) {
-        Ok(()) => reopened(alloc, media),
-        Err(error) => Err(Failure::Media(error)),
+        Ok(()) => Ok(media),
+        Err(error) => Err(Failure::from(error)),
     }
 }
 
@@ -145,7 +173,7 @@ fn reopened<M: Media + Drop>(alloc: Global, media: M) -> Result<Region<M>, Failu
 {
     match Region::reopen(alloc, media) {
         Ok(region) => Ok(region),
-        Err((error, _media)) => Err(Failure::Region(error)),
+        Err((error, _media)) => Err(Failure::from(error)),
     }
 }
 
@@ -180,7 +208,7 @@ fn file(desk: &Desk<'_>, path: &str) -> Result<FileMedia, Failure>
         Ok(media) => Ok(media),
         Err(error) => {
             let _ = eprintln!(desk.host(); "{error}");
-            Err(Failure::Told("there is no file to log to"))
+            Err(Failure::new("there is no file to log to"))
         }
     }
 }
