@@ -20,9 +20,13 @@ pub struct Stop {
 
 /// The stop that the words of `strata_first` ask for, if they ask for one. The first word is the program's name.
 pub fn first_options<'a>(alloc: Global, words: &'a [&'a str]) -> Result<Option<Stop>, WordsError> {
-    let command = first_command(alloc)?;
-    let matches = command.try_get_matches_from(words)?;
+    let matches = first_matches(alloc, words)?;
     stop_of(&matches)
+}
+
+fn first_matches<'a>(alloc: Global, words: &'a [&'a str]) -> Result<ArgMatches<'a>, WordsError> {
+    let command = first_command(alloc)?;
+    Ok(command.try_get_matches_from(words)?)
 }
 
 fn first_command<'a>(alloc: Global) -> Result<Command<'a>, AllocError> {
