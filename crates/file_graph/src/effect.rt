@@ -11,7 +11,7 @@ pub enum Kind {
 }
 
 /// What a name of a directory names: an inode, and what is there. Contracts see it as the pair of both.
-#[derive(Clone, Copy, Debug)]
+#[derive(Clone, Copy)]
 pub struct Child {
     inode: u32,
     kind: Kind,

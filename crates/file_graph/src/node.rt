@@ -15,14 +15,14 @@ use std::marker::Model;
 pub type PlainEntry = NamedEntry<Child>;
 
 /// A node with its bytes or its entries. Contracts see it as a node of a graph.
-#[derive(Debug, Drop)]
+#[derive(Drop)]
 pub struct PlainNode {
     names: u32,
     body: PlainBody,
 }
 
 /// What is in a node.
-#[derive(Debug, Drop)]
+#[derive(Drop)]
 pub enum PlainBody {
     File(FileBytes),
     Directory(NameMap<Child>),

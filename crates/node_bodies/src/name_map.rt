@@ -15,14 +15,14 @@ use std::marker::Model;
 const MOST_ENTRIES: usize = 0xFFFF_FFFF;
 
 /// What stands at a name.
-#[derive(Debug, Drop)]
+#[derive(Drop)]
 pub struct NamedEntry<V> {
     pub name: Name,
     pub value: V,
 }
 
 /// A map from names, in the order of their bytes. Contracts see it as a finite map.
-#[derive(Debug, Drop)]
+#[derive(Drop)]
 pub struct NameMap<V> {
     entries: Vec<NamedEntry<V>>,
 }

@@ -11,13 +11,13 @@ use std::alloc::{AllocError, Global};
 use std::marker::Model;
 
 /// What stands at an inode, if anything does. Contracts see it as a node.
-#[derive(Debug, Drop)]
+#[derive(Drop)]
 pub struct PlainNode {
     body: PlainBody,
 }
 
 /// What is in a node.
-#[derive(Debug, Drop)]
+#[derive(Drop)]
 pub enum PlainBody {
     Nothing,
     File(FileBytes),
