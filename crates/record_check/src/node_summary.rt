@@ -1,0 +1,152 @@
+ghost use Rattle.std.specs.Prelude.{◌≡◌, ℕ, false, Some, OnOk, OnErr, max};
+ghost use Rattle.std.specs.FinMap as fin;
+ghost use Rattle.file_graph.specs.Plain.{is_drop};
+ghost use Rattle.log_record.specs.Grammar.{Fits};
+ghost use Rattle.call_effects.specs.NodeView.{FileView, DirView, empty_view, in_entries, in_size, view_acted};
+ghost use Rattle.record_check.specs.Summary.{view_of};
+
+use file_graph::{Child, Effect, Kind};
+use node_bodies::NameMap;
+use posix_calls::Name;
+use std::alloc::{AllocError, Global};
+use std::marker::Model;
+
+/// A node without the bytes of a file. Contracts see it as the view of a node.
+#[derive(Debug, Drop)]
+pub struct NodeSummary {
+    names: u32,
+    body: SummaryBody,
+}
+
+/// What is known of what is in a node.
+#[derive(Debug, Drop)]
+pub enum SummaryBody {
+    /// A file of so many bytes.
+    File { size: u64 },
+    /// A directory with what stands at each of its names.
+    Directory { entries: NameMap<Child> },
+}
+
+impl Model for NodeSummary {
+    ghost use Rattle.call_effects.specs.NodeView.{NodeView};
+    ghost use Rattle.record_check.specs.Summary.{view_of, view_code};
+
+    ghost Value = { NodeView };
+
+    ghost coded = { view_code };
+
+    ghost view = { λ n. view_of n.names n.body };
+}
+
+impl NodeSummary {
+    /// A file with so many names, of a size in bytes.
+    pub fn file(names: u32, size: u64) -> Self
+        ensures { result ≡ FileView names size }
+    {
+        NodeSummary {
+            names,
+            body: SummaryBody::File { size },
+        }
+    }
+
+    /// A directory with so many names, and what stands at each name in it.
+    pub fn directory(names: u32, entries: NameMap<Child>) -> Self
+        ensures { result ≡ DirView names entries }
+    {
+        NodeSummary {
+            names,
+            body: SummaryBody::Directory { entries },
+        }
+    }
+
+    /// An empty node of a kind, without a name.
+    pub fn empty(alloc: Global, kind: Kind) -> Self
+        ensures { result ≡ empty_view kind }
+    {
+        match kind {
+            Kind::File => NodeSummary::file(0, 0),
+            Kind::Directory => NodeSummary::directory(0, NameMap::new(alloc)),
+        }
+    }
+
+    /// Does what an effect other than a Drop does to the node, where the effect keeps the limits of the format. Where there is no
+    /// memory for it, the summary stays as it was.
+    pub fn act(&mut self, alloc: Global, effect: &Effect) -> Result<(), AllocError>
+        requires fits { Fits effect.now }
+        requires kept { is_drop effect.now ≡ false }
+        ensures ok { OnOk result (Some self.new ≡ view_acted effect.now (Some self.old)) }
+        ensures err { OnErr result (self.new ≡ self.old) }
+    {
+        match effect {
+            Effect::Make { kind, .. } => {
+                *self = NodeSummary::empty(alloc, *kind);
+                Ok(())
+            }
+            Effect::Enter {
+                inode,
+                kind,
+                name,
+                ..
+            } => put_entry(alloc, &mut self.body, name, Child::new(*inode, *kind)),
+            Effect::Leave { name, .. } => {
+                remove_entry(&mut self.body, name);
+                Ok(())
+            }
+            Effect::Names { names, .. } => {
+                self.names = *names;
+                Ok(())
+            }
+            Effect::Size { size, .. } => {
+                resize(&mut self.body, *size);
+                Ok(())
+            }
+            Effect::Bytes { at, bytes, .. } => {
+                grow(&mut self.body, *at + bytes.as_slice().len() as u64);
+                Ok(())
+            }
+            Effect::Drop { .. } => Ok(()),
+        }
+    }
+}
+
+fn put_entry(
+    alloc: Global,
+    body: &mut SummaryBody,
+    name: &Name,
+    child: Child,
+) -> Result<(), AllocError>
+    ensures ok { OnOk result ((names : ℕ) → view_of names body.new ≡ in_entries (λ es. fin.insert es name.now child) (view_of names body.old)) }
+    ensures err { OnErr result (body.new ≡ body.old) }
+{
+    match body {
+        SummaryBody::File { .. } => Ok(()),
+        SummaryBody::Directory { entries } => entries.put(name.copy(alloc)?, child),
+    }
+}
+
+fn remove_entry(body: &mut SummaryBody, name: &Name)
+    ensures { (names : ℕ) → view_of names body.new ≡ in_entries (λ es. fin.remove es name.now) (view_of names body.old) }
+{
+    match body {
+        SummaryBody::File { .. } => {}
+        SummaryBody::Directory { entries } => entries.remove(name.as_slice()),
+    }
+}
+
+fn resize(body: &mut SummaryBody, len: u64)
+    ensures { (names : ℕ) → view_of names body.new ≡ in_size (λ old. len) (view_of names body.old) }
+{
+    match body {
+        SummaryBody::File { size } => *size = len,
+        SummaryBody::Directory { .. } => {}
+    }
+}
+
+fn grow(body: &mut SummaryBody, end: u64)
+    ensures { (names : ℕ) → view_of names body.new ≡ in_size (λ old. max old end) (view_of names body.old) }
+{
+    match body {
+        SummaryBody::File { size } => *size = (*size).max(end),
+        SummaryBody::Directory { .. } => {}
+    }
+}
