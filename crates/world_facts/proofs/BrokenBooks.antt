@@ -5,23 +5,25 @@ use Rattle.std.proofs.lemmas.Bool.{false≢true}
 use Rattle.std.proofs.lemmas.Bool.Decides.{eqb_tells}
 use Rattle.posix_calls.specs.Tree.{State, refers_to, has_open, is_open}
 use Rattle.posix_calls.specs.Operations.{is_client}
-use Rattle.posix_calls.proofs.Sums.{any_there}
+use Rattle.posix_calls.proofs.Sums.{any_there, any_is}
 use Rattle.file_graph.specs.Graph.{FileBody}
 use Rattle.call_effects.specs.Known.{Agrees}
 use Rattle.call_effects.specs.Wholes.{keep, tree_node}
 use Rattle.world_facts.specs.Limits.{IsWithin, AreWithin}
 use Rattle.world_facts.specs.Logs.{after_records, after_clients, KeepLimits}
 use Rattle.world_facts.specs.World.{Account, log_of, whole, held, world_state}
-use Rattle.world_facts.specs.Standing.{IsBooked, IsNumbered, IsPinned}
+use Rattle.world_facts.specs.Standing.{HasLeft, IsBooked, IsNumbered, IsPinned}
 use Rattle.world_facts.specs.LeaseSteps.{write_taken}
 use Rattle.world_facts.specs.BookSteps.{IsUnbooked, units_granted, number_granted}
 use Rattle.world_facts.specs.Halves.{IsOnItsWay, number_received}
 use Rattle.world_facts.specs.ClientSteps.{replied}
 use Rattle.world_facts.specs.KernelSteps.{CanDigest, records_digested, CanReclaim, reclaimed}
+use Rattle.world_facts.specs.Burial.{CanBury, client_buried}
+use Rattle.world_facts.proofs.Records.{either}
 use Rattle.world_facts.specs.Walk.{mkdir_a}
 use Rattle.world_facts.specs.Walk as walked
 use Rattle.world_facts.specs.UnlinkWalk as unlink_walked
-use Rattle.world_facts.specs.Broken.{counting, one_file, making, dropping, taken_number, far_number, unbooked_number, used_number, unpinned_file}
+use Rattle.world_facts.specs.Broken.{counting, one_file, making, dropping, taken_number, far_number, unbooked_number, used_number, unpinned_file, unbooked_node, still_open}
 use Rattle.world_facts.proofs.Owners.{is_low, is_high}
 use Rattle.world_facts.proofs.UnlinkWalks.{eight}
 use Rattle.world_facts.proofs.Kernels.{each}
@@ -107,13 +109,13 @@ is_unpinned c is_c = each unlink_walked.kept.kernel.accounts 1 (record (unlink_w
 pub unpinned_can : CanReclaim unpinned_file.kernel 2
 unpinned_can = record { file = record { bytes = []; is = refl }; unpinned = is_unpinned }
 
-still_open : is_open (held unpinned_file) 2 ≡ true
+pinned_open : is_open (held unpinned_file) 2 ≡ true
 unfolding is_open
-still_open = any_there 8 1 (λ c. has_open (held unpinned_file c) 2) (lit≤ tt) (lit≤ tt) (any_there 32 1 (λ n. refers_to 2 (held unpinned_file 1 (n - 1))) (lit≤ tt) (lit≤ tt) refl)
+pinned_open = any_there 8 1 (λ c. has_open (held unpinned_file c) 2) (lit≤ tt) (lit≤ tt) (any_there 32 1 (λ n. refers_to 2 (held unpinned_file 1 (n - 1))) (lit≤ tt) (lit≤ tt) refl)
 
 pub unpinned_seen : world_state (reclaimed unpinned_file 2) ≢ world_state unpinned_file
 unfolding after_clients
-unpinned_seen e = false≢true (ap (λ (s : State). is_some (s.tree 2)) e ∙ ap (λ b. is_some (option_map tree_node (keep b (whole unpinned_file 2)))) still_open)
+unpinned_seen e = false≢true (ap (λ (s : State). is_some (s.tree 2)) e ∙ ap (λ b. is_some (option_map tree_node (keep b (whole unpinned_file 2)))) pinned_open)
 
 -- ---- a record that passes a limit
 
@@ -128,3 +130,49 @@ many_broken keep = let many : 2000 ≤ 1000 = (keep.0 2 (one_within 2)).names in
 
 pub many_passed : AreWithin (after_records one_file (counting 2000 ∷ [])) → ⊥
 many_passed within = let many : 2000 ≤ 1000 = (within 2).names in absurd (omega (arith, many))
+
+-- ---- a node of a number that isn't in the book
+
+pub node_broken : IsNumbered (unbooked_node.kernel.accounts 1).numbers (unbooked_node.clients 1).knows.granted (log_of unbooked_node 1) → ⊥
+node_broken is = false≢true (is.made 2 refl)
+
+pub node_free : IsUnbooked unbooked_node.kernel 2
+node_free = record {
+  low = omega arith;
+  high = omega arith;
+  none = refl;
+  nobody = λ d is_d. eight (λ d. (unbooked_node.kernel.accounts d).numbers 2 ≡ false) refl refl refl refl refl refl refl refl d (is_low d is_d) (is_high d is_d);
+}
+
+pub node_taken : Agrees ((number_granted unbooked_node 2 2).clients 2).knows (whole (number_granted unbooked_node 2 2)) (held (number_granted unbooked_node 2 2)) → ⊥
+unfolding after_clients
+node_taken agrees = let new = agrees.granted 2 refl in false≢true (sym (ap is_some new.none))
+
+-- ---- a client that is settled with a file open
+
+pub left_broken : HasLeft (still_open.clients 1).status (still_open.clients 1).knows.own (still_open.clients 1).begun → ⊥
+left_broken is = false≢true (sym (ap is_some (is.closed refl 0)))
+
+pub left_can : CanBury still_open 1
+left_can = record { client = refl; settled = refl; digested = refl; back = λ e. absurd (cc) }
+
+was_open : is_open (held still_open) 2 ≡ true
+unfolding is_open
+was_open = any_there 8 1 (λ c. has_open (held still_open c) 2) (lit≤ tt) (lit≤ tt) (any_there 32 1 (λ n. refers_to 2 (held still_open 1 (n - 1))) (lit≤ tt) (lit≤ tt) refl)
+
+now_closed : is_open (held (client_buried still_open 1)) 2 ≡ false
+unfolding is_open
+now_closed = elim (either (is_open (held (client_buried still_open 1)) 2)) [
+  | inl there ↦ absurd (nobody_has there)
+  | inr closed ↦ closed
+]
+  where
+    nobody_has : is_open (held (client_buried still_open 1)) 2 ≡ true → ⊥
+    nobody_has there =
+        let c = any_is 8 (λ c. has_open (held (client_buried still_open 1) c) 2) there in
+        let n = any_is 32 (λ n. refers_to 2 (held (client_buried still_open 1) c.k (n - 1))) c.passes in
+        false≢true (sym (eight (λ d. refers_to 2 (held (client_buried still_open 1) d (n.k - 1)) ≡ false) refl refl refl refl refl refl refl refl c.k c.low c.high) ∙ n.passes)
+
+pub left_seen : world_state (client_buried still_open 1) ≢ world_state still_open
+unfolding after_clients
+left_seen e = false≢true (sym (ap (λ b. is_some (option_map tree_node (keep b (whole (client_buried still_open 1) 2)))) now_closed) ∙ ap (λ (s : State). is_some (s.tree 2)) e ∙ ap (λ b. is_some (option_map tree_node (keep b (whole still_open 2)))) was_open)

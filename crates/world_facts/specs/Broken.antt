@@ -8,11 +8,12 @@ use Rattle.file_graph.specs.Units.{charge}
 use Rattle.log_record.specs.declared.format.Record.{Record}
 use Rattle.call_effects.specs.NodeView.{view_at}
 use Rattle.call_effects.specs.Known.{with_copy}
-use Rattle.world_facts.specs.World.{Begun, Away, World, moved}
+use Rattle.world_facts.specs.World.{Begun, Away, Settled, World, moved}
 use Rattle.world_facts.specs.Opening.{knows_nothing, idle_client, idle_account, idle_world}
 use Rattle.world_facts.specs.ClientSteps.{with_client, call_begun}
 use Rattle.world_facts.specs.BookSteps.{number_granted}
 use Rattle.world_facts.specs.Halves.{number_booked}
+use Rattle.world_facts.specs.RegionSteps.{taken_back}
 use Rattle.world_facts.specs.Walk as walked
 use Rattle.world_facts.specs.UnlinkWalk as unlink_walked
 
@@ -105,3 +106,13 @@ used_number = moved (idle_world (charge fresh + 1) fresh) 1 fresh (record (idle_
 
 abbrev pub unpinned_file : World
 unpinned_file = moved unlink_walked.kept 1 unlink_walked.kept.kernel.shared (record (unlink_walked.kept.kernel.accounts 1) { pins = λ i. false }) (unlink_walked.kept.clients 1)
+
+-- ---- the answered call of the walk made a node of a number that isn't in its client's account
+
+abbrev pub unbooked_node : World
+unbooked_node = moved walked.made 1 walked.made.kernel.shared (record (walked.made.kernel.accounts 1) { numbers = λ i. false }) (walked.made.clients 1)
+
+-- ---- a client is settled, and has a file open that lost its name
+
+abbrev pub still_open : World
+still_open = with_client (taken_back unlink_walked.kept 1) 1 (record ((taken_back unlink_walked.kept 1).clients 1) { status = Settled })

@@ -7,14 +7,15 @@ ghost use Rattle.call_effects.specs.Wholes.{IsSound, state_of};
 ghost use Rattle.world_facts.specs.Limits.{AreWithin};
 ghost use Rattle.world_facts.specs.Logs.{after_records, after_each, units_in, LogsAreApart, IsMadeOnce, ArePaid, NameNone, KeepLimits};
 ghost use Rattle.world_facts.specs.World.{log_of, all_of, records_of, whole, held, has_lease, world_state};
-ghost use Rattle.world_facts.specs.Standing.{IsMarked, IsNumbered, IsLeased, IsPinned, IsPending, IsBooked, IsBeside, Stands};
+ghost use Rattle.world_facts.specs.Standing.{HasLeft, IsMarked, IsNumbered, IsLeased, IsPinned, IsPending, IsBooked, IsBeside, Stands};
 ghost use Rattle.world_facts.specs.ClientSteps.{IsBegun, replied};
 ghost use Rattle.world_facts.specs.RegionSteps.{CanSeal, region_sealed};
 ghost use Rattle.world_facts.specs.KernelSteps.{CanDigest, records_digested, CanReclaim, reclaimed};
 ghost use Rattle.world_facts.specs.BookSteps.{IsUnbooked, number_granted};
+ghost use Rattle.world_facts.specs.Burial.{CanBury, client_buried};
 ghost use Rattle.world_facts.specs.Halves.{IsOnItsWay, number_received};
 ghost use Rattle.world_facts.specs.Walk.{mkdir_a, made};
-ghost use Rattle.world_facts.specs.Broken.{counting, taken_number, far_number, unbooked_number, used_number, unpinned_file, both_counting, one_file, making, dropping, one_open, naming, marked_past, granted_twice, watching, root_alone, half, misbegun, unpaid, overdrawn};
+ghost use Rattle.world_facts.specs.Broken.{counting, taken_number, far_number, unbooked_number, used_number, unpinned_file, unbooked_node, still_open, both_counting, one_file, making, dropping, one_open, naming, marked_past, granted_twice, watching, root_alone, half, misbegun, unpaid, overdrawn};
 
 /// Where two clients write one inode, which takes a lease that one of them doesn't hold, the order of their digests is seen.
 pub fn writing_without_a_lease_is_seen()
@@ -140,4 +141,18 @@ pub fn record_past_a_limit_is_digested()
     ensures within { AreWithin one_file }
     ensures broken { KeepLimits one_file (counting 2000 ∷ []) → ⊥ }
     ensures passed { AreWithin (after_records one_file (counting 2000 ∷ [])) → ⊥ }
+{}
+
+/// Where a record made a node of a number that is not in its client's account, another client gets the number.
+pub fn number_of_a_new_node_is_granted_again()
+    ensures broken { IsNumbered (unbooked_node.kernel.accounts 1).numbers (unbooked_node.clients 1).knows.granted (log_of unbooked_node 1) → ⊥ }
+    ensures can { IsUnbooked unbooked_node.kernel 2 }
+    ensures taken { Agrees ((number_granted unbooked_node 2 2).clients 2).knows (whole (number_granted unbooked_node 2 2)) (held (number_granted unbooked_node 2 2)) → ⊥ }
+{}
+
+/// Where a settled client has a file open, its burial is seen.
+pub fn burial_of_a_client_with_an_open_file_is_seen()
+    ensures broken { HasLeft (still_open.clients 1).status (still_open.clients 1).knows.own (still_open.clients 1).begun → ⊥ }
+    ensures can { CanBury still_open 1 }
+    ensures seen { world_state (client_buried still_open 1) ≢ world_state still_open }
 {}

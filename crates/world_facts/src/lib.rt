@@ -27,8 +27,9 @@ pub use book_laws::{
 };
 pub use broken_laws::{
     booked_number_of_a_node_is_taken, booked_number_past_all_inodes_is_received,
-    copy_beside_a_writer_goes_stale, copy_without_a_lease_goes_stale,
-    mark_past_its_records_loses_a_call, number_in_two_hands_is_taken,
+    burial_of_a_client_with_an_open_file_is_seen, copy_beside_a_writer_goes_stale,
+    copy_without_a_lease_goes_stale, mark_past_its_records_loses_a_call,
+    number_in_two_hands_is_taken, number_of_a_new_node_is_granted_again,
     number_used_twice_is_free_between, number_without_an_account_is_granted_again,
     pin_without_the_book_is_no_pin, reclaim_of_a_file_to_be_named_is_seen,
     reclaim_of_an_open_file_is_seen, record_of_no_call_breaks_the_whole,
