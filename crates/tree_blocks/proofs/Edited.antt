@@ -1,6 +1,6 @@
 -- An inode after a change is the node after it.
 use Rattle.std.proofs.Common.{◌≡◌, inl, inr, ℕ, [], map, arith, refl, sym, ◌∙◌, ap, subst, Option, Some, None, false, cond}
-use Rattle.std.specs.Prelude.{nat_lt, option_map, is_some, unwrap_or}
+use Rattle.std.specs.Prelude.{option_map, is_some, unwrap_or}
 use Rattle.std.specs.List.{range_with_len}
 use Rattle.std.specs.FinMap as fin
 use Rattle.std.proofs.lemmas.Bool.{cases_Bool, lt-ltb, le-ltb}

@@ -1,13 +1,13 @@
 -- The bytes of a file, as its blocks are written for a change.
-use Rattle.std.proofs.Common.{◌≡◌, ◌≢◌, inl, inr, ℕ, ◌+◌, ◌-◌, ◌*◌, ◌/◌, ◌%◌, ◌≤◌, ◌<◌, min, Bool, true, false, cond, List, ◌++◌, length, take, map, get_or, refl, sym, ◌∙◌, ap, arith, eq-eqb, Option, Some, None}
+use Rattle.std.proofs.Common.{◌≡◌, ◌≢◌, inl, inr, ℕ, ◌+◌, ◌-◌, ◌*◌, ◌/◌, ◌%◌, ◌≤◌, ◌<◌, Bool, true, false, cond, List, ◌++◌, length, take, map, get_or, refl, sym, ◌∙◌, ap, arith, eq-eqb, Option, Some, None}
 use Rattle.std.specs.Prelude.{nat_lt, nat_le, replicate, unwrap_or, is_some, not, ◌&&◌, ◌||◌}
 use Rattle.std.specs.List.{range_with_len}
 use Rattle.std.specs.FinMap as fin
 use Rattle.std.proofs.lemmas.Bool.{cases_lt, cases_Bool, lt-ltb, le-ltb, le-leb, leb-true, ne_eqb}
 use Rattle.std.proofs.lemmas.List.{get_or_append_left, get_or-append_right, get_or-take, get_or-replicate, get_or_past, ext_get_or, length-take, length-append, length-replicate}
 use Rattle.std.proofs.lemmas.List.FromFn.{get_or-map-range_with_len, length-map-range_with_len}
-use Rattle.graph_change.specs.Bytes.{Length, Grown, Cut, BytesChange, length_after, left, byte_after, end, IsOrdered, IsTidy}
-use Rattle.graph_change.specs.Change.{Change, Patch, Patches, blank, patch_at, net_of, patched, writes_block, ends_within, cuts_within}
+use Rattle.graph_change.specs.Bytes.{Length, Grown, Cut, length_after, left, byte_after, end, IsOrdered, IsTidy}
+use Rattle.graph_change.specs.Change.{Change, Patch, blank, patch_at, net_of, patched, writes_block, ends_within, cuts_within}
 use Rattle.tree_blocks.specs.Inode.{Blocks, byte_of, file_bytes, IsZeroFrom}
 use Rattle.tree_blocks.specs.After.{IsFileAfter}
 use Rattle.tree_blocks.specs.FileBlock.{kept_in, in_block, block_after, is_cut_off, AreWritten}

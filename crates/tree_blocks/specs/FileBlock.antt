@@ -1,5 +1,5 @@
 -- A block of a file after a change of the file's bytes.
-use Rattle.std.specs.Prelude.{◌≡◌, ℕ, ◌-◌, ◌*◌, ◌<◌, min, nat_lt, nat_le, Bool, true, false, List, map, get_or, Option, Some, None}
+use Rattle.std.specs.Prelude.{◌≡◌, ℕ, ◌-◌, ◌*◌, ◌<◌, min, nat_le, Bool, true, false, List, map, get_or, Option, Some, None}
 use Rattle.std.specs.List.{range_with_len}
 use Rattle.layout.specs.declared.places.TheConstants.{BLOCK}
 use Rattle.graph_change.specs.Bytes.{Length, Grown, Cut, BytesChange, byte_after}
