@@ -1,2 +1,4 @@
+pub mod Counts
 pub mod Good
+pub mod Rises
 pub mod Summary

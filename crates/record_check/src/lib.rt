@@ -6,8 +6,14 @@
 //! is told by the nodes that it touches, without the bytes of files: a file is known by its size, a directory by its entries.
 #![tactic(auto)]
 
+mod counting;
 mod laws;
+mod node_counts;
 mod node_summary;
 
-pub use laws::summary_is_of_the_node_after;
+pub use counting::counts_after;
+pub use laws::{
+    counts_are_of_the_node_after, growth_is_told_by_what_is_touched, summary_is_of_the_node_after,
+};
+pub use node_counts::{NodeCounts, cost};
 pub use node_summary::{NodeSummary, SummaryBody};

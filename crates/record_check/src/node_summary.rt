@@ -1,10 +1,12 @@
-ghost use Rattle.std.specs.Prelude.{◌≡◌, ℕ, false, Some, OnOk, OnErr, max};
+ghost use Rattle.std.specs.Prelude.{◌≡◌, ◌<◌, ◌^◌, ℕ, false, Some, OnOk, OnErr, max};
 ghost use Rattle.std.specs.FinMap as fin;
 ghost use Rattle.file_graph.specs.Plain.{is_drop};
 ghost use Rattle.log_record.specs.Grammar.{Fits};
 ghost use Rattle.call_effects.specs.NodeView.{FileView, DirView, empty_view, in_entries, in_size, view_acted};
 ghost use Rattle.record_check.specs.Summary.{view_of};
+ghost use Rattle.record_check.specs.Counts.{counts_of, entry_in, entries_in};
 
+use crate::node_counts::NodeCounts;
 use file_graph::{Child, Effect, Kind};
 use node_bodies::NameMap;
 use posix_calls::Name;
@@ -66,6 +68,33 @@ impl NodeSummary {
         match kind {
             Kind::File => NodeSummary::file(0, 0),
             Kind::Directory => NodeSummary::directory(0, NameMap::new(alloc)),
+        }
+    }
+
+    /// Its numbers alone.
+    pub fn counts(&self) -> NodeCounts
+        ensures is { result ≡ counts_of self.now }
+        ensures few { entries_in (Some result) < 2 ^ 32 }
+    {
+        match &self.body {
+            SummaryBody::File { size } => NodeCounts::File {
+                names: self.names,
+                size: *size,
+            },
+            SummaryBody::Directory { entries } => NodeCounts::Directory {
+                names: self.names,
+                entries: entries.len() as u64,
+            },
+        }
+    }
+
+    /// Whether there is an entry of a name in it; none where it is no directory.
+    pub fn entry_in(&self, name: &[u8]) -> Option<bool>
+        ensures { result ≡ entry_in name.now (Some self.now) }
+    {
+        match &self.body {
+            SummaryBody::File { .. } => None,
+            SummaryBody::Directory { entries } => Some(has_entry(entries, name)),
         }
     }
 
@@ -148,5 +177,14 @@ fn grow(body: &mut SummaryBody, end: u64)
     match body {
         SummaryBody::File { size } => *size = (*size).max(end),
         SummaryBody::Directory { .. } => {}
+    }
+}
+
+fn has_entry(entries: &NameMap<Child>, name: &[u8]) -> bool
+    ensures { result ≡ fin.contains_key entries.now name.now }
+{
+    match entries.get(name) {
+        Some(_) => true,
+        None => false,
     }
 }
