@@ -1,5 +1,5 @@
 -- The growth of effects is the sum of the rises of the nodes that they touch.
-use Rattle.std.proofs.Common.{◌≡◌, ◌≢◌, ◌⊎◌, inl, inr, ℕ, zero, suc, ◌+◌, ◌-◌, ◌≤◌, ◌==◌, ◌||◌, Bool, true, false, cond, List, [], ◌∷◌, ◌++◌, Option, Some, None, refl, ap, sym, subst, ◌∙◌, arith}
+use Rattle.std.proofs.Common.{◌≡◌, ◌≢◌, inl, inr, ℕ, zero, suc, ◌+◌, ◌-◌, ◌==◌, ◌||◌, Bool, true, false, cond, List, [], ◌∷◌, ◌++◌, Option, Some, None, refl, ap, sym, subst, ◌∙◌, arith}
 use Rattle.std.specs.Prelude.{option_map}
 use Rattle.std.specs.List.{AllByRecursion}
 use Rattle.std.proofs.lemmas.Bool.{eq-eqb, false≢true}
@@ -13,7 +13,7 @@ use Rattle.file_graph.specs.Graph.{Graph, Node, FileBody, DirBody, after_effects
 use Rattle.file_graph.specs.Units.{rise, growth, charge}
 use Rattle.file_graph.proofs.Touches.{untouched}
 use Rattle.log_record.specs.Grammar.{Fits, IsInode}
-use Rattle.call_effects.specs.NodeView.{NodeView, view_at, view_of_node, view_of_body, view_after}
+use Rattle.call_effects.specs.NodeView.{NodeView, view_at, view_of_node, view_of_body}
 use Rattle.call_effects.proofs.NodeViews.{viewed_after}
 use Rattle.call_effects.proofs.Rises.{same_sums}
 use Rattle.record_check.specs.Counts.{counts_of, counts_after, counts_cost}

@@ -9,7 +9,7 @@ use Rattle.file_graph.specs.declared.effect.Kind.TheVariants as kind
 use Rattle.file_graph.specs.declared.effect.Effect.{Effect}
 use Rattle.file_graph.specs.declared.effect.Effect.TheVariants as effect
 use Rattle.file_graph.specs.Graph.{subjects, is_among}
-use Rattle.call_effects.specs.NodeView.{NodeView, FileView, DirView, view_acted, view_after}
+use Rattle.call_effects.specs.NodeView.{NodeView, FileView, DirView, view_after}
 use Rattle.record_check.specs.declared.node_counts.NodeCounts.{NodeCounts}
 use Rattle.record_check.specs.declared.node_counts.NodeCounts.TheVariants as counts
 
