@@ -1,9 +1,9 @@
 -- Where nothing is damaged, the blocks spell a graph.
-use Rattle.std.proofs.Common.{◌≡◌, ◌≢◌, ◌≤◌, ◌<◌, ◌/◌, ℕ, [], true, false, refl, sym, ap, subst, ◌∙◌, arith, Option, Some, None, inl, inr, ◌⊎◌, List, length}
+use Rattle.std.proofs.Common.{◌≡◌, ◌≢◌, ◌≤◌, ◌<◌, ◌/◌, ℕ, [], true, refl, sym, ap, subst, ◌∙◌, arith, Option, Some, None, inl, inr, ◌⊎◌, List, length}
 use Rattle.std.specs.Prelude.{◌==◌, IsSome, is_some, option_map, unwrap_or}
 use Rattle.std.specs.Str.{bytes_eq}
 use Rattle.std.proofs.lemmas.Slice.Eq.{bytes_eq-Decides}
-use Rattle.std.proofs.lemmas.Bool.{cases_Bool, cases_eq, cases_lt, cond-true, cond-false, eqb-true, eqb-false, true≢false, false≢true}
+use Rattle.std.proofs.lemmas.Bool.{cases_Bool, cases_eq, cases_lt, cond-true, cond-false, true≢false, false≢true}
 use Rattle.tier_device.specs.declared.media.Tier.{Tier}
 use Rattle.tier_device.specs.declared.media.Tier.TheVariants.{Fast, Block, Slow}
 use Rattle.file_graph.specs.Units.{charge}
@@ -15,12 +15,12 @@ use Rattle.layout.specs.declared.slot.Slot.TheVariants as slots
 use Rattle.layout.specs.declared.places.TheConstants.{BLOCK, SUPER_BLOCK, MARKS_BLOCK}
 use Rattle.layout.specs.Places.{Sizes, is_inode, slot_block}
 use Rattle.layout.specs.Slot.{slot_of}
-use Rattle.layout.specs.Directory.{listed, fits_entries, entries_spelling, AreEntries}
+use Rattle.layout.specs.Directory.{listed, fits_entries, entries_spelling}
 use Rattle.extent_nodes.specs.Places.{place_of}
 use Rattle.batch_journal.specs.Volume.{Spells}
-use Rattle.tree_blocks.specs.Inode.{IsConsistent, IsConsistentBy, IsDirectoryBlock, IsDirectory, AreDistinct, byte_of, entry_at, entries_in, blocks_for, Blocks}
+use Rattle.tree_blocks.specs.Inode.{IsConsistent, IsConsistentBy, IsDirectoryBlock, AreDistinct, byte_of, entry_at, entries_in, blocks_for, Blocks}
 use Rattle.area_image.specs.Store.{Store, slot, slot_bytes, slot_read, root_of, length_of, extents_read, place, logical, inode, graph, marks}
-use Rattle.area_image.specs.Spelled.{SpellsInode, Use, used, AreUsedOnce, IsSpelled, IsOpenable}
+use Rattle.area_image.specs.Spelled.{Use, used, AreUsedOnce, IsOpenable}
 use Rattle.area_image.specs.Damage.{IsDamaged, byte_in}
 use Rattle.area_image.proofs.Damages.{option_cases, is_some_at, at_fast, at_block, at_slow, at_none, length_is, blocks_is, none_read, no_entries}
 use Rattle.area_image.proofs.Shown.{extents_none}

@@ -15,8 +15,6 @@ use Rattle.batch_journal.specs.Images.{slice}
 use Rattle.batch_journal.specs.Blocks.{Blocks}
 use Rattle.layout.specs.Marks.{marks_of}
 use Rattle.batch_journal.specs.Volume.{Spells}
-use Rattle.file_graph.specs.Graph.{Graph}
-use Rattle.file_graph.specs.Units.{charge}
 use Rattle.tree_blocks.specs.Inode.{IsConsistent, inode_of, node_of}
 use Rattle.area_image.specs.Store.{Store, slot_read, slot, root_of, space_of, length_of, own_extents, extents_by, extents_read, place, at_or, logical, inode, graph, marks}
 use Rattle.area_image.specs.Reads.{Reads, Free, Loose, Untouched}

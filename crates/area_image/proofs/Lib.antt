@@ -9,3 +9,4 @@ pub mod Complete
 pub mod Torn
 pub mod Tails
 pub mod Twins
+pub mod Inodes

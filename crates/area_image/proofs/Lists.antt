@@ -1,8 +1,8 @@
 -- What is read of a slot or an extent block keeps the limits of the format.
 use Rattle.std.proofs.Common.{◌≡◌, ◌≢◌, ◌+◌, ◌-◌, ◌≤◌, ◌<◌, ◌&&◌, ℕ, zero, suc, List, [], ◌∷◌, length, Bool, true, false, cond, Option, Some, None, refl, sym, ap, subst, ◌∙◌, arith, inl, inr, ◌⊎◌}
-use Rattle.std.specs.Prelude.{◌==◌, nat_le, nat_lt, option_map, unwrap_or, if◌then◌else◌}
+use Rattle.std.specs.Prelude.{◌==◌, nat_le, nat_lt, option_map, unwrap_or}
 use Rattle.std.specs.List.{list_all}
-use Rattle.std.proofs.lemmas.Bool.{cases_Bool, cond-true, cond-false, and_parts, and_from, leb-true, le-leb, ltb-true, eqb-true, eqb-false}
+use Rattle.std.proofs.lemmas.Bool.{cases_Bool, cond-true, cond-false, and_parts, and_from, leb-true, ltb-true, eqb-true, eqb-false}
 use Rattle.tier_device.specs.declared.media.Tier.{Tier}
 use Rattle.tier_device.specs.declared.media.Tier.TheVariants.{Fast, Block, Slow}
 use Rattle.layout.specs.Bytes.{◌>>=◌, Field, number_at, items_at, within}
@@ -15,8 +15,7 @@ use Rattle.layout.specs.Extents.{ExtentList, ExtentHead, is_extent, is_sound, fi
 use Rattle.layout.specs.Places.{Sizes, is_inode, is_run, data_first, tier_blocks, node_end}
 use Rattle.layout.specs.Slot.{slot_at, slot_from, slot_of, fits_slot}
 use Rattle.extent_nodes.specs.Places.{has, end_of, place_in, extent_at as first_extent, place_of}
-use Rattle.batch_journal.specs.Blocks.{Blocks}
-use Rattle.area_image.specs.Store.{Store, slot_bytes, slot_read, slot, root_of, space_of, length_of, is_own, own_extents, extents_by, extents_read, place}
+use Rattle.area_image.specs.Store.{Store, slot_bytes, slot_read, slot, root_of, space_of, length_of, is_own, own_extents, extents_read, place}
 use Rattle.area_image.specs.Reads.{IsRoom, IsPlaced, first_room}
 
 bind_some : {A B : Type 0} (o : Option A) (f : A → Option B) (y : B) → (o >>= f) ≡ Some y → (x : A) × (o ≡ Some x) × (f x ≡ Some y)

@@ -1,8 +1,8 @@
 -- Slot and extents of an inode, by the slot that was read.
-use Rattle.std.proofs.Common.{◌≡◌, ◌∙◌, inl, inr, ℕ, true, sym, ap, Some}
+use Rattle.std.proofs.Common.{◌≡◌, ◌∙◌, inl, inr, ℕ, true, refl, sym, ap, Some}
 use Rattle.std.specs.Prelude.{unwrap_or}
 use Rattle.tier_device.specs.declared.media.Tier.{Tier}
-use Rattle.tier_device.specs.declared.media.Tier.TheVariants.{Fast, Block, Slow}
+use Rattle.tier_device.specs.declared.media.Tier.TheVariants.{Fast}
 use Rattle.layout.specs.declared.error.What.{What}
 use Rattle.layout.specs.declared.slot.Slot.{Slot}
 use Rattle.layout.specs.declared.slot.Slot.TheVariants as slots
@@ -12,6 +12,7 @@ use Rattle.area_image.specs.declared.error.AreaError.TheVariants as errors
 use Rattle.area_image.specs.declared.tiers.InodeExtents.{InodeExtents}
 use Rattle.area_image.specs.Store.{Store, slot, slot_read, root_of, extents_by, extents_read}
 use Rattle.area_image.specs.Damage.{OnDamage, IsDamaged}
+use Rattle.area_image.specs.Checks.{IsOwnDamage}
 use Rattle.area_image.specs.Map.{in_tier, extents_in, HasAllExtents, IsPartDamage}
 
 pub on_damage : {P Q : What → ℕ → Type 0} (e : AreaError) → ((w : What) (block : ℕ) → P w block → Q w block) → OnDamage e P → OnDamage e Q
@@ -20,7 +21,7 @@ on_damage (errors.Damaged w block) f p = f w block p
 on_damage errors.Memory f p = tt
 
 module _ (g : Sizes) (s : Store) (i : ℕ) where
-  slot_as : (x : Slot) → slot_read g s i ≡ Some x → slot g s i ≡ x
+  pub slot_as : (x : Slot) → slot_read g s i ≡ Some x → slot g s i ≡ x
   slot_as x is = ap (λ o. unwrap_or o slots.Free) is
 
   extents_as : (x : Slot) (t : Tier) → slot_read g s i ≡ Some x → extents_read g s i t ≡ extents_by g (s Fast) i x t
@@ -30,14 +31,24 @@ module _ (g : Sizes) (s : Store) (i : ℕ) where
   pub extents_all : (x : Slot) (found : InodeExtents) → slot_read g s i ≡ Some x → HasAllExtents g (s Fast) i x found → (t : Tier) → extents_read g s i t ≡ Some (extents_in (in_tier found t))
   extents_all x found is has t = extents_as x t is ∙ (has t).extents
 
-  pub part_damage : is_inode i ≡ true → (w : What) (block : ℕ) → IsPartDamage g s i w block → IsDamaged g s w block
-  part_damage number w block (inl (structure, at, none)) = inl (record { structure = structure; inode = i; is = number; at = at; wrong = inl none })
+  pub part_damage : is_inode i ≡ true → (w : What) (block : ℕ) → IsPartDamage g s i w block → IsOwnDamage g s i w block
+  part_damage number w block (inl (structure, at, none)) = inl (record { damage = record { structure = structure; inode = i; is = number; at = at; wrong = inl none }; of_it = refl })
   part_damage number w block (inr (x, is, has)) = inr (inl (record {
-    structure = has.structure;
-    inode = i;
-    is = number;
-    tier = has.tier;
-    some = λ e. has.some (ap (λ x. root_of x has.tier) (sym (slot_as x is)) ∙ e);
-    at = has.at ∙ ap (λ x. root_of x has.tier) (sym (slot_as x is));
-    wrong = inl (extents_as x has.tier is ∙ has.none);
+    damage = record {
+      structure = has.structure;
+      inode = i;
+      is = number;
+      tier = has.tier;
+      some = λ e. has.some (ap (λ x. root_of x has.tier) (sym (slot_as x is)) ∙ e);
+      at = has.at ∙ ap (λ x. root_of x has.tier) (sym (slot_as x is));
+      wrong = inl (extents_as x has.tier is ∙ has.none);
+    };
+    of_it = refl;
   }))
+
+  -- an inode's own damage is damage
+  pub own_damage : (w : What) (block : ℕ) → IsOwnDamage g s i w block → IsDamaged g s w block
+  own_damage w block (inl x) = inl x.damage
+  own_damage w block (inr (inl x)) = inr (inl x.damage)
+  own_damage w block (inr (inr (inl x))) = inr (inr (inl x.damage))
+  own_damage w block (inr (inr (inr x))) = inr (inr (inr (inl x.damage)))

@@ -1,24 +1,23 @@
 -- A file that is zero behind its end, by its last block.
-use Rattle.std.proofs.Common.{◌≡◌, ◌≢◌, ◌≤◌, ◌<◌, ◌+◌, ◌-◌, ◌*◌, ◌/◌, ◌%◌, ℕ, suc, [], ◌∷◌, ◌&&◌, Bool, List, length, get_or, drop, true, false, refl, sym, ap, subst, ◌∙◌, arith, Option, Some, None, inl, inr, ◌⊎◌}
-use Rattle.std.specs.Prelude.{◌==◌, IsSome, unwrap_or}
+use Rattle.std.proofs.Common.{◌≡◌, ◌≢◌, ◌≤◌, ◌<◌, ◌+◌, ◌-◌, ◌*◌, ◌/◌, ◌%◌, ℕ, suc, [], ◌∷◌, ◌&&◌, Bool, List, length, get_or, drop, true, false, refl, sym, ap, subst, ◌∙◌, arith, Some, None, inl, inr, ◌⊎◌}
+use Rattle.std.specs.Prelude.{◌==◌, unwrap_or}
 use Rattle.std.proofs.lemmas.Bool.{cases_eq, cases_lt, eqb-true, eq-eqb, true≢false}
-use Rattle.std.proofs.lemmas.List.{get_or-drop, get_or_past, length-drop}
+use Rattle.std.proofs.lemmas.List.{get_or-drop, get_or_past}
 use Rattle.tier_device.specs.declared.media.Tier.{Tier}
 use Rattle.tier_device.specs.declared.media.Tier.TheVariants.{Fast, Block, Slow}
 use Rattle.layout.specs.Bytes.{are_zero}
 use Rattle.layout.proofs.Pairs.{all_at}
 use Rattle.layout.specs.Places.{Sizes}
-use Rattle.layout.specs.declared.error.What.{What}
 use Rattle.layout.specs.declared.error.What.TheVariants as what
 use Rattle.extent_nodes.specs.Places.{place_of}
 use Rattle.tree_blocks.specs.Inode.{IsZeroFrom, byte_of}
-use Rattle.area_image.specs.Store.{Store, slot, length_of, place, logical, inode}
+use Rattle.area_image.specs.Store.{Store, slot, length_of, place, logical}
 use Rattle.area_image.specs.Reads.{IsPlaced}
-use Rattle.area_image.specs.Damage.{byte_in, IsTailDamage}
-use Rattle.area_image.specs.Map.{in_tier, extents_in, place_by}
+use Rattle.area_image.specs.Damage.{byte_in}
+use Rattle.area_image.specs.Map.{place_by}
 use Rattle.area_image.specs.Checks.{HasFound, IsFile, IsTailDamageOf}
 use Rattle.area_image.specs.declared.tiers.InodeExtents.{InodeExtents}
-use Rattle.area_image.proofs.Damages.{option_cases, at_fast, at_block, at_slow, at_none}
+use Rattle.area_image.proofs.Damages.{option_cases, at_none}
 use Rattle.area_image.proofs.Lists.{place_placed}
 
 -- a byte of what is zero is zero

@@ -1,14 +1,14 @@
 -- Writes that are torn in free blocks.
-use Rattle.std.proofs.Common.{◌≡◌, ◌≢◌, ◌+◌, ◌*◌, ◌≤◌, ◌<◌, ℕ, List, refl, sym, ap, ◌∙◌, arith, inl, inr, ◌⊎◌, Some}
+use Rattle.std.proofs.Common.{◌≡◌, ◌≢◌, ◌+◌, ◌*◌, ◌≤◌, ◌<◌, ℕ, List, refl, sym, ap, ◌∙◌, arith, inl, inr, ◌⊎◌}
 use Rattle.std.proofs.lemmas.Bool.{cases_lt}
 use Rattle.tier_device.specs.declared.media.Tier.{Tier}
 use Rattle.tier_device.specs.declared.media.Tier.TheVariants.{Fast, Block, Slow}
 use Rattle.tier_device.specs.Media.{Torn}
 use Rattle.layout.specs.Places.{Sizes}
-use Rattle.batch_journal.specs.Blocks.{Blocks, block_of, home}
+use Rattle.batch_journal.specs.Blocks.{Blocks, block_of}
 use Rattle.batch_journal.specs.Course.{OutsideRun}
 use Rattle.batch_journal.proofs.Bytes.{slice_apart}
-use Rattle.area_image.specs.Store.{Store, store_of, content_blocks, slot, root_of, place}
+use Rattle.area_image.specs.Store.{Store, store_of, content_blocks, root_of}
 use Rattle.area_image.specs.Reads.{Reads, Free, Loose, LooseIn, IsFreeRun}
 use Rattle.area_image.proofs.Frames.{loose_slot, loose_place, loose_free}
 

@@ -1,9 +1,9 @@
 -- A directory, block by block.
-use Rattle.std.proofs.Common.{◌≡◌, ◌≢◌, ◌≤◌, ◌<◌, ◌+◌, ◌-◌, ◌*◌, ◌/◌, ◌%◌, ℕ, zero, suc, [], ◌∷◌, List, ◌++◌, length, get_or, Bool, true, false, refl, sym, ap, subst, ◌∙◌, arith, Option, Some, None, inl, inr, ◌⊎◌}
+use Rattle.std.proofs.Common.{◌≡◌, ◌≤◌, ◌<◌, ◌+◌, ◌*◌, ◌/◌, ◌%◌, ℕ, zero, suc, [], ◌∷◌, List, ◌++◌, length, get_or, Bool, true, false, refl, sym, ap, subst, ◌∙◌, arith, Option, Some, None, inl, inr}
 use Rattle.std.specs.Prelude.{Result, Ok, Err, min, not, IsSome, is_some, nat_lt, nat_le}
 use Rattle.std.specs.List.{list_all}
 use Rattle.std.specs.Str.{bytes_eq}
-use Rattle.std.proofs.lemmas.Bool.{cases_eq, cases_lt, and_parts, or_right, le-leb, false≢true, true≢false}
+use Rattle.std.proofs.lemmas.Bool.{cases_lt, and_parts, or_right, le-leb, false≢true, true≢false}
 use Rattle.std.proofs.lemmas.Slice.Eq.{bytes_eq-Decides}
 use Rattle.std.proofs.lemmas.List.{get_or_append_left, get_or_push, length_push}
 use Rattle.tier_device.specs.declared.media.Tier.{Tier}
@@ -21,13 +21,13 @@ use Rattle.layout.specs.declared.error.LayoutError.{LayoutError}
 use Rattle.layout.specs.declared.error.What.{What}
 use Rattle.layout.specs.declared.error.What.TheVariants as what
 use Rattle.layout.specs.Places.{Sizes, slot_block}
-use Rattle.tree_blocks.specs.Inode.{Blocks, Entry, IsDirectoryBlock, IsDirectory, AreDistinct, entry_at, entries_in, blocks_for, plain}
+use Rattle.tree_blocks.specs.Inode.{Blocks, Entry, IsDirectoryBlock, IsDirectory, AreDistinct, entry_at, entries_in, blocks_for}
 use Rattle.tree_blocks.specs.Directory.{numbered}
 use Rattle.tree_blocks.proofs.Held.{entry_is}
-use Rattle.area_image.specs.Store.{Store, slot, length_of, extents_read, place, logical, inode}
+use Rattle.area_image.specs.Store.{Store, extents_read, place, logical, inode}
 use Rattle.area_image.specs.Reads.{IsRoom}
 use Rattle.area_image.proofs.Damages.{at_fast, other_place}
-use Rattle.area_image.specs.Checks.{IsEntries, IsSlotDamageOf, IsEntryDamageOf, HasName, HasSameName, AreFirstBlocks}
+use Rattle.area_image.specs.Checks.{IsEntries, IsSlotDamageOf, IsEntryDamageOf, HasSameName, AreFirstBlocks}
 
 -- what is entries is read as such
 pub entries_read : (block : List ℕ) → AreEntries block → entries_of block ≡ Some (listed block)

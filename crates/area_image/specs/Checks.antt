@@ -1,7 +1,6 @@
 -- What is checked of an inode whose slot and extents are read.
 use Rattle.std.specs.Prelude.{◌≡◌, ◌+◌, ◌-◌, ◌/◌, ◌<◌, ◌*◌, ◌⊎◌, min, ℕ, List, length, true, Some, IsSome}
 use Rattle.tier_device.specs.declared.media.Tier.{Tier}
-use Rattle.file_graph.specs.declared.effect.Kind.{Kind}
 use Rattle.file_graph.specs.declared.effect.Kind.TheVariants as kind
 use Rattle.layout.specs.declared.error.What.{What}
 use Rattle.layout.specs.declared.places.TheConstants.{BLOCK}

@@ -1,12 +1,12 @@
 // Slot and extents of an inode.
 ghost use Rattle.std.specs.Prelude.{◌≡◌, ◌≤◌, Some, true, IfOk, IfErr};
-ghost use Rattle.tier_device.specs.declared.media.Tier.{Tier};
 ghost use Rattle.tier_device.specs.declared.media.Tier.TheVariants as tiers;
 ghost use Rattle.layout.specs.Slot.{fits_slot};
-ghost use Rattle.area_image.specs.Store.{store_of, slot_read, extents_read};
-ghost use Rattle.area_image.specs.Damage.{OnDamage, IsDamaged};
+ghost use Rattle.area_image.specs.Store.{store_of, slot_read};
+ghost use Rattle.area_image.specs.Damage.{OnDamage};
 ghost use Rattle.area_image.specs.Looks.{Looks};
-ghost use Rattle.area_image.specs.Map.{in_tier, extents_in, IsPartDamage, HasAllExtents, WantsMemory};
+ghost use Rattle.area_image.specs.Map.{IsPartDamage, HasAllExtents, WantsMemory};
+ghost use Rattle.area_image.specs.Checks.{HasFound, IsOwnDamage};
 ghost use Rattle.area_image.specs.declared.error.AreaError.TheVariants.{Memory};
 
 use crate::error::AreaError;
@@ -27,7 +27,7 @@ pub struct InodeParts {
 
 /// The slot and the extents of an inode, each block read once. `Damaged` names the slot or an extent block, where it is none; that takes no memory. `Memory` where
 /// there was none for what an extent block spells.
-pub fn read_inode<M: Media>(
+pub fn read_parts<M: Media>(
     alloc: Global,
     journal: &mut Journal<M>,
     inode: u32,
@@ -36,20 +36,19 @@ pub fn read_inode<M: Media>(
     requires high { inode ≤ MAX_INODE }
     ensures slot { IfOk result (λ x. slot_read journal.old.geometry (store_of (M.seen journal.old.media)) inode ≡ Some x.slot) }
     ensures fits { IfOk result (λ x. fits_slot journal.old.geometry x.slot ≡ true) }
-    ensures extents { IfOk result (λ x. (t : Tier) → extents_read journal.old.geometry (store_of (M.seen journal.old.media)) inode t ≡ Some (extents_in (in_tier x.extents t))) }
     ensures blocks { IfOk result (λ x. HasAllExtents journal.old.geometry (store_of (M.seen journal.old.media) tiers.Fast) inode x.slot x.extents) }
-    ensures damaged { IfErr result (λ e. OnDamage e (IsDamaged journal.old.geometry (store_of (M.seen journal.old.media)))) }
-    ensures own { IfErr result (λ e. OnDamage e (IsPartDamage journal.old.geometry (store_of (M.seen journal.old.media)) inode)) }
+    ensures extents { IfOk result (λ x. HasFound journal.old.geometry (store_of (M.seen journal.old.media)) inode x.extents) }
+    ensures own { IfErr result (λ e. OnDamage e (IsOwnDamage journal.old.geometry (store_of (M.seen journal.old.media)) inode)) }
     ensures memory { IfErr result (λ e. e ≡ Memory → WantsMemory journal.old.geometry (store_of (M.seen journal.old.media)) inode) }
     ensures looks { Looks M.moment M.seen M.left M.faults journal.old journal.new result }
 {
-    match read_parts(alloc, journal, inode) {
+    match read_slot_and_extents(alloc, journal, inode) {
         Ok(parts) => Ok(parts),
         Err(error) => Err(error),
     }
 }
 
-fn read_parts<M: Media>(
+fn read_slot_and_extents<M: Media>(
     alloc: Global,
     journal: &mut Journal<M>,
     inode: u32,

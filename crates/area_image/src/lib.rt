@@ -12,13 +12,14 @@ mod marks;
 mod places;
 mod reading;
 mod slots;
+mod sound;
 mod tail;
 mod tiers;
 
 pub use change_laws::{free_blocks_have_no_use, rewritten_inodes_are_spelled};
 pub use error::AreaError;
 pub use extents::read_extents;
-pub use inode::{InodeParts, read_inode};
+pub use inode::{InodeParts, read_parts};
 pub use laws::{
     damage_spells_no_graph, free_blocks_are_not_read, free_blocks_stay_free, places_are_in_pools,
     sound_blocks_spell_a_graph, torn_free_run_stays_loose, untouched_inodes_stay,
@@ -27,4 +28,5 @@ pub use laws::{
 pub use marks::read_marks;
 pub use reading::{blank_block, read_block};
 pub use slots::{length_of, read_slot, root_of, space_of};
+pub use sound::read_inode;
 pub use tiers::{InodeExtents, read_all_extents};

@@ -1,4 +1,4 @@
-use Rattle.std.proofs.Common.{◌≡◌, ◌∙◌, ◌∷◌, ◌++◌, [], List, ℕ, sym, subst}
+use Rattle.std.proofs.Common.{◌≡◌, ◌∷◌, ◌++◌, [], List, ℕ, sym, subst}
 use Rattle.area_image.specs.Store.{store_of}
 use Rattle.area_image.specs.Checks.{AreFirstBlocks}
 use Rattle.area_image.proofs.Twins.{first_more}

@@ -1,7 +1,5 @@
-use Rattle.std.proofs.Common.{◌≡◌, ◌<◌, ◌+◌, ◌∙◌, ℕ, List, Ok, Err, length, refl, sym, ap, subst, arith}
-use Rattle.layout.specs.Places.{Sizes}
-use Rattle.tree_blocks.specs.Inode.{blocks_for}
-use Rattle.area_image.specs.Store.{Store, store_of}
+use Rattle.std.proofs.Common.{◌≡◌, ◌+◌, ◌∙◌, Err, length, sym, ap, subst, arith}
+use Rattle.area_image.specs.Store.{store_of}
 use Rattle.area_image.specs.Looks.{looked}
 use Rattle.area_image.specs.Checks.{IsEntries, HasFound, AreFirstBlocks, HasPart, IsDirectoryDamageOf}
 use Rattle.area_image.proofs.Parts.{on_damage}

@@ -1,8 +1,5 @@
-use Rattle.std.proofs.Common.{◌≡◌, ◌∙◌, Err, None, Some, sym, ap}
-use Rattle.layout.specs.Answers.{answer}
-use Rattle.layout.specs.Directory.{entries_of}
 use Rattle.layout.specs.declared.error.What.TheVariants as what
-use Rattle.area_image.proofs.Twins.{entries_read, not_read}
+use Rattle.area_image.proofs.Twins.{not_read}
 use Rattle.area_image.proofs.entries.is_part.Goals as goal
 
 pub returns-in-Err : goal.returns-in-Err

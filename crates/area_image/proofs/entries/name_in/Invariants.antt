@@ -1,4 +1,3 @@
-use Rattle.std.proofs.Common.{ℕ}
 use Rattle.tree_blocks.specs.Directory.{numbered}
 use Rattle.area_image.specs.Checks.{HasName}
 use Rattle.area_image.proofs.entries.name_in.Given as goal

@@ -1,16 +1,14 @@
-use Rattle.std.proofs.Common.{◌≡◌, ◌<◌, ◌∙◌, ℕ, List, Some, length, refl, sym, ap, subst, inl, inr}
-use Rattle.std.proofs.lemmas.Bool.{true≢false}
+use Rattle.std.proofs.Common.{◌≡◌, ◌<◌, ◌∙◌, ℕ, Some, length, sym, ap, subst, inl, inr}
 use Rattle.tier_device.specs.declared.media.Tier.{Tier}
 use Rattle.tier_device.specs.declared.media.Tier.TheVariants.{Fast}
-use Rattle.layout.specs.Places.{Sizes, slot_block, tier_blocks}
+use Rattle.layout.specs.Places.{Sizes, tier_blocks}
 use Rattle.layout.specs.declared.error.What.TheVariants as what
 use Rattle.tree_blocks.specs.Inode.{IsDirectoryBlock}
-use Rattle.tree_blocks.specs.Directory.{numbered}
 use Rattle.area_image.specs.declared.error.AreaError.{AreaError}
 use Rattle.area_image.specs.Store.{Store, store_of, place, logical}
 use Rattle.area_image.specs.Damage.{OnDamage}
 use Rattle.area_image.specs.Reads.{IsRoom}
-use Rattle.area_image.specs.Checks.{HasSameName, IsSlotDamageOf, IsEntryDamageOf, IsDirectoryDamageOf}
+use Rattle.area_image.specs.Checks.{HasSameName, IsSlotDamageOf, IsDirectoryDamageOf}
 use Rattle.area_image.proofs.Damages.{is_some_at}
 use Rattle.area_image.proofs.Tails.{place_is, placed_by}
 use Rattle.area_image.proofs.Twins.{directory_tier, block_at, room_home, lacks, no_part, twin, part_there, same_back}

@@ -1,12 +1,12 @@
-use Rattle.std.proofs.Common.{◌≡◌, ◌+◌, ◌<◌, ◌∙◌, ℕ, List, length, get_or, Some, ap, sym, subst, arith, inl, inr}
+use Rattle.std.proofs.Common.{◌≡◌, ◌<◌, ◌∙◌, ℕ, List, length, Some, ap, sym, subst, arith, inl, inr}
 use Rattle.std.specs.Prelude.{slice_get}
 use Rattle.std.proofs.lemmas.Bool.{cases_eq}
 use Rattle.layout.specs.declared.directory.DirEntry.{DirEntry}
-use Rattle.layout.specs.Directory.{EntryList, listed, entry_of, no_entry}
+use Rattle.layout.specs.Directory.{EntryList, listed, entry_of}
 use Rattle.layout.specs.Lent.{owned}
 use Rattle.tree_blocks.specs.Directory.{numbered}
 use Rattle.tree_blocks.proofs.Lists.{got}
-use Rattle.area_image.specs.Checks.{HasName, HasSameName}
+use Rattle.area_image.specs.Checks.{HasName}
 use Rattle.area_image.proofs.entries.twin_in.Goals as goal
 
 -- the name that is looked for is that of the entry

@@ -1,10 +1,10 @@
-use Rattle.std.proofs.Common.{◌≡◌, ◌<◌, ◌/◌, ◌%◌, ◌∙◌, Some, ℕ, List, drop, true, false, length, refl, sym, ap, subst}
+use Rattle.std.proofs.Common.{◌≡◌, ◌<◌, ◌/◌, ◌%◌, ◌∙◌, Some, ℕ, drop, false, length, sym, ap, subst}
 use Rattle.layout.specs.Bytes.{are_zero}
 use Rattle.layout.specs.Places.{Sizes, tier_blocks}
 use Rattle.layout.specs.declared.error.What.{What}
 use Rattle.layout.specs.declared.error.What.TheVariants as what
-use Rattle.area_image.specs.Store.{Store, store_of, slot, length_of, place, logical}
-use Rattle.area_image.specs.Reads.{IsRoom, IsPlaced}
+use Rattle.area_image.specs.Store.{Store, store_of, place, logical}
+use Rattle.area_image.specs.Reads.{IsRoom}
 use Rattle.area_image.specs.Checks.{IsTailDamageOf}
 use Rattle.area_image.proofs.Parts.{on_damage}
 use Rattle.area_image.proofs.Damages.{logical_is}

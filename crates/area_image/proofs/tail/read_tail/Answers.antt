@@ -1,4 +1,4 @@
-use Rattle.std.proofs.Common.{◌≡◌, ◌∙◌, List, ℕ, length, drop, true, false, refl, sym, ap, subst}
+use Rattle.std.proofs.Common.{◌≡◌, List, ℕ, length, drop, true, false, refl, sym, subst}
 use Rattle.layout.specs.Bytes.{are_zero}
 use Rattle.layout.specs.declared.error.What.TheVariants as what
 use Rattle.batch_journal.proofs.Courses.{on_ok, if_err}
