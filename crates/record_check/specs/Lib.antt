@@ -1,4 +1,3 @@
 pub mod Counts
-pub mod Good
 pub mod Rises
 pub mod Summary

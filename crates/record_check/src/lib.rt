@@ -1,9 +1,8 @@
-//! Whether the next records of a client's log may be digested into a graph, record by record over the graph as the records before
-//! leave it.
+//! What a record does to nodes that are known without the bytes of files, and what it costs: whoever digests a log tests each record so, before it
+//! changes anything.
 //!
-//! A record is good (`IsGood` in `specs/Good.antt`) where its client holds every inode that it touches for writing, its units pay
-//! for what it raises, what it touches keeps the limits after it, and the graph after it costs no more than there is. All of that
-//! is told by the nodes that it touches, without the bytes of files: a file is known by its size, a directory by its entries.
+//! A file is known by its size, a directory by its entries (`NodeSummary`). What effects make of such a node is what they make of the node, and its
+//! numbers after them are told without doing them (`counts_after`). By how much effects raise the charge of a graph is told by the nodes that they touch.
 #![tactic(auto)]
 
 mod counting;
