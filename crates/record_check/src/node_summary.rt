@@ -14,14 +14,14 @@ use std::alloc::{AllocError, Global};
 use std::marker::Model;
 
 /// A node without the bytes of a file. Contracts see it as the view of a node.
-#[derive(Debug, Drop)]
+#[derive(Drop)]
 pub struct NodeSummary {
     names: u32,
     body: SummaryBody,
 }
 
 /// What is known of what is in a node.
-#[derive(Debug, Drop)]
+#[derive(Drop)]
 pub enum SummaryBody {
     /// A file of so many bytes.
     File { size: u64 },
