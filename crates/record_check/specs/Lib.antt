@@ -1,3 +1,4 @@
 pub mod Counts
+pub mod Known
 pub mod Rises
 pub mod Summary

@@ -34,7 +34,7 @@ pub fn counts_after(effects: &[Effect], inode: u32, old: Option<&NodeSummary>) -
 }
 
 // The numbers of a node that is known.
-fn counts_of(old: Option<&NodeSummary>) -> Option<NodeCounts>
+pub fn counts_of(old: Option<&NodeSummary>) -> Option<NodeCounts>
     ensures is { result ≡ option_map counts_of (option_map (λ n. n.now) old.entry) }
     ensures few { entries_in result ≤ 4294967295 }
 {
@@ -160,7 +160,7 @@ fn is_same(name: &[u8], other: &Name) -> bool
 
 // Whether an effect is on an inode.
 #[tactic(auto, using(crate::proofs::Steps::on_one))]
-fn is_on(effect: &Effect, inode: u32) -> bool
+pub fn is_on(effect: &Effect, inode: u32) -> bool
     ensures { result ≡ is_among inode (subjects effect.now) }
 {
     match effect {

@@ -2,15 +2,20 @@
 //! changes anything.
 //!
 //! A file is known by its size, a directory by its entries (`NodeSummary`). What effects make of such a node is what they make of the node, and its
-//! numbers after them are told without doing them (`counts_after`). By how much effects raise the charge of a graph is told by the nodes that they touch.
+//! numbers after them are told without doing them (`counts_after`). By how much effects raise the charge of a graph is told by the nodes that they touch
+//! (`record_costs`): a map tells what stands at each of these inodes, or that nothing does.
 #![tactic(auto)]
 
+mod costs;
 mod counting;
+mod known;
 mod laws;
 mod node_counts;
 mod node_summary;
 
+pub use costs::{RecordCosts, record_costs};
 pub use counting::counts_after;
+pub use known::first_unknown;
 pub use laws::{
     counts_are_of_the_node_after, growth_is_told_by_what_is_touched, summary_is_of_the_node_after,
 };

@@ -1,0 +1,55 @@
+//! What is known of the inodes that effects touch.
+
+ghost use Rattle.std.specs.Prelude.{◌≡◌, [], ◌∷◌, not, option_map};
+ghost use Rattle.file_graph.specs.Graph.{subjects};
+ghost use Rattle.record_check.specs.Known.{first_unknown, is_unknown, known_at};
+
+use crate::node_summary::NodeSummary;
+use file_graph::Effect;
+use std::collections::BTreeMap;
+
+/// The first inode that effects touch, in their order, of which nothing is known. Where none is named, the map tells of each inode
+/// that they touch what stands there, or that nothing does.
+#[tactic(auto, using(crate::proofs::Touched::next_found))]
+pub fn first_unknown(known: &BTreeMap<u32, Option<NodeSummary>>, effects: &[Effect]) -> Option<u32>
+    ensures { result ≡ first_unknown known.now effects.now }
+{
+    for effect in effects {
+        let inode = subject(effect);
+        if is_unknown(known, inode) {
+            return Some(inode);
+        }
+    }
+    None
+}
+
+fn is_unknown(known: &BTreeMap<u32, Option<NodeSummary>>, inode: u32) -> bool
+    ensures { result ≡ is_unknown known.now inode }
+{
+    known.get(&inode).is_none()
+}
+
+// What is known to stand at an inode.
+pub fn node_at(known: &BTreeMap<u32, Option<NodeSummary>>, inode: u32) -> Option<&NodeSummary>
+    ensures { option_map (λ n. n.now) result ≡ known_at known.now inode }
+{
+    match known.get(&inode) {
+        Some(Some(node)) => Some(node),
+        _ => None,
+    }
+}
+
+// The inode that an effect is on.
+pub fn subject(effect: &Effect) -> u32
+    ensures { subjects effect.now ≡ result ∷ [] }
+{
+    match effect {
+        Effect::Make { inode, .. } => *inode,
+        Effect::Enter { directory, .. } => *directory,
+        Effect::Leave { directory, .. } => *directory,
+        Effect::Names { inode, .. } => *inode,
+        Effect::Size { inode, .. } => *inode,
+        Effect::Bytes { inode, .. } => *inode,
+        Effect::Drop { inode } => *inode,
+    }
+}
