@@ -1,3 +1,4 @@
+pub mod Goods
 pub mod Rises
 pub mod Steps
 pub mod Touched

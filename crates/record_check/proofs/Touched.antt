@@ -1,7 +1,7 @@
 -- The inodes that effects touch, one effect more in front; what is known of all of them.
-use Rattle.std.proofs.Common.{◌≡◌, inl, inr, ℕ, ◌+◌, ◌==◌, ◌||◌, true, false, cond, not, List, [], ◌∷◌, ◌++◌, Option, Some, None, refl, ap, sym, ◌∙◌}
+use Rattle.std.proofs.Common.{◌≡◌, inl, inr, ℕ, ◌+◌, ◌==◌, ◌||◌, ◌&&◌, Bool, true, false, cond, not, List, [], ◌∷◌, ◌++◌, Option, Some, None, refl, ap, sym, ◌∙◌}
 use Rattle.std.specs.Prelude.{is_some, unwrap_or}
-use Rattle.std.specs.List.{AllByRecursion, find}
+use Rattle.std.specs.List.{AllByRecursion, find, list_all}
 use Rattle.std.specs.Ordering.{nat_cmp}
 use Rattle.std.specs.BTreeMap.{get}
 use Rattle.std.proofs.lemmas.Bool.{false≢true}
@@ -26,6 +26,9 @@ next_found m e d es is = ap (find (is_unknown m)) (next_touched e d es is)
 
 pub next_sum : (f : ℕ → ℕ) (e : Effect) (d : ℕ) (es : List Effect) → subjects e ≡ d ∷ [] → sum_distinct f (touches (e ∷ es)) ≡ cond (is_among d (touches es)) 0 (f d) + sum_distinct f (touches es)
 next_sum f e d es is = ap (sum_distinct f) (next_touched e d es is)
+
+pub next_all : (test : ℕ → Bool) (e : Effect) (d : ℕ) (es : List Effect) → subjects e ≡ d ∷ [] → list_all test (touches (e ∷ es)) ≡ (test d && list_all test (touches es))
+next_all test e d es is = ap (list_all test) (next_touched e d es is)
 
 among_joined : (i : ℕ) (is js : List ℕ) → is_among i (is ++ js) ≡ (is_among i is || is_among i js)
 among_joined i [] js = refl

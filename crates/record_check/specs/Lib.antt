@@ -1,4 +1,5 @@
 pub mod Counts
+pub mod Good
 pub mod Known
 pub mod Rises
 pub mod Summary

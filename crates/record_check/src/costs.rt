@@ -1,12 +1,11 @@
 //! By how much a record raises the units of a graph, told by what is known of the nodes that it touches.
 
-ghost use Rattle.std.specs.Prelude.{◌≡◌, ◌+◌, ◌<◌, ◌≤◌, ◌^◌, ◌∷◌, Some, None, IfOk, IfErr, length, option_map};
+ghost use Rattle.std.specs.Prelude.{◌≡◌, ◌+◌, ◌<◌, ◌≤◌, ◌^◌, ◌∷◌, Some, None, IfOk, IfErr, length};
 ghost use Rattle.std.specs.List.{AllByRecursion};
 ghost use Rattle.file_graph.specs.Graph.{Graph, after_effects, is_among, touches};
 ghost use Rattle.file_graph.specs.Units.{charge, growth};
 ghost use Rattle.log_record.specs.Grammar.{Fits};
 ghost use Rattle.log_record.specs.declared.format.TheConstants.{MAX_EFFECTS};
-ghost use Rattle.record_check.specs.Counts.{counts_after, counts_of, counts_cost};
 ghost use Rattle.record_check.specs.Known.{Agrees, first_unknown, known_at};
 ghost use Rattle.record_check.specs.Rises.{sum_distinct, view_cost, view_cost_after, view_rise};
 

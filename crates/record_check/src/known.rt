@@ -1,6 +1,6 @@
 //! What is known of the inodes that effects touch.
 
-ghost use Rattle.std.specs.Prelude.{◌≡◌, [], ◌∷◌, not, option_map};
+ghost use Rattle.std.specs.Prelude.{◌≡◌, [], ◌∷◌, option_map};
 ghost use Rattle.file_graph.specs.Graph.{subjects};
 ghost use Rattle.record_check.specs.Known.{first_unknown, is_unknown, known_at};
 

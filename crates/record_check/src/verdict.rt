@@ -1,0 +1,138 @@
+//! Whether the next record of a client's log may be digested.
+
+ghost use Rattle.std.specs.Prelude.{◌≡◌, ◌-◌, ◌+◌, ◌≤◌, Some, None, length, nat_le, if◌then◌else◌};
+ghost use Rattle.std.specs.List.{AllByRecursion, list_all};
+ghost use Rattle.file_graph.specs.Graph.{Graph, is_among, touches};
+ghost use Rattle.file_graph.specs.Units.{charge};
+ghost use Rattle.log_record.specs.Grammar.{Fits, IsRecord};
+ghost use Rattle.log_record.specs.declared.format.TheConstants.{MAX_EFFECTS};
+ghost use Rattle.record_check.specs.Good.{Tells, are_held, asked, is_within, keeps};
+ghost use Rattle.record_check.specs.Known.{Agrees, first_unknown};
+
+use crate::costs::{RecordCosts, record_costs};
+use crate::counting::counts_after;
+use crate::known::{node_at, subject};
+use crate::node_counts::NodeCounts;
+use crate::node_summary::NodeSummary;
+use file_graph::Effect;
+use log_record::Record;
+use posix_calls::{MAX_ENTRIES, MAX_FILE, MAX_NAMES};
+use std::collections::BTreeMap;
+
+/// What a test says of a record.
+#[derive(Clone, Copy, Debug, PartialEq, Eq)]
+pub enum Verdict {
+    /// It may be digested: so many units are the charge of the graph after it.
+    Good { charge: u64 },
+    /// It may not: an inode that it touches is not held, it raises the charge by more than its units, it leaves a node that passes
+    /// a limit, or the graph after it costs more than there is.
+    Bad,
+    /// Nothing is known of this inode, which it touches.
+    Unknown { inode: u32 },
+}
+
+/// Whether a record may be digested into each graph that is as it is known and has a charge of `used` units, where its client holds
+/// the inodes `held` for writing, and where there are `capacity` units in all. An inode that the record touches and of which nothing
+/// is known is named, the first in the order of its effects. Nothing is changed, and no memory is taken.
+pub fn test_record(
+    known: &BTreeMap<u32, Option<NodeSummary>>,
+    used: u64,
+    capacity: u64,
+    held: &[u32],
+    next: &Record,
+) -> Verdict
+    requires spelled { IsRecord next.now }
+    ensures tells { (g : Graph) → Agrees known.now g → charge g ≡ used → Tells held.now capacity g next.now result }
+    ensures unknown { asked result ≡ first_unknown known.now next.now.effects }
+{
+    let effects = next.effects.as_slice();
+    let costs = match record_costs(known, effects) {
+        Ok(costs) => costs,
+        Err(inode) => return Verdict::Unknown { inode },
+    };
+    if !are_held(held, effects) {
+        return Verdict::Bad;
+    }
+    if costs.growth > next.units as u64 {
+        return Verdict::Bad;
+    }
+    if !keep_limits(known, effects) {
+        return Verdict::Bad;
+    }
+    match charge_after(used, capacity, costs) {
+        Some(charge) => Verdict::Good { charge },
+        None => Verdict::Bad,
+    }
+}
+
+// The charge after a record, where there are that many units.
+fn charge_after(used: u64, capacity: u64, costs: RecordCosts) -> Option<u64>
+    ensures { result ≡ (if nat_le ((used + costs.after) - costs.before) capacity then Some ((used + costs.after) - costs.before) else None) }
+{
+    let charge = (used as u128 + costs.after as u128).saturating_sub(costs.before as u128);
+    if charge <= capacity as u128 {
+        Some(charge as u64)
+    } else {
+        None
+    }
+}
+
+// Whether each inode that effects touch is held.
+#[tactic(auto, using(crate::proofs::Touched::next_all))]
+fn are_held(held: &[u32], effects: &[Effect]) -> bool
+    ensures { result ≡ are_held held.now effects.now }
+{
+    for effect in effects {
+        if !is_among(held, subject(effect)) {
+            return false;
+        }
+    }
+    true
+}
+
+fn is_among(inodes: &[u32], inode: u32) -> bool
+    ensures { result ≡ is_among inode inodes.now }
+{
+    for it in inodes {
+        if *it == inode {
+            return true;
+        }
+    }
+    false
+}
+
+// Whether each inode that effects touch keeps the limits after them.
+#[tactic(auto, using(crate::proofs::Touched::next_all))]
+fn keep_limits(known: &BTreeMap<u32, Option<NodeSummary>>, effects: &[Effect]) -> bool
+    requires few { length effects.now ≤ MAX_EFFECTS }
+    requires fit { AllByRecursion Fits effects.now }
+    ensures { result ≡ list_all (keeps known.now effects.now) (touches effects.now) }
+{
+    for effect in effects {
+        if !keeps(known, effects, subject(effect)) {
+            return false;
+        }
+    }
+    true
+}
+
+fn keeps(known: &BTreeMap<u32, Option<NodeSummary>>, effects: &[Effect], inode: u32) -> bool
+    requires few { length effects.now ≤ MAX_EFFECTS }
+    requires fit { AllByRecursion Fits effects.now }
+    ensures { result ≡ keeps known.now effects.now inode }
+{
+    is_within(counts_after(effects, inode, node_at(known, inode)))
+}
+
+// Whether a node of these numbers keeps the limits.
+fn is_within(counts: Option<NodeCounts>) -> bool
+    ensures { result ≡ is_within counts }
+{
+    match counts {
+        None => true,
+        Some(NodeCounts::File { names, size }) => names <= MAX_NAMES && size <= MAX_FILE,
+        Some(NodeCounts::Directory { names, entries }) => {
+            names <= MAX_NAMES && entries <= MAX_ENTRIES as u64
+        }
+    }
+}
