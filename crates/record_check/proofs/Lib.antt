@@ -1,4 +1,6 @@
 pub mod Goods
 pub mod Rises
+pub mod Row
 pub mod Steps
+pub mod Taken
 pub mod Touched

@@ -7,6 +7,7 @@
 //!
 //! A record is good (`IsGood` in `specs/Good.antt`) where its client holds every inode that it touches for writing, its units pay for what it raises, what
 //! it touches keeps the limits after it, and the graph after it costs no more than there is. `test_record` tells that, or names an inode to be looked up.
+//! A `RecordCheck` goes on from one good record to the next.
 #![tactic(auto)]
 
 mod costs;
@@ -15,6 +16,8 @@ mod known;
 mod laws;
 mod node_counts;
 mod node_summary;
+mod record_check;
+mod taking;
 mod verdict;
 
 pub use costs::{RecordCosts, record_costs};
@@ -25,4 +28,6 @@ pub use laws::{
 };
 pub use node_counts::{NodeCounts, cost};
 pub use node_summary::{NodeSummary, SummaryBody};
+pub use record_check::RecordCheck;
+pub use taking::take_effects;
 pub use verdict::{Verdict, test_record};

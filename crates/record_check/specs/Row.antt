@@ -1,0 +1,24 @@
+-- A row of records, each tested over the graph as those before it leave it.
+use Rattle.std.specs.Prelude.{◌≡◌, ℕ, ◌==◌, Option, Some, if◌then◌else◌}
+use Rattle.file_graph.specs.Graph.{Graph, after_effects}
+use Rattle.file_graph.specs.Units.{charge}
+use Rattle.log_record.specs.declared.format.Record.{Record}
+use Rattle.call_effects.specs.NodeView.{NodeView}
+use Rattle.record_check.specs.declared.record_check.RecordCheck.{RecordCheck}
+use Rattle.record_check.specs.declared.verdict.Verdict.{Verdict}
+use Rattle.record_check.specs.declared.verdict.Verdict.TheVariants as verdict
+use Rattle.record_check.specs.Known.{Agrees}
+
+-- a check stands over a graph that is as it knows it, and has the charge that it knows
+abbrev pub Stands : RecordCheck → Graph → Type 0
+Stands c g = Agrees c.known g × (charge g ≡ c.charge)
+
+-- the graph after a record that was tested: a good one is done, another is not
+abbrev pub left_by : Verdict → Graph → Record → Graph
+left_by (verdict.Good units) g r = after_effects g r.effects
+left_by verdict.Bad g r = g
+left_by (verdict.Unknown i) g r = g
+
+-- what is known, with one inode learned
+abbrev pub with_known : ℕ → Option NodeView → (ℕ → Option (Option NodeView)) → ℕ → Option (Option NodeView)
+with_known inode v known i = if i == inode then Some v else known i

@@ -1,0 +1,77 @@
+//! A row of records, each tested over the graph as those before it leave it.
+
+ghost use Rattle.std.specs.Prelude.{◌≡◌, ℕ, None, IfOk, OnOk, OnErr};
+ghost use Rattle.std.specs.Ordering.{nat_cmp};
+ghost use Rattle.std.specs.BTreeMap.{get};
+ghost use Rattle.file_graph.specs.Graph.{Graph};
+ghost use Rattle.file_graph.specs.Units.{charge};
+ghost use Rattle.log_record.specs.Grammar.{IsRecord};
+ghost use Rattle.call_effects.specs.NodeView.{view_at};
+ghost use Rattle.record_check.specs.Good.{Tells, asked};
+ghost use Rattle.record_check.specs.Known.{first_unknown};
+ghost use Rattle.record_check.specs.Row.{Stands, left_by, with_known};
+
+use crate::node_summary::NodeSummary;
+use crate::taking::take_effects;
+use crate::verdict::{Verdict, test_record};
+use log_record::Record;
+use std::alloc::{AllocError, Global};
+use std::collections::BTreeMap;
+
+/// What is known of a graph while records are tested over it, one after the other. It stands over each graph that is as it is known
+/// and has its charge.
+#[derive(Debug, Drop)]
+pub struct RecordCheck {
+    /// What stands at some inodes, or that nothing does.
+    pub known: BTreeMap<u32, Option<NodeSummary>>,
+    /// The charge of the graph, in units.
+    pub charge: u64,
+}
+
+impl RecordCheck {
+    /// Of a graph with this charge; nothing else is known of it.
+    pub fn new(alloc: Global, units: u64) -> Self
+        ensures stands { (g : Graph) → charge g ≡ units → Stands result g }
+        ensures nothing { (i : ℕ) → get nat_cmp result.known i ≡ None }
+    {
+        RecordCheck {
+            known: BTreeMap::new(alloc),
+            charge: units,
+        }
+    }
+
+    /// Takes in what stands at an inode. Where there is no memory for it, what was known stays.
+    #[tactic(auto, using(crate::proofs::Row::learned))]
+    pub fn learn(&mut self, inode: u32, node: Option<NodeSummary>) -> Result<(), AllocError>
+        ensures known { OnOk result ((i : ℕ) → get nat_cmp self.new.known i ≡ with_known inode node (get nat_cmp self.old.known) i) }
+        ensures stands { OnOk result ((g : Graph) → Stands self.old g → view_at g inode ≡ node → Stands self.new g) }
+        ensures charge { self.new.charge ≡ self.old.charge }
+        ensures err { OnErr result (get nat_cmp self.new.known ≡ get nat_cmp self.old.known) }
+    {
+        self.known.insert(inode, node)?;
+        Ok(())
+    }
+
+    /// Tests the next record (`test_record`), and goes on behind a good one: the check then stands over the graph after it. Another
+    /// changes nothing, and may be tested again when more is known. Where there is no memory for it, nothing is said of what is
+    /// left: the check is to be dropped.
+    pub fn next(
+        &mut self,
+        alloc: Global,
+        capacity: u64,
+        held: &[u32],
+        next: &Record,
+    ) -> Result<Verdict, AllocError>
+        requires spelled { IsRecord next.now }
+        ensures tells { IfOk result (λ v. (g : Graph) → Stands self.old g → Tells held.now capacity g next.now v) }
+        ensures unknown { IfOk result (λ v. asked v ≡ first_unknown self.old.known next.now.effects) }
+        ensures stands { IfOk result (λ v. (g : Graph) → Stands self.old g → Stands self.new (left_by v g next.now)) }
+    {
+        let verdict = test_record(&self.known, self.charge, capacity, held, next);
+        if let Verdict::Good { charge } = verdict {
+            take_effects(alloc, &mut self.known, next.effects.as_slice())?;
+            self.charge = charge;
+        }
+        Ok(verdict)
+    }
+}
