@@ -42,7 +42,7 @@ next_among i e es = among_joined i (subjects e) (touches es)
 
 -- ---- all is known
 
-all_known : (m : Known) (is : List ℕ) → find (is_unknown m) is ≡ None → (i : ℕ) → is_among i is ≡ true → is_some (get nat_cmp m i) ≡ true
+pub all_known : (m : Known) (is : List ℕ) → find (is_unknown m) is ≡ None → (i : ℕ) → is_among i is ≡ true → is_some (get nat_cmp m i) ≡ true
 all_known m [] none i among = absurd (false≢true among)
 all_known m (d ∷ is) none i among = elim (is_some (get nat_cmp m d)) as (λ b. is_some (get nat_cmp m d) ≡ b → cond (not b) (Some d) (find (is_unknown m) is) ≡ None → is_some (get nat_cmp m i) ≡ true) [
   | true ↦ λ there rest. elim (eqb_tells d i) [

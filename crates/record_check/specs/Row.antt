@@ -1,17 +1,21 @@
 -- A row of records, each tested over the graph as those before it leave it.
-use Rattle.std.specs.Prelude.{◌≡◌, ℕ, ◌==◌, Option, Some, if◌then◌else◌}
+use Rattle.std.specs.Prelude.{◌≡◌, ℕ, ◌==◌, true, Option, Some, if◌then◌else◌}
 use Rattle.file_graph.specs.Graph.{Graph, after_effects}
 use Rattle.file_graph.specs.Units.{charge}
 use Rattle.log_record.specs.declared.format.Record.{Record}
-use Rattle.call_effects.specs.NodeView.{NodeView}
+use Rattle.call_effects.specs.NodeView.{NodeView, view_at}
 use Rattle.record_check.specs.declared.record_check.RecordCheck.{RecordCheck}
 use Rattle.record_check.specs.declared.verdict.Verdict.{Verdict}
 use Rattle.record_check.specs.declared.verdict.Verdict.TheVariants as verdict
-use Rattle.record_check.specs.Known.{Agrees}
+use Rattle.record_check.specs.Known.{Agrees, is_unknown}
 
 -- a check stands over a graph that is as it knows it, and has the charge that it knows
 abbrev pub Stands : RecordCheck → Graph → Type 0
 Stands c g = Agrees c.known g × (charge g ≡ c.charge)
+
+-- a check that began over one graph has come to another: of what it does not know, nothing has changed
+abbrev pub HasCome : RecordCheck → Graph → Graph → Type 0
+HasCome c first now = Stands c now × ((i : ℕ) → is_unknown c.known i ≡ true → view_at now i ≡ view_at first i)
 
 -- the graph after a record that was tested: a good one is done, another is not
 abbrev pub left_by : Verdict → Graph → Record → Graph

@@ -1,6 +1,6 @@
 //! A row of records, each tested over the graph as those before it leave it.
 
-ghost use Rattle.std.specs.Prelude.{◌≡◌, ℕ, None, IfOk, OnOk, OnErr};
+ghost use Rattle.std.specs.Prelude.{◌≡◌, ℕ, true, None, IfOk, OnOk, OnErr};
 ghost use Rattle.std.specs.Ordering.{nat_cmp};
 ghost use Rattle.std.specs.BTreeMap.{get};
 ghost use Rattle.file_graph.specs.Graph.{Graph};
@@ -8,8 +8,8 @@ ghost use Rattle.file_graph.specs.Units.{charge};
 ghost use Rattle.log_record.specs.Grammar.{IsRecord};
 ghost use Rattle.call_effects.specs.NodeView.{view_at};
 ghost use Rattle.record_check.specs.Good.{Tells, asked};
-ghost use Rattle.record_check.specs.Known.{first_unknown};
-ghost use Rattle.record_check.specs.Row.{Stands, left_by, with_known};
+ghost use Rattle.record_check.specs.Known.{first_unknown, is_unknown};
+ghost use Rattle.record_check.specs.Row.{HasCome, Stands, left_by, with_known};
 
 use crate::node_summary::NodeSummary;
 use crate::taking::take_effects;
@@ -31,7 +31,7 @@ pub struct RecordCheck {
 impl RecordCheck {
     /// Of a graph with this charge; nothing else is known of it.
     pub fn new(alloc: Global, units: u64) -> Self
-        ensures stands { (g : Graph) → charge g ≡ units → Stands result g }
+        ensures stands { (g : Graph) → charge g ≡ units → HasCome result g g }
         ensures nothing { (i : ℕ) → get nat_cmp result.known i ≡ None }
     {
         RecordCheck {
@@ -40,11 +40,13 @@ impl RecordCheck {
         }
     }
 
-    /// Takes in what stands at an inode. Where there is no memory for it, what was known stays.
-    #[tactic(auto, using(crate::proofs::Row::learned))]
+    /// Takes in what stands at an inode; of one that is not known, that is what stood there at first. Where there is no memory for
+    /// it, what was known stays.
+    #[tactic(auto, using(crate::proofs::Row::learned, crate::proofs::Row::learned_first))]
     pub fn learn(&mut self, inode: u32, node: Option<NodeSummary>) -> Result<(), AllocError>
         ensures known { OnOk result ((i : ℕ) → get nat_cmp self.new.known i ≡ with_known inode node (get nat_cmp self.old.known) i) }
         ensures stands { OnOk result ((g : Graph) → Stands self.old g → view_at g inode ≡ node → Stands self.new g) }
+        ensures first { OnOk result ((g h : Graph) → HasCome self.old g h → is_unknown self.old.known inode ≡ true → view_at g inode ≡ node → HasCome self.new g h) }
         ensures charge { self.new.charge ≡ self.old.charge }
         ensures err { OnErr result (get nat_cmp self.new.known ≡ get nat_cmp self.old.known) }
     {
@@ -66,6 +68,7 @@ impl RecordCheck {
         ensures tells { IfOk result (λ v. (g : Graph) → Stands self.old g → Tells held.now capacity g next.now v) }
         ensures unknown { IfOk result (λ v. asked v ≡ first_unknown self.old.known next.now.effects) }
         ensures stands { IfOk result (λ v. (g : Graph) → Stands self.old g → Stands self.new (left_by v g next.now)) }
+        ensures first { IfOk result (λ v. (g h : Graph) → HasCome self.old g h → HasCome self.new g (left_by v h next.now)) }
     {
         let verdict = test_record(&self.known, self.charge, capacity, held, next);
         if let Verdict::Good { charge } = verdict {
