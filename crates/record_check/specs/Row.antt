@@ -7,7 +7,7 @@ use Rattle.call_effects.specs.NodeView.{NodeView, view_at}
 use Rattle.record_check.specs.declared.record_check.RecordCheck.{RecordCheck}
 use Rattle.record_check.specs.declared.verdict.Verdict.{Verdict}
 use Rattle.record_check.specs.declared.verdict.Verdict.TheVariants as verdict
-use Rattle.record_check.specs.Known.{Agrees, is_unknown}
+use Rattle.record_check.specs.Known.{Agrees, is_unknown, known_after}
 
 -- a check stands over a graph that is as it knows it, and has the charge that it knows
 abbrev pub Stands : RecordCheck → Graph → Type 0
@@ -22,6 +22,12 @@ abbrev pub left_by : Verdict → Graph → Record → Graph
 left_by (verdict.Good units) g r = after_effects g r.effects
 left_by verdict.Bad g r = g
 left_by (verdict.Unknown i) g r = g
+
+-- what is known after a record that was tested
+abbrev pub known_by : Verdict → Record → (ℕ → Option (Option NodeView)) → ℕ → Option (Option NodeView)
+known_by (verdict.Good units) r known = known_after r.effects known
+known_by verdict.Bad r known = known
+known_by (verdict.Unknown i) r known = known
 
 -- what is known, with one inode learned
 abbrev pub with_known : ℕ → Option NodeView → (ℕ → Option (Option NodeView)) → ℕ → Option (Option NodeView)

@@ -9,7 +9,7 @@ ghost use Rattle.log_record.specs.Grammar.{IsRecord};
 ghost use Rattle.call_effects.specs.NodeView.{view_at};
 ghost use Rattle.record_check.specs.Good.{Tells, asked};
 ghost use Rattle.record_check.specs.Known.{first_unknown, is_unknown};
-ghost use Rattle.record_check.specs.Row.{HasCome, Stands, left_by, with_known};
+ghost use Rattle.record_check.specs.Row.{HasCome, Stands, known_by, left_by, with_known};
 
 use crate::node_summary::NodeSummary;
 use crate::taking::take_effects;
@@ -67,6 +67,7 @@ impl RecordCheck {
         requires spelled { IsRecord next.now }
         ensures tells { IfOk result (λ v. (g : Graph) → Stands self.old g → Tells held.now capacity g next.now v) }
         ensures unknown { IfOk result (λ v. asked v ≡ first_unknown self.old.known next.now.effects) }
+        ensures known { IfOk result (λ v. get nat_cmp self.new.known ≡ known_by v next.now (get nat_cmp self.old.known)) }
         ensures stands { IfOk result (λ v. (g : Graph) → Stands self.old g → Stands self.new (left_by v g next.now)) }
         ensures first { IfOk result (λ v. (g h : Graph) → HasCome self.old g h → HasCome self.new g (left_by v h next.now)) }
     {
