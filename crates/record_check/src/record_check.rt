@@ -20,7 +20,7 @@ use std::collections::BTreeMap;
 
 /// What is known of a graph while records are tested over it, one after the other. It stands over each graph that is as it is known
 /// and has its charge.
-#[derive(Debug, Drop)]
+#[derive(Drop)]
 pub struct RecordCheck {
     /// What stands at some inodes, or that nothing does.
     pub known: BTreeMap<u32, Option<NodeSummary>>,
