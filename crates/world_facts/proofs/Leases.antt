@@ -28,7 +28,7 @@ module _ (w : World) (c i : ℕ) (h : IsCoherent w) (is_c : is_client c ≡ true
   reader = record (w.clients c) { reads = also (w.clients c).reads i }
 
   abbrev writer : Client
-  writer = record (w.clients c) { writes = also (w.clients c).writes i }
+  writer = record (w.clients c) { reads = without (w.clients c).reads i; writes = also (w.clients c).writes i }
 
   s : Stands w.kernel.shared (w.kernel.accounts c) c (w.clients c)
   s = h.stands c is_c
@@ -36,8 +36,14 @@ module _ (w : World) (c i : ℕ) (h : IsCoherent w) (is_c : is_client c ≡ true
   reader_holds : (j : ℕ) → has_lease (w.clients c) j ≡ true → has_lease reader j ≡ true
   reader_holds j e = or_more ((w.clients c).reads j) ((w.clients c).writes j) (also (w.clients c).reads i j) ((w.clients c).writes j) (in_rest (j == i) ((w.clients c).reads j)) (λ x. x) e
 
+  elsewhere : (j : ℕ) → (j == i) ≡ false → has_lease writer j ≡ has_lease (w.clients c) j
+  elsewhere j off = ap (λ t. cond t false ((w.clients c).reads j) || (t || (w.clients c).writes j)) off
+
   writer_holds : (j : ℕ) → has_lease (w.clients c) j ≡ true → has_lease writer j ≡ true
-  writer_holds j e = or_more ((w.clients c).reads j) ((w.clients c).writes j) ((w.clients c).reads j) (also (w.clients c).writes i j) (λ x. x) (in_rest (j == i) ((w.clients c).writes j)) e
+  writer_holds j e = elim (eqb_tells j i) [
+    | inl same ↦ in_rest (without (w.clients c).reads i j) (also (w.clients c).writes i j) (in_first (j == i) ((w.clients c).writes j) same.0)
+    | inr off ↦ elsewhere j off.0 ∙ e
+  ]
 
   pub read_taken_holds : IsUnwritten w c i → IsCoherent (read_taken w c i)
   read_taken_holds free = quiet w c w.kernel.shared (w.kernel.accounts c) reader h is_c refl refl refl (booked_same w c reader h is_c)
@@ -69,7 +75,7 @@ module _ (w : World) (c i : ℕ) (h : IsCoherent w) (is_c : is_client c ≡ true
       ])
       (λ d is_d other j e. elim (eqb_tells j i) [
         | inl same ↦ both (has_lease (w.clients d) j) (writing_holds w h d j e) (ap (has_lease (w.clients d)) same.1 ∙ free d is_d other)
-        | inr off ↦ ap (λ t. (w.clients c).reads j || (t || (w.clients c).writes j)) off.0 ∙ h.beside d c is_d is_c (λ same. other (sym same)) j e
+        | inr off ↦ elsewhere j off.0 ∙ h.beside d c is_d is_c (λ same. other (sym same)) j e
       ])
       (h.agrees c is_c)
 

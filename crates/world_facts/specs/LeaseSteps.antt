@@ -28,9 +28,9 @@ IsUnheld w c i = (d : ℕ) → is_client d ≡ true → d ≢ c → has_lease (w
 abbrev pub read_taken : World → ℕ → ℕ → World
 read_taken w c i = with_client w c (record (w.clients c) { reads = also (w.clients c).reads i })
 
--- also from a read lease
+-- also from a read lease, which is one for writing from then on
 abbrev pub write_taken : World → ℕ → ℕ → World
-write_taken w c i = with_client w c (record (w.clients c) { writes = also (w.clients c).writes i })
+write_taken w c i = with_client w c (record (w.clients c) { reads = without (w.clients c).reads i; writes = also (w.clients c).writes i })
 
 -- ---- a lease is given
 
