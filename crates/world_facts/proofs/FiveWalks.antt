@@ -52,7 +52,7 @@ pair_holds : IsCoherent pair.made
 pair_holds = replied_holds pair.beside 2 pair.mkdir_b beside_holds still_begun
 
 back_holds : IsCoherent walked.back
-back_holds = current_wiped_holds (taken_back pair.made 1) 1 (taken_back_holds pair.made 1 pair_holds (record { client = refl; away = refl; digested = refl })) refl
+back_holds = current_wiped_holds (taken_back pair.made 1) 1 (taken_back_holds pair.made 1 pair_holds (record { client = refl; away = refl; digested = refl })) refl refl
 
 pub can_give : CanGive walked.back 1 2
 can_give = record { client = refl; idle = refl; clean = refl }

@@ -1,5 +1,5 @@
 -- A region is sealed, comes back and is wiped: the records that are not digested stay.
-use Rattle.std.proofs.Common.{◌≡◌, ℕ, ◌+◌, ◌-◌, ◌≤◌, Bool, true, List, [], ◌++◌, length, drop, refl, ap, sym, ◌∙◌, subst, arith}
+use Rattle.std.proofs.Common.{◌≡◌, ℕ, ◌+◌, ◌-◌, ◌≤◌, Bool, true, false, List, [], ◌++◌, length, drop, refl, ap, sym, ◌∙◌, subst, arith}
 use Rattle.std.proofs.lemmas.Bool.{false≢true}
 use Rattle.std.proofs.Math.ListN.{drop_of_length-le}
 use Rattle.posix_calls.specs.Operations.{is_client}
@@ -123,20 +123,34 @@ module _ (w : World) (c : ℕ) (h : IsCoherent w) (is_c : is_client c ≡ true) 
   started : StartsWiped cleaner.ready cleaner.current cleaner.begun
   started = (h.stands c is_c).starts
 
-  beside : cleaner.other ≡ Back → IsMarked (w.kernel.accounts c).mark cleaner.past cleaner.sealed Wiped
-  beside back = record { low = was_marked.low; high = was_marked.high; some = λ e. absurd (cc); none = λ other. was_marked.none (λ e. let clash : Back ≡ Away = sym back ∙ e in cc) }
+  abbrev gone : ℕ
+  gone = (w.kernel.accounts c).mark - cleaner.past
 
-  written : StartsWiped true cleaner.current cleaner.begun
-  written = record { records = λ e. absurd (false≢true (sym e)); idle = λ e. absurd (false≢true (sym e)) }
+  -- a region that is back has no records that are not digested
+  none_back : cleaner.other ≡ Back → cleaner.sealed ≡ []
+  none_back back = was_marked.none (λ e. let clash : Back ≡ Away = sym back ∙ e in cc)
+
+  other_log : cleaner.other ≡ Back → drop gone [] ++ cleaner.current ≡ log_of w c
+  other_log back = ap (λ rs. drop gone rs ++ cleaner.current) (sym (none_back back))
+
+  beside : cleaner.other ≡ Back → IsMarked (w.kernel.accounts c).mark cleaner.past [] Wiped
+  beside back = record { low = was_marked.low; high = subst (λ rs. (w.kernel.accounts c).mark ≤ cleaner.past + length rs) (none_back back) was_marked.high; some = λ e. absurd (cc); none = λ other. refl }
+
+  -- nor has one that is not wiped yet
+  current_log : cleaner.ready ≡ false → drop gone cleaner.sealed ++ [] ≡ log_of w c
+  current_log stale = ap (λ rs. drop gone cleaner.sealed ++ rs) (sym (started.records stale))
+
+  written : StartsWiped true [] cleaner.begun
+  written = record { records = λ e. refl; idle = λ e. absurd (false≢true (sym e)) }
 
   pub other_wiped_holds : cleaner.other ≡ Back → IsCoherent (other_wiped w c)
-  other_wiped_holds back = regions_hold w c h is_c cleaner.past cleaner.sealed cleaner.current Wiped cleaner.ready refl (beside back) started
+  other_wiped_holds back = regions_hold w c h is_c cleaner.past [] cleaner.current Wiped cleaner.ready (other_log back) (beside back) started
 
   pub other_wiped_tree : cleaner.other ≡ Back → world_state (other_wiped w c) ≡ world_state w
-  other_wiped_tree back = regions_tree w c h is_c cleaner.past cleaner.sealed cleaner.current Wiped cleaner.ready refl (beside back) started
+  other_wiped_tree back = regions_tree w c h is_c cleaner.past [] cleaner.current Wiped cleaner.ready (other_log back) (beside back) started
 
-  pub current_wiped_holds : IsCoherent (current_wiped w c)
-  current_wiped_holds = regions_hold w c h is_c cleaner.past cleaner.sealed cleaner.current cleaner.other true refl was_marked written
+  pub current_wiped_holds : cleaner.ready ≡ false → IsCoherent (current_wiped w c)
+  current_wiped_holds stale = regions_hold w c h is_c cleaner.past cleaner.sealed [] cleaner.other true (current_log stale) was_marked written
 
-  pub current_wiped_tree : world_state (current_wiped w c) ≡ world_state w
-  current_wiped_tree = regions_tree w c h is_c cleaner.past cleaner.sealed cleaner.current cleaner.other true refl was_marked written
+  pub current_wiped_tree : cleaner.ready ≡ false → world_state (current_wiped w c) ≡ world_state w
+  current_wiped_tree stale = regions_tree w c h is_c cleaner.past cleaner.sealed [] cleaner.other true (current_log stale) was_marked written

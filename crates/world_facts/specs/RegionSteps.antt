@@ -28,13 +28,13 @@ pub record CanTakeBack (w : World) (c : ℕ) : Type 0 where
 abbrev pub taken_back : World → ℕ → World
 taken_back w c = with_client w c (record (w.clients c) { past = (w.kernel.accounts c).mark; sealed = []; other = Back })
 
--- it is wiped beside the region that is written
+-- it is wiped beside the region that is written; no region has its records after a wipe
 pub record CanWipeOther (w : World) (c : ℕ) : Type 0 where
   pub client : is_client c ≡ true
   pub back : (w.clients c).other ≡ Back
 
 abbrev pub other_wiped : World → ℕ → World
-other_wiped w c = with_client w c (record (w.clients c) { other = Wiped })
+other_wiped w c = with_client w c (record (w.clients c) { sealed = []; other = Wiped })
 
 -- or once it is the one to be written
 pub record CanWipeCurrent (w : World) (c : ℕ) : Type 0 where
@@ -42,4 +42,4 @@ pub record CanWipeCurrent (w : World) (c : ℕ) : Type 0 where
   pub stale : (w.clients c).ready ≡ false
 
 abbrev pub current_wiped : World → ℕ → World
-current_wiped w c = with_client w c (record (w.clients c) { ready = true })
+current_wiped w c = with_client w c (record (w.clients c) { current = []; ready = true })

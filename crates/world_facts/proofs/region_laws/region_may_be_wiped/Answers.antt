@@ -8,7 +8,7 @@ pub returns-clause-other_tree : goal.returns-clause-other_tree
 returns-clause-other_tree c = λ w d h can. other_wiped_tree w d h can.client can.back
 
 pub returns-clause-current : goal.returns-clause-current
-returns-clause-current c = λ w d h can. current_wiped_holds w d h can.client
+returns-clause-current c = λ w d h can. current_wiped_holds w d h can.client can.stale
 
 pub returns-clause-current_tree : goal.returns-clause-current_tree
-returns-clause-current_tree c = λ w d h can. current_wiped_tree w d h can.client
+returns-clause-current_tree c = λ w d h can. current_wiped_tree w d h can.client can.stale
