@@ -1,5 +1,5 @@
 -- A call begins its record, is given up, or fails: no answer is given, and the whole stays.
-use Rattle.std.proofs.Common.{◌≡◌, inl, inr, ℕ, ◌+◌, ◌-◌, ◌≤◌, ◌||◌, true, false, [], ◌∷◌, ◌++◌, refl, Some, None, ap, sym, ◌∙◌, subst, arith}
+use Rattle.std.proofs.Common.{◌≡◌, ◌≢◌, inl, inr, ℕ, ◌+◌, ◌-◌, ◌≤◌, ◌||◌, true, false, [], ◌∷◌, ◌++◌, refl, Some, None, ap, sym, ◌∙◌, subst, arith}
 use Rattle.std.proofs.lemmas.Option.{same_Some}
 use Rattle.posix_calls.specs.Operations.{is_client}
 use Rattle.file_graph.specs.Graph.{Graph}
@@ -9,7 +9,7 @@ use Rattle.call_effects.proofs.KnownUnits.{planned_units}
 use Rattle.call_effects.proofs.Rises.{growth_local}
 use Rattle.world_facts.specs.Logs.{after_records, is_written, is_touched, units_in, IsPaid, ArePaid, IsNameless, Keeps, NamesNone, NameNone, KeepLimits}
 use Rattle.world_facts.specs.Limits.{IsWithin}
-use Rattle.world_facts.specs.World.{Begun, Status, Client, Account, World, undigested, records_of, change_of, log_of, whole, held, world_state, moved}
+use Rattle.world_facts.specs.World.{Begun, Failed, Status, Client, Account, World, undigested, records_of, change_of, log_of, whole, held, world_state, moved}
 use Rattle.world_facts.specs.Standing.{is_settled, IsPending, Stands}
 use Rattle.world_facts.specs.Invariant.{IsCoherent}
 use Rattle.world_facts.specs.ClientSteps.{CanBegin, call_begun, IsBegun, given_up, with_client}
@@ -97,7 +97,7 @@ module _ (w : World) (c : ℕ) (b : Begun) (h : IsCoherent w) (can : CanBegin w 
         numbered = s.numbered;
         leased = s.leased;
         pinned = s.pinned;
-        pending = λ d e. subst (λ x. IsPending old.knows old.pins x) (same_Some b d e) (record { planned = can.planned; some = can.some; pinned = can.pinned });
+        pending = λ d e. subst (λ x. IsPending old.status old.knows old.pins x) (same_Some b d e) (record { planned = can.planned; some = can.some; pinned = λ known. can.pinned });
       })
       (before_less w c (record old { begun = Some b; spare = old.spare - b.change.units }) h can.client (λ i e. e))
       (after_less w c (record old { begun = Some b; spare = old.spare - b.change.units }) h can.client (λ i e. e))
@@ -150,8 +150,8 @@ module _ (w : World) (c : ℕ) (b : Begun) (h : IsCoherent w) (is : IsBegun w c 
   pub given_up_tree : world_state (given_up w c b) ≡ world_state w
   given_up_tree = tree_same w c w.kernel.shared its less refl refl refl
 
--- a client that is not settled has become of another status
-module _ (w : World) (c : ℕ) (status : Status) (h : IsCoherent w) (is_c : is_client c ≡ true) (going : is_settled status ≡ false) where
+-- a client that is not settled has become of another status; one that failed stays failed
+module _ (w : World) (c : ℕ) (status : Status) (h : IsCoherent w) (is_c : is_client c ≡ true) (going : is_settled status ≡ false) (known : status ≢ Failed → (w.clients c).status ≢ Failed) where
   abbrev turned : Client
   turned = record (w.clients c) { status = status }
 
@@ -159,7 +159,7 @@ module _ (w : World) (c : ℕ) (status : Status) (h : IsCoherent w) (is_c : is_c
   turned_holds =
       let x = h.stands c is_c in
       quiet w c w.kernel.shared (w.kernel.accounts c) turned h is_c refl refl refl (booked_same w c turned h is_c)
-      (record { number = x.number; left = record { closed = λ e. both (is_settled status) e going; idle = λ e. both (is_settled status) e going }; marked = x.marked; starts = x.starts; logged = x.logged; units = x.units; numbered = x.numbered; leased = x.leased; pinned = x.pinned; pending = x.pending })
+      (record { number = x.number; left = record { closed = λ e. both (is_settled status) e going; idle = λ e. both (is_settled status) e going }; marked = x.marked; starts = x.starts; logged = x.logged; units = x.units; numbered = x.numbered; leased = x.leased; pinned = x.pinned; pending = λ b e. let p = x.pending b e in record { planned = p.planned; some = p.some; pinned = λ off. p.pinned (known off) } })
       (before_less w c turned h is_c (λ i e. e)) (after_less w c turned h is_c (λ i e. e)) (h.agrees c is_c)
 
   pub turned_tree : world_state (with_client w c turned) ≡ world_state w

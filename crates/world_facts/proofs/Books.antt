@@ -239,7 +239,7 @@ module _ (w : World) (c i : ℕ) (h : IsCoherent w) (is_c : is_client c ≡ true
           opened = λ n o e. in_rest (o.inode == i) ((w.clients c).pins o.inode) (x.pinned.opened n o e);
           booked = λ j e. of_also (λ y. also (w.kernel.accounts c).pins i y ≡ true) (w.clients c).pins i j e (in_first (i == i) ((w.kernel.accounts c).pins i) (itself i)) (λ was. in_rest (j == i) ((w.kernel.accounts c).pins j) (x.pinned.booked j was));
         };
-        pending = λ b e. let p = x.pending b e in record { planned = p.planned; some = p.some; pinned = λ what opens. in_rest (what.1.inode == i) ((w.clients c).pins what.1.inode) (p.pinned what opens) };
+        pending = λ b e. let p = x.pending b e in record { planned = p.planned; some = p.some; pinned = λ known what opens. in_rest (what.1.inode == i) ((w.clients c).pins what.1.inode) (p.pinned known what opens) };
       })
       (before_less w c pinner h is_c (λ j e. e)) (after_less w c pinner h is_c (λ j e. e)) (h.agrees c is_c)
     where
@@ -274,7 +274,10 @@ module _ (w : World) (c i : ℕ) (h : IsCoherent w) (can : CanUnpin w c i) where
           opened = λ n o e. to_without (w.clients c).pins i o.inode (can.closed n o e) (x.pinned.opened n o e);
           booked = λ j e. let o = of_without (w.clients c).pins i j e in to_without (w.kernel.accounts c).pins i j o.0 (x.pinned.booked j o.1);
         };
-        pending = λ b e. none_some b (sym can.idle ∙ e);
+        pending = λ b e. elim can.idle [
+          | inl idle ↦ none_some b (sym idle ∙ e)
+          | inr failed ↦ let p = x.pending b e in record { planned = p.planned; some = p.some; pinned = λ known. absurd (known failed) }
+        ];
       })
       (before_less w c dropper h can.client (λ j e. e)) (after_less w c dropper h can.client (λ j e. e)) (h.agrees c can.client)
 

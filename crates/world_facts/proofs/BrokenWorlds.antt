@@ -146,7 +146,7 @@ watching_stands =
 
 -- ---- a record of no call
 
-pub half_broken : IsPending (misbegun.clients 1).knows (misbegun.clients 1).pins half → ⊥
+pub half_broken : IsPending (misbegun.clients 1).status (misbegun.clients 1).knows (misbegun.clients 1).pins half → ⊥
 half_broken is = let clash = sym planned.effects ∙ is.planned.effects in cc
 
 pub half_begun : IsBegun misbegun 1 half

@@ -11,7 +11,7 @@ use Rattle.file_graph.specs.Units.{charge}
 use Rattle.call_effects.specs.Settled.{without_client}
 use Rattle.call_effects.specs.Wholes.{IsSound, state_of}
 use Rattle.call_effects.specs.Known.{Agrees}
-use Rattle.world_facts.specs.World.{Alive, Settled, Buried, Client, Account, World, undigested, log_of, whole, held, world_state, at}
+use Rattle.world_facts.specs.World.{Alive, Failed, Settled, Buried, Client, Account, World, undigested, log_of, whole, held, world_state, at}
 use Rattle.world_facts.specs.Invariant.{IsCoherent}
 use Rattle.world_facts.specs.Opening.{knows_nothing, idle_client, idle_account}
 use Rattle.world_facts.specs.Standing.{Stands, is_settled}
@@ -164,7 +164,7 @@ module _ (w : World) (c : ℕ) (h : IsCoherent w) (can : CanBury w c) where
     numbered = idle.numbered;
     leased = idle.leased;
     pinned = idle.pinned;
-    pending = idle.pending;
+    pending = λ b e. none_some b e;
   }
 
   pub buried_holds : IsCoherent (client_buried w c)
@@ -181,8 +181,11 @@ module _ (w : World) (c : ℕ) (h : IsCoherent w) (can : CanBury w c) where
 -- ---- joined
 
 module _ (w : World) (c : ℕ) (h : IsCoherent w) (can : CanJoin w c) where
+  not_failed : Alive ≢ Failed → (w.clients c).status ≢ Failed
+  not_failed off is = let clash : Buried ≡ Failed = sym can.buried ∙ is in cc
+
   pub joined_holds : IsCoherent (joined w c)
-  joined_holds = turned_holds w c Alive h can.client refl
+  joined_holds = turned_holds w c Alive h can.client refl not_failed
 
   pub joined_tree : world_state (joined w c) ≡ world_state w
-  joined_tree = turned_tree w c Alive h can.client refl
+  joined_tree = turned_tree w c Alive h can.client refl not_failed

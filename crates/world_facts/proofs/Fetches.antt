@@ -65,7 +65,7 @@ module _ (w : World) (c i : ℕ) (h : IsCoherent w) (can : CanFetch w c i) where
   agrees : Agrees more (whole w) (held w)
   agrees = subst (λ x. Agrees x (whole w) (held w)) same_copy (copy_agrees k (whole w) (held w) (h.agrees c can.client) i (λ none. can.clear (sym seen ∙ none)))
 
-  pending : (b : Begun) → (w.clients c).begun ≡ Some b → IsPending more (w.clients c).pins b
+  pending : (b : Begun) → (w.clients c).begun ≡ Some b → IsPending (w.clients c).status more (w.clients c).pins b
   pending b e = elim can.missing [
     | inl idle ↦ none_some b (sym idle ∙ e)
     | inr none ↦ record {

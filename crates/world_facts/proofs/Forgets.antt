@@ -44,7 +44,7 @@ module _ (w : World) (c : ℕ) (fewer : ℕ → ℕ → Option (List ℕ)) (h : 
   t : Stands w.kernel.shared (w.kernel.accounts c) c (w.clients c)
   t = h.stands c can.client
 
-  still_pending : (b : Begun) → (w.clients c).begun ≡ Some b → IsPending left (w.clients c).pins b
+  still_pending : (b : Begun) → (w.clients c).begun ≡ Some b → IsPending (w.clients c).status left (w.clients c).pins b
   still_pending b is = let y = t.pending b is in record {
     planned = record {
       comes = same_call (part_of k) (λ i at count. range_by (fewer i) at count) k.own b.call b.new b.operation b.change.effects y.planned.comes y.planned.effects y.some;

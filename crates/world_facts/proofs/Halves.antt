@@ -232,7 +232,7 @@ module _ (w : World) (c i : ℕ) (h : IsCoherent w) (is_c : is_client c ≡ true
   pub pin_received_holds : IsPinnedAlone w c i → IsCoherent (pin_received w c i)
   pin_received_holds can =
       quiet w c w.kernel.shared e pinner h is_c refl refl refl (booked_same w c pinner h is_c)
-      (record { number = u.number; left = u.left; marked = u.marked; starts = u.starts; logged = u.logged; units = u.units; numbered = u.numbered; leased = u.leased; pinned = record { opened = λ n o is. in_rest (o.inode == i) (r.pins o.inode) (u.pinned.opened n o is); booked = λ j has. of_also (λ y. e.pins y ≡ true) r.pins i j has can.booked (λ was. u.pinned.booked j was) }; pending = λ x is. let y = u.pending x is in record { planned = y.planned; some = y.some; pinned = λ what opens. in_rest (what.1.inode == i) (r.pins what.1.inode) (y.pinned what opens) } })
+      (record { number = u.number; left = u.left; marked = u.marked; starts = u.starts; logged = u.logged; units = u.units; numbered = u.numbered; leased = u.leased; pinned = record { opened = λ n o is. in_rest (o.inode == i) (r.pins o.inode) (u.pinned.opened n o is); booked = λ j has. of_also (λ y. e.pins y ≡ true) r.pins i j has can.booked (λ was. u.pinned.booked j was) }; pending = λ x is. let y = u.pending x is in record { planned = y.planned; some = y.some; pinned = λ known what opens. in_rest (what.1.inode == i) (r.pins what.1.inode) (y.pinned known what opens) } })
       (before_less w c pinner h is_c (λ j has. has)) (after_less w c pinner h is_c (λ j has. has)) (h.agrees c is_c)
 
   pub pin_received_tree : world_state (pin_received w c i) ≡ world_state w
@@ -241,7 +241,7 @@ module _ (w : World) (c i : ℕ) (h : IsCoherent w) (is_c : is_client c ≡ true
   pub pin_sent_holds : CanUnpin w c i → IsCoherent (pin_sent w c i)
   pin_sent_holds can =
       quiet w c w.kernel.shared e dropper h is_c refl refl refl (booked_same w c dropper h is_c)
-      (record { number = u.number; left = u.left; marked = u.marked; starts = u.starts; logged = u.logged; units = u.units; numbered = u.numbered; leased = u.leased; pinned = record { opened = λ n o is. to_without r.pins i o.inode (can.closed n o is) (u.pinned.opened n o is); booked = λ j has. u.pinned.booked j (of_without r.pins i j has).1 }; pending = λ x is. none_some x (sym can.idle ∙ is) })
+      (record { number = u.number; left = u.left; marked = u.marked; starts = u.starts; logged = u.logged; units = u.units; numbered = u.numbered; leased = u.leased; pinned = record { opened = λ n o is. to_without r.pins i o.inode (can.closed n o is) (u.pinned.opened n o is); booked = λ j has. u.pinned.booked j (of_without r.pins i j has).1 }; pending = λ x is. elim can.idle [ inl idle ↦ none_some x (sym idle ∙ is) | inr failed ↦ let y = u.pending x is in record { planned = y.planned; some = y.some; pinned = λ known. absurd (known failed) } ] })
       (before_less w c dropper h is_c (λ j has. has)) (after_less w c dropper h is_c (λ j has. has)) (h.agrees c is_c)
 
   pub pin_sent_tree : world_state (pin_sent w c i) ≡ world_state w

@@ -169,7 +169,7 @@ module _ (w : World) (c : ℕ) (b : Begun) (h : IsCoherent w) (is : IsBegun w c 
         units = subst (λ rs. was.spare + units_in rs ≤ account.units) (sym all_same) s.units;
         numbered = numbered;
         leased = leased_after w c h is.client b.call b.new b.operation b.change.effects planned leased;
-        pinned = pinned_after account.pins was.pins was.knows.own b.new b.operation s.pinned (s.pending b is.there).pinned;
+        pinned = pinned_after account.pins was.pins was.knows.own b.new b.operation s.pinned ((s.pending b is.there).pinned is.known);
         pending = λ d e. none_some d e;
       })
       (λ d is_d other. h.stands d is_d)

@@ -166,7 +166,7 @@ closed_step = answered_step walked.kept 1 walked.close_0 0 walked.closing kept_h
 can_unpin : CanUnpin walked.closed 1 2
 can_unpin = record {
   client = refl;
-  idle = refl;
+  idle = inl refl;
   closed = λ n o e. elim (eqb_tells n 0) [
     | inl same ↦ none_some o (sym (ap (λ m. (walked.closed.clients 1).knows.own m) same.1) ∙ e)
     | inr off ↦ none_some o (sym (ap (λ b. cond b None (cond b (Some (record { inode = 2; reads = true; writes = true })) None)) off.0) ∙ e)

@@ -1,11 +1,11 @@
 -- The steps of the kernel's book: units, numbers and pins, each with when it may be taken.
-use Rattle.std.specs.Prelude.{◌≡◌, ◌≢◌, ℕ, ◌+◌, ◌-◌, ◌<◌, ◌≤◌, true, false, Some, None}
+use Rattle.std.specs.Prelude.{◌≡◌, ◌≢◌, ◌⊎◌, ℕ, ◌+◌, ◌-◌, ◌<◌, ◌≤◌, true, false, Some, None}
 use Rattle.posix_calls.specs.Tree.{sum_up_to}
 use Rattle.posix_calls.specs.Operations.{is_client}
 use Rattle.posix_calls.specs.declared.descriptor.Descriptor.{Descriptor}
 use Rattle.posix_calls.specs.declared.limits.TheConstants.{ROOT, MAX_INODE, MAX_CLIENTS}
 use Rattle.file_graph.specs.Units.{charge}
-use Rattle.world_facts.specs.World.{Kernel, World, moved}
+use Rattle.world_facts.specs.World.{Failed, Kernel, World, moved}
 use Rattle.world_facts.specs.LeaseSteps.{also, without}
 
 -- ---- units
@@ -46,10 +46,10 @@ number_returned w c i = moved w c w.kernel.shared (record (w.kernel.accounts c) 
 abbrev pub inode_pinned : World → ℕ → ℕ → World
 inode_pinned w c i = moved w c w.kernel.shared (record (w.kernel.accounts c) { pins = also (w.kernel.accounts c).pins i }) (record (w.clients c) { pins = also (w.clients c).pins i })
 
--- an idle client drops a pin of what it has not open
+-- an idle client drops a pin of what it has not open, and so does a failed one: the call that it has begun is never answered
 pub record CanUnpin (w : World) (c i : ℕ) : Type 0 where
   pub client : is_client c ≡ true
-  pub idle : (w.clients c).begun ≡ None
+  pub idle : ((w.clients c).begun ≡ None) ⊎ ((w.clients c).status ≡ Failed)
   pub closed : (n : ℕ) (o : Descriptor) → (w.clients c).knows.own n ≡ Some o → o.inode ≢ i
 
 abbrev pub unpinned : World → ℕ → ℕ → World

@@ -12,7 +12,7 @@ use Rattle.call_effects.specs.NodeView.{NodeView}
 use Rattle.call_effects.specs.Known.{Knowledge, IsPlanned}
 use Rattle.world_facts.specs.Logs.{is_written, is_made_in, IsMadeOnce, units_in, ArePaid, NameNone, KeepLimits}
 use Rattle.world_facts.specs.Limits.{AreWithin}
-use Rattle.world_facts.specs.World.{Begun, Region, Away, Status, Settled, Buried, Client, Account, Kernel, undigested, records_of, has_lease}
+use Rattle.world_facts.specs.World.{Begun, Region, Away, Status, Failed, Settled, Buried, Client, Account, Kernel, undigested, records_of, has_lease}
 
 -- ---- one client's part beside the kernel's
 
@@ -57,11 +57,12 @@ pub record IsPinned (book pins : ℕ → Bool) (own : Own) : Type 0 where
 abbrev pub OpensPinned : (ℕ → Bool) → ℕ → Operation → Type 0
 OpensPinned pins new operation = (what : ℕ × Descriptor) → opens new operation ≡ Some what → pins what.1.inode ≡ true
 
--- by what the client knows, the begun call comes to its operation, and its record to the effects, which are not none
-pub record IsPending (k : Knowledge) (pins : ℕ → Bool) (b : Begun) : Type 0 where
+-- by what the client knows, the begun call comes to its operation, and its record to the effects, which are not none; what it opens is
+-- pinned, but where the client failed: that call is never answered
+pub record IsPending (status : Status) (k : Knowledge) (pins : ℕ → Bool) (b : Begun) : Type 0 where
   pub planned : IsPlanned k b.call b.new b.operation b.change.effects
   pub some : b.change.effects ≢ []
-  pub pinned : OpensPinned pins b.new b.operation
+  pub pinned : status ≢ Failed → OpensPinned pins b.new b.operation
 
 -- whether a client's call is settled for good
 abbrev pub is_settled : Status → Bool
@@ -85,7 +86,7 @@ pub record Stands (g : Graph) (a : Account) (c : ℕ) (p : Client) : Type 0 wher
   pub numbered : IsNumbered a.numbers p.knows.granted (undigested a p)
   pub leased : IsLeased (has_lease p) p.knows
   pub pinned : IsPinned a.pins p.pins p.knows.own
-  pub pending : (b : Begun) → p.begun ≡ Some b → IsPending p.knows p.pins b
+  pub pending : (b : Begun) → p.begun ≡ Some b → IsPending p.status p.knows p.pins b
   pub left : HasLeft p.status p.knows.own p.begun
 
 -- ---- the kernel's part

@@ -22,7 +22,7 @@ pub fn number_may_be_granted_and_returned()
     ensures returned_tree { (w : World) (c i : ℕ) → IsCoherent w → CanReturn w c i → world_state (number_returned w c i) ≡ world_state w }
 {}
 
-/// An inode is pinned at any time, and a pin is dropped where no call is begun and the client has the inode not open.
+/// An inode is pinned at any time, and a pin is dropped where the client has the inode not open, and no call is begun or the client failed.
 pub fn pin_may_be_set_and_dropped()
     ensures set { (w : World) (c i : ℕ) → IsCoherent w → is_client c ≡ true → IsCoherent (inode_pinned w c i) }
     ensures set_tree { (w : World) (c i : ℕ) → IsCoherent w → is_client c ≡ true → world_state (inode_pinned w c i) ≡ world_state w }

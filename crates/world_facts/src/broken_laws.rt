@@ -79,7 +79,7 @@ pub fn copy_beside_a_writer_goes_stale()
 
 /// Where a begun record is not that of its call, the whole is not sound once it is answered.
 pub fn record_of_no_call_breaks_the_whole()
-    ensures broken { IsPending (misbegun.clients 1).knows (misbegun.clients 1).pins half → ⊥ }
+    ensures broken { IsPending (misbegun.clients 1).status (misbegun.clients 1).knows (misbegun.clients 1).pins half → ⊥ }
     ensures begun { IsBegun misbegun 1 half }
     ensures unsound { IsSound (whole (replied misbegun 1 half)) (held (replied misbegun 1 half)) → ⊥ }
 {}
