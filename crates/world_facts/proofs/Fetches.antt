@@ -40,7 +40,7 @@ still_planned w h k more less agrees all own granted call new operation es plan 
     }
 
 module _ (w : World) (c i : ℕ) (h : IsCoherent w) (is_c : is_client c ≡ true) (leased : has_lease (w.clients c) i ≡ true) where
-  view_is : whole w i ≡ own_view w c i
+  pub view_is : whole w i ≡ own_view w c i
   view_is = whole_at (log_of w) w.kernel.shared c i (owned w h c i is_c leased)
 
 module _ (w : World) (c i : ℕ) (h : IsCoherent w) (can : CanFetch w c i) where

@@ -3,8 +3,8 @@
 ghost use Rattle.std.specs.Prelude.{◌≡◌, ℕ, List, Option, true};
 ghost use Rattle.posix_calls.specs.Operations.{is_client};
 ghost use Rattle.call_effects.specs.Known.{Knowledge};
-ghost use Rattle.world_facts.specs.World.{World, world_state};
-ghost use Rattle.world_facts.specs.LeaseSteps.{IsUnwritten, IsUnheld, read_taken, write_taken, CanGive, given, CanFetch, fetched, CanRead, blocks_fetched, CanForget, forgotten, CanForgetBlocks, blocks_forgotten};
+ghost use Rattle.world_facts.specs.World.{World, has_lease, whole, world_state};
+ghost use Rattle.world_facts.specs.LeaseSteps.{IsUnwritten, IsUnheld, read_taken, write_taken, CanGive, given, own_view, CanFetch, fetched, CanRead, blocks_fetched, CanForget, forgotten, CanForgetBlocks, blocks_forgotten};
 ghost use Rattle.world_facts.specs.Invariant.{IsCoherent};
 
 /// A client takes a lease for reading where no other holds the inode for writing.
@@ -40,4 +40,10 @@ pub fn knowledge_may_be_forgotten()
     ensures tree { (w : World) (c : ℕ) (less : Knowledge) → IsCoherent w → CanForget w c less → world_state (forgotten w c less) ≡ world_state w }
     ensures blocks { (w : World) (c : ℕ) (fewer : ℕ → ℕ → Option (List ℕ)) → IsCoherent w → CanForgetBlocks w c fewer → IsCoherent (blocks_forgotten w c fewer) }
     ensures blocks_tree { (w : World) (c : ℕ) (fewer : ℕ → ℕ → Option (List ℕ)) → IsCoherent w → CanForgetBlocks w c fewer → world_state (blocks_forgotten w c fewer) ≡ world_state w }
+{}
+
+/// Where a client holds an inode, the whole has there what the client's own records make of the shared node, whatever the other
+/// clients' records are.
+pub fn view_of_a_held_inode_is_the_wholes()
+    ensures { (w : World) (c i : ℕ) → IsCoherent w → is_client c ≡ true → has_lease (w.clients c) i ≡ true → whole w i ≡ own_view w c i }
 {}

@@ -51,7 +51,7 @@ pub use kernel_laws::{
 };
 pub use lease_laws::{
     copy_may_be_fetched, knowledge_may_be_forgotten, lease_may_be_given, read_lease_may_be_taken,
-    write_lease_may_be_taken,
+    view_of_a_held_inode_is_the_wholes, write_lease_may_be_taken,
 };
 pub use machine_laws::{
     digest_keeps_what_is_sealed, kernel_entries_are_steps_of_the_world, kernel_keeps_its_book,
