@@ -161,7 +161,7 @@ half_unsound sound = false≢true (ap (λ n. n == 1) (sound.counts.one_name 2 re
 off_two : (j : ℕ) → j ≢ 2 → is_among j (touches unpaid.effects) ≡ false
 off_two j other = elim (eqb_tells 2 j) [ inl same ↦ absurd (other (sym same.1)) | inr off ↦ ap (λ b. b || false) off.0 ]
 
-one_more : charge (after_effects fresh unpaid.effects) ≡ charge fresh + 1
+pub one_more : charge (after_effects fresh unpaid.effects) ≡ charge fresh + 1
 unfolding charge
 one_more =
     let changed : sum_up_to 1024 (λ i. cost (after_effects fresh unpaid.effects i)) + 0 ≡ sum_up_to 1024 (λ i. cost (fresh i)) + 1 =
@@ -213,7 +213,7 @@ over_booked r = record {
       omega (arith, none, exact);
 }
 
-too_much : (k : Kernel) → k.capacity ≡ charge fresh → charge k.shared ≡ charge fresh + 1 → IsBooked k → ⊥
+pub too_much : (k : Kernel) → k.capacity ≡ charge fresh → charge k.shared ≡ charge fresh + 1 → IsBooked k → ⊥
 too_much k capacity more is =
     let fits : charge k.shared + sum_up_to 8 (λ c. (k.accounts c).units) ≤ k.capacity = is.fits in
     absurd (omega (arith, fits, capacity, more))

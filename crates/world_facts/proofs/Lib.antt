@@ -31,7 +31,9 @@ pub mod Breaks
 pub mod Fresh
 pub mod Walks
 pub mod Besides
+pub mod BrokenRegions
 pub mod BrokenWorlds
+pub mod BrokenStores
 pub mod BrokenBooks
 pub mod UnlinkWalks
 pub mod PairWalks

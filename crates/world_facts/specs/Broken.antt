@@ -1,14 +1,14 @@
 -- Small worlds that break one part of the invariant each.
 use Rattle.std.specs.Prelude.{ℕ, ◌+◌, List, [], ◌∷◌, Bool, true, false, ◌==◌, ◌&&◌, Some, None, if◌then◌else◌}
 use Rattle.posix_calls.specs.Tree.{Descriptors}
-use Rattle.file_graph.specs.Graph.{Graph, FileBody, fresh, set_node}
+use Rattle.file_graph.specs.Graph.{Graph, FileBody, fresh, set_node, after_effects}
 use Rattle.file_graph.specs.declared.effect.Kind.TheVariants as kind
 use Rattle.file_graph.specs.declared.effect.Effect.TheVariants as effect
 use Rattle.file_graph.specs.Units.{charge}
 use Rattle.log_record.specs.declared.format.Record.{Record}
 use Rattle.call_effects.specs.NodeView.{view_at}
 use Rattle.call_effects.specs.Known.{with_copy}
-use Rattle.world_facts.specs.World.{Begun, Away, Settled, World, moved}
+use Rattle.world_facts.specs.World.{Begun, Away, Back, Settled, World, moved}
 use Rattle.world_facts.specs.Opening.{knows_nothing, idle_client, idle_account, idle_world}
 use Rattle.world_facts.specs.ClientSteps.{with_client, call_begun}
 use Rattle.world_facts.specs.BookSteps.{number_granted}
@@ -116,3 +116,41 @@ unbooked_node = moved walked.made 1 walked.made.kernel.shared (record (walked.ma
 
 abbrev pub still_open : World
 still_open = with_client (taken_back unlink_walked.kept 1) 1 (record ((taken_back unlink_walked.kept 1).clients 1) { status = Settled })
+
+-- ---- the region that is written has the record of the walk's call, and is not wiped
+
+abbrev pub unwiped : World
+unwiped = moved walked.made 1 walked.made.kernel.shared (walked.made.kernel.accounts 1) (record (walked.made.clients 1) { ready = false })
+
+-- ---- a region that is back has that record
+
+abbrev pub left_behind : World
+left_behind = moved walked.made 1 walked.made.kernel.shared (walked.made.kernel.accounts 1) (record (walked.made.clients 1) { sealed = walked.mkdir_a.change ∷ []; current = []; other = Back })
+
+-- ---- a mark before the region that is away
+
+abbrev pub marked_before : World
+marked_before = moved walked.handed 1 walked.handed.kernel.shared (walked.handed.kernel.accounts 1) (record (walked.handed.clients 1) { past = 1 })
+
+-- ---- a client opens a file that it has not pinned
+
+abbrev pub unpinned_open : World
+unpinned_open = call_begun walked.ready 1 unlink_walked.open_a
+
+-- ---- there is a file and no root
+
+abbrev pub rootless : World
+rootless = idle_world (charge one_file) one_file
+
+-- ---- a file without a name has these bytes, which may be more than a file may have
+
+abbrev pub with_bytes : List ℕ → Graph
+with_bytes bytes = set_node fresh 2 (Some (record { names = 0; body = FileBody bytes }))
+
+abbrev pub large_file : List ℕ → World
+large_file bytes = idle_world (charge (with_bytes bytes)) (with_bytes bytes)
+
+-- ---- the root alone fills the capacity, and there is a file too
+
+abbrev pub overfull : World
+overfull = idle_world (charge fresh) (after_effects fresh unpaid.effects)

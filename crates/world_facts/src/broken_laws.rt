@@ -1,21 +1,24 @@
 //! What goes wrong in small worlds that break one part of the invariant each.
 
-ghost use Rattle.std.specs.Prelude.{◌≡◌, ◌≢◌, ℕ, ◌+◌, ◌≤◌, [], ◌∷◌, Bool, false, None, IsSome};
+ghost use Rattle.std.specs.Prelude.{◌≡◌, ◌≢◌, ℕ, ◌+◌, ◌<◌, ◌≤◌, List, [], ◌∷◌, length, Bool, false, None, IsSome};
+ghost use Rattle.posix_calls.specs.declared.limits.TheConstants.{MAX_FILE};
 ghost use Rattle.file_graph.specs.Graph.{Graph, fresh, set_node};
 ghost use Rattle.call_effects.specs.Known.{Agrees};
 ghost use Rattle.call_effects.specs.Wholes.{IsSound, state_of};
 ghost use Rattle.world_facts.specs.Limits.{AreWithin};
 ghost use Rattle.world_facts.specs.Logs.{after_records, after_each, units_in, LogsAreApart, IsMadeOnce, ArePaid, NameNone, KeepLimits};
 ghost use Rattle.world_facts.specs.World.{log_of, all_of, records_of, whole, held, has_lease, world_state};
-ghost use Rattle.world_facts.specs.Standing.{HasLeft, IsMarked, IsNumbered, IsLeased, IsPinned, IsPending, IsBooked, IsBeside, Stands};
+ghost use Rattle.world_facts.specs.Standing.{HasLeft, IsMarked, StartsWiped, IsNumbered, IsLeased, IsPinned, IsPending, IsBooked, IsBeside, Stands};
 ghost use Rattle.world_facts.specs.ClientSteps.{IsBegun, replied};
-ghost use Rattle.world_facts.specs.RegionSteps.{CanSeal, region_sealed};
+ghost use Rattle.world_facts.specs.RegionSteps.{CanSeal, region_sealed, CanWipeOther, other_wiped, CanWipeCurrent, current_wiped};
 ghost use Rattle.world_facts.specs.KernelSteps.{CanDigest, records_digested, CanReclaim, reclaimed};
 ghost use Rattle.world_facts.specs.BookSteps.{IsUnbooked, number_granted};
 ghost use Rattle.world_facts.specs.Burial.{CanBury, client_buried};
 ghost use Rattle.world_facts.specs.Halves.{IsOnItsWay, number_received};
-ghost use Rattle.world_facts.specs.Walk.{mkdir_a, made};
-ghost use Rattle.world_facts.specs.Broken.{counting, taken_number, far_number, unbooked_number, used_number, unpinned_file, unbooked_node, still_open, both_counting, one_file, making, dropping, one_open, naming, marked_past, granted_twice, watching, root_alone, half, misbegun, unpaid, overdrawn};
+ghost use Rattle.world_facts.specs.Walk.{mkdir_a, made, handed};
+ghost use Rattle.world_facts.specs.UnlinkWalk.{open_a};
+ghost use Rattle.world_facts.specs.Stop.{Leaves, Stores};
+ghost use Rattle.world_facts.specs.Broken.{counting, taken_number, far_number, unbooked_number, used_number, unpinned_file, unbooked_node, still_open, both_counting, one_file, making, dropping, one_open, naming, marked_past, granted_twice, watching, root_alone, half, misbegun, unpaid, overdrawn, unwiped, left_behind, marked_before, unpinned_open, rootless, large_file, overfull};
 
 /// Where two clients write one inode, which takes a lease that one of them doesn't hold, the order of their digests is seen.
 pub fn writing_without_a_lease_is_seen()
@@ -155,4 +158,57 @@ pub fn burial_of_a_client_with_an_open_file_is_seen()
     ensures broken { HasLeft (still_open.clients 1).status (still_open.clients 1).knows.own (still_open.clients 1).begun → ⊥ }
     ensures can { CanBury still_open 1 }
     ensures seen { world_state (client_buried still_open 1) ≢ world_state still_open }
+{}
+
+/// Where a region that is not wiped has a record, its wipe loses an answered call.
+pub fn wipe_of_a_written_region_loses_a_call()
+    ensures broken { StartsWiped (unwiped.clients 1).ready (unwiped.clients 1).current (unwiped.clients 1).begun → ⊥ }
+    ensures same { (c : ℕ) → all_of unwiped c ≡ all_of made c }
+    ensures can { CanWipeCurrent unwiped 1 }
+    ensures lost { world_state (current_wiped unwiped 1) ≢ world_state unwiped }
+{}
+
+/// So does that of a region that is back and has one.
+pub fn wipe_of_a_region_that_is_back_loses_a_call()
+    ensures broken { IsMarked (left_behind.kernel.accounts 1).mark (left_behind.clients 1).past (left_behind.clients 1).sealed (left_behind.clients 1).other → ⊥ }
+    ensures same { (c : ℕ) → all_of left_behind c ≡ all_of made c }
+    ensures can { CanWipeOther left_behind 1 }
+    ensures lost { world_state (other_wiped left_behind 1) ≢ world_state left_behind }
+{}
+
+/// Where a mark stands before the sealed records, a digest of them leaves them in the log, and the number of the node that they make
+/// is not in the book any more.
+pub fn mark_before_its_records_loses_a_number()
+    ensures broken { IsMarked (marked_before.kernel.accounts 1).mark (marked_before.clients 1).past (marked_before.clients 1).sealed (marked_before.clients 1).other → ⊥ }
+    ensures same { (c : ℕ) → all_of marked_before c ≡ all_of handed c }
+    ensures can { CanDigest marked_before 1 (mkdir_a.change ∷ []) [] }
+    ensures lost { IsNumbered ((records_digested marked_before 1 (mkdir_a.change ∷ [])).kernel.accounts 1).numbers ((records_digested marked_before 1 (mkdir_a.change ∷ [])).clients 1).knows.granted (log_of (records_digested marked_before 1 (mkdir_a.change ∷ [])) 1) → ⊥ }
+{}
+
+/// Where a begun call opens a file that its client has not pinned, the file is open without a pin once it is answered.
+pub fn call_that_pinned_nothing_opens_a_file()
+    ensures broken { IsPending (unpinned_open.clients 1).status (unpinned_open.clients 1).knows (unpinned_open.clients 1).pins open_a → ⊥ }
+    ensures begun { IsBegun unpinned_open 1 open_a }
+    ensures lost { IsPinned ((replied unpinned_open 1 open_a).kernel.accounts 1).pins ((replied unpinned_open 1 open_a).clients 1).pins ((replied unpinned_open 1 open_a).clients 1).knows.own → ⊥ }
+{}
+
+/// Where the whole is not sound, no recovery can go on from what a stop stores of it.
+pub fn stop_of_an_unsound_whole_is_not_recoverable()
+    ensures broken { IsSound (whole rootless) (held rootless) → ⊥ }
+    ensures can { Leaves rootless (log_of rootless) }
+    ensures lost { Stores rootless (log_of rootless) → ⊥ }
+{}
+
+/// Nor where a node is past a limit.
+pub fn stop_with_a_node_past_a_limit_is_not_recoverable()
+    ensures broken { (bytes : List ℕ) → MAX_FILE < length bytes → IsBooked (large_file bytes).kernel → ⊥ }
+    ensures can { (bytes : List ℕ) → Leaves (large_file bytes) (log_of (large_file bytes)) }
+    ensures lost { (bytes : List ℕ) → MAX_FILE < length bytes → Stores (large_file bytes) (log_of (large_file bytes)) → ⊥ }
+{}
+
+/// Nor where more is charged than the capacity.
+pub fn stop_past_the_capacity_is_not_recoverable()
+    ensures broken { IsBooked overfull.kernel → ⊥ }
+    ensures can { Leaves overfull (log_of overfull) }
+    ensures lost { Stores overfull (log_of overfull) → ⊥ }
 {}

@@ -1,0 +1,74 @@
+-- What goes wrong in small worlds whose regions or begun calls break one part of the invariant each.
+use Rattle.std.proofs.Common.{◌≡◌, ◌≢◌, ℕ, ◌≤◌, List, [], ◌∷◌, true, false, refl, ap, arith}
+use Rattle.std.specs.Prelude.{is_some}
+use Rattle.std.proofs.lemmas.Bool.{false≢true}
+use Rattle.posix_calls.specs.Tree.{State}
+use Rattle.log_record.specs.declared.format.Record.{Record}
+use Rattle.world_facts.specs.Logs.{after_clients}
+use Rattle.world_facts.specs.World.{Away, Back, all_of, log_of, records_of, world_state}
+use Rattle.world_facts.specs.Standing.{IsMarked, StartsWiped, IsNumbered, IsPinned, IsPending}
+use Rattle.world_facts.specs.ClientSteps.{IsBegun, replied}
+use Rattle.world_facts.specs.RegionSteps.{CanWipeOther, other_wiped, CanWipeCurrent, current_wiped}
+use Rattle.world_facts.specs.KernelSteps.{CanDigest, records_digested}
+use Rattle.world_facts.specs.Walk.{mkdir_a, made, handed}
+use Rattle.world_facts.specs.UnlinkWalk.{open_a}
+use Rattle.world_facts.specs.Broken.{unwiped, left_behind, marked_before, unpinned_open}
+use Rattle.world_facts.proofs.Moved.{each_client}
+
+no_record : (r : Record) → r ∷ [] ≢ []
+no_record r e = absurd (cc)
+
+-- ---- a region that is not wiped and has a record
+
+pub unwiped_broken : StartsWiped (unwiped.clients 1).ready (unwiped.clients 1).current (unwiped.clients 1).begun → ⊥
+unwiped_broken is = no_record mkdir_a.change (is.records refl)
+
+pub unwiped_same : (c : ℕ) → all_of unwiped c ≡ all_of made c
+unwiped_same = each_client made 1 made.kernel.shared (made.kernel.accounts 1) (record (made.clients 1) { ready = false }) (λ d b q. records_of b q ≡ all_of made d) refl (λ d other. refl)
+
+pub unwiped_can : CanWipeCurrent unwiped 1
+unwiped_can = record { client = refl; stale = refl }
+
+pub unwiped_lost : world_state (current_wiped unwiped 1) ≢ world_state unwiped
+unfolding after_clients
+unwiped_lost e = false≢true (ap (λ (s : State). is_some (s.tree 2)) e)
+
+-- ---- a region that is back and has a record
+
+pub behind_broken : IsMarked (left_behind.kernel.accounts 1).mark (left_behind.clients 1).past (left_behind.clients 1).sealed (left_behind.clients 1).other → ⊥
+behind_broken is = no_record mkdir_a.change (is.none (λ e. let clash : Back ≡ Away = e in absurd (cc)))
+
+pub behind_same : (c : ℕ) → all_of left_behind c ≡ all_of made c
+behind_same = each_client made 1 made.kernel.shared (made.kernel.accounts 1) (record (made.clients 1) { sealed = mkdir_a.change ∷ []; current = []; other = Back }) (λ d b q. records_of b q ≡ all_of made d) refl (λ d other. refl)
+
+pub behind_can : CanWipeOther left_behind 1
+behind_can = record { client = refl; back = refl }
+
+pub behind_lost : world_state (other_wiped left_behind 1) ≢ world_state left_behind
+unfolding after_clients
+behind_lost e = false≢true (ap (λ (s : State). is_some (s.tree 2)) e)
+
+-- ---- a mark before the region that is away
+
+pub before_broken : IsMarked (marked_before.kernel.accounts 1).mark (marked_before.clients 1).past (marked_before.clients 1).sealed (marked_before.clients 1).other → ⊥
+before_broken is = let low : 1 ≤ 0 = is.low in absurd (omega (arith, low))
+
+pub before_same : (c : ℕ) → all_of marked_before c ≡ all_of handed c
+before_same = each_client handed 1 handed.kernel.shared (handed.kernel.accounts 1) (record (handed.clients 1) { past = 1 }) (λ d b q. records_of b q ≡ all_of handed d) refl (λ d other. refl)
+
+pub before_can : CanDigest marked_before 1 (mkdir_a.change ∷ []) []
+before_can = record { client = refl; some = λ e. absurd (cc); split = refl }
+
+pub before_lost : IsNumbered ((records_digested marked_before 1 (mkdir_a.change ∷ [])).kernel.accounts 1).numbers ((records_digested marked_before 1 (mkdir_a.change ∷ [])).clients 1).knows.granted (log_of (records_digested marked_before 1 (mkdir_a.change ∷ [])) 1) → ⊥
+before_lost is = false≢true (is.made 2 refl)
+
+-- ---- a file that is opened without a pin
+
+pub open_broken : IsPending (unpinned_open.clients 1).status (unpinned_open.clients 1).knows (unpinned_open.clients 1).pins open_a → ⊥
+open_broken is = false≢true (is.pinned (λ e. absurd (cc)) (0, record { inode = 2; reads = true; writes = true }) refl)
+
+pub open_begun : IsBegun unpinned_open 1 open_a
+open_begun = record { client = refl; there = refl; known = λ e. absurd (cc) }
+
+pub open_unpinned : IsPinned ((replied unpinned_open 1 open_a).kernel.accounts 1).pins ((replied unpinned_open 1 open_a).clients 1).pins ((replied unpinned_open 1 open_a).clients 1).knows.own → ⊥
+open_unpinned is = false≢true (is.opened 0 (record { inode = 2; reads = true; writes = true }) refl)

@@ -1,0 +1,14 @@
+use Rattle.world_facts.proofs.BrokenRegions.{before_broken, before_same, before_can, before_lost}
+use Rattle.world_facts.proofs.broken_laws.mark_before_its_records_loses_a_number.Goals as goal
+
+pub returns-clause-broken : goal.returns-clause-broken
+returns-clause-broken c = before_broken
+
+pub returns-clause-same : goal.returns-clause-same
+returns-clause-same c = before_same
+
+pub returns-clause-can : goal.returns-clause-can
+returns-clause-can c = before_can
+
+pub returns-clause-lost : goal.returns-clause-lost
+returns-clause-lost c = before_lost

@@ -1,0 +1,12 @@
+use Rattle.world_facts.specs.Broken.{rootless}
+use Rattle.world_facts.proofs.BrokenStores.{leaves, rootless_broken, rootless_stored}
+use Rattle.world_facts.proofs.broken_laws.stop_of_an_unsound_whole_is_not_recoverable.Goals as goal
+
+pub returns-clause-broken : goal.returns-clause-broken
+returns-clause-broken c = rootless_broken
+
+pub returns-clause-can : goal.returns-clause-can
+returns-clause-can c = leaves rootless
+
+pub returns-clause-lost : goal.returns-clause-lost
+returns-clause-lost c = rootless_stored

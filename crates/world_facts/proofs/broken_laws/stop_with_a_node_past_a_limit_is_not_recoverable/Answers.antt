@@ -1,0 +1,12 @@
+use Rattle.world_facts.specs.Broken.{large_file}
+use Rattle.world_facts.proofs.BrokenStores.{leaves, large_broken, large_stored}
+use Rattle.world_facts.proofs.broken_laws.stop_with_a_node_past_a_limit_is_not_recoverable.Goals as goal
+
+pub returns-clause-broken : goal.returns-clause-broken
+returns-clause-broken c = large_broken
+
+pub returns-clause-can : goal.returns-clause-can
+returns-clause-can c = λ bytes. leaves (large_file bytes)
+
+pub returns-clause-lost : goal.returns-clause-lost
+returns-clause-lost c = large_stored
