@@ -94,34 +94,35 @@ watching_known reads = record {
 }
 
 -- whether a directory has the entry `a`
-has_a : Option NodeView → Bool
+pub has_a : Option NodeView → Bool
 has_a None = false
 has_a (Some (FileView names size)) = false
 has_a (Some (DirView names entries)) = is_some (fin.get entries (97 ∷ []))
 
-none_before : has_a (view_at fresh 1) ≡ false
+pub none_before : has_a (view_at fresh 1) ≡ false
 unfolding has_a
 none_before = simp fin.gets refl
 
-one_after : has_a (view_at (after_effects fresh mkdir_a.change.effects) 1) ≡ true
+pub one_after : has_a (view_at (after_effects fresh mkdir_a.change.effects) 1) ≡ true
 unfolding has_a
 one_after = simp fin.gets refl
+
+-- the same node has the same view
+pub view_of_same : (g back : Graph) → back 1 ≡ g 1 → view_at back 1 ≡ view_at g 1
+view_of_same g back same = ap (λ o. view_at (λ i. o) 1) same
 
 pub watching_stale : (reads : ℕ → Bool) → Agrees ((replied (watching reads) 1 mkdir_a).clients 2).knows (whole (replied (watching reads) 1 mkdir_a)) (held (replied (watching reads) 1 mkdir_a)) → ⊥
 unfolding after_clients
 watching_stale reads agrees = elim (agrees.put_back 1) [
   | inl same ↦
       let copied = agrees.copies 1 (view_at fresh 1) refl in
-      let now : view_at (after_effects fresh mkdir_a.change.effects) 1 ≡ view_at fresh 1 = sym (view_of (replied_graph reads) agrees.back same) ∙ copied in
+      let now : view_at (after_effects fresh mkdir_a.change.effects) 1 ≡ view_at fresh 1 = sym (view_of_same (replied_graph reads) agrees.back same) ∙ copied in
       false≢true (sym none_before ∙ sym (ap has_a now) ∙ one_after)
   | inr gone ↦ false≢true (sym (ap is_some gone.nothing))
 ]
   where
     replied_graph : (ℕ → Bool) → Graph
     replied_graph reads = whole (replied (watching reads) 1 mkdir_a)
-
-    view_of : (g back : Graph) → back 1 ≡ g 1 → view_at back 1 ≡ view_at g 1
-    view_of g back same = ap (λ o. view_at (λ i. o) 1) same
 
 pub unleased : IsLeased (has_lease ((watching (λ i. false)).clients 2)) ((watching (λ i. false)).clients 2).knows → ⊥
 unleased is = false≢true (is.copies 1 (view_at fresh 1) refl)

@@ -34,6 +34,7 @@ pub mod Besides
 pub mod BrokenRegions
 pub mod BrokenWorlds
 pub mod BrokenStores
+pub mod BrokenCopies
 pub mod BrokenBooks
 pub mod UnlinkWalks
 pub mod PairWalks

@@ -1,6 +1,11 @@
 -- Small worlds that break one part of the invariant each.
 use Rattle.std.specs.Prelude.{ℕ, ◌+◌, List, [], ◌∷◌, Bool, true, false, ◌==◌, ◌&&◌, Some, None, if◌then◌else◌}
 use Rattle.posix_calls.specs.Tree.{Descriptors}
+use Rattle.posix_calls.specs.declared.call.Call.{Call}
+use Rattle.posix_calls.specs.declared.call.Call.TheVariants as call
+use Rattle.posix_calls.specs.declared.call.Reply.TheVariants as reply
+use Rattle.posix_calls.specs.declared.operation.Operation.{Operation}
+use Rattle.posix_calls.specs.declared.operation.Operation.TheVariants.{Tell}
 use Rattle.file_graph.specs.Graph.{Graph, FileBody, fresh, set_node, after_effects}
 use Rattle.file_graph.specs.declared.effect.Kind.TheVariants as kind
 use Rattle.file_graph.specs.declared.effect.Effect.TheVariants as effect
@@ -154,3 +159,17 @@ large_file bytes = idle_world (charge (with_bytes bytes)) (with_bytes bytes)
 
 abbrev pub overfull : World
 overfull = idle_world (charge fresh) (after_effects fresh unpaid.effects)
+
+-- ---- a client has a lease on the root, and a copy of it without the entry that it has now; it is asked for the root
+
+abbrev pub entered : Graph
+entered = after_effects fresh walked.mkdir_a.change.effects
+
+abbrev pub stale : World
+stale = with_client (idle_world (charge entered) entered) 2 (record (idle_client 2 0) { knows = with_copy (knows_nothing 2) 1 (view_at fresh 1); reads = root_alone })
+
+abbrev pub stat_root : Call
+stat_root = call.Stat (47 ∷ [])
+
+abbrev pub no_entries : Operation
+no_entries = Tell (reply.Dir 0)

@@ -1,6 +1,7 @@
 //! What goes wrong in small worlds that break one part of the invariant each.
 
 ghost use Rattle.std.specs.Prelude.{◌≡◌, ◌≢◌, ℕ, ◌+◌, ◌<◌, ◌≤◌, List, [], ◌∷◌, length, Bool, false, None, IsSome};
+ghost use Rattle.posix_calls.specs.Operations.{Step, reply_of};
 ghost use Rattle.posix_calls.specs.declared.limits.TheConstants.{MAX_FILE};
 ghost use Rattle.file_graph.specs.Graph.{Graph, fresh, set_node};
 ghost use Rattle.call_effects.specs.Known.{Agrees};
@@ -9,7 +10,7 @@ ghost use Rattle.world_facts.specs.Limits.{AreWithin};
 ghost use Rattle.world_facts.specs.Logs.{after_records, after_each, units_in, LogsAreApart, IsMadeOnce, ArePaid, NameNone, KeepLimits};
 ghost use Rattle.world_facts.specs.World.{log_of, all_of, records_of, whole, held, has_lease, world_state};
 ghost use Rattle.world_facts.specs.Standing.{HasLeft, IsMarked, StartsWiped, IsNumbered, IsLeased, IsPinned, IsPending, IsBooked, IsBeside, Stands};
-ghost use Rattle.world_facts.specs.ClientSteps.{IsBegun, replied};
+ghost use Rattle.world_facts.specs.ClientSteps.{CanAnswer, answered, IsBegun, replied};
 ghost use Rattle.world_facts.specs.RegionSteps.{CanSeal, region_sealed, CanWipeOther, other_wiped, CanWipeCurrent, current_wiped};
 ghost use Rattle.world_facts.specs.KernelSteps.{CanDigest, records_digested, CanReclaim, reclaimed};
 ghost use Rattle.world_facts.specs.BookSteps.{IsUnbooked, number_granted};
@@ -18,7 +19,7 @@ ghost use Rattle.world_facts.specs.Halves.{IsOnItsWay, number_received};
 ghost use Rattle.world_facts.specs.Walk.{mkdir_a, made, handed};
 ghost use Rattle.world_facts.specs.UnlinkWalk.{open_a};
 ghost use Rattle.world_facts.specs.Stop.{Leaves, Stores};
-ghost use Rattle.world_facts.specs.Broken.{counting, taken_number, far_number, unbooked_number, used_number, unpinned_file, unbooked_node, still_open, both_counting, one_file, making, dropping, one_open, naming, marked_past, granted_twice, watching, root_alone, half, misbegun, unpaid, overdrawn, unwiped, left_behind, marked_before, unpinned_open, rootless, large_file, overfull};
+ghost use Rattle.world_facts.specs.Broken.{counting, taken_number, far_number, unbooked_number, used_number, unpinned_file, unbooked_node, still_open, both_counting, one_file, making, dropping, one_open, naming, marked_past, granted_twice, watching, root_alone, half, misbegun, unpaid, overdrawn, unwiped, left_behind, marked_before, unpinned_open, rootless, large_file, overfull, stale, stat_root, no_entries};
 
 /// Where two clients write one inode, which takes a lease that one of them doesn't hold, the order of their digests is seen.
 pub fn writing_without_a_lease_is_seen()
@@ -211,4 +212,11 @@ pub fn stop_past_the_capacity_is_not_recoverable()
     ensures broken { IsBooked overfull.kernel → ⊥ }
     ensures can { Leaves overfull (log_of overfull) }
     ensures lost { Stores overfull (log_of overfull) → ⊥ }
+{}
+
+/// Where a client has a copy that is not as the whole is, what it answers by that copy is no step of the tree.
+pub fn answer_by_a_stale_copy_is_no_step()
+    ensures broken { Agrees (stale.clients 2).knows (whole stale) (held stale) → ⊥ }
+    ensures can { CanAnswer stale 2 stat_root 0 no_entries }
+    ensures wrong { Step (world_state stale) 2 stat_root (reply_of no_entries) (world_state (answered stale 2 0 no_entries)) → ⊥ }
 {}
