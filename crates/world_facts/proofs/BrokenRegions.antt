@@ -1,18 +1,19 @@
 -- What goes wrong in small worlds whose regions or begun calls break one part of the invariant each.
-use Rattle.std.proofs.Common.{◌≡◌, ◌≢◌, ℕ, ◌≤◌, List, [], ◌∷◌, true, false, refl, ap, arith}
+use Rattle.std.proofs.Common.{◌≡◌, ◌≢◌, ℕ, ◌≤◌, List, [], ◌∷◌, true, false, refl, ap, sym, arith}
 use Rattle.std.specs.Prelude.{is_some}
 use Rattle.std.proofs.lemmas.Bool.{false≢true}
 use Rattle.posix_calls.specs.Tree.{State}
 use Rattle.log_record.specs.declared.format.Record.{Record}
 use Rattle.world_facts.specs.Logs.{after_clients}
 use Rattle.world_facts.specs.World.{Away, Back, all_of, log_of, records_of, world_state}
-use Rattle.world_facts.specs.Standing.{IsMarked, StartsWiped, IsNumbered, IsPinned, IsPending}
+use Rattle.world_facts.specs.Standing.{IsMarked, StartsWiped, HasLeft, IsNumbered, IsPinned, IsPending}
 use Rattle.world_facts.specs.ClientSteps.{IsBegun, replied}
 use Rattle.world_facts.specs.RegionSteps.{CanWipeOther, other_wiped, CanWipeCurrent, current_wiped}
 use Rattle.world_facts.specs.KernelSteps.{CanDigest, records_digested}
 use Rattle.world_facts.specs.Walk.{mkdir_a, made, handed}
 use Rattle.world_facts.specs.UnlinkWalk.{open_a}
-use Rattle.world_facts.specs.Broken.{unwiped, left_behind, marked_before, unpinned_open}
+use Rattle.world_facts.specs.Broken.{unwiped, left_behind, marked_before, unpinned_open, begun_unwiped, settled_opening}
+use Rattle.world_facts.proofs.Idle.{none_some}
 use Rattle.world_facts.proofs.Moved.{each_client}
 
 no_record : (r : Record) → r ∷ [] ≢ []
@@ -72,3 +73,25 @@ open_begun = record { client = refl; there = refl; known = λ e. absurd (cc) }
 
 pub open_unpinned : IsPinned ((replied unpinned_open 1 open_a).kernel.accounts 1).pins ((replied unpinned_open 1 open_a).clients 1).pins ((replied unpinned_open 1 open_a).clients 1).knows.own → ⊥
 open_unpinned is = false≢true (is.opened 0 (record { inode = 2; reads = true; writes = true }) refl)
+
+-- ---- a call that is begun where the region is not wiped
+
+pub begun_broken : StartsWiped (begun_unwiped.clients 1).ready (begun_unwiped.clients 1).current (begun_unwiped.clients 1).begun → ⊥
+begun_broken is = none_some mkdir_a (sym (is.idle refl))
+
+pub begun_there : IsBegun begun_unwiped 1 mkdir_a
+begun_there = record { client = refl; there = refl; known = λ e. absurd (cc) }
+
+pub begun_written : StartsWiped ((replied begun_unwiped 1 mkdir_a).clients 1).ready ((replied begun_unwiped 1 mkdir_a).clients 1).current ((replied begun_unwiped 1 mkdir_a).clients 1).begun → ⊥
+begun_written is = no_record mkdir_a.change (is.records refl)
+
+-- ---- a call that is begun where its client is settled
+
+pub settled_broken : HasLeft (settled_opening.clients 1).status (settled_opening.clients 1).knows.own (settled_opening.clients 1).begun → ⊥
+settled_broken is = none_some open_a (sym (is.idle refl))
+
+pub settled_begun : IsBegun settled_opening 1 open_a
+settled_begun = record { client = refl; there = refl; known = λ e. absurd (cc) }
+
+pub settled_open : HasLeft ((replied settled_opening 1 open_a).clients 1).status ((replied settled_opening 1 open_a).clients 1).knows.own ((replied settled_opening 1 open_a).clients 1).begun → ⊥
+settled_open is = false≢true (sym (ap is_some (is.closed refl 0)))

@@ -173,3 +173,13 @@ stat_root = call.Stat (47 ∷ [])
 
 abbrev pub no_entries : Operation
 no_entries = Tell (reply.Dir 0)
+
+-- ---- the call of the walk is begun in a region that is not wiped
+
+abbrev pub begun_unwiped : World
+begun_unwiped = moved walked.making 1 walked.making.kernel.shared (walked.making.kernel.accounts 1) (record (walked.making.clients 1) { ready = false })
+
+-- ---- a client is settled while it has a call begun that opens a file
+
+abbrev pub settled_opening : World
+settled_opening = with_client unlink_walked.opening 1 (record (unlink_walked.opening.clients 1) { status = Settled })

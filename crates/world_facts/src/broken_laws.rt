@@ -19,7 +19,7 @@ ghost use Rattle.world_facts.specs.Halves.{IsOnItsWay, number_received};
 ghost use Rattle.world_facts.specs.Walk.{mkdir_a, made, handed};
 ghost use Rattle.world_facts.specs.UnlinkWalk.{open_a};
 ghost use Rattle.world_facts.specs.Stop.{Leaves, Stores};
-ghost use Rattle.world_facts.specs.Broken.{counting, taken_number, far_number, unbooked_number, used_number, unpinned_file, unbooked_node, still_open, both_counting, one_file, making, dropping, one_open, naming, marked_past, granted_twice, watching, root_alone, half, misbegun, unpaid, overdrawn, unwiped, left_behind, marked_before, unpinned_open, rootless, large_file, overfull, stale, stat_root, no_entries};
+ghost use Rattle.world_facts.specs.Broken.{counting, taken_number, far_number, unbooked_number, used_number, unpinned_file, unbooked_node, still_open, both_counting, one_file, making, dropping, one_open, naming, marked_past, granted_twice, watching, root_alone, half, misbegun, unpaid, overdrawn, unwiped, left_behind, marked_before, unpinned_open, rootless, large_file, overfull, stale, stat_root, no_entries, begun_unwiped, settled_opening};
 
 /// Where two clients write one inode, which takes a lease that one of them doesn't hold, the order of their digests is seen.
 pub fn writing_without_a_lease_is_seen()
@@ -219,4 +219,18 @@ pub fn answer_by_a_stale_copy_is_no_step()
     ensures broken { Agrees (stale.clients 2).knows (whole stale) (held stale) → ⊥ }
     ensures can { CanAnswer stale 2 stat_root 0 no_entries }
     ensures wrong { Step (world_state stale) 2 stat_root (reply_of no_entries) (world_state (answered stale 2 0 no_entries)) → ⊥ }
+{}
+
+/// Where a call is begun in a region that is not wiped, its answer writes a record there, which a wipe would lose.
+pub fn call_begun_in_a_stale_region_is_written_there()
+    ensures broken { StartsWiped (begun_unwiped.clients 1).ready (begun_unwiped.clients 1).current (begun_unwiped.clients 1).begun → ⊥ }
+    ensures begun { IsBegun begun_unwiped 1 mkdir_a }
+    ensures lost { StartsWiped ((replied begun_unwiped 1 mkdir_a).clients 1).ready ((replied begun_unwiped 1 mkdir_a).clients 1).current ((replied begun_unwiped 1 mkdir_a).clients 1).begun → ⊥ }
+{}
+
+/// Where a settled client has a call begun, its answer may leave it with an open file.
+pub fn call_of_a_settled_client_opens_a_file()
+    ensures broken { HasLeft (settled_opening.clients 1).status (settled_opening.clients 1).knows.own (settled_opening.clients 1).begun → ⊥ }
+    ensures begun { IsBegun settled_opening 1 open_a }
+    ensures lost { HasLeft ((replied settled_opening 1 open_a).clients 1).status ((replied settled_opening 1 open_a).clients 1).knows.own ((replied settled_opening 1 open_a).clients 1).begun → ⊥ }
 {}

@@ -28,6 +28,7 @@ pub use book_laws::{
 pub use broken_laws::{
     answer_by_a_stale_copy_is_no_step, booked_number_of_a_node_is_taken,
     booked_number_past_all_inodes_is_received, burial_of_a_client_with_an_open_file_is_seen,
+    call_begun_in_a_stale_region_is_written_there, call_of_a_settled_client_opens_a_file,
     call_that_pinned_nothing_opens_a_file, copy_beside_a_writer_goes_stale,
     copy_without_a_lease_goes_stale, mark_before_its_records_loses_a_number,
     mark_past_its_records_loses_a_call, number_in_two_hands_is_taken,
