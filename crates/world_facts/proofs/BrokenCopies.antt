@@ -1,5 +1,5 @@
 -- A copy that is not as the whole is: what its client answers is no step of the tree.
-use Rattle.std.proofs.Common.{◌≡◌, inl, inr, ℕ, ◌+◌, [], ◌∷◌, false, refl, Some, Ok, ap, sym, ◌∙◌, subst, arith}
+use Rattle.std.proofs.Common.{◌≡◌, inl, inr, ℕ, ◌+◌, [], ◌∷◌, refl, Some, Ok, ap, sym, ◌∙◌, subst, arith}
 use Rattle.std.specs.Prelude.{is_some, option_map}
 use Rattle.std.specs.FinMap as fin
 use Rattle.std.proofs.lemmas.Bool.{false≢true}
@@ -9,7 +9,6 @@ use Rattle.posix_calls.specs.Query.{Known, seen, view_of, run, run_part, ◌>>=�
 use Rattle.posix_calls.specs.Walk.{walk}
 use Rattle.posix_calls.specs.Decide.{stat, described}
 use Rattle.posix_calls.specs.Operations.{Step, Follows, answer, reply_of}
-use Rattle.posix_calls.specs.declared.call.Reply.{Reply}
 use Rattle.posix_calls.specs.declared.call.Reply.TheVariants as reply
 use Rattle.posix_calls.specs.declared.operation.Operation.TheVariants.{Tell}
 use Rattle.posix_calls.proofs.Chain.{part_bind, part_gives, part_refuses}
