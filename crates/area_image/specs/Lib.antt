@@ -6,3 +6,4 @@ pub mod Map
 pub mod Looks
 pub mod Rewrites
 pub mod Checks
+pub mod Used

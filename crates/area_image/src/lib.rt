@@ -15,6 +15,7 @@ mod slots;
 mod sound;
 mod tail;
 mod tiers;
+mod used;
 
 pub use change_laws::{free_blocks_have_no_use, rewritten_inodes_are_spelled};
 pub use error::AreaError;
@@ -30,3 +31,4 @@ pub use reading::{blank_block, read_block};
 pub use slots::{length_of, read_slot, root_of, space_of};
 pub use sound::read_inode;
 pub use tiers::{InodeExtents, read_all_extents};
+pub use used::UsedBlocks;

@@ -1,0 +1,30 @@
+-- Which blocks of each tier are marked as used.
+use Rattle.std.specs.Prelude.{◌≡◌, ◌⊎◌, ◌↔◌, ◌<◌, ℕ, Bool, true, false, List, length, get_or}
+use Rattle.tier_device.specs.declared.media.Tier.{Tier}
+use Rattle.tier_device.specs.declared.media.Tier.TheVariants as tiers
+
+-- a mark for each block of a tier
+pub record UsedMarks : Type 0 where
+  pub fast : List Bool
+  pub block : List Bool
+  pub slow : List Bool
+
+abbrev pub marks_in : UsedMarks → Tier → List Bool
+marks_in m tiers.Fast = m.fast
+marks_in m tiers.Block = m.block
+marks_in m tiers.Slow = m.slow
+
+abbrev pub is_marked : UsedMarks → Tier → ℕ → Bool
+is_marked m t k = get_or (marks_in m t) k false
+
+abbrev pub IsMarked : UsedMarks → Tier → ℕ → Type 0
+IsMarked m t k = is_marked m t k ≡ true
+
+-- The block can be marked.
+abbrev pub HasRoom : UsedMarks → Tier → ℕ → Type 0
+HasRoom m t k = k < length (marks_in m t)
+
+-- Marked are the blocks of before and these; the same blocks can be marked.
+pub record Adds (old new : UsedMarks) (more : Tier → ℕ → Type 0) : Type 0 where
+  pub room : (t : Tier) → length (marks_in new t) ≡ length (marks_in old t)
+  pub marked : (t : Tier) (k : ℕ) → IsMarked new t k ↔ (IsMarked old t k ⊎ more t k)
