@@ -10,3 +10,5 @@ pub mod Torn
 pub mod Tails
 pub mod Twins
 pub mod Inodes
+pub mod Takings
+pub mod Uses

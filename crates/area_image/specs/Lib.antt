@@ -7,3 +7,4 @@ pub mod Looks
 pub mod Rewrites
 pub mod Checks
 pub mod Used
+pub mod Parts

@@ -14,6 +14,7 @@ mod reading;
 mod slots;
 mod sound;
 mod tail;
+mod taking;
 mod tiers;
 mod used;
 
@@ -30,5 +31,6 @@ pub use marks::read_marks;
 pub use reading::{blank_block, read_block};
 pub use slots::{length_of, read_slot, root_of, space_of};
 pub use sound::read_inode;
+pub use taking::mark_inode;
 pub use tiers::{InodeExtents, read_all_extents};
 pub use used::UsedBlocks;

@@ -23,7 +23,7 @@ fn place_among(extents: &[Extent], block: u64) -> Option<u64>
 }
 
 // The place of a logical block in a tier.
-fn place_in(found: &Option<ExtentBlock>, block: u64) -> Option<u64>
+pub fn place_in(found: &Option<ExtentBlock>, block: u64) -> Option<u64>
     ensures { result ≡ place_of (extents_in found.now) block }
 {
     match found {

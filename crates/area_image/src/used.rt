@@ -33,7 +33,7 @@ fn no_marks(alloc: Global, count: u32) -> Result<Vec<bool>, AllocError>
 }
 
 // Sets a mark, and tells whether it was set.
-fn set_mark(marks: &mut Vec<bool>, at: u32) -> bool
+fn set_mark(marks: &mut Vec<bool>, at: u64) -> bool
     requires { at < length marks.old.items }
     ensures was { result ≡ get_or marks.old.items at false }
     ensures marks { marks.new.items ≡ set marks.old.items at true }
@@ -56,7 +56,7 @@ impl UsedBlocks {
     }
 
     /// Marks a block, and tells whether it was marked before.
-    pub fn mark(&mut self, tier: Tier, at: u32) -> bool
+    pub fn mark(&mut self, tier: Tier, at: u64) -> bool
         requires { HasRoom self.old tier at }
         ensures was { result ≡ is_marked self.old tier at }
         ensures marks { Adds self.old self.new (λ t k. (t ≡ tier) × (k ≡ at)) }
