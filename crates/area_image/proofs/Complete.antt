@@ -83,14 +83,14 @@ root_some g s i t k some zero' =
 no_some_here : (o : Option (Tier × ℕ)) (b : Tier × ℕ) → o ≡ None → o ≡ Some b → ⊥
 no_some_here o b none some = let e : None ≡ Some b = sym none ∙ some in false≢true (ap is_some e)
 
-used_root : (g : Sizes) (s : Store) (i : ℕ) (t : Tier) (k : Option ℕ) (b : Tier × ℕ) → used g s (record { inode = i; tier = t; logical = k }) ≡ Some b → root_of (slot g s i) t ≢ 0
+pub used_root : (g : Sizes) (s : Store) (i : ℕ) (t : Tier) (k : Option ℕ) (b : Tier × ℕ) → used g s (record { inode = i; tier = t; logical = k }) ≡ Some b → root_of (slot g s i) t ≢ 0
 used_root g s i t None b is zero' = no_some_here (used g s (record { inode = i; tier = t; logical = None })) b (cond-true (root_of (slot g s i) t == 0) _ _ (ap (λ r. r == 0) zero')) is
 used_root g s i t (Some k) b is zero' = elim (option_cases (place g s i t k)) [
   | inl (p, there) ↦ root_some g s i t k (is_some_at _ p there) zero'
   | inr none ↦ no_some_here (used g s (record { inode = i; tier = t; logical = Some k })) b (ap (option_map (λ p. (t, p))) none) is
 ]
 
-root_inode : (g : Sizes) (s : Store) (i : ℕ) (t : Tier) → root_of (slot g s i) t ≢ 0 → is_inode i ≡ true
+pub root_inode : (g : Sizes) (s : Store) (i : ℕ) (t : Tier) → root_of (slot g s i) t ≢ 0 → is_inode i ≡ true
 unfolding slot_read
 root_inode g s i t some = elim (cases_Bool (is_inode i)) [
   | inl is ↦ is

@@ -12,3 +12,4 @@ pub mod Twins
 pub mod Inodes
 pub mod Takings
 pub mod Uses
+pub mod Sharing

@@ -118,7 +118,7 @@ pub tier_more : (old mid new : UsedMarks) (x : InodeParts) (t : Tier) → Takes 
 tier_more old mid new x t takes true clash = clash_after (part_block x) old mid (IsRoot t) (IsPlace t (length_of x.slot)) (IsOfTier t x) takes clash (root_no_place t (length_of x.slot)) (λ a is. inr is)
 tier_more old mid new x t takes false more = take_more (part_block x) old mid new (IsRoot t) (IsPlace t (length_of x.slot)) takes more
 
-tier_of : (x : InodeParts) (t : Tier) (a : Part) → IsOfTier t x a → a.0 ≡ t
+pub tier_of : (x : InodeParts) (t : Tier) (a : Part) → IsOfTier t x a → a.0 ≡ t
 tier_of x t a is = elim is [ inl root ↦ root.0 | inr place ↦ place.0 ]
 
 fast_no_block : Fast ≡ Block → ⊥

@@ -8,3 +8,4 @@ pub mod Rewrites
 pub mod Checks
 pub mod Used
 pub mod Parts
+pub mod Whole

@@ -1,6 +1,7 @@
 //! What the shared media spell: their blocks as a store, each inode of it, and the graph.
 #![tactic(auto)]
 
+mod area;
 mod change_laws;
 mod directory;
 mod entries;
@@ -18,6 +19,7 @@ mod taking;
 mod tiers;
 mod used;
 
+pub use area::read_area;
 pub use change_laws::{free_blocks_have_no_use, rewritten_inodes_are_spelled};
 pub use error::AreaError;
 pub use extents::read_extents;

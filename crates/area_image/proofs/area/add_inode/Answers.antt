@@ -1,0 +1,27 @@
+use Rattle.std.proofs.Common.{sym, subst}
+use Rattle.area_image.specs.Store.{store_of}
+use Rattle.area_image.specs.Damage.{IsDamaged}
+use Rattle.area_image.proofs.Shown.{inode_is}
+use Rattle.area_image.proofs.Sharing.{room_for, marks_more, clash_damage}
+use Rattle.layout.specs.declared.error.What.TheVariants as what
+use Rattle.area_image.proofs.area.add_inode.Goals as goal
+
+pub mark_inode-requires : goal.mark_inode-requires
+mark_inode-requires g c =
+    let old = c.args.journal.now in
+    let x = c.in-Ok.parts in
+    room_for old.geometry (store_of (g.M.Media.seen old.media)) c.args.inode x c.in-Ok.ensures.slot c.in-Ok.ensures.extents c.args.used.now c.in-Ok.ensures.fits c.requires.before
+
+pub returns-in-None-clause-marks : goal.returns-in-None-clause-marks
+returns-in-None-clause-marks g c =
+    let old = c.args.journal.now in
+    let x = c.in-Ok.parts in
+    marks_more old.geometry (store_of (g.M.Media.seen old.media)) c.args.inode x c.in-Ok.ensures.slot c.in-Ok.ensures.extents c.args.used.now c.mark_inode.new.used c.in-Ok.ensures.fits c.requires.before c.in-None.ensures.none
+
+pub returns-in-Ok-clause-damaged : goal.returns-in-Ok-clause-damaged
+returns-in-Ok-clause-damaged g c =
+    let old = c.args.journal.now in
+    let s = store_of (g.M.Media.seen old.media) in
+    let x = c.in-Ok.parts in
+    let damage = clash_damage old.geometry s c.args.inode x c.in-Ok.ensures.slot c.in-Ok.ensures.extents c.args.used.now c.in-Some.tier (inode_is c.args.inode c.requires.low c.requires.high) c.requires.before c.in-Some.ensures.some in
+    subst (IsDamaged old.geometry s what.ExtentBlock) (sym c.root_of.ensures) damage

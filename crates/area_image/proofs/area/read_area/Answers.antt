@@ -1,0 +1,72 @@
+use Rattle.std.proofs.Common.{◌+◌, ◌⊎◌, ◌∙◌, ℕ, Err, sym, arith}
+use Rattle.area_image.specs.Store.{store_of}
+use Rattle.area_image.specs.Spelled.{SpellsInode}
+use Rattle.area_image.specs.Damage.{IsDamaged}
+use Rattle.area_image.specs.Map.{WantsMemory}
+use Rattle.area_image.specs.Checks.{HasPart}
+use Rattle.area_image.specs.Looks.{looked}
+use Rattle.area_image.specs.Whole.{MarksUses}
+use Rattle.area_image.proofs.Parts.{on_damage}
+use Rattle.area_image.proofs.Looked.{carried, carried_back, looks_on, looks_none}
+use Rattle.area_image.proofs.Sharing.{marks_none, all_once, all_marked, spelled_more, spelled_all}
+use Rattle.area_image.proofs.area.read_area.Goals as goal
+
+pub inodes-init : goal.inodes-init
+inodes-init g c =
+    let m = g.M.Media in
+    let old = c.args.journal.now in
+    record {
+      looks = looks_none m.moment m.seen m.left m.faults old tt (sym c.has_failed.ensures ∙ c.if-has_failed.false);
+      marks = marks_none old.geometry (store_of (m.seen old.media)) c.args.used.now c.requires.room c.requires.none;
+      spelled = λ i first last. absurd (omega (arith, first, last));
+    }
+
+pub add_inode-requires-clause-before : goal.add_inode-requires-clause-before
+add_inode-requires-clause-before g c =
+    let m = g.M.Media in
+    carried m.moment m.seen m.left m.faults (λ x s. MarksUses x s c.inodes.inode c.inodes.used) c.args.journal.now c.inodes.journal looked c.inodes.invariant.looks c.inodes.invariant.marks
+
+pub inodes-preserved : goal.inodes-preserved
+inodes-preserved g c =
+    let m = g.M.Media in
+    let old = c.args.journal.now in
+    let first = c.inodes.invariant.looks in
+    let here = carried_back m.moment m.seen m.left m.faults (λ x s. SpellsInode x s c.inodes.inode) old c.inodes.journal looked first c.in-Ok.ensures.spelled in
+    record {
+      looks = looks_on m.moment m.seen m.left m.faults old c.inodes.journal c.add_inode.new.journal tt looked first c.in-Ok.ensures.looks;
+      marks = carried_back m.moment m.seen m.left m.faults (λ x s. MarksUses x s (c.inodes.inode + 1) c.add_inode.new.used) old c.inodes.journal looked first c.in-Ok.ensures.marks;
+      spelled = spelled_more old.geometry (store_of (m.seen old.media)) c.inodes.inode c.inodes.invariant.spelled here;
+    }
+
+pub returns-in-Err-clause-damaged : goal.returns-in-Err-clause-damaged
+returns-in-Err-clause-damaged g c =
+    let m = g.M.Media in
+    on_damage c.in-Err.error (λ w b d. carried_back m.moment m.seen m.left m.faults (λ x s. IsDamaged x s w b) c.args.journal.now c.inodes.journal looked c.inodes.invariant.looks d) c.in-Err.ensures.damaged
+
+pub returns-in-Err-clause-memory : goal.returns-in-Err-clause-memory
+returns-in-Err-clause-memory g c = λ is.
+    let m = g.M.Media in
+    (c.inodes.inode, carried_back m.moment m.seen m.left m.faults (λ x s. (WantsMemory x s c.inodes.inode) ⊎ ((n : ℕ) × HasPart x s c.inodes.inode n)) c.args.journal.now c.inodes.journal looked c.inodes.invariant.looks (c.in-Err.ensures.memory is))
+
+pub returns-in-Err-clause-looks : goal.returns-in-Err-clause-looks
+returns-in-Err-clause-looks g c =
+    let m = g.M.Media in
+    looks_on m.moment m.seen m.left m.faults c.args.journal.now c.inodes.journal c.add_inode.new.journal tt (Err c.in-Err.error) c.inodes.invariant.looks c.in-Err.ensures.looks
+
+pub returns-clause-inodes : goal.returns-clause-inodes
+returns-clause-inodes g c =
+    let old = c.args.journal.now in
+    spelled_all old.geometry (store_of (g.M.Media.seen old.media)) c.inodes.inode c.inodes-test.false c.inodes.invariant.spelled
+
+pub returns-clause-apart : goal.returns-clause-apart
+returns-clause-apart g c =
+    let old = c.args.journal.now in
+    all_once old.geometry (store_of (g.M.Media.seen old.media)) c.inodes.inode c.inodes-test.false c.inodes.used c.inodes.invariant.marks
+
+pub returns-clause-marked : goal.returns-clause-marked
+returns-clause-marked g c =
+    let old = c.args.journal.now in
+    all_marked old.geometry (store_of (g.M.Media.seen old.media)) c.inodes.inode c.inodes-test.false c.inodes.used c.inodes.invariant.marks
+
+pub returns-clause-looks : goal.returns-clause-looks
+returns-clause-looks g c = c.inodes.invariant.looks

@@ -1,0 +1,15 @@
+use Rattle.std.proofs.Common.{◌<◌, ◌≤◌, ℕ}
+use Rattle.area_image.specs.Store.{store_of}
+use Rattle.area_image.specs.Spelled.{SpellsInode}
+use Rattle.area_image.specs.Looks.{Looks, looked}
+use Rattle.area_image.specs.Whole.{MarksUses}
+use Rattle.area_image.proofs.area.read_area.Given as goal
+
+abbrev pub invariant-inodes : goal.invariant-inodes
+invariant-inodes g l =
+    let m = g.M.Media in
+    record {
+      looks : Looks m.moment m.seen m.left m.faults l.fn.journal l.journal looked;
+      marks : MarksUses l.fn.journal.geometry (store_of (m.seen l.fn.journal.media)) l.inode l.used;
+      spelled : (i : ℕ) → 1 ≤ i → i < l.inode → SpellsInode l.fn.journal.geometry (store_of (m.seen l.fn.journal.media)) i;
+    }
