@@ -13,3 +13,4 @@ pub mod Inodes
 pub mod Takings
 pub mod Uses
 pub mod Sharing
+pub mod Costs

@@ -9,3 +9,4 @@ pub mod Checks
 pub mod Used
 pub mod Parts
 pub mod Whole
+pub mod Units

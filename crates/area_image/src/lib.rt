@@ -17,6 +17,7 @@ mod sound;
 mod tail;
 mod taking;
 mod tiers;
+mod units;
 mod used;
 
 pub use area::read_area;
@@ -35,4 +36,5 @@ pub use slots::{length_of, read_slot, root_of, space_of};
 pub use sound::read_inode;
 pub use taking::mark_inode;
 pub use tiers::{InodeExtents, read_all_extents};
+pub use units::{slots_tell_the_units, units_of};
 pub use used::UsedBlocks;

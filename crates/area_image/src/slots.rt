@@ -66,7 +66,7 @@ pub fn length_of(slot: &Slot) -> u64
     }
 }
 
-fn file_blocks(size: u64) -> u64
+pub fn file_blocks(size: u64) -> u64
     ensures { result ≡ (size + (BLOCK - 1)) / BLOCK }
 {
     let rest = size % BLOCK as u64;
