@@ -2,6 +2,8 @@ use Rattle.std.proofs.Common.{sym, subst}
 use Rattle.area_image.specs.Store.{store_of}
 use Rattle.area_image.specs.Damage.{IsDamaged}
 use Rattle.area_image.proofs.Shown.{inode_is}
+use Rattle.std.proofs.Common.{◌∙◌, ◌≤◌, ℕ}
+use Rattle.area_image.proofs.Costs.{parts_units, few_units}
 use Rattle.area_image.proofs.Sharing.{room_for, marks_more, clash_damage}
 use Rattle.layout.specs.declared.error.What.TheVariants as what
 use Rattle.area_image.proofs.area.add_inode.Goals as goal
@@ -25,3 +27,11 @@ returns-in-Ok-clause-damaged g c =
     let x = c.in-Ok.parts in
     let damage = clash_damage old.geometry s c.args.inode x c.in-Ok.ensures.slot c.in-Ok.ensures.extents c.args.used.now c.in-Some.tier (inode_is c.args.inode c.requires.low c.requires.high) c.requires.before c.in-Some.ensures.some in
     subst (IsDamaged old.geometry s what.ExtentBlock) (sym c.root_of.ensures) damage
+
+pub returns-in-None-clause-units : goal.returns-in-None-clause-units
+returns-in-None-clause-units g c =
+    let old = c.args.journal.now in
+    c.units_of.ensures.units ∙ sym (parts_units old.geometry (store_of (g.M.Media.seen old.media)) c.args.inode c.in-Ok.parts.slot c.in-Ok.ensures.slot c.in-Ok.ensures.spelled)
+
+pub returns-in-None-clause-small : goal.returns-in-None-clause-small
+returns-in-None-clause-small g c = subst (λ (n : ℕ). n ≤ 257) (sym c.units_of.ensures.units) (few_units c.args.journal.now.geometry c.in-Ok.parts.slot c.in-Ok.ensures.fits)

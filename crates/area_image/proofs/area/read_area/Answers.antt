@@ -1,5 +1,7 @@
-use Rattle.std.proofs.Common.{◌+◌, ◌⊎◌, ◌∙◌, ℕ, Err, sym, arith}
-use Rattle.area_image.specs.Store.{store_of}
+use Rattle.std.proofs.Common.{◌≡◌, ◌+◌, ◌⊎◌, ◌∙◌, ℕ, Err, sym, arith}
+use Rattle.area_image.specs.Store.{store_of, graph}
+use Rattle.file_graph.specs.Graph.{cost}
+use Rattle.area_image.proofs.Costs.{total_none, total_more, total_all}
 use Rattle.area_image.specs.Spelled.{SpellsInode}
 use Rattle.area_image.specs.Damage.{IsDamaged}
 use Rattle.area_image.specs.Map.{WantsMemory}
@@ -7,7 +9,7 @@ use Rattle.area_image.specs.Checks.{HasPart}
 use Rattle.area_image.specs.Looks.{looked}
 use Rattle.area_image.specs.Whole.{MarksUses}
 use Rattle.area_image.proofs.Parts.{on_damage}
-use Rattle.area_image.proofs.Looked.{carried, carried_back, looks_on, looks_none}
+use Rattle.area_image.proofs.Looked.{carried, carried_back, looks_on, looks_none, looks_answer}
 use Rattle.area_image.proofs.Sharing.{marks_none, all_once, all_marked, spelled_more, spelled_all}
 use Rattle.area_image.proofs.area.read_area.Goals as goal
 
@@ -17,6 +19,8 @@ inodes-init g c =
     let old = c.args.journal.now in
     record {
       looks = looks_none m.moment m.seen m.left m.faults old tt (sym c.has_failed.ensures ∙ c.if-has_failed.false);
+      total = total_none (graph old.geometry (store_of (m.seen old.media)));
+      few = omega arith;
       marks = marks_none old.geometry (store_of (m.seen old.media)) c.args.used.now c.requires.room c.requires.none;
       spelled = λ i first last. absurd (omega (arith, first, last));
     }
@@ -33,7 +37,11 @@ inodes-preserved g c =
     let first = c.inodes.invariant.looks in
     let here = carried_back m.moment m.seen m.left m.faults (λ x s. SpellsInode x s c.inodes.inode) old c.inodes.journal looked first c.in-Ok.ensures.spelled in
     record {
-      looks = looks_on m.moment m.seen m.left m.faults old c.inodes.journal c.add_inode.new.journal tt looked first c.in-Ok.ensures.looks;
+      looks = looks_on m.moment m.seen m.left m.faults old c.inodes.journal c.add_inode.new.journal tt looked first
+          (looks_answer m.moment m.seen m.left m.faults c.inodes.journal c.add_inode.new.journal c.in-Ok.more tt c.in-Ok.ensures.looks);
+      total = total_more (graph old.geometry (store_of (m.seen old.media))) c.inodes.inode c.inodes.units c.in-Ok.more c.inodes.auto.inode c.inodes.invariant.total
+          (carried_back m.moment m.seen m.left m.faults (λ x s. c.in-Ok.more ≡ cost (graph x s c.inodes.inode)) old c.inodes.journal looked first c.in-Ok.ensures.units);
+      few = (let low = c.inodes.auto.inode in let few = c.inodes.invariant.few in let small = c.in-Ok.ensures.small in omega (arith, low, few, small));
       marks = carried_back m.moment m.seen m.left m.faults (λ x s. MarksUses x s (c.inodes.inode + 1) c.add_inode.new.used) old c.inodes.journal looked first c.in-Ok.ensures.marks;
       spelled = spelled_more old.geometry (store_of (m.seen old.media)) c.inodes.inode c.inodes.invariant.spelled here;
     }
@@ -69,4 +77,12 @@ returns-clause-marked g c =
     all_marked old.geometry (store_of (g.M.Media.seen old.media)) c.inodes.inode c.inodes-test.false c.inodes.used c.inodes.invariant.marks
 
 pub returns-clause-looks : goal.returns-clause-looks
-returns-clause-looks g c = c.inodes.invariant.looks
+returns-clause-looks g c =
+    let m = g.M.Media in
+    looks_answer m.moment m.seen m.left m.faults c.args.journal.now c.inodes.journal tt c.inodes.units c.inodes.invariant.looks
+
+pub returns-clause-units : goal.returns-clause-units
+returns-clause-units g c =
+    let old = c.args.journal.now in
+    let last = c.inodes.auto.inode-end in
+    total_all (graph old.geometry (store_of (g.M.Media.seen old.media))) c.inodes.inode c.inodes.units c.inodes-test.false (last (omega arith)) c.inodes.invariant.total
