@@ -1,10 +1,9 @@
 // Marking the blocks of an inode.
-ghost use Rattle.std.specs.Prelude.{◌≡◌, ◌<◌, ℕ, Some, None, MatchBool, IfSome, IfNone, length};
-ghost use Rattle.tier_device.specs.declared.media.Tier.{Tier};
+ghost use Rattle.std.specs.Prelude.{◌≡◌, MatchBool, IfSome, IfNone};
 ghost use Rattle.area_image.specs.Map.{in_tier};
-ghost use Rattle.area_image.specs.Store.{root_of, length_of};
-ghost use Rattle.area_image.specs.Used.{UsedMarks, marks_in, HasRoom, Adds, Takes, Clashes};
-ghost use Rattle.area_image.specs.Parts.{Part, part_block, IsRoot, IsPlace, IsOfTier, IsWithin, HasRoomFor};
+ghost use Rattle.area_image.specs.Store.{length_of};
+ghost use Rattle.area_image.specs.Used.{Takes, Clashes};
+ghost use Rattle.area_image.specs.Parts.{part_block, IsRoot, IsPlace, IsOfTier, IsWithin, HasRoomFor};
 
 use crate::inode::InodeParts;
 use crate::places::place_in;

@@ -1,8 +1,8 @@
 // Which blocks are in use.
-ghost use Rattle.std.specs.Prelude.{◌≡◌, ◌<◌, ℕ, true, false, length, replicate, get_or, set, IfOk, IfErr};
+ghost use Rattle.std.specs.Prelude.{◌≡◌, ◌<◌, ℕ, true, false, length, replicate, get_or, set, IfOk};
 ghost use Rattle.tier_device.specs.declared.media.Tier.{Tier};
 ghost use Rattle.layout.specs.Places.{tier_blocks};
-ghost use Rattle.area_image.specs.Used.{UsedMarks, marks_in, is_marked, IsMarked, HasRoom, Adds};
+ghost use Rattle.area_image.specs.Used.{UsedMarks, marks_in, is_marked, HasRoom, Adds};
 
 use layout::Geometry;
 use std::alloc::{AllocError, Global};
