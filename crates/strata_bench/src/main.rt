@@ -1,21 +1,12 @@
 //! Times the layers of Strata beside plain work on the same bytes.
 #![tactic(auto)]
 
-mod append;
-mod batch;
-mod calls;
-mod desk;
-mod failure;
-mod leases;
 mod options;
-mod regions;
 mod script;
 
 use anyhow::{Context, Result, bail};
-use desk::Desk;
-use failure::Failure;
+use layer_bench::{Desk, Failure, Over, time_appends, time_batches, time_calls, time_leases};
 use options::Asked;
-use regions::Over;
 use std::env;
 use std::process::ExitCode;
 use std::thread::Threads;
@@ -58,7 +49,7 @@ fn measure<R: Threads + Sync>(
     asked: &Asked<'_>,
 ) -> Result<(), Failure> {
     if asked.leases {
-        leases::run(threads, desk)?;
+        time_leases(threads, desk)?;
     }
     if asked.append.is_some() || asked.calls {
         measure_logged(desk, asked, asked.over()?)?;
@@ -69,17 +60,17 @@ fn measure<R: Threads + Sync>(
 // What is logged to a medium.
 fn measure_logged(desk: &mut Desk<'_>, asked: &Asked<'_>, over: Over<'_>) -> Result<(), Failure> {
     if let Some(bytes) = asked.append {
-        append::run(desk, bytes as usize, asked.times, over)?;
+        time_appends(desk, bytes as usize, asked.times, over)?;
     }
     if asked.calls {
-        return calls::run(desk, asked.times, over);
+        return time_calls(desk, asked.times, over);
     }
     Ok(())
 }
 
 fn measure_rest(desk: &mut Desk<'_>, asked: &Asked<'_>) -> Result<(), Failure> {
     if let Some(images) = asked.batch {
-        batch::run(desk, images as usize)?;
+        time_batches(desk, images as usize)?;
     }
     if asked.script {
         script::run(desk)?;

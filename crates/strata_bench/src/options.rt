@@ -1,8 +1,6 @@
 // What the words of the command line ask for.
-use crate::desk::add;
-use crate::failure::Failure;
-use crate::regions::Over;
 use clap::{Arg, ArgAction, ArgMatches, Command, Error, value_parser};
+use layer_bench::{Failure, Over, add};
 use std::alloc::{AllocError, Global};
 
 /// How many appends or calls are made at least over one medium.

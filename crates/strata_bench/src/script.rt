@@ -1,6 +1,5 @@
 // How many calls a second a file tree in memory answers.
-use crate::desk::{Desk, Sum, bytes_of, keep_room};
-use crate::failure::Failure;
+use layer_bench::{Desk, Failure, Sum, bytes_of, keep_room};
 use plain_tree::PlainTree;
 use posix_calls::{Bytes, Call, Flags, Reply};
 use std::alloc::{AllocError, Global};

@@ -1,6 +1,6 @@
 use Rattle.std.proofs.Common.{◌≡◌, ◌≤◌, ◌+◌, length}
 use Rattle.batch_journal.specs.Images.{next_of}
-use Rattle.strata_bench.proofs.batch.batch_of.Given as goal
+use Rattle.layer_bench.proofs.batch.batch_of.Given as goal
 
 abbrev pub invariant-loop-k : goal.invariant-loop-k
 invariant-loop-k l = record {

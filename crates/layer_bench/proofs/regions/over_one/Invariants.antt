@@ -1,6 +1,6 @@
 use Rattle.tier_device.specs.declared.media.Tier.TheVariants.{Fast}
 use Rattle.tier_device.specs.Media.{AtRest}
-use Rattle.strata_bench.proofs.regions.over_one.Given as goal
+use Rattle.layer_bench.proofs.regions.over_one.Given as goal
 
 -- nothing of the medium is pending
 abbrev pub invariant-loop : goal.invariant-loop
