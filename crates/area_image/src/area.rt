@@ -70,6 +70,7 @@ pub fn read_area<M: Media>(
     requires none { (t : Tier) (k : ℕ) → is_marked used.old t k ≡ false }
     ensures inodes { OnOk result ((i : ℕ) → is_inode i ≡ true → SpellsInode journal.old.geometry (store_of (M.seen journal.old.media)) i) }
     ensures apart { OnOk result (AreUsedOnce journal.old.geometry (store_of (M.seen journal.old.media))) }
+    ensures room { OnOk result ((t : Tier) → length (marks_in used.new t) ≡ tier_blocks journal.old.geometry t) }
     ensures marked { OnOk result ((t : Tier) (k : ℕ) → IsMarked used.new t k ↔ ((u : Use) × (used_by journal.old.geometry (store_of (M.seen journal.old.media)) u ≡ Some (t, k)))) }
     ensures units { IfOk result (λ units. units ≡ charge (graph journal.old.geometry (store_of (M.seen journal.old.media)))) }
     ensures damaged { IfErr result (λ e. OnDamage e (IsDamaged journal.old.geometry (store_of (M.seen journal.old.media)))) }

@@ -10,6 +10,7 @@ mod extents;
 mod inode;
 mod laws;
 mod marks;
+mod opening;
 mod places;
 mod reading;
 mod slots;
@@ -31,6 +32,7 @@ pub use laws::{
     write_to_free_blocks_stays_loose,
 };
 pub use marks::read_marks;
+pub use opening::{OpenArea, open_area};
 pub use reading::{blank_block, read_block};
 pub use slots::{length_of, read_slot, root_of, space_of};
 pub use sound::read_inode;
