@@ -39,4 +39,4 @@ pub use sound::read_inode;
 pub use taking::mark_inode;
 pub use tiers::{InodeExtents, read_all_extents};
 pub use units::{slots_tell_the_units, units_of};
-pub use used::UsedBlocks;
+pub use used::{UsedBlocks, unmarked_blocks_are_free};
