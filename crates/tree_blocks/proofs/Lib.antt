@@ -9,4 +9,5 @@ pub mod Finding
 pub mod Held
 pub mod Leaving
 pub mod Lists
+pub mod Marking
 pub mod NameChanges

@@ -2,3 +2,4 @@ pub mod After
 pub mod Directory
 pub mod FileBlock
 pub mod Inode
+pub mod Written

@@ -1,6 +1,6 @@
 //! Blocks of entries, as a change of names makes them.
 
-ghost use Rattle.std.specs.Prelude.{◌≡◌, ◌≤◌, ◌<◌, ◌+◌, ◌^◌, ◌↔◌, ℕ, length, true, false, is_some, IfSome, IfOk, OnErr, IsTrue, vec_capacity};
+ghost use Rattle.std.specs.Prelude.{◌≡◌, ◌≤◌, ◌<◌, ◌+◌, ◌*◌, ◌^◌, ◌↔◌, ℕ, length, true, false, is_some, IfSome, IfOk, OnOk, OnErr, IsTrue, vec_capacity};
 ghost use Rattle.std.specs.FinMap as fin;
 ghost use Rattle.posix_calls.specs.declared.limits.TheConstants.{MAX_ENTRIES};
 ghost use Rattle.layout.specs.Places.{is_inode};
@@ -10,18 +10,21 @@ ghost use Rattle.node_bodies.specs.Named.{pairs, IsInOrder};
 ghost use Rattle.graph_change.specs.Net.{with_entry, with_entries};
 ghost use Rattle.tree_blocks.specs.Inode.{entry_at, named, IsDirectory, blocks_for};
 ghost use Rattle.tree_blocks.specs.Directory.{numbered, AreHeld, LeadToInodes, coming, counted};
+ghost use Rattle.tree_blocks.specs.Written.{Marks};
 
 use crate::entry_blocks::{add_to, find_in, take_from};
+use crate::written::mark;
 use file_graph::Kind;
 use layout::{BLOCK, EntryRef, MAX_IN_BLOCK, set_target};
 use node_bodies::NamedEntry;
 use posix_calls::MAX_ENTRIES;
 use std::alloc::{AllocError, Global};
 
-// Enters an entry, over that of its name or behind the last one. It answers how many there are then.
+// Enters an entry, over that of its name or behind the last one, and marks the block in which it stands. It answers how many there are then.
 fn put_name(
     alloc: Global,
     blocks: &mut Vec<[u8; BLOCK]>,
+    marks: &mut [bool],
     owner: u32,
     count: usize,
     entry: EntryRef<'_>,
@@ -32,6 +35,7 @@ fn put_name(
     requires held { AreHeld owner count blocks.old.items }
     ensures held { IfOk result (λ n. AreHeld owner n blocks.new.items) }
     ensures entries { IfOk result (λ n. named (entry_at (numbered blocks.new.items)) n ≡ fin.insert (named (entry_at (numbered blocks.old.items)) count) entry.entry.name.now (entry.entry.inode, entry.entry.kind)) }
+    ensures marks { OnOk result (Marks 1 marks.old marks.new blocks.old.items blocks.new.items) }
     ensures grown { IfOk result (λ n. n ≤ count + 1) }
     ensures memory { OnErr result (vec_capacity blocks.old < blocks_for (count + 1)) }
     ensures capacity { vec_capacity blocks.old ≤ vec_capacity blocks.new }
@@ -43,32 +47,39 @@ fn put_name(
             entry.inode,
             entry.kind,
         );
+        mark(marks, number / MAX_IN_BLOCK);
         return Ok(count);
     }
     add_to(alloc, blocks, owner, count, entry)?;
+    mark(marks, count / MAX_IN_BLOCK);
     Ok(count + 1)
 }
 
-// Takes the entry of a name out, if there is one. It answers how many there are then.
-fn drop_name(blocks: &mut Vec<[u8; BLOCK]>, count: usize, name: &[u8]) -> usize
+// Takes the entry of a name out, if there is one, and marks the block in which it stood and the last one. It answers how many there are then.
+fn drop_name(blocks: &mut Vec<[u8; BLOCK]>, marks: &mut [bool], count: usize, name: &[u8]) -> usize
     requires few { count < 2 ^ 62 }
     requires held { (owner : ℕ) × AreHeld owner count blocks.old.items }
     ensures held { (owner : ℕ) → AreHeld owner count blocks.old.items → AreHeld owner result blocks.new.items }
     ensures entries { named (entry_at (numbered blocks.new.items)) result ≡ fin.remove (named (entry_at (numbered blocks.old.items)) count) name.now }
+    ensures marks { Marks 2 marks.old marks.new blocks.old.items blocks.new.items }
     ensures shrunk { result ≤ count }
     ensures capacity { vec_capacity blocks.new ≡ vec_capacity blocks.old }
 {
     let Some(number) = find_in(blocks, name) else {
         return count;
     };
-    take_from(blocks, number, count - 1);
-    count - 1
+    let last = count - 1;
+    take_from(blocks, number, last);
+    mark(marks, number / MAX_IN_BLOCK);
+    mark(marks, last / MAX_IN_BLOCK);
+    last
 }
 
-// Changes what stands under a name. It answers how many entries there are then.
+// Changes what stands under a name, and marks the blocks that it writes. It answers how many entries there are then.
 fn change_name(
     alloc: Global,
     blocks: &mut Vec<[u8; BLOCK]>,
+    marks: &mut [bool],
     owner: u32,
     count: usize,
     change: &NamedEntry<Option<(u32, Kind)>>,
@@ -79,6 +90,7 @@ fn change_name(
     requires held { AreHeld owner count blocks.old.items }
     ensures held { IfOk result (λ n. AreHeld owner n blocks.new.items) }
     ensures entries { IfOk result (λ n. named (entry_at (numbered blocks.new.items)) n ≡ with_entry change.now.name change.now.value (named (entry_at (numbered blocks.old.items)) count)) }
+    ensures marks { OnOk result (Marks 2 marks.old marks.new blocks.old.items blocks.new.items) }
     ensures grown { IfOk result (λ n. n ≤ counted count false (is_some change.now.value)) }
     ensures memory { OnErr result (vec_capacity blocks.old < blocks_for (counted count false (is_some change.now.value))) }
     ensures capacity { vec_capacity blocks.old ≤ vec_capacity blocks.new }
@@ -88,18 +100,20 @@ fn change_name(
         Some((inode, kind)) => put_name(
             alloc,
             blocks,
+            marks,
             owner,
             count,
             EntryRef { inode, kind, name },
         ),
-        None => Ok(drop_name(blocks, count, name)),
+        None => Ok(drop_name(blocks, marks, count, name)),
     }
 }
 
-// Changes what stands under each of these names, from the last to the first. It answers how many entries there are then.
+// Changes what stands under each of these names, from the last to the first, and marks the blocks that it writes. It answers how many entries there are then.
 pub fn change_names(
     alloc: Global,
     blocks: &mut Vec<[u8; BLOCK]>,
+    marks: &mut [bool],
     owner: u32,
     count: usize,
     changes: &[NamedEntry<Option<(u32, Kind)>>],
@@ -111,11 +125,12 @@ pub fn change_names(
     requires room { blocks_for (count + coming (pairs changes.now)) ≤ vec_capacity blocks.old }
     ensures held { AreHeld owner result blocks.new.items }
     ensures entries { named (entry_at (numbered blocks.new.items)) result ≡ with_entries (pairs changes.now) (named (entry_at (numbered blocks.old.items)) count) }
+    ensures marks { Marks (2 * length changes.now) marks.old marks.new blocks.old.items blocks.new.items }
 {
     let mut after = count;
     'changes: for done in 0..changes.len() {
         let change = &changes[changes.len() - 1 - done];
-        let Ok(next) = change_name(alloc, blocks, owner, after, change) else {
+        let Ok(next) = change_name(alloc, blocks, marks, owner, after, change) else {
             unreachable!()
         };
         after = next;

@@ -1,4 +1,4 @@
-ghost use Rattle.std.specs.Prelude.{◌≡◌, ◌≢◌, ◌≤◌, ◌<◌, ◌/◌, ◌%◌, ◌+◌, ◌-◌, ◌↔◌, ℕ, [], length, get_or, true, IfOk, IfErr, IfNone, IfSome, OnOk, OnErr};
+ghost use Rattle.std.specs.Prelude.{◌≡◌, ◌≢◌, ◌≤◌, ◌<◌, ◌/◌, ◌%◌, ◌+◌, ◌-◌, ◌*◌, ◌↔◌, ℕ, [], length, get_or, true, IfOk, IfErr, IfNone, IfSome, OnOk, OnErr};
 ghost use Rattle.posix_calls.specs.declared.limits.TheConstants.{MAX_ENTRIES};
 ghost use Rattle.layout.specs.Places.{is_inode};
 ghost use Rattle.layout.specs.Lent.{owned};
@@ -9,10 +9,12 @@ ghost use Rattle.std.specs.FinMap as fin;
 ghost use Rattle.graph_change.specs.Net.{entries_after};
 ghost use Rattle.tree_blocks.specs.After.{IsEntered, IsTakenOut, IsDirectoryAfter};
 ghost use Rattle.tree_blocks.specs.Directory.{EntryBlocks, IsHeld, LeadToInodes, coming, numbered, entries_of};
+ghost use Rattle.tree_blocks.specs.Written.{AreWritten};
 
 use crate::changing::{are_too_many, change_names, coming};
 use crate::entry_blocks::{add_to, find_in, take_from};
 use crate::error::EnterError;
+use crate::written::{MOST_BLOCKS, WrittenBlocks};
 use file_graph::Kind;
 use layout::{BLOCK, DirEntries, EntryRef, MAX_IN_BLOCK, set_target};
 use node_bodies::NameMap;
@@ -199,11 +201,18 @@ impl Directory {
         self.count = last;
     }
 
-    /// Changes what stands under some names: an entry that comes is entered, or `None` takes the entry of the name out if there is one. `Full` where more entries would be
+    /// Changes what stands under some names: an entry that comes is entered, or `None` takes the entry of the name out if there is one. It answers which of the blocks that
+    /// are there then have been written, new ones among them: no more than two for each name. What stood in blocks behind them is gone. `Full` where more entries would be
     /// there in the end than a directory may have; `Memory` where there was none for the blocks that may come. The directory stays as it was then.
-    pub fn change(&mut self, changes: &NameMap<Option<(u32, Kind)>>) -> Result<(), EnterError>
+    pub fn change(
+        &mut self,
+        changes: &NameMap<Option<(u32, Kind)>>,
+    ) -> Result<WrittenBlocks, EnterError>
         requires { LeadToInodes (fin.entries changes.now) }
         ensures changed { OnOk result (IsDirectoryAfter self.old.owner changes.now self.old.count (numbered self.old.blocks) self.new.count (numbered self.new.blocks)) }
+        ensures written { IfOk result (AreWritten self.old.blocks self.new.blocks) }
+        ensures few { IfOk result (λ written. length written ≤ 2 * fin.len changes.now) }
+        ensures long { OnOk result (length self.new.blocks ≡ blocks_for self.new.count) }
         ensures owner { self.new.owner ≡ self.old.owner }
         ensures memory { result ≡ Err EnterError.Memory → blocks_for self.old.count < blocks_for (self.old.count + coming (fin.entries changes.now)) }
         ensures full { result ≡ Err EnterError.Full ↔ MAX_ENTRIES < fin.len (entries_after changes.now (named (entries_of self.old) self.old.count)) }
@@ -216,7 +225,15 @@ impl Directory {
         let most = self.count + coming(names);
         self.blocks
             .reserve(most.div_ceil(MAX_IN_BLOCK) - self.blocks.len())?;
-        self.count = change_names(self.alloc, &mut self.blocks, self.owner, self.count, names);
-        Ok(())
+        let mut marks = [false; MOST_BLOCKS];
+        self.count = change_names(
+            self.alloc,
+            &mut self.blocks,
+            &mut marks,
+            self.owner,
+            self.count,
+            names,
+        );
+        Ok(WrittenBlocks::marked(&marks[..self.blocks.len()]))
     }
 }

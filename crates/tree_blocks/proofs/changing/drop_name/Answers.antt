@@ -1,4 +1,4 @@
-use Rattle.std.proofs.Common.{◌≡◌, ◌+◌, ◌-◌, ◌∙◌, ℕ, ap, arith, subst, sym, List}
+use Rattle.std.proofs.Common.{◌≡◌, ◌+◌, ◌-◌, ◌/◌, ◌∙◌, ℕ, Bool, true, slice_set, ap, arith, subst, sym, List}
 use Rattle.std.specs.FinMap as fin
 use Rattle.tree_blocks.specs.Inode.{entry_at, named, IsDirectory}
 use Rattle.tree_blocks.specs.After.{IsTakenOut}
@@ -7,6 +7,8 @@ use Rattle.tree_blocks.proofs.Directories.{get_missing}
 use Rattle.tree_blocks.proofs.Entering.{named_left}
 use Rattle.tree_blocks.proofs.Lists.{FoundAt, InNone, found_inside, found_nowhere}
 use Rattle.tree_blocks.proofs.NameChanges.{remove_absent}
+use Rattle.tree_blocks.specs.Written.{Marks}
+use Rattle.tree_blocks.proofs.Marking.{mark_none, mark_two, marks_more}
 use Rattle.tree_blocks.proofs.changing.drop_name.Goals as goal
 
 pub returns-in_default-clause-entries : goal.returns-in_default-clause-entries
@@ -37,3 +39,14 @@ returns-clause-entries c =
     let taken : IsTakenOut i n (entry_at (numbered bs)) (n - 1) (entry_at (numbered c.take_from.new.blocks.items)) =
     subst (λ (k : ℕ). IsTakenOut i k (entry_at (numbered bs)) (n - 1) (entry_at (numbered c.take_from.new.blocks.items))) (sym more) less.taken in
     named_left i (entry_at (numbered bs)) n held.directory.distinct (n - 1) (entry_at (numbered c.take_from.new.blocks.items)) taken ∙ ap (fin.remove (named (entry_at (numbered bs)) n)) at.1
+
+pub returns-in_default-clause-marks : goal.returns-in_default-clause-marks
+returns-in_default-clause-marks c = marks_more 0 0 2 _ _ _ _ _ _ (omega arith) (mark_none c.args.marks.now c.args.blocks.now.items) (mark_none c.args.marks.now c.args.blocks.now.items)
+
+pub returns-clause-marks : goal.returns-clause-marks
+returns-clause-marks c =
+    let marks : List Bool = c.args.marks.now in
+    let a : ℕ = c.in-Some.number / 56 in
+    let b : ℕ = (c.args.count - 1) / 56 in
+    let set : c.mark-2.new.marks ≡ slice_set (slice_set marks a true) b true = c.mark-2.ensures ∙ ap (λ (m : List Bool). slice_set m b true) c.mark.ensures in
+    subst (λ (m : List Bool). Marks 2 marks m c.args.blocks.now.items c.take_from.new.blocks.items) (sym set) (mark_two marks a b c.args.blocks.now.items c.take_from.new.blocks.items c.take_from.ensures.others)

@@ -1,5 +1,5 @@
-use Rattle.std.proofs.Common.{◌≡◌, ◌+◌, ◌/◌, ◌%◌, ◌∙◌, ℕ, ap, subst, List, set}
-use Rattle.std.proofs.lemmas.List.{length-set}
+use Rattle.std.proofs.Common.{◌≡◌, ◌+◌, ◌/◌, ◌%◌, ◌∙◌, ℕ, Bool, [], ap, subst, sym, List, set}
+use Rattle.std.proofs.lemmas.List.{length-set, get_or-set_other}
 use Rattle.std.specs.FinMap as fin
 use Rattle.layout.specs.Directory.{listed, with_target}
 use Rattle.layout.specs.Lent.{owned}
@@ -7,6 +7,8 @@ use Rattle.tree_blocks.specs.Inode.{plain, entry_at, named}
 use Rattle.tree_blocks.specs.Directory.{numbered}
 use Rattle.tree_blocks.proofs.Entering.{named_entered}
 use Rattle.tree_blocks.proofs.Lists.{FoundAt, InNone, found_inside, found_nowhere, read_there, set_entered, set_directory}
+use Rattle.tree_blocks.specs.Written.{Marks}
+use Rattle.tree_blocks.proofs.Marking.{mark_one}
 use Rattle.tree_blocks.proofs.changing.put_name.Goals as goal
 
 pub returns-in-Some-clause-held : goal.returns-in-Some-clause-held
@@ -42,3 +44,16 @@ add_to-requires-clause-new c =
 pub returns-clause-entries : goal.returns-clause-entries
 returns-clause-entries c =
     named_entered c.args.count (entry_at (numbered c.args.blocks.now.items)) c.args.count c.requires.held.directory.distinct (plain (owned c.args.entry)) (c.args.count + 1) (entry_at (numbered _)) c.in_ok-add_to.ensures.more.entered
+
+pub returns-in-Some-clause-marks : goal.returns-in-Some-clause-marks
+returns-in-Some-clause-marks c =
+    let bs : List (List ℕ) = c.args.blocks.now.items in
+    let i : ℕ = c.in-Some.number in
+    let new : List (List ℕ) = set bs (i / 56) c.set_target.new.block in
+    subst (λ (m : List Bool). Marks 1 c.args.marks.now m bs new) (sym c.mark.ensures) (mark_one c.args.marks.now (i / 56) bs new (λ k off. get_or-set_other bs (i / 56) k c.set_target.new.block [] off))
+
+pub returns-clause-marks : goal.returns-clause-marks
+returns-clause-marks c =
+    let bs : List (List ℕ) = c.args.blocks.now.items in
+    let new : List (List ℕ) = c.add_to.new.blocks.items in
+    subst (λ (m : List Bool). Marks 1 c.args.marks.now m bs new) (sym c.mark-2.ensures) (mark_one c.args.marks.now (c.args.count / 56) bs new c.in_ok-add_to.ensures.more.others)
