@@ -1,8 +1,9 @@
 -- Effects one after the other, as a loop adds them.
-use Rattle.std.proofs.Common.{◌≡◌, List, [], ◌∷◌, ◌++◌, refl, ℕ, suc, ◌+◌, ◌<◌, length, take, get_or, ap, ◌∙◌, arith}
+use Rattle.std.proofs.Common.{◌≡◌, List, [], ◌∷◌, ◌++◌, refl, ℕ, suc, ◌+◌, ◌<◌, zero, length, take, get_or, ap, ◌∙◌, arith}
+use Rattle.std.specs.Prelude.{Result, Ok, Err, IfErr}
 use Rattle.std.proofs.Math.Seq.{take-suc}
 use Rattle.std.proofs.lemmas.List.Concat.{flat_map-append}
-use Rattle.std.proofs.lemmas.List.{append-nil}
+use Rattle.std.proofs.lemmas.List.{append-nil, length-append}
 use Rattle.file_graph.specs.declared.effect.Effect.{Effect}
 use Rattle.graph_change.specs.Change.{Changes, with_effect, with_effects}
 use Rattle.log_record.specs.declared.format.Record.{Record}
@@ -26,3 +27,17 @@ one_record rs r = flat_map-append (λ (x : Record). x.effects) rs (r ∷ []) ∙
 -- with the next record of a list
 pub next_record : (rs : List Record) (i : ℕ) (d : Record) → i < length rs → effects_of (take (i + 1) rs) ≡ effects_of (take i rs) ++ (get_or rs i d).effects
 next_record rs i d lt = ap effects_of (take_next rs i d lt) ∙ one_record (take i rs) (get_or rs i d)
+
+-- where one of the records has an effect, so has the list
+pub some_among : (rs : List Record) (i : ℕ) (d : Record) → i < length rs → 0 < length (get_or rs i d).effects → 0 < length (effects_of rs)
+some_among [] i d lt some = absurd (omega (arith, lt))
+some_among (r ∷ rs) zero d lt some = let sum = length-append r.effects (effects_of rs) in omega (arith, sum, some)
+some_among (r ∷ rs) (suc i) d lt some =
+    let sum = length-append r.effects (effects_of rs) in
+    let more = some_among rs i d (omega (arith, lt)) some in
+    omega (arith, sum, more)
+
+-- what holds anyway holds of an error
+pub of_error : {T E P : Type 0} (r : Result T E) → P → IfErr r (λ _. P)
+of_error (Ok x) holds = tt
+of_error (Err y) holds = holds

@@ -1,4 +1,4 @@
-ghost use Rattle.std.specs.Prelude.{◌≡◌, IfOk, OnOk};
+ghost use Rattle.std.specs.Prelude.{◌≡◌, ◌<◌, IfErr, IfOk, OnErr, OnOk, length};
 ghost use Rattle.graph_change.specs.Change.{Coalesces, coalesced, with_effects};
 ghost use Rattle.graph_change.specs.View.{changes_of};
 ghost use Rattle.coalescer.specs.Records.{effects_of};
@@ -9,10 +9,12 @@ use std::alloc::{AllocError, Global};
 
 /// What the effects of these records come to, one after the other: a change that makes of every graph what they make of it, of the inodes
 /// that they are on and no others, and of no block of a file that they leave alone. Each inode stands in it once, and so does each block.
-/// A write that would end past all numbers finds no memory; a record that has a spelling holds none.
+/// An error is want of memory: no memory is asked for where no record has an effect. A write that would end past all numbers finds none;
+/// a record that has a spelling holds no such write.
 pub fn coalesce(alloc: Global, records: &[Record]) -> Result<GraphChange, AllocError>
     ensures meaning { IfOk result (λ change. Coalesces (effects_of records.now) (changes_of change)) }
     ensures exact { IfOk result (λ change. changes_of change ≡ coalesced (effects_of records.now)) }
+    ensures memory { IfErr result (λ _. 0 < length (effects_of records.now)) }
 {
     let mut change = GraphChange::new(alloc);
     for logged in records {
@@ -22,13 +24,14 @@ pub fn coalesce(alloc: Global, records: &[Record]) -> Result<GraphChange, AllocE
 }
 
 /// Adds the effects of a record behind those that are in the change. Where there is no memory for it, nothing is said of what is left: it
-/// is to be dropped.
+/// is to be dropped. A record without an effect wants none.
 pub fn add_record(
     alloc: Global,
     change: &mut GraphChange,
     logged: &Record,
 ) -> Result<(), AllocError>
-    ensures { OnOk result (changes_of change.new ≡ with_effects (changes_of change.old) logged.now.effects) }
+    ensures exact { OnOk result (changes_of change.new ≡ with_effects (changes_of change.old) logged.now.effects) }
+    ensures memory { OnErr result (0 < length logged.now.effects) }
 {
     for effect in logged.effects.as_slice() {
         change.add(alloc, effect)?;

@@ -1,7 +1,8 @@
-ghost use Rattle.std.specs.Prelude.{◌≡◌, ◌≤◌, ◌+◌, ◌-◌, ◌*◌, ℕ, ◌++◌, ◌∷◌, List, [], ◌||◌, ◌&&◌, nat_le, nat_lt, if◌then◌else◌, OnOk};
+ghost use Rattle.std.specs.Prelude.{◌≡◌, ◌≤◌, ◌+◌, ◌-◌, ◌*◌, ◌/◌, ◌^◌, ℕ, ◌++◌, ◌∷◌, List, [], ◌||◌, ◌&&◌, nat_le, nat_lt, if◌then◌else◌, OnErr, OnOk, length, ◌<◌};
 ghost use Rattle.std.specs.List.{range_with_len};
 ghost use Rattle.std.specs.Set.{is_member};
 ghost use Rattle.std.specs.BTreeSet.{contains};
+ghost use Rattle.posix_calls.specs.declared.limits.TheConstants.{UNIT_BYTES};
 ghost use Rattle.file_graph.specs.declared.effect.Effect.{Effect};
 ghost use Rattle.graph_change.specs.Change.{subject, span};
 ghost use Rattle.coalescer.specs.Weight.{fits, is_entry, file_blocks, last_block, blocks_at, same_block};
@@ -42,7 +43,8 @@ impl Weight {
 
     /// With the effects of a record behind the others.
     pub fn add(&mut self, logged: &Record) -> Result<(), AllocError>
-        ensures { OnOk result ((es : List Effect) → Weighs es self.old → Weighs (es ++ logged.now.effects) self.new) }
+        ensures exact { OnOk result ((es : List Effect) → Weighs es self.old → Weighs (es ++ logged.now.effects) self.new) }
+        ensures memory { OnErr result (0 < length logged.now.effects) }
     {
         for effect in logged.effects.as_slice() {
             self.add_effect(effect)?;
@@ -128,7 +130,7 @@ fn add_last(blocks: &mut BTreeSet<(u32, u64)>, inode: u32, size: u64) -> Result<
     Ok(())
 }
 
-// Adds the blocks that so many bytes from an offset on lie in. Bytes that would end past all numbers find no memory.
+// Adds the blocks that so many bytes from an offset on lie in. No sum passes all numbers, also where the bytes would end past them.
 fn add_span(
     blocks: &mut BTreeSet<(u32, u64)>,
     inode: u32,
@@ -140,11 +142,17 @@ fn add_span(
     if count == 0 {
         return Ok(());
     }
-    let Some(last) = at.checked_add(count - 1) else {
-        return Err(AllocError);
-    };
     let first = at / UNIT_BYTES as u64;
-    add_blocks(blocks, inode, first, last / UNIT_BYTES as u64 + 1)
+    add_blocks(blocks, inode, first, last_of(at, count - 1) + 1)
+}
+
+// The block that lies so many bytes behind an offset.
+fn last_of(at: u64, behind: u64) -> u64
+    ensures is { result ≡ (at + behind) / UNIT_BYTES }
+    ensures small { result < 2 ^ 63 }
+{
+    let unit = UNIT_BYTES as u64;
+    at / unit + behind / unit + (at % unit + behind % unit) / unit
 }
 
 // Adds the blocks from one number up to another.

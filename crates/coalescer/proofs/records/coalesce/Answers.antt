@@ -1,11 +1,12 @@
-use Rattle.std.proofs.Common.{◌≡◌, take, ap, sym, ◌∙◌, subst}
+use Rattle.std.proofs.Common.{◌≡◌, ◌<◌, length, take, ap, sym, ◌∙◌, subst}
 use Rattle.std.specs.FinMap as fin
 use Rattle.graph_change.specs.Change.{Coalesces, coalesced}
 use Rattle.graph_change.specs.View.{changes_of}
 use Rattle.graph_change.proofs.Touched.{coalesces}
+use Rattle.log_record.specs.declared.format.Record.{Record}
 use Rattle.coalescer.specs.Records.{effects_of}
 use Rattle.std.proofs.lemmas.List.{take_all}
-use Rattle.coalescer.proofs.Folds.{with_more, next_record}
+use Rattle.coalescer.proofs.Folds.{with_more, next_record, some_among, of_error}
 use Rattle.coalescer.proofs.records.coalesce.Goals as goal
 
 pub loop-logged-preserved : goal.loop-logged-preserved
@@ -15,10 +16,18 @@ loop-logged-preserved c =
     let d = c.logged-item.result in
     let next = next_record rs i d c.loop-logged-test.true in
     let more = with_more fin.empty (effects_of (take i rs)) d.effects in
-    cc (c.in_ok-add_record.ensures, c.loop-logged.invariant, c.logged-item.is, next, more)
+    cc (c.in_ok-add_record.ensures.exact, c.loop-logged.invariant, c.logged-item.is, next, more)
 
-pub returns : goal.returns
-returns c =
+pub returns-clause-meaning : goal.returns-clause-meaning
+returns-clause-meaning c =
     let rs = c.args.records.now in
     let is : changes_of c.loop-logged.change ≡ coalesced (effects_of rs) = c.loop-logged.invariant ∙ ap (λ x. coalesced (effects_of x)) (take_all c.loop-logged.logged-index rs c.loop-logged-test.false) in
-    record { meaning = subst (Coalesces (effects_of rs)) (sym is) (coalesces (effects_of rs)); exact = is }
+    subst (Coalesces (effects_of rs)) (sym is) (coalesces (effects_of rs))
+
+pub returns-clause-exact : goal.returns-clause-exact
+returns-clause-exact c = c.loop-logged.invariant ∙ ap (λ x. coalesced (effects_of x)) (take_all c.loop-logged.logged-index c.args.records.now c.loop-logged-test.false)
+
+pub returns-in_err-add_record-clause-memory : goal.returns-in_err-add_record-clause-memory
+returns-in_err-add_record-clause-memory c =
+    let d = c.logged-item.result in
+    of_error c.from_residual.result (some_among c.args.records.now c.loop-logged.logged-index d c.loop-logged-test.true (subst (λ (r : Record). 0 < length r.effects) c.logged-item.is c.in_err-add_record.ensures.memory))
