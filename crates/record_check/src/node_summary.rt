@@ -1,8 +1,9 @@
-ghost use Rattle.std.specs.Prelude.{◌≡◌, ◌<◌, ◌^◌, ℕ, false, Some, OnOk, OnErr, max};
+ghost use Rattle.std.specs.Prelude.{◌≡◌, ◌<◌, ◌^◌, ℕ, true, false, Some, OnOk, OnErr, max};
 ghost use Rattle.std.specs.FinMap as fin;
 ghost use Rattle.file_graph.specs.Plain.{is_drop};
 ghost use Rattle.log_record.specs.Grammar.{Fits};
-ghost use Rattle.call_effects.specs.NodeView.{FileView, DirView, empty_view, in_entries, in_size, view_acted};
+ghost use Rattle.call_effects.specs.NodeView.{FileView, DirView, empty_view, in_entries, in_size, view_acted, view_is_dir};
+ghost use Rattle.record_check.specs.Memory.{is_enter};
 ghost use Rattle.record_check.specs.Summary.{view_of};
 ghost use Rattle.record_check.specs.Counts.{counts_of, entry_in, entries_in};
 
@@ -99,12 +100,14 @@ impl NodeSummary {
     }
 
     /// Does what an effect other than a Drop does to the node, where the effect keeps the limits of the format. Where there is no
-    /// memory for it, the summary stays as it was.
+    /// memory for it, the summary stays as it was; none is asked for but to enter a name into a directory.
     pub fn act(&mut self, alloc: Global, effect: &Effect) -> Result<(), AllocError>
         requires fits { Fits effect.now }
         requires kept { is_drop effect.now ≡ false }
         ensures ok { OnOk result (Some self.new ≡ view_acted effect.now (Some self.old)) }
         ensures err { OnErr result (self.new ≡ self.old) }
+        ensures memory { OnErr result (is_enter effect.now ≡ true) }
+        ensures directory { OnErr result (view_is_dir self.old ≡ true) }
     {
         match effect {
             Effect::Make { kind, .. } => {
@@ -146,6 +149,7 @@ fn put_entry(
 ) -> Result<(), AllocError>
     ensures ok { OnOk result ((names : ℕ) → view_of names body.new ≡ in_entries (λ es. fin.insert es name.now child) (view_of names body.old)) }
     ensures err { OnErr result (body.new ≡ body.old) }
+    ensures directory { OnErr result ((names : ℕ) → view_is_dir (view_of names body.old) ≡ true) }
 {
     match body {
         SummaryBody::File { .. } => Ok(()),

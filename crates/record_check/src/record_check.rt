@@ -1,14 +1,16 @@
 //! A row of records, each tested over the graph as those before it leave it.
 
-ghost use Rattle.std.specs.Prelude.{◌≡◌, ℕ, true, None, IfOk, OnOk, OnErr};
+ghost use Rattle.std.specs.Prelude.{◌≡◌, ℕ, true, None, IfErr, IfOk, OnOk, OnErr};
+ghost use Rattle.std.specs.List.{list_any};
 ghost use Rattle.std.specs.Ordering.{nat_cmp};
 ghost use Rattle.std.specs.BTreeMap.{get};
 ghost use Rattle.file_graph.specs.Graph.{Graph};
 ghost use Rattle.file_graph.specs.Units.{charge};
 ghost use Rattle.log_record.specs.Grammar.{IsRecord};
 ghost use Rattle.call_effects.specs.NodeView.{view_at};
-ghost use Rattle.record_check.specs.Good.{Tells, asked};
+ghost use Rattle.record_check.specs.Good.{IsGood, Tells, asked};
 ghost use Rattle.record_check.specs.Known.{first_unknown, is_unknown};
+ghost use Rattle.record_check.specs.Memory.{is_enter};
 ghost use Rattle.record_check.specs.Row.{HasCome, Stands, known_by, left_by, with_known};
 
 use crate::node_summary::NodeSummary;
@@ -41,7 +43,7 @@ impl RecordCheck {
     }
 
     /// Takes in what stands at an inode; of one that is not known, that is what stood there at first. Where there is no memory for
-    /// it, what was known stays.
+    /// it, what was known stays; none is asked for where something was known of that inode.
     #[tactic(auto, using(crate::proofs::Row::learned, crate::proofs::Row::learned_first))]
     pub fn learn(&mut self, inode: u32, node: Option<NodeSummary>) -> Result<(), AllocError>
         ensures known { OnOk result ((i : ℕ) → get nat_cmp self.new.known i ≡ with_known inode node (get nat_cmp self.old.known) i) }
@@ -49,14 +51,15 @@ impl RecordCheck {
         ensures first { OnOk result ((g h : Graph) → HasCome self.old g h → is_unknown self.old.known inode ≡ true → view_at g inode ≡ node → HasCome self.new g h) }
         ensures charge { self.new.charge ≡ self.old.charge }
         ensures err { OnErr result (get nat_cmp self.new.known ≡ get nat_cmp self.old.known) }
+        ensures memory { OnErr result (is_unknown self.old.known inode ≡ true) }
     {
         self.known.insert(inode, node)?;
         Ok(())
     }
 
     /// Tests the next record (`test_record`), and goes on behind a good one: the check then stands over the graph after it. Another
-    /// changes nothing, and may be tested again when more is known. Where there is no memory for it, nothing is said of what is
-    /// left: the check is to be dropped.
+    /// changes nothing, and may be tested again when more is known. An error is want of memory for a good record that enters a name;
+    /// nothing is then said of what is left, and the check is to be dropped.
     pub fn next(
         &mut self,
         alloc: Global,
@@ -70,6 +73,9 @@ impl RecordCheck {
         ensures known { IfOk result (λ v. get nat_cmp self.new.known ≡ known_by v next.now (get nat_cmp self.old.known)) }
         ensures stands { IfOk result (λ v. (g : Graph) → Stands self.old g → Stands self.new (left_by v g next.now)) }
         ensures first { IfOk result (λ v. (g h : Graph) → HasCome self.old g h → HasCome self.new g (left_by v h next.now)) }
+        ensures memory { IfErr result (λ _. list_any is_enter next.now.effects ≡ true) }
+        ensures good { IfErr result (λ _. (g : Graph) → Stands self.old g → IsGood held.now capacity g next.now) }
+        ensures seen { IfErr result (λ _. first_unknown self.old.known next.now.effects ≡ None) }
     {
         let verdict = test_record(&self.known, self.charge, capacity, held, next);
         if let Verdict::Good { charge } = verdict {
