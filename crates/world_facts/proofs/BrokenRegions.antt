@@ -1,12 +1,12 @@
 -- What goes wrong in small worlds whose regions or begun calls break one part of the invariant each.
-use Rattle.std.proofs.Common.{◌≡◌, ◌≢◌, ℕ, ◌≤◌, [], ◌∷◌, true, false, refl, ap, sym, arith}
+use Rattle.std.proofs.Common.{◌≡◌, ◌≢◌, ℕ, [], ◌∷◌, true, false, refl, ap, sym}
 use Rattle.std.specs.Prelude.{is_some}
 use Rattle.std.proofs.lemmas.Bool.{false≢true}
 use Rattle.posix_calls.specs.Tree.{State}
 use Rattle.log_record.specs.declared.format.Record.{Record}
 use Rattle.world_facts.specs.Logs.{after_clients}
-use Rattle.world_facts.specs.World.{Away, Back, all_of, log_of, records_of, world_state}
-use Rattle.world_facts.specs.Standing.{IsMarked, StartsWiped, HasLeft, IsNumbered, IsPinned, IsPending}
+use Rattle.world_facts.specs.World.{Back, all_of, log_of, records_of, world_state}
+use Rattle.world_facts.specs.Standing.{StartsWiped, HasLeft, IsNumbered, IsPinned, IsPending}
 use Rattle.world_facts.specs.ClientSteps.{IsBegun, replied}
 use Rattle.world_facts.specs.RegionSteps.{CanWipeOther, other_wiped, CanWipeCurrent, current_wiped}
 use Rattle.world_facts.specs.KernelSteps.{CanDigest, records_digested}
@@ -21,9 +21,6 @@ no_record r e = absurd (cc)
 
 -- ---- a region that is not wiped and has a record
 
-pub unwiped_broken : StartsWiped (unwiped.clients 1).ready (unwiped.clients 1).current (unwiped.clients 1).begun → ⊥
-unwiped_broken is = no_record mkdir_a.change (is.records refl)
-
 pub unwiped_same : (c : ℕ) → all_of unwiped c ≡ all_of made c
 unwiped_same = each_client made 1 made.kernel.shared (made.kernel.accounts 1) (record (made.clients 1) { ready = false }) (λ d b q. records_of b q ≡ all_of made d) refl (λ d other. refl)
 
@@ -36,9 +33,6 @@ unwiped_lost e = false≢true (ap (λ (s : State). is_some (s.tree 2)) e)
 
 -- ---- a region that is back and has a record
 
-pub behind_broken : IsMarked (left_behind.kernel.accounts 1).mark (left_behind.clients 1).past (left_behind.clients 1).sealed (left_behind.clients 1).other → ⊥
-behind_broken is = no_record mkdir_a.change (is.none (λ e. let clash : Back ≡ Away = e in absurd (cc)))
-
 pub behind_same : (c : ℕ) → all_of left_behind c ≡ all_of made c
 behind_same = each_client made 1 made.kernel.shared (made.kernel.accounts 1) (record (made.clients 1) { sealed = mkdir_a.change ∷ []; current = []; other = Back }) (λ d b q. records_of b q ≡ all_of made d) refl (λ d other. refl)
 
@@ -50,9 +44,6 @@ unfolding after_clients
 behind_lost e = false≢true (ap (λ (s : State). is_some (s.tree 2)) e)
 
 -- ---- a mark before the region that is away
-
-pub before_broken : IsMarked (marked_before.kernel.accounts 1).mark (marked_before.clients 1).past (marked_before.clients 1).sealed (marked_before.clients 1).other → ⊥
-before_broken is = let low : 1 ≤ 0 = is.low in absurd (omega (arith, low))
 
 pub before_same : (c : ℕ) → all_of marked_before c ≡ all_of handed c
 before_same = each_client handed 1 handed.kernel.shared (handed.kernel.accounts 1) (record (handed.clients 1) { past = 1 }) (λ d b q. records_of b q ≡ all_of handed d) refl (λ d other. refl)
@@ -75,9 +66,6 @@ pub open_unpinned : IsPinned ((replied unpinned_open 1 open_a).kernel.accounts 1
 open_unpinned is = false≢true (is.opened 0 (record { inode = 2; reads = true; writes = true }) refl)
 
 -- ---- a call that is begun where the region is not wiped
-
-pub begun_broken : StartsWiped (begun_unwiped.clients 1).ready (begun_unwiped.clients 1).current (begun_unwiped.clients 1).begun → ⊥
-begun_broken is = none_some mkdir_a (sym (is.idle refl))
 
 pub begun_there : IsBegun begun_unwiped 1 mkdir_a
 begun_there = record { client = refl; there = refl; known = λ e. absurd (cc) }

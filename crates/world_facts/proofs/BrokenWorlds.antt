@@ -16,7 +16,7 @@ use Rattle.call_effects.specs.Wholes.{IsSound}
 use Rattle.world_facts.specs.Logs.{after_clients, units_in, ArePaid}
 use Rattle.world_facts.specs.World.{Account, Kernel, all_of, records_of, whole, held, has_lease, world_state, at}
 use Rattle.world_facts.specs.Opening.{idle_account}
-use Rattle.world_facts.specs.Standing.{IsMarked, IsLeased, IsPending, IsBooked, IsBeside, Stands}
+use Rattle.world_facts.specs.Standing.{IsLeased, IsPending, IsBooked, IsBeside, Stands}
 use Rattle.world_facts.specs.ClientSteps.{IsBegun, replied}
 use Rattle.world_facts.specs.RegionSteps.{CanSeal, region_sealed}
 use Rattle.world_facts.specs.KernelSteps.{CanDigest, records_digested}
@@ -29,9 +29,6 @@ use Rattle.world_facts.proofs.Kernels.{each}
 use Rattle.world_facts.proofs.Walks.{planned}
 
 -- ---- a mark past its records
-
-pub past_broken : IsMarked (marked_past.kernel.accounts 1).mark (marked_past.clients 1).past (marked_past.clients 1).sealed (marked_past.clients 1).other → ⊥
-past_broken is = let high : 1 ≤ 0 = is.high in absurd (omega (arith, high))
 
 pub past_same : (c : ℕ) → all_of marked_past c ≡ all_of made c
 past_same = each_client made 1 made.kernel.shared (record (made.kernel.accounts 1) { mark = 1 }) (made.clients 1) (λ d b q. records_of b q ≡ all_of made d) refl (λ d other. refl)

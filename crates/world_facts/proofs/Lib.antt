@@ -27,6 +27,9 @@ pub mod Reclaims
 pub mod Machines
 pub mod Orders
 pub mod Burials
+pub mod Parts
+pub mod Alone
+pub mod AloneRegions
 pub mod Breaks
 pub mod Fresh
 pub mod Walks

@@ -153,18 +153,18 @@ making_holds = begun_holds walked.ready 1 walked.mkdir_a ready_holds can_begin
 pub is_begun : IsBegun walked.making 1 walked.mkdir_a
 is_begun = record { client = refl; there = refl; known = λ e. absurd (cc) }
 
-made_holds : IsCoherent walked.made
+pub made_holds : IsCoherent walked.made
 made_holds = replied_holds walked.making 1 walked.mkdir_a making_holds is_begun
 
 -- ---- digested, and passed on
 
-handed_holds : IsCoherent walked.handed
+pub handed_holds : IsCoherent walked.handed
 handed_holds = sealed_holds walked.made 1 made_holds (record { client = refl; idle = refl; some = λ e. absurd (cc); back = λ e. absurd (cc) })
 
 kept_holds : IsCoherent walked.kept
 kept_holds = digested_holds walked.handed 1 (walked.mkdir_a.change ∷ []) [] handed_holds (record { client = refl; some = λ e. absurd (cc); split = refl })
 
-back_holds : IsCoherent walked.back
+pub back_holds : IsCoherent walked.back
 back_holds = taken_back_holds walked.kept 1 kept_holds (record { client = refl; away = refl; digested = refl })
 
 can_give : CanGive walked.back 1 2

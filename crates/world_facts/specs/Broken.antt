@@ -132,6 +132,11 @@ unwiped = moved walked.made 1 walked.made.kernel.shared (walked.made.kernel.acco
 abbrev pub left_behind : World
 left_behind = moved walked.made 1 walked.made.kernel.shared (walked.made.kernel.accounts 1) (record (walked.made.clients 1) { sealed = walked.mkdir_a.change ∷ []; current = []; other = Back })
 
+-- ---- a region is away and has no record
+
+abbrev pub away_empty : World
+away_empty = with_client walked.back 1 (record (walked.back.clients 1) { other = Away })
+
 -- ---- a mark before the region that is away
 
 abbrev pub marked_before : World

@@ -13,6 +13,7 @@ pub mod Opening
 pub mod Machine
 pub mod Outcome
 pub mod PairWalk
+pub mod Parts
 pub mod Recovery
 pub mod RegionSteps
 pub mod Standing

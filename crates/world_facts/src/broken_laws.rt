@@ -10,6 +10,8 @@ ghost use Rattle.world_facts.specs.Limits.{AreWithin};
 ghost use Rattle.world_facts.specs.Logs.{after_records, after_each, units_in, LogsAreApart, IsMadeOnce, ArePaid, NameNone, KeepLimits};
 ghost use Rattle.world_facts.specs.World.{log_of, all_of, records_of, whole, held, has_lease, world_state};
 ghost use Rattle.world_facts.specs.Standing.{HasLeft, IsMarked, StartsWiped, IsNumbered, IsLeased, IsPinned, IsPending, IsBooked, IsBeside, Stands};
+ghost use Rattle.world_facts.specs.Parts.{Each, MarkNotPast, MarkNotBefore, AwayHasRecords, BackHasNone, UnwipedHasNone, UnwipedIsIdle, BreaksAlone};
+ghost use Rattle.world_facts.specs.Machine.{CanAccept, sealed_of};
 ghost use Rattle.world_facts.specs.ClientSteps.{CanAnswer, answered, IsBegun, replied};
 ghost use Rattle.world_facts.specs.RegionSteps.{CanSeal, region_sealed, CanWipeOther, other_wiped, CanWipeCurrent, current_wiped};
 ghost use Rattle.world_facts.specs.KernelSteps.{CanDigest, records_digested, CanReclaim, reclaimed};
@@ -19,7 +21,7 @@ ghost use Rattle.world_facts.specs.Halves.{IsOnItsWay, number_received};
 ghost use Rattle.world_facts.specs.Walk.{mkdir_a, made, handed};
 ghost use Rattle.world_facts.specs.UnlinkWalk.{open_a};
 ghost use Rattle.world_facts.specs.Stop.{Leaves, Stores};
-ghost use Rattle.world_facts.specs.Broken.{counting, taken_number, far_number, unbooked_number, used_number, unpinned_file, unbooked_node, still_open, both_counting, one_file, making, dropping, one_open, naming, marked_past, granted_twice, watching, root_alone, half, misbegun, unpaid, overdrawn, unwiped, left_behind, marked_before, unpinned_open, rootless, large_file, overfull, stale, stat_root, no_entries, begun_unwiped, settled_opening};
+ghost use Rattle.world_facts.specs.Broken.{counting, taken_number, far_number, unbooked_number, used_number, unpinned_file, unbooked_node, still_open, both_counting, one_file, making, dropping, one_open, naming, marked_past, granted_twice, watching, root_alone, half, misbegun, unpaid, overdrawn, unwiped, left_behind, marked_before, unpinned_open, rootless, large_file, overfull, stale, stat_root, no_entries, begun_unwiped, settled_opening, away_empty};
 
 /// Where two clients write one inode, which takes a lease that one of them doesn't hold, the order of their digests is seen.
 pub fn writing_without_a_lease_is_seen()
@@ -50,7 +52,7 @@ pub fn reclaim_of_a_file_to_be_named_is_seen()
 /// Where a mark stands past the sealed records, the undigested ones are the same for now; but once the region is sealed, its record
 /// counts as digested, and an answered call is lost.
 pub fn mark_past_its_records_loses_a_call()
-    ensures broken { IsMarked (marked_past.kernel.accounts 1).mark (marked_past.clients 1).past (marked_past.clients 1).sealed (marked_past.clients 1).other → ⊥ }
+    ensures alone { BreaksAlone (Each MarkNotPast) marked_past }
     ensures same { (c : ℕ) → all_of marked_past c ≡ all_of made c }
     ensures can { CanSeal marked_past 1 }
     ensures lost { world_state (region_sealed marked_past 1) ≢ world_state marked_past }
@@ -163,7 +165,7 @@ pub fn burial_of_a_client_with_an_open_file_is_seen()
 
 /// Where a region that is not wiped has a record, its wipe loses an answered call.
 pub fn wipe_of_a_written_region_loses_a_call()
-    ensures broken { StartsWiped (unwiped.clients 1).ready (unwiped.clients 1).current (unwiped.clients 1).begun → ⊥ }
+    ensures alone { BreaksAlone (Each UnwipedHasNone) unwiped }
     ensures same { (c : ℕ) → all_of unwiped c ≡ all_of made c }
     ensures can { CanWipeCurrent unwiped 1 }
     ensures lost { world_state (current_wiped unwiped 1) ≢ world_state unwiped }
@@ -171,7 +173,7 @@ pub fn wipe_of_a_written_region_loses_a_call()
 
 /// So does that of a region that is back and has one.
 pub fn wipe_of_a_region_that_is_back_loses_a_call()
-    ensures broken { IsMarked (left_behind.kernel.accounts 1).mark (left_behind.clients 1).past (left_behind.clients 1).sealed (left_behind.clients 1).other → ⊥ }
+    ensures alone { BreaksAlone (Each BackHasNone) left_behind }
     ensures same { (c : ℕ) → all_of left_behind c ≡ all_of made c }
     ensures can { CanWipeOther left_behind 1 }
     ensures lost { world_state (other_wiped left_behind 1) ≢ world_state left_behind }
@@ -180,7 +182,7 @@ pub fn wipe_of_a_region_that_is_back_loses_a_call()
 /// Where a mark stands before the sealed records, a digest of them leaves them in the log, and the number of the node that they make
 /// is not in the book any more.
 pub fn mark_before_its_records_loses_a_number()
-    ensures broken { IsMarked (marked_before.kernel.accounts 1).mark (marked_before.clients 1).past (marked_before.clients 1).sealed (marked_before.clients 1).other → ⊥ }
+    ensures alone { BreaksAlone (Each MarkNotBefore) marked_before }
     ensures same { (c : ℕ) → all_of marked_before c ≡ all_of handed c }
     ensures can { CanDigest marked_before 1 (mkdir_a.change ∷ []) [] }
     ensures lost { IsNumbered ((records_digested marked_before 1 (mkdir_a.change ∷ [])).kernel.accounts 1).numbers ((records_digested marked_before 1 (mkdir_a.change ∷ [])).clients 1).knows.granted (log_of (records_digested marked_before 1 (mkdir_a.change ∷ [])) 1) → ⊥ }
@@ -223,7 +225,7 @@ pub fn answer_by_a_stale_copy_is_no_step()
 
 /// Where a call is begun in a region that is not wiped, its answer writes a record there, which a wipe would lose.
 pub fn call_begun_in_a_stale_region_is_written_there()
-    ensures broken { StartsWiped (begun_unwiped.clients 1).ready (begun_unwiped.clients 1).current (begun_unwiped.clients 1).begun → ⊥ }
+    ensures alone { BreaksAlone (Each UnwipedIsIdle) begun_unwiped }
     ensures begun { IsBegun begun_unwiped 1 mkdir_a }
     ensures lost { StartsWiped ((replied begun_unwiped 1 mkdir_a).clients 1).ready ((replied begun_unwiped 1 mkdir_a).clients 1).current ((replied begun_unwiped 1 mkdir_a).clients 1).begun → ⊥ }
 {}
@@ -233,4 +235,10 @@ pub fn call_of_a_settled_client_opens_a_file()
     ensures broken { HasLeft (settled_opening.clients 1).status (settled_opening.clients 1).knows.own (settled_opening.clients 1).begun → ⊥ }
     ensures begun { IsBegun settled_opening 1 open_a }
     ensures lost { HasLeft ((replied settled_opening 1 open_a).clients 1).status ((replied settled_opening 1 open_a).clients 1).knows.own ((replied settled_opening 1 open_a).clients 1).begun → ⊥ }
+{}
+
+/// Where a region is away that has no record, the kernel never accepts it.
+pub fn region_without_a_record_is_not_accepted()
+    ensures alone { BreaksAlone (Each AwayHasRecords) away_empty }
+    ensures never { (accepted : ℕ → ℕ) → CanAccept (record { kernel = away_empty.kernel; accepted = accepted }) 1 (sealed_of (away_empty.clients 1)) → ⊥ }
 {}

@@ -36,11 +36,11 @@ pub use broken_laws::{
     number_without_an_account_is_granted_again, pin_without_the_book_is_no_pin,
     reclaim_of_a_file_to_be_named_is_seen, reclaim_of_an_open_file_is_seen,
     record_of_no_call_breaks_the_whole, record_past_a_limit_is_digested,
-    stop_of_an_unsound_whole_is_not_recoverable, stop_past_the_capacity_is_not_recoverable,
-    stop_with_a_node_past_a_limit_is_not_recoverable, unbooked_units_pass_the_capacity,
-    unpaid_record_passes_the_capacity, used_number_loses_its_account,
-    wipe_of_a_region_that_is_back_loses_a_call, wipe_of_a_written_region_loses_a_call,
-    writing_without_a_lease_is_seen,
+    region_without_a_record_is_not_accepted, stop_of_an_unsound_whole_is_not_recoverable,
+    stop_past_the_capacity_is_not_recoverable, stop_with_a_node_past_a_limit_is_not_recoverable,
+    unbooked_units_pass_the_capacity, unpaid_record_passes_the_capacity,
+    used_number_loses_its_account, wipe_of_a_region_that_is_back_loses_a_call,
+    wipe_of_a_written_region_loses_a_call, writing_without_a_lease_is_seen,
 };
 pub use burial_laws::{
     buried_seat_may_be_taken, client_may_die, dead_client_may_depart, departed_client_may_be_buried,
@@ -60,11 +60,11 @@ pub use lease_laws::{
 };
 pub use machine_laws::{
     digest_keeps_what_is_sealed, kernel_entries_are_steps_of_the_world, kernel_keeps_its_book,
-    parts_stand_where_they_write,
+    parts_stand_where_they_write, region_that_is_away_may_be_accepted,
 };
 pub use opening_laws::{idle_world_holds, opening_world_holds};
 pub use order_laws::clients_records_commute;
-pub use part_laws::{one_part_may_move, quiet_part_may_move};
+pub use part_laws::{invariant_is_all_its_parts, one_part_may_move, quiet_part_may_move};
 pub use recovery_laws::{
     limits_are_those_of_the_nodes, nameless_file_may_be_dropped, recovered_graph_is_sound,
     recovery_may_digest_records,

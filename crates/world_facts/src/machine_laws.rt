@@ -5,7 +5,7 @@ ghost use Rattle.posix_calls.specs.Operations.{is_client};
 ghost use Rattle.file_graph.specs.Graph.{Graph};
 ghost use Rattle.log_record.specs.declared.format.Record.{Record};
 ghost use Rattle.world_facts.specs.Logs.{after_records, is_written, is_made_in};
-ghost use Rattle.world_facts.specs.World.{Account, Client, World, records_of};
+ghost use Rattle.world_facts.specs.World.{Account, Away, Client, World, records_of};
 ghost use Rattle.world_facts.specs.Standing.{Stands};
 ghost use Rattle.world_facts.specs.BookSteps.{HasRoom, IsUnbooked};
 ghost use Rattle.world_facts.specs.KernelSteps.{CanReclaim, records_digested, reclaimed};
@@ -56,4 +56,9 @@ pub fn kernel_entries_are_steps_of_the_world()
     ensures book_pin { (w : World) (accepted : ℕ → ℕ) (c i : ℕ) → (book_pin (record { kernel = w.kernel; accepted = accepted }) c i).kernel ≡ (pin_booked w c i).kernel }
     ensures unbook_pin { (w : World) (accepted : ℕ → ℕ) (c i : ℕ) → (unbook_pin (record { kernel = w.kernel; accepted = accepted }) c i).kernel ≡ (pin_unbooked w c i).kernel }
     ensures bury { (w : World) (accepted : ℕ → ℕ) (c : ℕ) → (bury (record { kernel = w.kernel; accepted = accepted }) c).kernel ≡ (client_buried w c).kernel }
+{}
+
+/// A region that is away may be accepted, if all before it are digested and none of it is accepted yet.
+pub fn region_that_is_away_may_be_accepted()
+    ensures { (m : Machine) (c : ℕ) (p : Client) → is_client c ≡ true → Stands m.kernel.shared (m.kernel.accounts c) c p → p.other ≡ Away → (m.kernel.accounts c).mark ≡ p.past → m.accepted c ≡ p.past → CanAccept m c (sealed_of p) }
 {}

@@ -7,6 +7,7 @@ ghost use Rattle.call_effects.specs.Wholes.{IsSound};
 ghost use Rattle.call_effects.specs.Known.{Agrees};
 ghost use Rattle.world_facts.specs.World.{Client, Account, World, undigested, log_of, whole, held, moved};
 ghost use Rattle.world_facts.specs.Standing.{Stands, IsBooked, IsBeside};
+ghost use Rattle.world_facts.specs.Parts.{Part, Holds};
 ghost use Rattle.world_facts.specs.Invariant.{IsCoherent};
 
 /// A client's part, its account and the shared graph may become any others, if the book holds, the part stands beside the kernel's
@@ -19,4 +20,10 @@ pub fn one_part_may_move()
 /// that the leases are legal, and nothing of the whole.
 pub fn quiet_part_may_move()
     ensures { (w : World) (c : ℕ) (g : Graph) (a : Account) (p : Client) → IsCoherent w → is_client c ≡ true → g ≡ w.kernel.shared → undigested a p ≡ log_of w c → p.knows.own ≡ (w.clients c).knows.own → IsBooked (moved w c g a p).kernel → Stands g a c p → ((d : ℕ) → is_client d ≡ true → d ≢ c → IsBeside p (w.clients d)) → ((d : ℕ) → is_client d ≡ true → d ≢ c → IsBeside (w.clients d) p) → Agrees p.knows (whole w) (held w) → IsCoherent (moved w c g a p) }
+{}
+
+/// The invariant is all of its parts, each of which has a name.
+pub fn invariant_is_all_its_parts()
+    ensures each { (w : World) → IsCoherent w → (q : Part) → Holds q w }
+    ensures all { (w : World) → ((q : Part) → Holds q w) → IsCoherent w }
 {}

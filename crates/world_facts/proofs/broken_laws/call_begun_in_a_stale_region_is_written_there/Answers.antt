@@ -1,8 +1,9 @@
-use Rattle.world_facts.proofs.BrokenRegions.{begun_broken, begun_there, begun_written}
+use Rattle.world_facts.proofs.BrokenRegions.{begun_there, begun_written}
+use Rattle.world_facts.proofs.AloneRegions.{begun_alone}
 use Rattle.world_facts.proofs.broken_laws.call_begun_in_a_stale_region_is_written_there.Goals as goal
 
-pub returns-clause-broken : goal.returns-clause-broken
-returns-clause-broken c = begun_broken
+pub returns-clause-alone : goal.returns-clause-alone
+returns-clause-alone c = begun_alone
 
 pub returns-clause-begun : goal.returns-clause-begun
 returns-clause-begun c = begun_there

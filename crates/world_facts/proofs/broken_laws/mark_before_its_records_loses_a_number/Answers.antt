@@ -1,8 +1,9 @@
-use Rattle.world_facts.proofs.BrokenRegions.{before_broken, before_same, before_can, before_lost}
+use Rattle.world_facts.proofs.BrokenRegions.{before_same, before_can, before_lost}
+use Rattle.world_facts.proofs.AloneRegions.{before_alone}
 use Rattle.world_facts.proofs.broken_laws.mark_before_its_records_loses_a_number.Goals as goal
 
-pub returns-clause-broken : goal.returns-clause-broken
-returns-clause-broken c = before_broken
+pub returns-clause-alone : goal.returns-clause-alone
+returns-clause-alone c = before_alone
 
 pub returns-clause-same : goal.returns-clause-same
 returns-clause-same c = before_same

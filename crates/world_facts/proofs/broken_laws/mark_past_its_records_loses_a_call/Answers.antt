@@ -1,8 +1,9 @@
-use Rattle.world_facts.proofs.BrokenWorlds.{past_broken, past_same, past_sealed, past_lost}
+use Rattle.world_facts.proofs.BrokenWorlds.{past_same, past_sealed, past_lost}
+use Rattle.world_facts.proofs.AloneRegions.{past_alone}
 use Rattle.world_facts.proofs.broken_laws.mark_past_its_records_loses_a_call.Goals as goal
 
-pub returns-clause-broken : goal.returns-clause-broken
-returns-clause-broken c = past_broken
+pub returns-clause-alone : goal.returns-clause-alone
+returns-clause-alone c = past_alone
 
 pub returns-clause-same : goal.returns-clause-same
 returns-clause-same c = past_same

@@ -1,8 +1,9 @@
-use Rattle.world_facts.proofs.BrokenRegions.{behind_broken, behind_same, behind_can, behind_lost}
+use Rattle.world_facts.proofs.BrokenRegions.{behind_same, behind_can, behind_lost}
+use Rattle.world_facts.proofs.AloneRegions.{behind_alone}
 use Rattle.world_facts.proofs.broken_laws.wipe_of_a_region_that_is_back_loses_a_call.Goals as goal
 
-pub returns-clause-broken : goal.returns-clause-broken
-returns-clause-broken c = behind_broken
+pub returns-clause-alone : goal.returns-clause-alone
+returns-clause-alone c = behind_alone
 
 pub returns-clause-same : goal.returns-clause-same
 returns-clause-same c = behind_same

@@ -1,8 +1,9 @@
-use Rattle.world_facts.proofs.BrokenRegions.{unwiped_broken, unwiped_same, unwiped_can, unwiped_lost}
+use Rattle.world_facts.proofs.BrokenRegions.{unwiped_same, unwiped_can, unwiped_lost}
+use Rattle.world_facts.proofs.AloneRegions.{unwiped_alone}
 use Rattle.world_facts.proofs.broken_laws.wipe_of_a_written_region_loses_a_call.Goals as goal
 
-pub returns-clause-broken : goal.returns-clause-broken
-returns-clause-broken c = unwiped_broken
+pub returns-clause-alone : goal.returns-clause-alone
+returns-clause-alone c = unwiped_alone
 
 pub returns-clause-same : goal.returns-clause-same
 returns-clause-same c = unwiped_same
