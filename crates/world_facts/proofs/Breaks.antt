@@ -1,13 +1,10 @@
 -- What goes wrong in small worlds that break one part of the invariant each: logs over a graph.
-use Rattle.std.proofs.Common.{◌≡◌, ◌≢◌, ◌==◌, Bool, true, false, [], ◌∷◌, refl, Some, None, Option, ◌-◌, ap, sym, ◌∙◌, lit≤}
-use Rattle.std.specs.Prelude.{option_map, IsSome, is_some}
+use Rattle.std.proofs.Common.{◌≡◌, ◌≢◌, ◌==◌, Bool, false, [], ◌∷◌, refl, Some, None, Option, ap, sym}
+use Rattle.std.specs.Prelude.{IsSome}
 use Rattle.std.proofs.lemmas.Bool.{false≢true}
-use Rattle.posix_calls.specs.Tree.{State, refers_to, has_open, is_open}
-use Rattle.posix_calls.proofs.Sums.{any_there}
 use Rattle.file_graph.specs.Graph.{Graph, Node, set_node}
-use Rattle.call_effects.specs.Wholes.{state_of, keep, tree_node}
 use Rattle.world_facts.specs.Logs.{after_records, after_each, LogsAreApart, IsMadeOnce, NameNone}
-use Rattle.world_facts.specs.Broken.{both_counting, one_file, making, dropping, one_open, naming}
+use Rattle.world_facts.specs.Broken.{both_counting, one_file, making, dropping, naming}
 
 -- ---- a record that touches what its client doesn't hold
 
@@ -38,13 +35,6 @@ pub there_again : (g : Graph) → IsSome (after_records g (making ∷ dropping �
 there_again g = refl
 
 -- ---- an open file without a pin
-
-opened : is_open one_open 2 ≡ true
-unfolding is_open
-opened = any_there 8 1 (λ c. has_open (one_open c) 2) (lit≤ tt) (lit≤ tt) (any_there 32 1 (λ n. refers_to 2 (one_open 1 (n - 1))) (lit≤ tt) (lit≤ tt) refl)
-
-pub seen_gone : state_of (set_node one_file 2 None) one_open ≢ state_of one_file one_open
-seen_gone e = false≢true (ap (λ (s : State). is_some (s.tree 2)) e ∙ ap (λ b. is_some (option_map tree_node (keep b (one_file 2)))) opened)
 
 -- ---- a name for a file that has none
 

@@ -12,18 +12,17 @@ use Rattle.call_effects.specs.Wholes.{keep, tree_node}
 use Rattle.world_facts.specs.Limits.{IsWithin, AreWithin}
 use Rattle.world_facts.specs.Logs.{after_records, after_clients, KeepLimits}
 use Rattle.world_facts.specs.World.{Account, log_of, whole, held, world_state}
-use Rattle.world_facts.specs.Standing.{HasLeft, IsBooked, IsNumbered, IsPinned}
+use Rattle.world_facts.specs.Standing.{IsBooked, IsNumbered}
 use Rattle.world_facts.specs.LeaseSteps.{write_taken}
 use Rattle.world_facts.specs.BookSteps.{IsUnbooked, units_granted, number_granted}
 use Rattle.world_facts.specs.Halves.{IsOnItsWay, number_received}
 use Rattle.world_facts.specs.ClientSteps.{replied}
-use Rattle.world_facts.specs.KernelSteps.{CanDigest, records_digested, CanReclaim, reclaimed}
+use Rattle.world_facts.specs.KernelSteps.{CanDigest, records_digested}
 use Rattle.world_facts.specs.Burial.{CanBury, client_buried}
 use Rattle.world_facts.proofs.Records.{either}
 use Rattle.world_facts.specs.Walk.{mkdir_a}
 use Rattle.world_facts.specs.Walk as walked
-use Rattle.world_facts.specs.UnlinkWalk as unlink_walked
-use Rattle.world_facts.specs.Broken.{counting, one_file, making, dropping, taken_number, far_number, unbooked_number, used_number, unpinned_file, unbooked_node, still_open}
+use Rattle.world_facts.specs.Broken.{counting, one_file, making, dropping, taken_number, far_number, unbooked_number, used_number, unbooked_node, still_open}
 use Rattle.world_facts.proofs.Owners.{is_low, is_high}
 use Rattle.world_facts.proofs.UnlinkWalks.{eight}
 use Rattle.world_facts.proofs.Kernels.{each}
@@ -53,9 +52,6 @@ pub far_received : Agrees ((number_received far_number 1 2000).clients 1).knows 
 far_received agrees = let new = agrees.granted 2000 refl in let high : 2000 ≤ 1024 = new.high in absurd (omega (arith, high))
 
 -- ---- a number that isn't in the book
-
-pub unbooked_broken : IsNumbered (unbooked_number.kernel.accounts 1).numbers (unbooked_number.clients 1).knows.granted (log_of unbooked_number 1) → ⊥
-unbooked_broken is = false≢true (is.granted 2 refl)
 
 -- nobody else was granted a number
 granted_free : (d : ℕ) → d ≢ 1 → (walked.granted.kernel.accounts d).numbers 2 ≡ false
@@ -95,28 +91,6 @@ used_can = record { client = refl; some = λ e. absurd (cc); split = refl }
 pub used_lost : IsNumbered ((records_digested used_number 1 (making ∷ dropping ∷ [])).kernel.accounts 1).numbers ((records_digested used_number 1 (making ∷ dropping ∷ [])).clients 1).knows.granted (log_of (records_digested used_number 1 (making ∷ dropping ∷ [])) 1) → ⊥
 used_lost is = false≢true (is.granted 2 refl)
 
--- ---- a pin that isn't in the book
-
-pub unpinned_broken : IsPinned (unpinned_file.kernel.accounts 1).pins (unpinned_file.clients 1).pins (unpinned_file.clients 1).knows.own → ⊥
-unpinned_broken is = false≢true (is.booked 2 refl)
-
-is_unpinned : (c : ℕ) → is_client c ≡ true → (unpinned_file.kernel.accounts c).pins 2 ≡ false
-is_unpinned c is_c = each unlink_walked.kept.kernel.accounts 1 (record (unlink_walked.kept.kernel.accounts 1) { pins = λ i. false }) (λ d a. is_client d ≡ true → a.pins 2 ≡ false) (λ is. refl) (λ d other is. others_free d other is) c is_c
-  where
-    others_free : (d : ℕ) → d ≢ 1 → is_client d ≡ true → (unlink_walked.kept.kernel.accounts d).pins 2 ≡ false
-    others_free d other is = eight (λ d. d ≢ 1 → (unlink_walked.kept.kernel.accounts d).pins 2 ≡ false) (λ off. absurd (off refl)) (λ off. refl) (λ off. refl) (λ off. refl) (λ off. refl) (λ off. refl) (λ off. refl) (λ off. refl) d (is_low d is) (is_high d is) other
-
-pub unpinned_can : CanReclaim unpinned_file.kernel 2
-unpinned_can = record { file = record { bytes = []; is = refl }; unpinned = is_unpinned }
-
-pinned_open : is_open (held unpinned_file) 2 ≡ true
-unfolding is_open
-pinned_open = any_there 8 1 (λ c. has_open (held unpinned_file c) 2) (lit≤ tt) (lit≤ tt) (any_there 32 1 (λ n. refers_to 2 (held unpinned_file 1 (n - 1))) (lit≤ tt) (lit≤ tt) refl)
-
-pub unpinned_seen : world_state (reclaimed unpinned_file 2) ≢ world_state unpinned_file
-unfolding after_clients
-unpinned_seen e = false≢true (ap (λ (s : State). is_some (s.tree 2)) e ∙ ap (λ b. is_some (option_map tree_node (keep b (whole unpinned_file 2)))) pinned_open)
-
 -- ---- a record that passes a limit
 
 pub one_within : AreWithin one_file
@@ -133,9 +107,6 @@ many_passed within = let many : 2000 ≤ 1000 = (within 2).names in absurd (omeg
 
 -- ---- a node of a number that isn't in the book
 
-pub node_broken : IsNumbered (unbooked_node.kernel.accounts 1).numbers (unbooked_node.clients 1).knows.granted (log_of unbooked_node 1) → ⊥
-node_broken is = false≢true (is.made 2 refl)
-
 pub node_free : IsUnbooked unbooked_node.kernel 2
 node_free = record {
   low = omega arith;
@@ -149,9 +120,6 @@ unfolding after_clients
 node_taken agrees = let new = agrees.granted 2 refl in false≢true (sym (ap is_some new.none))
 
 -- ---- a client that is settled with a file open
-
-pub left_broken : HasLeft (still_open.clients 1).status (still_open.clients 1).knows.own (still_open.clients 1).begun → ⊥
-left_broken is = false≢true (sym (ap is_some (is.closed refl 0)))
 
 pub left_can : CanBury still_open 1
 left_can = record { client = refl; settled = refl; digested = refl; back = λ e. absurd (cc) }

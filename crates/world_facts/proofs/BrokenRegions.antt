@@ -1,19 +1,18 @@
 -- What goes wrong in small worlds whose regions or begun calls break one part of the invariant each.
-use Rattle.std.proofs.Common.{◌≡◌, ◌≢◌, ℕ, [], ◌∷◌, true, false, refl, ap, sym}
+use Rattle.std.proofs.Common.{◌≡◌, ◌≢◌, ℕ, [], ◌∷◌, false, refl, ap, sym}
 use Rattle.std.specs.Prelude.{is_some}
 use Rattle.std.proofs.lemmas.Bool.{false≢true}
 use Rattle.posix_calls.specs.Tree.{State}
 use Rattle.log_record.specs.declared.format.Record.{Record}
 use Rattle.world_facts.specs.Logs.{after_clients}
 use Rattle.world_facts.specs.World.{Back, all_of, log_of, records_of, world_state}
-use Rattle.world_facts.specs.Standing.{StartsWiped, HasLeft, IsNumbered, IsPinned, IsPending}
+use Rattle.world_facts.specs.Standing.{StartsWiped, HasLeft, IsNumbered}
 use Rattle.world_facts.specs.ClientSteps.{IsBegun, replied}
 use Rattle.world_facts.specs.RegionSteps.{CanWipeOther, other_wiped, CanWipeCurrent, current_wiped}
 use Rattle.world_facts.specs.KernelSteps.{CanDigest, records_digested}
 use Rattle.world_facts.specs.Walk.{mkdir_a, made, handed}
 use Rattle.world_facts.specs.UnlinkWalk.{open_a}
-use Rattle.world_facts.specs.Broken.{unwiped, left_behind, marked_before, unpinned_open, begun_unwiped, settled_opening}
-use Rattle.world_facts.proofs.Idle.{none_some}
+use Rattle.world_facts.specs.Broken.{unwiped, left_behind, marked_before, begun_unwiped, settled_opening}
 use Rattle.world_facts.proofs.Moved.{each_client}
 
 no_record : (r : Record) → r ∷ [] ≢ []
@@ -54,17 +53,6 @@ before_can = record { client = refl; some = λ e. absurd (cc); split = refl }
 pub before_lost : IsNumbered ((records_digested marked_before 1 (mkdir_a.change ∷ [])).kernel.accounts 1).numbers ((records_digested marked_before 1 (mkdir_a.change ∷ [])).clients 1).knows.granted (log_of (records_digested marked_before 1 (mkdir_a.change ∷ [])) 1) → ⊥
 before_lost is = false≢true (is.made 2 refl)
 
--- ---- a file that is opened without a pin
-
-pub open_broken : IsPending (unpinned_open.clients 1).status (unpinned_open.clients 1).knows (unpinned_open.clients 1).pins open_a → ⊥
-open_broken is = false≢true (is.pinned (λ e. absurd (cc)) (0, record { inode = 2; reads = true; writes = true }) refl)
-
-pub open_begun : IsBegun unpinned_open 1 open_a
-open_begun = record { client = refl; there = refl; known = λ e. absurd (cc) }
-
-pub open_unpinned : IsPinned ((replied unpinned_open 1 open_a).kernel.accounts 1).pins ((replied unpinned_open 1 open_a).clients 1).pins ((replied unpinned_open 1 open_a).clients 1).knows.own → ⊥
-open_unpinned is = false≢true (is.opened 0 (record { inode = 2; reads = true; writes = true }) refl)
-
 -- ---- a call that is begun where the region is not wiped
 
 pub begun_there : IsBegun begun_unwiped 1 mkdir_a
@@ -74,9 +62,6 @@ pub begun_written : StartsWiped ((replied begun_unwiped 1 mkdir_a).clients 1).re
 begun_written is = no_record mkdir_a.change (is.records refl)
 
 -- ---- a call that is begun where its client is settled
-
-pub settled_broken : HasLeft (settled_opening.clients 1).status (settled_opening.clients 1).knows.own (settled_opening.clients 1).begun → ⊥
-settled_broken is = none_some open_a (sym (is.idle refl))
 
 pub settled_begun : IsBegun settled_opening 1 open_a
 settled_begun = record { client = refl; there = refl; known = λ e. absurd (cc) }

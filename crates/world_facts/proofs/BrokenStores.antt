@@ -10,10 +10,9 @@ use Rattle.call_effects.specs.Wholes.{IsSound}
 use Rattle.world_facts.specs.Limits.{AreWithin}
 use Rattle.world_facts.specs.Logs.{after_clients, units_in}
 use Rattle.world_facts.specs.World.{World, whole, held, log_of}
-use Rattle.world_facts.specs.Standing.{IsBooked}
 use Rattle.world_facts.specs.Stop.{Leaves, Stores}
 use Rattle.world_facts.specs.Broken.{unpaid, rootless, with_bytes, large_file, overfull}
-use Rattle.world_facts.proofs.BrokenWorlds.{one_more, too_much}
+use Rattle.world_facts.proofs.BrokenWorlds.{one_more}
 
 -- nothing is begun
 pub leaves : (w : World) → Leaves w (log_of w)
@@ -34,16 +33,10 @@ rootless_stored stored = false≢true (ap is_some stored.recoverable.sound.typed
 many : (bytes : List ℕ) → MAX_FILE < length bytes → AreWithin (with_bytes bytes) → ⊥
 many bytes more within = let few : length bytes ≤ MAX_FILE = (within 2).body in absurd (omega (arith, more, few))
 
-pub large_broken : (bytes : List ℕ) → MAX_FILE < length bytes → IsBooked (large_file bytes).kernel → ⊥
-large_broken bytes more is = many bytes more is.limits
-
 pub large_stored : (bytes : List ℕ) → MAX_FILE < length bytes → Stores (large_file bytes) (log_of (large_file bytes)) → ⊥
 large_stored bytes more stored = many bytes more stored.recoverable.limits
 
 -- ---- more than the capacity
-
-pub overfull_broken : IsBooked overfull.kernel → ⊥
-overfull_broken = too_much overfull.kernel refl one_more
 
 pub overfull_stored : Stores overfull (log_of overfull) → ⊥
 overfull_stored stored =

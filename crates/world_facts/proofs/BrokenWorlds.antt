@@ -16,7 +16,7 @@ use Rattle.call_effects.specs.Wholes.{IsSound}
 use Rattle.world_facts.specs.Logs.{after_clients, units_in, ArePaid}
 use Rattle.world_facts.specs.World.{Account, Kernel, all_of, records_of, whole, held, has_lease, world_state, at}
 use Rattle.world_facts.specs.Opening.{idle_account}
-use Rattle.world_facts.specs.Standing.{IsLeased, IsPending, IsBooked, IsBeside, Stands}
+use Rattle.world_facts.specs.Standing.{IsLeased, IsBooked, IsBeside, Stands}
 use Rattle.world_facts.specs.ClientSteps.{IsBegun, replied}
 use Rattle.world_facts.specs.RegionSteps.{CanSeal, region_sealed}
 use Rattle.world_facts.specs.KernelSteps.{CanDigest, records_digested}
@@ -26,7 +26,6 @@ use Rattle.world_facts.proofs.Fresh.{fresh_within}
 use Rattle.world_facts.proofs.Idle.{none_some, idle_stands}
 use Rattle.world_facts.proofs.Moved.{each_client}
 use Rattle.world_facts.proofs.Kernels.{each}
-use Rattle.world_facts.proofs.Walks.{planned}
 
 -- ---- a mark past its records
 
@@ -41,9 +40,6 @@ unfolding after_clients
 past_lost e = false≢true (ap (λ (s : State). is_some (s.tree 2)) e)
 
 -- ---- a number in two hands
-
-pub twice_broken : IsBooked granted_twice.kernel → ⊥
-twice_broken is = false≢true (sym (is.alone 1 2 2 refl refl (λ e. false≢true (ap (λ n. n == 1) e)) refl))
 
 pub twice_begun : IsBegun granted_twice 1 mkdir_a
 twice_begun = record { client = refl; there = refl; known = λ e. absurd (cc) }
@@ -143,9 +139,6 @@ watching_stands =
     record { number = refl; left = record { closed = λ e. absurd (false≢true e); idle = λ e. absurd (false≢true e) }; marked = idle.marked; starts = idle.starts; logged = idle.logged; units = idle.units; numbered = idle.numbered; leased = root_leased; pinned = idle.pinned; pending = λ b e. none_some b e }
 
 -- ---- a record of no call
-
-pub half_broken : IsPending (misbegun.clients 1).status (misbegun.clients 1).knows (misbegun.clients 1).pins half → ⊥
-half_broken is = let clash = sym planned.effects ∙ is.planned.effects in cc
 
 pub half_begun : IsBegun misbegun 1 half
 half_begun = record { client = refl; there = refl; known = λ e. absurd (cc) }

@@ -15,7 +15,7 @@ nothing = fin.empty
 none_at : (name : List ℕ) → fin.get nothing name ≡ None
 none_at name = simp fin.gets refl
 
-no_entries : AreEntriesWithin fin.empty
+pub no_entries : AreEntriesWithin fin.empty
 no_entries = record {
   few = (let none = fin.len-empty order (ℕ × Kind) in omega (arith, none));
   valid = λ name e there. none_some e (sym (none_at name) ∙ there);

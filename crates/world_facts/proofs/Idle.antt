@@ -14,7 +14,8 @@ use Rattle.world_facts.specs.Logs.{after_clients, is_written, ArePaid, NameNone,
 use Rattle.world_facts.specs.World.{records_of, whole, held, world_state}
 use Rattle.world_facts.specs.Standing.{Stands}
 use Rattle.world_facts.specs.Invariant.{IsCoherent}
-use Rattle.world_facts.specs.Opening.{idle_client, idle_account, idle_world}
+use Rattle.call_effects.specs.Known.{Agrees}
+use Rattle.world_facts.specs.Opening.{knows_nothing, idle_client, idle_account, idle_world}
 
 pub none_some : {A : Type 0} {P : Type 0} (x : A) → ◌≡◌ {A = Option A} None (Some x) → P
 none_some x e = absurd (cc)
@@ -61,6 +62,17 @@ idle_stands g c past = record {
     empty : (past : ℕ) → records_of (idle_account past) (idle_client c past) ≡ []
     empty past = ap (λ rs. rs ++ []) (nothing_left (past - past))
 
+pub idle_agrees : (capacity : ℕ) (g : Graph) (c : ℕ) → is_client c ≡ true → Agrees (knows_nothing c) (whole (idle_world capacity g)) (held (idle_world capacity g))
+idle_agrees capacity g c is_c = record {
+  client = is_c;
+  own = λ n. either_none (is_client c) None refl;
+  back = whole (idle_world capacity g);
+  put_back = λ i. inl refl;
+  copies = λ i copy e. none_some copy e;
+  blocks = λ i b bytes e. none_some bytes e;
+  granted = λ i e. absurd (false≢true e);
+}
+
 pub idle_holds : (capacity : ℕ) (g : Graph) → charge g ≤ capacity → IsSound g nobody → AreWithin g → IsCoherent (idle_world capacity g)
 idle_holds capacity g fits sound within =
     let nothing : sum_up_to 8 (λ c. 0) ≡ 0 = all_zero 8 (λ c. 0) (λ c. refl) in
@@ -70,15 +82,7 @@ idle_holds capacity g fits sound within =
       stands = λ c is_c. idle_stands g c 0;
       beside = λ c d is_c is_d other i e. refl;
       sound = sound_now;
-      agrees = λ c is_c. record {
-        client = is_c;
-        own = λ n. either_none (is_client c) None refl;
-        back = whole (idle_world capacity g);
-        put_back = λ i. inl refl;
-        copies = λ i copy e. none_some copy e;
-        blocks = λ i b bytes e. none_some bytes e;
-        granted = λ i e. absurd (false≢true e);
-      };
+      agrees = idle_agrees capacity g;
     }
 
 pub idle_tree : (capacity : ℕ) (g : Graph) → world_state (idle_world capacity g) ≡ state_of g nobody

@@ -30,6 +30,7 @@ pub mod Burials
 pub mod Parts
 pub mod Alone
 pub mod AloneRegions
+pub mod NewNodes
 pub mod Breaks
 pub mod Fresh
 pub mod Walks
@@ -40,5 +41,9 @@ pub mod BrokenStores
 pub mod BrokenCopies
 pub mod BrokenBooks
 pub mod UnlinkWalks
+pub mod AloneBooks
+pub mod BrokenPins
+pub mod AloneStores
+pub mod AloneCalls
 pub mod PairWalks
 pub mod FiveWalks

@@ -77,7 +77,7 @@ can_open = record {
   pinned = λ what e. let same : (0, record { inode = 2; reads = true; writes = true }) ≡ what = cc in ap (λ o. (walked.ready.clients 1).pins o.1.inode) (sym same);
 }
 
-opening_holds : IsCoherent walked.opening
+pub opening_holds : IsCoherent walked.opening
 opening_holds = begun_holds walked.ready 1 walked.open_a start_holds can_open
 
 opening_begun : IsBegun walked.opening 1 walked.open_a
@@ -101,7 +101,7 @@ unlink_comes : run_part (part_of (walked.known.clients 1).knows) (unlink (47 ∷
 unfolding unlink walk
 unlink_comes = simp (parts, lists, fin.gets) refl
 
-can_unlink : CanBegin walked.known 1 walked.unlink_a
+pub can_unlink : CanBegin walked.known 1 walked.unlink_a
 can_unlink = record {
   client = refl;
   alive = refl;

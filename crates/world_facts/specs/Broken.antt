@@ -15,10 +15,12 @@ use Rattle.call_effects.specs.NodeView.{view_at}
 use Rattle.call_effects.specs.Known.{with_copy}
 use Rattle.world_facts.specs.World.{Begun, Away, Back, Settled, World, moved}
 use Rattle.world_facts.specs.Opening.{knows_nothing, idle_client, idle_account, idle_world}
-use Rattle.world_facts.specs.ClientSteps.{with_client, call_begun}
+use Rattle.world_facts.specs.ClientSteps.{with_client, call_begun, replied}
+use Rattle.world_facts.specs.LeaseSteps.{fetched}
+use Rattle.world_facts.specs.KernelSteps.{records_digested}
 use Rattle.world_facts.specs.BookSteps.{number_granted}
 use Rattle.world_facts.specs.Halves.{number_booked}
-use Rattle.world_facts.specs.RegionSteps.{taken_back}
+use Rattle.world_facts.specs.RegionSteps.{region_sealed, taken_back}
 use Rattle.world_facts.specs.Walk as walked
 use Rattle.world_facts.specs.UnlinkWalk as unlink_walked
 
@@ -147,6 +149,18 @@ marked_before = moved walked.handed 1 walked.handed.kernel.shared (walked.handed
 abbrev pub unpinned_open : World
 unpinned_open = call_begun walked.ready 1 unlink_walked.open_a
 
+-- it is answered, and unlinks the file
+
+abbrev pub unpinned_known : World
+unpinned_known = fetched (replied unpinned_open 1 unlink_walked.open_a) 1 2
+
+abbrev pub unpinned_unlinked : World
+unpinned_unlinked = replied (call_begun unpinned_known 1 unlink_walked.unlink_a) 1 unlink_walked.unlink_a
+
+-- both records are digested, while the file is open
+abbrev pub unpinned_kept : World
+unpinned_kept = records_digested (region_sealed unpinned_unlinked 1) 1 (unlink_walked.open_a.change ∷ unlink_walked.unlink_a.change ∷ [])
+
 -- ---- there is a file and no root
 
 abbrev pub rootless : World
@@ -188,3 +202,13 @@ begun_unwiped = moved walked.making 1 walked.making.kernel.shared (walked.making
 
 abbrev pub settled_opening : World
 settled_opening = with_client unlink_walked.opening 1 (record (unlink_walked.opening.clients 1) { status = Settled })
+
+-- ---- a client whose call is begun takes itself for another one
+
+abbrev pub misnumbered : World
+misnumbered = with_client unlink_walked.opening 1 (record (unlink_walked.opening.clients 1) { knows = record (unlink_walked.opening.clients 1).knows { client = 2 } })
+
+-- ---- a client has a file open that lost its name, and nobody has pinned it
+
+abbrev pub unpinned_client : World
+unpinned_client = moved unlink_walked.kept 1 unlink_walked.kept.kernel.shared (record (unlink_walked.kept.kernel.accounts 1) { pins = λ i. false }) (record (unlink_walked.kept.clients 1) { pins = λ i. false })

@@ -10,18 +10,19 @@ ghost use Rattle.world_facts.specs.Limits.{AreWithin};
 ghost use Rattle.world_facts.specs.Logs.{after_records, after_each, units_in, LogsAreApart, IsMadeOnce, ArePaid, NameNone, KeepLimits};
 ghost use Rattle.world_facts.specs.World.{log_of, all_of, records_of, whole, held, has_lease, world_state};
 ghost use Rattle.world_facts.specs.Standing.{HasLeft, IsMarked, StartsWiped, IsNumbered, IsLeased, IsPinned, IsPending, IsBooked, IsBeside, Stands};
-ghost use Rattle.world_facts.specs.Parts.{Each, MarkNotPast, MarkNotBefore, AwayHasRecords, BackHasNone, UnwipedHasNone, UnwipedIsIdle, BreaksAlone};
+ghost use Rattle.world_facts.specs.Parts.{Book, Each, WholeSound, NumbersInOneHand, NodesWithin, UnitsFit, OwnNumber, MadeBooked, GrantedBooked, OpenPinned, PinsBooked, BegunPlanned, BegunPinned, SettledClosed, SettledIdle, MarkNotPast, MarkNotBefore, AwayHasRecords, BackHasNone, UnwipedHasNone, UnwipedIsIdle, BreaksAlone};
 ghost use Rattle.world_facts.specs.Machine.{CanAccept, sealed_of};
-ghost use Rattle.world_facts.specs.ClientSteps.{CanAnswer, answered, IsBegun, replied};
+ghost use Rattle.world_facts.specs.ClientSteps.{CanAnswer, answered, CanBegin, IsBegun, replied};
+ghost use Rattle.world_facts.specs.LeaseSteps.{CanFetch};
 ghost use Rattle.world_facts.specs.RegionSteps.{CanSeal, region_sealed, CanWipeOther, other_wiped, CanWipeCurrent, current_wiped};
 ghost use Rattle.world_facts.specs.KernelSteps.{CanDigest, records_digested, CanReclaim, reclaimed};
 ghost use Rattle.world_facts.specs.BookSteps.{IsUnbooked, number_granted};
 ghost use Rattle.world_facts.specs.Burial.{CanBury, client_buried};
 ghost use Rattle.world_facts.specs.Halves.{IsOnItsWay, number_received};
 ghost use Rattle.world_facts.specs.Walk.{mkdir_a, made, handed};
-ghost use Rattle.world_facts.specs.UnlinkWalk.{open_a};
+ghost use Rattle.world_facts.specs.UnlinkWalk.{open_a, unlink_a};
 ghost use Rattle.world_facts.specs.Stop.{Leaves, Stores};
-ghost use Rattle.world_facts.specs.Broken.{counting, taken_number, far_number, unbooked_number, used_number, unpinned_file, unbooked_node, still_open, both_counting, one_file, making, dropping, one_open, naming, marked_past, granted_twice, watching, root_alone, half, misbegun, unpaid, overdrawn, unwiped, left_behind, marked_before, unpinned_open, rootless, large_file, overfull, stale, stat_root, no_entries, begun_unwiped, settled_opening, away_empty};
+ghost use Rattle.world_facts.specs.Broken.{counting, taken_number, far_number, unbooked_number, used_number, unpinned_file, unbooked_node, still_open, both_counting, one_file, making, dropping, one_open, naming, marked_past, granted_twice, watching, root_alone, half, misbegun, unpaid, overdrawn, unwiped, left_behind, marked_before, unpinned_open, rootless, large_file, overfull, stale, stat_root, no_entries, begun_unwiped, settled_opening, away_empty, misnumbered, unpinned_client, unpinned_known, unpinned_unlinked, unpinned_kept};
 
 /// Where two clients write one inode, which takes a lease that one of them doesn't hold, the order of their digests is seen.
 pub fn writing_without_a_lease_is_seen()
@@ -39,7 +40,9 @@ pub fn number_used_twice_is_free_between()
 
 /// Where a file is open that nobody has pinned, its reclaim is seen.
 pub fn reclaim_of_an_open_file_is_seen()
-    ensures { state_of (set_node one_file 2 None) one_open ≢ state_of one_file one_open }
+    ensures alone { BreaksAlone (Each OpenPinned) unpinned_client }
+    ensures can { CanReclaim unpinned_client.kernel 2 }
+    ensures seen { world_state (reclaimed unpinned_client 2) ≢ world_state unpinned_client }
 {}
 
 /// Where a record that is not digested gives a name to a file that has none, its reclaim is seen: what the record names is gone.
@@ -60,7 +63,7 @@ pub fn mark_past_its_records_loses_a_call()
 
 /// Where a number is in two hands, one client's answer leaves the other with a number at which a node stands.
 pub fn number_in_two_hands_is_taken()
-    ensures broken { IsBooked granted_twice.kernel → ⊥ }
+    ensures alone { BreaksAlone (Book NumbersInOneHand) granted_twice }
     ensures begun { IsBegun granted_twice 1 mkdir_a }
     ensures known { Agrees (granted_twice.clients 2).knows (whole granted_twice) (held granted_twice) }
     ensures taken { Agrees ((replied granted_twice 1 mkdir_a).clients 2).knows (whole (replied granted_twice 1 mkdir_a)) (held (replied granted_twice 1 mkdir_a)) → ⊥ }
@@ -85,7 +88,7 @@ pub fn copy_beside_a_writer_goes_stale()
 
 /// Where a begun record is not that of its call, the whole is not sound once it is answered.
 pub fn record_of_no_call_breaks_the_whole()
-    ensures broken { IsPending (misbegun.clients 1).status (misbegun.clients 1).knows (misbegun.clients 1).pins half → ⊥ }
+    ensures alone { BreaksAlone (Each BegunPlanned) misbegun }
     ensures begun { IsBegun misbegun 1 half }
     ensures unsound { IsSound (whole (replied misbegun 1 half)) (held (replied misbegun 1 half)) → ⊥ }
 {}
@@ -123,7 +126,7 @@ pub fn booked_number_past_all_inodes_is_received()
 
 /// Where a client has a number that is not in its account, another one gets it too, and finds a node there.
 pub fn number_without_an_account_is_granted_again()
-    ensures broken { IsNumbered (unbooked_number.kernel.accounts 1).numbers (unbooked_number.clients 1).knows.granted (log_of unbooked_number 1) → ⊥ }
+    ensures alone { BreaksAlone (Each GrantedBooked) unbooked_number }
     ensures can { IsUnbooked unbooked_number.kernel 2 }
     ensures taken { Agrees ((replied (number_granted unbooked_number 2 2) 1 mkdir_a).clients 2).knows (whole (replied (number_granted unbooked_number 2 2) 1 mkdir_a)) (held (replied (number_granted unbooked_number 2 2) 1 mkdir_a)) → ⊥ }
 {}
@@ -137,7 +140,7 @@ pub fn used_number_loses_its_account()
 
 /// Where a client counts on a pin that is not in the book, the file that it has open is reclaimed.
 pub fn pin_without_the_book_is_no_pin()
-    ensures broken { IsPinned (unpinned_file.kernel.accounts 1).pins (unpinned_file.clients 1).pins (unpinned_file.clients 1).knows.own → ⊥ }
+    ensures alone { BreaksAlone (Each PinsBooked) unpinned_file }
     ensures can { CanReclaim unpinned_file.kernel 2 }
     ensures seen { world_state (reclaimed unpinned_file 2) ≢ world_state unpinned_file }
 {}
@@ -151,14 +154,14 @@ pub fn record_past_a_limit_is_digested()
 
 /// Where a record made a node of a number that is not in its client's account, another client gets the number.
 pub fn number_of_a_new_node_is_granted_again()
-    ensures broken { IsNumbered (unbooked_node.kernel.accounts 1).numbers (unbooked_node.clients 1).knows.granted (log_of unbooked_node 1) → ⊥ }
+    ensures alone { BreaksAlone (Each MadeBooked) unbooked_node }
     ensures can { IsUnbooked unbooked_node.kernel 2 }
     ensures taken { Agrees ((number_granted unbooked_node 2 2).clients 2).knows (whole (number_granted unbooked_node 2 2)) (held (number_granted unbooked_node 2 2)) → ⊥ }
 {}
 
 /// Where a settled client has a file open, its burial is seen.
 pub fn burial_of_a_client_with_an_open_file_is_seen()
-    ensures broken { HasLeft (still_open.clients 1).status (still_open.clients 1).knows.own (still_open.clients 1).begun → ⊥ }
+    ensures alone { BreaksAlone (Each SettledClosed) still_open }
     ensures can { CanBury still_open 1 }
     ensures seen { world_state (client_buried still_open 1) ≢ world_state still_open }
 {}
@@ -188,30 +191,36 @@ pub fn mark_before_its_records_loses_a_number()
     ensures lost { IsNumbered ((records_digested marked_before 1 (mkdir_a.change ∷ [])).kernel.accounts 1).numbers ((records_digested marked_before 1 (mkdir_a.change ∷ [])).clients 1).knows.granted (log_of (records_digested marked_before 1 (mkdir_a.change ∷ [])) 1) → ⊥ }
 {}
 
-/// Where a begun call opens a file that its client has not pinned, the file is open without a pin once it is answered.
+/// Where a begun call opens a file that its client has not pinned, the file is open without a pin once it is answered; and when it has lost
+/// its name, it is reclaimed, and the tree has lost it while it is open.
 pub fn call_that_pinned_nothing_opens_a_file()
-    ensures broken { IsPending (unpinned_open.clients 1).status (unpinned_open.clients 1).knows (unpinned_open.clients 1).pins open_a → ⊥ }
+    ensures alone { BreaksAlone (Each BegunPinned) unpinned_open }
     ensures begun { IsBegun unpinned_open 1 open_a }
-    ensures lost { IsPinned ((replied unpinned_open 1 open_a).kernel.accounts 1).pins ((replied unpinned_open 1 open_a).clients 1).pins ((replied unpinned_open 1 open_a).clients 1).knows.own → ⊥ }
+    ensures fetches { CanFetch (replied unpinned_open 1 open_a) 1 2 }
+    ensures unlinks { CanBegin unpinned_known 1 unlink_a }
+    ensures seals { CanSeal unpinned_unlinked 1 }
+    ensures digests { CanDigest (region_sealed unpinned_unlinked 1) 1 (open_a.change ∷ unlink_a.change ∷ []) [] }
+    ensures can { CanReclaim unpinned_kept.kernel 2 }
+    ensures lost { world_state (reclaimed unpinned_kept 2) ≢ world_state unpinned_kept }
 {}
 
 /// Where the whole is not sound, no recovery can go on from what a stop stores of it.
 pub fn stop_of_an_unsound_whole_is_not_recoverable()
-    ensures broken { IsSound (whole rootless) (held rootless) → ⊥ }
+    ensures alone { BreaksAlone WholeSound rootless }
     ensures can { Leaves rootless (log_of rootless) }
     ensures lost { Stores rootless (log_of rootless) → ⊥ }
 {}
 
 /// Nor where a node is past a limit.
 pub fn stop_with_a_node_past_a_limit_is_not_recoverable()
-    ensures broken { (bytes : List ℕ) → MAX_FILE < length bytes → IsBooked (large_file bytes).kernel → ⊥ }
+    ensures alone { (bytes : List ℕ) → MAX_FILE < length bytes → BreaksAlone (Book NodesWithin) (large_file bytes) }
     ensures can { (bytes : List ℕ) → Leaves (large_file bytes) (log_of (large_file bytes)) }
     ensures lost { (bytes : List ℕ) → MAX_FILE < length bytes → Stores (large_file bytes) (log_of (large_file bytes)) → ⊥ }
 {}
 
 /// Nor where more is charged than the capacity.
 pub fn stop_past_the_capacity_is_not_recoverable()
-    ensures broken { IsBooked overfull.kernel → ⊥ }
+    ensures alone { BreaksAlone (Book UnitsFit) overfull }
     ensures can { Leaves overfull (log_of overfull) }
     ensures lost { Stores overfull (log_of overfull) → ⊥ }
 {}
@@ -232,7 +241,7 @@ pub fn call_begun_in_a_stale_region_is_written_there()
 
 /// Where a settled client has a call begun, its answer may leave it with an open file.
 pub fn call_of_a_settled_client_opens_a_file()
-    ensures broken { HasLeft (settled_opening.clients 1).status (settled_opening.clients 1).knows.own (settled_opening.clients 1).begun → ⊥ }
+    ensures alone { BreaksAlone (Each SettledIdle) settled_opening }
     ensures begun { IsBegun settled_opening 1 open_a }
     ensures lost { HasLeft ((replied settled_opening 1 open_a).clients 1).status ((replied settled_opening 1 open_a).clients 1).knows.own ((replied settled_opening 1 open_a).clients 1).begun → ⊥ }
 {}
@@ -241,4 +250,11 @@ pub fn call_of_a_settled_client_opens_a_file()
 pub fn region_without_a_record_is_not_accepted()
     ensures alone { BreaksAlone (Each AwayHasRecords) away_empty }
     ensures never { (accepted : ℕ → ℕ) → CanAccept (record { kernel = away_empty.kernel; accepted = accepted }) 1 (sealed_of (away_empty.clients 1)) → ⊥ }
+{}
+
+/// Where a client takes itself for another one, what it opens is not found open.
+pub fn call_under_another_number_opens_nothing()
+    ensures alone { BreaksAlone (Each OwnNumber) misnumbered }
+    ensures begun { IsBegun misnumbered 1 open_a }
+    ensures lost { Agrees ((replied misnumbered 1 open_a).clients 1).knows (whole (replied misnumbered 1 open_a)) (held (replied misnumbered 1 open_a)) → ⊥ }
 {}

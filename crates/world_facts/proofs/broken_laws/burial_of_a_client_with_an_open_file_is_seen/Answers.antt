@@ -1,8 +1,9 @@
-use Rattle.world_facts.proofs.BrokenBooks.{left_broken, left_can, left_seen}
+use Rattle.world_facts.proofs.BrokenBooks.{left_can, left_seen}
+use Rattle.world_facts.proofs.AloneCalls.{left_alone}
 use Rattle.world_facts.proofs.broken_laws.burial_of_a_client_with_an_open_file_is_seen.Goals as goal
 
-pub returns-clause-broken : goal.returns-clause-broken
-returns-clause-broken c = left_broken
+pub returns-clause-alone : goal.returns-clause-alone
+returns-clause-alone c = left_alone
 
 pub returns-clause-can : goal.returns-clause-can
 returns-clause-can c = left_can

@@ -1,8 +1,9 @@
-use Rattle.world_facts.proofs.BrokenWorlds.{twice_broken, twice_begun, twice_known, twice_taken}
+use Rattle.world_facts.proofs.BrokenWorlds.{twice_begun, twice_known, twice_taken}
+use Rattle.world_facts.proofs.AloneBooks.{twice_alone}
 use Rattle.world_facts.proofs.broken_laws.number_in_two_hands_is_taken.Goals as goal
 
-pub returns-clause-broken : goal.returns-clause-broken
-returns-clause-broken c = twice_broken
+pub returns-clause-alone : goal.returns-clause-alone
+returns-clause-alone c = twice_alone
 
 pub returns-clause-begun : goal.returns-clause-begun
 returns-clause-begun c = twice_begun

@@ -1,8 +1,9 @@
-use Rattle.world_facts.proofs.BrokenBooks.{unbooked_broken, unbooked_free, unbooked_taken}
+use Rattle.world_facts.proofs.BrokenBooks.{unbooked_free, unbooked_taken}
+use Rattle.world_facts.proofs.AloneBooks.{number_alone}
 use Rattle.world_facts.proofs.broken_laws.number_without_an_account_is_granted_again.Goals as goal
 
-pub returns-clause-broken : goal.returns-clause-broken
-returns-clause-broken c = unbooked_broken
+pub returns-clause-alone : goal.returns-clause-alone
+returns-clause-alone c = number_alone
 
 pub returns-clause-can : goal.returns-clause-can
 returns-clause-can c = unbooked_free

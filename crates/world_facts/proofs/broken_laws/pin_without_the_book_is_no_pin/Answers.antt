@@ -1,8 +1,9 @@
-use Rattle.world_facts.proofs.BrokenBooks.{unpinned_broken, unpinned_can, unpinned_seen}
+use Rattle.world_facts.proofs.AloneBooks.{pin_alone}
+use Rattle.world_facts.proofs.BrokenPins.{unpinned_can, unpinned_seen}
 use Rattle.world_facts.proofs.broken_laws.pin_without_the_book_is_no_pin.Goals as goal
 
-pub returns-clause-broken : goal.returns-clause-broken
-returns-clause-broken c = unpinned_broken
+pub returns-clause-alone : goal.returns-clause-alone
+returns-clause-alone c = pin_alone
 
 pub returns-clause-can : goal.returns-clause-can
 returns-clause-can c = unpinned_can

@@ -1,8 +1,9 @@
-use Rattle.world_facts.proofs.BrokenWorlds.{half_broken, half_begun, half_unsound}
+use Rattle.world_facts.proofs.BrokenWorlds.{half_begun, half_unsound}
+use Rattle.world_facts.proofs.AloneCalls.{half_alone}
 use Rattle.world_facts.proofs.broken_laws.record_of_no_call_breaks_the_whole.Goals as goal
 
-pub returns-clause-broken : goal.returns-clause-broken
-returns-clause-broken c = half_broken
+pub returns-clause-alone : goal.returns-clause-alone
+returns-clause-alone c = half_alone
 
 pub returns-clause-begun : goal.returns-clause-begun
 returns-clause-begun c = half_begun

@@ -1,9 +1,10 @@
 use Rattle.world_facts.specs.Broken.{rootless}
-use Rattle.world_facts.proofs.BrokenStores.{leaves, rootless_broken, rootless_stored}
+use Rattle.world_facts.proofs.BrokenStores.{leaves, rootless_stored}
+use Rattle.world_facts.proofs.AloneStores.{rootless_alone}
 use Rattle.world_facts.proofs.broken_laws.stop_of_an_unsound_whole_is_not_recoverable.Goals as goal
 
-pub returns-clause-broken : goal.returns-clause-broken
-returns-clause-broken c = rootless_broken
+pub returns-clause-alone : goal.returns-clause-alone
+returns-clause-alone c = rootless_alone
 
 pub returns-clause-can : goal.returns-clause-can
 returns-clause-can c = leaves rootless

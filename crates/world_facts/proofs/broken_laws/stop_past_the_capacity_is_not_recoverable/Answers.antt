@@ -1,9 +1,10 @@
 use Rattle.world_facts.specs.Broken.{overfull}
-use Rattle.world_facts.proofs.BrokenStores.{leaves, overfull_broken, overfull_stored}
+use Rattle.world_facts.proofs.BrokenStores.{leaves, overfull_stored}
+use Rattle.world_facts.proofs.AloneStores.{overfull_alone}
 use Rattle.world_facts.proofs.broken_laws.stop_past_the_capacity_is_not_recoverable.Goals as goal
 
-pub returns-clause-broken : goal.returns-clause-broken
-returns-clause-broken c = overfull_broken
+pub returns-clause-alone : goal.returns-clause-alone
+returns-clause-alone c = overfull_alone
 
 pub returns-clause-can : goal.returns-clause-can
 returns-clause-can c = leaves overfull

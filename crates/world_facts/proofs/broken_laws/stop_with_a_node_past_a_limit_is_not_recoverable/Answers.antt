@@ -1,9 +1,10 @@
 use Rattle.world_facts.specs.Broken.{large_file}
-use Rattle.world_facts.proofs.BrokenStores.{leaves, large_broken, large_stored}
+use Rattle.world_facts.proofs.BrokenStores.{leaves, large_stored}
+use Rattle.world_facts.proofs.AloneStores.{large_alone}
 use Rattle.world_facts.proofs.broken_laws.stop_with_a_node_past_a_limit_is_not_recoverable.Goals as goal
 
-pub returns-clause-broken : goal.returns-clause-broken
-returns-clause-broken c = large_broken
+pub returns-clause-alone : goal.returns-clause-alone
+returns-clause-alone c = large_alone
 
 pub returns-clause-can : goal.returns-clause-can
 returns-clause-can c = λ bytes. leaves (large_file bytes)
