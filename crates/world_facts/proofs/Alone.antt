@@ -30,7 +30,7 @@ module _ (part : Part) (w : World) (c : ℕ) (g : Graph) (a : Account) (p : Clie
   pub moved_others : ((q : BookPart) → Book q ≢ part → HoldsIn q (moved w c g a p).kernel)
       → ((q : ClientPart) → Each q ≢ part → HoldsOf q g a c p)
       → OthersStand part w c g
-      → (LeasesLegal ≢ part → IsCoherent w)
+      → (LeasesLegal ≢ part → Holds LeasesLegal w)
       → (LeasesLegal ≢ part → IsLegalBeside w c p)
       → (WholeSound ≢ part → IsSound (whole (moved w c g a p)) (held (moved w c g a p)))
       → (WholeKnown ≢ part → AllKnow w c p (moved w c g a p))
@@ -43,7 +43,7 @@ module _ (part : Part) (w : World) (c : ℕ) (g : Graph) (a : Account) (p : Clie
       beside d e is_d is_e apart =
           each w.clients c p (λ d q. is_client d ≡ true → e ≢ d → IsBeside q (at w.clients c p e))
           (λ is apart. each w.clients c p (λ e q. is_client e ≡ true → e ≢ c → IsBeside p q) (λ is other. absurd (other refl)) (λ e off_c is_e other. (legal off e is_e off_c).0) e is_e apart)
-          (λ d off_c is apart. each w.clients c p (λ e q. is_client e ≡ true → e ≢ d → IsBeside (w.clients d) q) (λ is_c other. (legal off d is off_c).1) (λ e off_e is_e other. (were off).beside d e is is_e other) e is_e apart)
+          (λ d off_c is apart. each w.clients c p (λ e q. is_client e ≡ true → e ≢ d → IsBeside (w.clients d) q) (λ is_c other. (legal off d is off_c).1) (λ e off_e is_e other. were off d e is is_e other) e is_e apart)
           d is_d apart
   moved_others book own others were legal sound known WholeSound off = sound off
   moved_others book own others were legal sound known WholeKnown off = λ d is_d. each w.clients c p (λ e r. is_client e ≡ true → Agrees r.knows (whole (moved w c g a p)) (held (moved w c g a p))) (λ is. (known off).0) (λ e other is. (known off).1 e is other) d is_d
@@ -60,7 +60,7 @@ module _ (part : Part) (w : World) (c : ℕ) (a : Account) (p : Client) (h : IsC
       → (q : Part) → q ≢ part → Holds q now
   quiet_others book own legal known = moved_others part w c w.kernel.shared a p is_c book own
       (λ q off d is_d other. client_parts w.kernel.shared (w.kernel.accounts d) d (w.clients d) (h.stands d is_d) q)
-      (λ off. h) legal
+      (λ off. h.beside) legal
       (λ off. both_same (λ s o. IsSound s o) (whole_same w c w.kernel.shared a p log refl) (held_same w c w.kernel.shared a p own_same) h.sound)
       (λ off. (both_same (λ s o. Agrees p.knows s o) (whole_same w c w.kernel.shared a p log refl) (held_same w c w.kernel.shared a p own_same) (known off), λ d is_d other. both_same (λ s o. Agrees (w.clients d).knows s o) (whole_same w c w.kernel.shared a p log refl) (held_same w c w.kernel.shared a p own_same) (h.agrees d is_d)))
 

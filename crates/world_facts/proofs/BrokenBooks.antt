@@ -10,28 +10,25 @@ use Rattle.file_graph.specs.Graph.{FileBody}
 use Rattle.call_effects.specs.Known.{Agrees}
 use Rattle.call_effects.specs.Wholes.{keep, tree_node}
 use Rattle.world_facts.specs.Limits.{IsWithin, AreWithin}
-use Rattle.world_facts.specs.Logs.{after_records, after_clients, KeepLimits}
-use Rattle.world_facts.specs.World.{Account, log_of, whole, held, world_state}
+use Rattle.world_facts.specs.Logs.{after_clients}
+use Rattle.world_facts.specs.World.{Account, World, log_of, whole, held, world_state}
 use Rattle.world_facts.specs.Standing.{IsBooked, IsNumbered}
 use Rattle.world_facts.specs.LeaseSteps.{write_taken}
 use Rattle.world_facts.specs.BookSteps.{IsUnbooked, units_granted, number_granted}
 use Rattle.world_facts.specs.Halves.{IsOnItsWay, number_received}
 use Rattle.world_facts.specs.ClientSteps.{replied}
-use Rattle.world_facts.specs.KernelSteps.{CanDigest, records_digested}
+use Rattle.world_facts.specs.KernelSteps.{CanDigest, records_digested, CanReclaim, reclaimed}
 use Rattle.world_facts.specs.Burial.{CanBury, client_buried}
 use Rattle.world_facts.proofs.Records.{either}
 use Rattle.world_facts.specs.Walk.{mkdir_a}
 use Rattle.world_facts.specs.Walk as walked
-use Rattle.world_facts.specs.Broken.{counting, one_file, making, dropping, taken_number, far_number, unbooked_number, used_number, unbooked_node, still_open}
+use Rattle.world_facts.specs.Broken.{counting, one_file, making, making_directory, dropping, made_twice, to_be_named, past_limit, taken_number, far_number, unbooked_number, used_number, unbooked_node, still_open}
 use Rattle.world_facts.proofs.Owners.{is_low, is_high}
 use Rattle.world_facts.proofs.UnlinkWalks.{eight}
 use Rattle.world_facts.proofs.Kernels.{each}
 use Rattle.world_facts.proofs.Moved.{at_same}
 
 -- ---- a number that names a file
-
-pub taken_broken : IsBooked taken_number.kernel → ⊥
-taken_broken is = false≢true (sym (ap is_some (is.free 1 2 refl refl)))
 
 pub taken_coming : IsOnItsWay taken_number 1 2
 taken_coming = record { client = refl; booked = refl; absent = refl; unused = refl }
@@ -41,9 +38,6 @@ unfolding after_clients
 taken_received agrees = let new = agrees.granted 2 refl in false≢true (sym (ap is_some new.none))
 
 -- ---- a number past all inodes
-
-pub far_broken : IsBooked far_number.kernel → ⊥
-far_broken is = let range = is.range 1 2000 refl refl in let high : 2000 ≤ 1024 = range.1 in absurd (omega (arith, high))
 
 pub far_coming : IsOnItsWay far_number 1 2000
 far_coming = record { client = refl; booked = refl; absent = refl; unused = refl }
@@ -82,14 +76,35 @@ unbooked_taken agrees = let new = agrees.granted 2 refl in false≢true (sym (ap
 
 -- ---- a number that was used
 
-pub used_broken : IsNumbered (used_number.kernel.accounts 1).numbers (used_number.clients 1).knows.granted (log_of used_number 1) → ⊥
-used_broken is = false≢true (sym (is.unused 2 refl))
-
-pub used_can : CanDigest used_number 1 (making ∷ dropping ∷ []) []
+pub used_can : CanDigest used_number 1 (making_directory ∷ dropping ∷ []) []
 used_can = record { client = refl; some = λ e. absurd (cc); split = refl }
 
-pub used_lost : IsNumbered ((records_digested used_number 1 (making ∷ dropping ∷ [])).kernel.accounts 1).numbers ((records_digested used_number 1 (making ∷ dropping ∷ [])).clients 1).knows.granted (log_of (records_digested used_number 1 (making ∷ dropping ∷ [])) 1) → ⊥
+pub used_lost : IsNumbered ((records_digested used_number 1 (making_directory ∷ dropping ∷ [])).kernel.accounts 1).numbers ((records_digested used_number 1 (making_directory ∷ dropping ∷ [])).clients 1).knows.granted (log_of (records_digested used_number 1 (making_directory ∷ dropping ∷ [])) 1) → ⊥
 used_lost is = false≢true (is.granted 2 refl)
+
+-- ---- a number that is used twice
+
+pub twice_can : CanDigest made_twice 1 (making_directory ∷ dropping ∷ []) (making ∷ [])
+twice_can = record { client = refl; some = λ e. absurd (cc); split = refl }
+
+pub twice_free : IsUnbooked (records_digested made_twice 1 (making_directory ∷ dropping ∷ [])).kernel 2
+twice_free = record { low = omega arith; high = omega arith; none = refl; nobody = λ d is_d. eight (λ d. ((records_digested made_twice 1 (making_directory ∷ dropping ∷ [])).kernel.accounts d).numbers 2 ≡ false) refl refl refl refl refl refl refl refl d (is_low d is_d) (is_high d is_d) }
+
+abbrev again : World
+again = number_granted (records_digested made_twice 1 (making_directory ∷ dropping ∷ [])) 2 2
+
+pub twice_taken : Agrees (again.clients 2).knows (whole again) (held again) → ⊥
+unfolding after_clients
+twice_taken agrees = let new = agrees.granted 2 refl in false≢true (sym (ap is_some new.none))
+
+-- ---- a record that names a file that has no name
+
+pub naming_can : CanReclaim to_be_named.kernel 2
+naming_can = record { file = record { bytes = []; is = refl }; unpinned = λ c is_c. eight (λ c. (to_be_named.kernel.accounts c).pins 2 ≡ false) refl refl refl refl refl refl refl refl c (is_low c is_c) (is_high c is_c) }
+
+pub naming_seen : world_state (reclaimed to_be_named 2) ≢ world_state to_be_named
+unfolding after_clients
+naming_seen e = false≢true (ap (λ (s : State). is_some (s.tree 2)) e)
 
 -- ---- a record that passes a limit
 
@@ -99,11 +114,11 @@ one_within i = elim (eqb_tells i 2) [
   | inr off ↦ subst (IsWithin i) (sym (ap (λ b. cond b (Some (record { names = 0; body = FileBody [] })) None) off.0)) tt
 ]
 
-pub many_broken : KeepLimits one_file (counting 2000 ∷ []) → ⊥
-many_broken keep = let many : 2000 ≤ 1000 = (keep.0 2 (one_within 2)).names in absurd (omega (arith, many))
+pub past_can : CanDigest past_limit 1 (counting 2000 ∷ []) (counting 1 ∷ [])
+past_can = record { client = refl; some = λ e. absurd (cc); split = refl }
 
-pub many_passed : AreWithin (after_records one_file (counting 2000 ∷ [])) → ⊥
-many_passed within = let many : 2000 ≤ 1000 = (within 2).names in absurd (omega (arith, many))
+pub past_passed : IsBooked (records_digested past_limit 1 (counting 2000 ∷ [])).kernel → ⊥
+past_passed is = let many : 2000 ≤ 1000 = (is.limits 2).names in absurd (omega (arith, many))
 
 -- ---- a node of a number that isn't in the book
 

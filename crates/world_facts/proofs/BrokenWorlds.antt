@@ -1,31 +1,28 @@
 -- What goes wrong in small worlds that break one part of the invariant each: a step of such a world.
-use Rattle.std.proofs.Common.{◌≡◌, ◌≢◌, inl, inr, ℕ, ◌+◌, ◌<◌, ◌≤◌, ◌==◌, ◌||◌, cond, Bool, true, false, [], ◌∷◌, refl, Some, None, Option, ap, sym, ◌∙◌, arith}
+use Rattle.std.proofs.Common.{◌≡◌, ◌≢◌, inl, inr, ℕ, ◌+◌, ◌≤◌, ◌==◌, ◌||◌, cond, Bool, true, false, [], ◌∷◌, refl, Some, None, Option, ap, sym, ◌∙◌, arith}
 use Rattle.std.specs.Prelude.{is_some}
 use Rattle.std.specs.FinMap as fin
-use Rattle.std.proofs.lemmas.Bool.{false≢true, eqb-true}
+use Rattle.std.proofs.lemmas.Bool.{false≢true}
 use Rattle.std.proofs.lemmas.Bool.Decides.{eqb_tells}
 use Rattle.posix_calls.specs.Tree.{State, sum_up_to}
-use Rattle.posix_calls.proofs.Sums.{all_zero, one_changes}
+use Rattle.posix_calls.proofs.Sums.{one_changes}
 use Rattle.file_graph.specs.Graph.{Graph, fresh, cost, after_effects, touches, is_among}
-use Rattle.file_graph.specs.Units.{charge, growth, rise}
+use Rattle.file_graph.specs.Units.{charge, growth}
 use Rattle.file_graph.proofs.Touches.{untouched, charge_rises}
 use Rattle.log_record.specs.declared.format.Record.{Record}
 use Rattle.call_effects.specs.Known.{Agrees}
 use Rattle.call_effects.specs.NodeView.{NodeView, FileView, DirView, view_at}
 use Rattle.call_effects.specs.Wholes.{IsSound}
-use Rattle.world_facts.specs.Logs.{after_clients, units_in, ArePaid}
-use Rattle.world_facts.specs.World.{Account, Kernel, all_of, records_of, whole, held, has_lease, world_state, at}
-use Rattle.world_facts.specs.Opening.{idle_account}
+use Rattle.world_facts.specs.Logs.{after_clients, ArePaid}
+use Rattle.world_facts.specs.World.{Kernel, all_of, records_of, whole, held, has_lease, world_state}
 use Rattle.world_facts.specs.Standing.{IsLeased, IsBooked, IsBeside, Stands}
 use Rattle.world_facts.specs.ClientSteps.{IsBegun, replied}
 use Rattle.world_facts.specs.RegionSteps.{CanSeal, region_sealed}
 use Rattle.world_facts.specs.KernelSteps.{CanDigest, records_digested}
 use Rattle.world_facts.specs.Walk.{mkdir_a, made}
 use Rattle.world_facts.specs.Broken.{making, marked_past, granted_twice, watching, root_alone, half, misbegun, unpaid, overdrawn}
-use Rattle.world_facts.proofs.Fresh.{fresh_within}
 use Rattle.world_facts.proofs.Idle.{none_some, idle_stands}
 use Rattle.world_facts.proofs.Moved.{each_client}
-use Rattle.world_facts.proofs.Kernels.{each}
 
 -- ---- a mark past its records
 
@@ -166,43 +163,10 @@ unpaid_broken paid =
     let more : charge (after_effects fresh unpaid.effects) ≡ charge fresh + 1 = one_more in
     absurd (omega (arith, none, risen, more))
 
-one_grown : growth fresh making.effects ≤ 1
-unfolding growth
-one_grown =
-    let nothing : sum_up_to 1024 (λ i. 0) ≡ 0 = all_zero 1024 (λ i. 0) (λ i. refl) in
-    let changed : sum_up_to 1024 (λ i. cond (is_among i (touches making.effects)) (rise fresh (after_effects fresh making.effects) i) 0) + 0 ≡ sum_up_to 1024 (λ i. 0) + 1 =
-    one_changes 1024 (λ i. 0) (λ i. cond (is_among i (touches making.effects)) (rise fresh (after_effects fresh making.effects) i) 0) 2 (omega arith) (omega arith) (λ j other. ap (λ b. cond b (rise fresh (after_effects fresh making.effects) j) 0) (off_two j other)) in
-    omega (arith, nothing, changed)
-
-pub making_paid : ArePaid fresh (making ∷ [])
-making_paid = (one_grown, tt)
-
-pub unbooked : ((overdrawn making).clients 1).spare + units_in (records_of ((overdrawn making).kernel.accounts 1) ((overdrawn making).clients 1)) ≤ ((overdrawn making).kernel.accounts 1).units → ⊥
-unbooked few = let one : 1 ≤ 0 = few in absurd (omega (arith, one))
-
 pub over_digests : (r : Record) → CanDigest (overdrawn r) 1 (r ∷ []) []
 over_digests r = record { client = refl; some = λ e. absurd (cc); split = refl }
 
-abbrev numbered : Account
-numbered = record (idle_account 0) { numbers = λ i. i == 2 }
-
 -- what is so of an account with the number 2 and of one without a number
-each_account : (Q : ℕ → Account → Type 0) → Q 1 numbered → ((d : ℕ) → d ≢ 1 → Q d (idle_account 0)) → (d : ℕ) → Q d (at (λ c. idle_account 0) 1 numbered d)
-each_account Q own others d = each (λ c. idle_account 0) 1 numbered Q own others d
-
-pub over_booked : (r : Record) → IsBooked (overdrawn r).kernel
-over_booked r = record {
-  free = λ c i is_c. each_account (λ d a. a.numbers i ≡ true → fresh i ≡ None) (λ e. ap fresh (eqb-true i 2 e)) (λ d other e. absurd (false≢true e)) c;
-  range = λ c i is_c. each_account (λ d a. a.numbers i ≡ true → (1 < i) × (i ≤ 1024)) (λ e. let two = eqb-true i 2 e in (omega (arith, two), omega (arith, two))) (λ d other e. absurd (false≢true e)) c;
-  alone = λ c d i is_c is_d other e.
-      let one : c ≡ 1 = each_account (λ d a. a.numbers i ≡ true → d ≡ 1) (λ e. refl) (λ d other e. absurd (false≢true e)) c e in
-      each_account (λ d a. d ≢ 1 → a.numbers i ≡ false) (λ off. absurd (off refl)) (λ d off again. refl) d (λ same. other (same ∙ sym one));
-  limits = fresh_within;
-  fits =
-      let none : sum_up_to 8 (λ c. ((overdrawn r).kernel.accounts c).units) ≡ 0 = all_zero 8 (λ c. ((overdrawn r).kernel.accounts c).units) (λ c. each_account (λ d a. a.units ≡ 0) refl (λ d other. refl) c) in
-      let exact : charge (overdrawn r).kernel.shared ≡ (overdrawn r).kernel.capacity = refl in
-      omega (arith, none, exact);
-}
 
 pub too_much : (k : Kernel) → k.capacity ≡ charge fresh → charge k.shared ≡ charge fresh + 1 → IsBooked k → ⊥
 too_much k capacity more is =

@@ -40,7 +40,10 @@ pub mod BrokenWorlds
 pub mod BrokenStores
 pub mod BrokenCopies
 pub mod BrokenBooks
+pub mod AloneIdle
+pub mod AloneNumbers
 pub mod UnlinkWalks
+pub mod AloneRecords
 pub mod AloneBooks
 pub mod BrokenPins
 pub mod AloneStores

@@ -1,20 +1,22 @@
 -- A new node over a root alone: a record that makes one, and the graph that has a file without a name.
-use Rattle.std.proofs.Common.{◌≡◌, ◌≢◌, inl, inr, ℕ, ◌+◌, ◌-◌, ◌≤◌, ◌||◌, cond, List, [], ◌∷◌, length, false, refl, Some, None, Option, Ok, ap, sym, ◌∙◌, subst, arith}
+use Rattle.std.proofs.Common.{◌≡◌, ◌≢◌, inl, inr, ℕ, ◌+◌, ◌-◌, ◌≤◌, ◌==◌, ◌||◌, cond, Bool, List, [], ◌∷◌, ◌++◌, length, true, false, refl, Some, None, Option, Ok, ap, sym, ◌∙◌, subst, arith}
 use Rattle.std.specs.Prelude.{option_map}
 use Rattle.std.specs.FinMap as fin
+use Rattle.std.proofs.lemmas.Bool.{false≢true, eq-eqb}
 use Rattle.std.proofs.lemmas.Bool.Decides.{eqb_tells}
 use Rattle.posix_calls.specs.Content.{directory_units}
 use Rattle.posix_calls.specs.Tree as tree
-use Rattle.posix_calls.specs.Tree.{sum_up_to}
+use Rattle.posix_calls.specs.Tree.{Descriptors, sum_up_to}
 use Rattle.posix_calls.specs.Resolve.{resolve, resolve_from}
 use Rattle.posix_calls.specs.WellFormed.{IsDirectory}
 use Rattle.posix_calls.specs.declared.limits.TheConstants.{MAX_FILE}
 use Rattle.posix_calls.proofs.Counts.{order}
 use Rattle.posix_calls.proofs.Sums.{all_zero, one_changes}
-use Rattle.file_graph.specs.Graph.{Node, FileBody, fresh, empty_body, cost, after_effects, touches, is_among}
+use Rattle.file_graph.specs.Graph.{Graph, Node, FileBody, fresh, empty_body, cost, after_effects, touches, subjects, is_among}
 use Rattle.file_graph.specs.Units.{growth, rise}
 use Rattle.file_graph.specs.declared.effect.Kind.{Kind}
 use Rattle.file_graph.specs.declared.effect.Kind.TheVariants as kind
+use Rattle.file_graph.specs.declared.effect.Effect.{Effect}
 use Rattle.file_graph.specs.declared.effect.Effect.TheVariants as effect
 use Rattle.file_graph.proofs.Touches.{untouched}
 use Rattle.log_record.specs.declared.format.Record.{Record}
@@ -25,8 +27,8 @@ use Rattle.call_effects.proofs.Changes.{typed_put, sound_of, sound_fair, fair_of
 use Rattle.call_effects.proofs.Puts.{put_other}
 use Rattle.call_effects.proofs.Fresh.{fresh_sound}
 use Rattle.world_facts.specs.Limits.{IsBodyWithin, IsWithin, AreWithin}
-use Rattle.world_facts.specs.Logs.{IsNameless, IsPaid, NamesNone, Keeps}
-use Rattle.world_facts.specs.Broken.{with_bytes}
+use Rattle.world_facts.specs.Logs.{after_records, IsNameless, IsPaid, NamesNone, Keeps}
+use Rattle.world_facts.specs.Broken.{with_bytes, making_directory, dropping, counting, entered}
 use Rattle.world_facts.proofs.Fresh.{no_entries, fresh_within}
 use Rattle.world_facts.proofs.Idle.{none_some}
 
@@ -115,3 +117,84 @@ makes_file = λ t i. same i t
       | inl there ↦ ap (after_effects fresh (effect.Make 2 kind.File ∷ [])) there.1 ∙ sym (ap (with_bytes []) there.1)
       | inr off ↦ off_two kind.File 0 i off.1 ∙ sym (put_other fresh 2 i (file 0 []) off.1)
     ]
+
+-- ---- a new directory that is dropped
+
+abbrev pub with_directory : Graph
+with_directory = after_effects fresh making_directory.effects
+
+unmoved : (g : Graph) (e : Effect) (i : ℕ) → subjects e ≡ 2 ∷ [] → i ≢ 2 → after_effects g (e ∷ []) i ≡ g i
+unmoved g e i is off = untouched g (e ∷ []) i (ap (λ is. is_among i (is ++ [])) is ∙ elim (eqb_tells 2 i) [ inl same ↦ absurd (off (sym same.1)) | inr other ↦ ap (λ b. b || false) other.0 ])
+
+pub drop_paid : (g : Graph) → IsPaid g dropping
+unfolding growth
+drop_paid g =
+    let nothing : sum_up_to 1024 (λ i. cond (is_among i (touches dropping.effects)) (rise g (after_effects g dropping.effects) i) 0) ≡ 0 = all_zero 1024 (λ i. cond (is_among i (touches dropping.effects)) (rise g (after_effects g dropping.effects) i) 0) (λ i. none_risen (2 == i) (g i)) in
+    omega (arith, nothing)
+  where
+    none_risen : (b : Bool) (o : Option Node) → cond (b || false) (cost (cond (b || false) None o) - cost o) 0 ≡ 0
+    none_risen true o = omega arith
+    none_risen false o = refl
+
+pub drop_names_none : NamesNone with_directory dropping
+drop_names_none i was = elim (eqb_tells i 2) [
+  | inl same ↦ absurd (let clash : Some kind.Directory ≡ Some kind.File = sym (ap (λ j. kind_of (with_directory j)) same.1) ∙ ap kind_of was.is in cc)
+  | inr off ↦ subst (λ o. IsNameless o) (sym (unmoved with_directory (effect.Drop 2) i refl off.1)) was
+]
+
+pub drop_keeps_limits : (g : Graph) → Keeps IsWithin g dropping
+drop_keeps_limits g i was = elim (eqb_tells i 2) [
+  | inl same ↦ subst (λ j. IsWithin j (after_effects g dropping.effects j)) (sym same.1) tt
+  | inr off ↦ subst (IsWithin i) (sym (unmoved g (effect.Drop 2) i refl off.1)) was
+]
+
+pub dropped : after_effects with_directory dropping.effects ≡ fresh
+dropped = λ t i. same i t
+  where
+    same : (i : ℕ) → after_effects with_directory dropping.effects i ≡ fresh i
+    same i = elim (eqb_tells i 2) [
+      | inl there ↦ ap (after_effects with_directory dropping.effects) there.1 ∙ sym (ap fresh there.1)
+      | inr off ↦ unmoved with_directory (effect.Drop 2) i refl off.1 ∙ off_two kind.Directory 0 i off.1
+    ]
+
+-- ---- a count of names that is set
+
+pub count_paid : (g : Graph) (n : ℕ) → IsPaid g (counting n)
+unfolding growth
+count_paid g n =
+    let nothing : sum_up_to 1024 (λ i. cond (is_among i (touches (counting n).effects)) (rise g (after_effects g (counting n).effects) i) 0) ≡ 0 = all_zero 1024 (λ i. cond (is_among i (touches (counting n).effects)) (rise g (after_effects g (counting n).effects) i) 0) (λ i. none_risen (2 == i) (g i)) in
+    omega (arith, nothing)
+  where
+    none_risen : (b : Bool) (o : Option Node) → cond (b || false) (cost (cond (b || false) (option_map (λ x. record { names = n; body = x.body }) o) o) - cost o) 0 ≡ 0
+    none_risen true None = omega arith
+    none_risen true (Some x) = omega arith
+    none_risen false o = refl
+
+pub count_names_none : (g : Graph) (n : ℕ) → kind_of (g 2) ≡ Some kind.Directory → NamesNone g (counting n)
+count_names_none g n is i was = elim (eqb_tells i 2) [
+  | inl same ↦ absurd (let clash : Some kind.Directory ≡ Some kind.File = sym is ∙ sym (ap (λ j. kind_of (g j)) same.1) ∙ ap kind_of was.is in cc)
+  | inr off ↦ subst (λ o. IsNameless o) (sym (unmoved g (effect.Names 2 n) i refl off.1)) was
+]
+
+pub counted_back : after_records entered (counting 2000 ∷ counting 1 ∷ []) ≡ entered
+counted_back = λ t i. same i t
+  where
+    same : (i : ℕ) → after_records entered (counting 2000 ∷ counting 1 ∷ []) i ≡ entered i
+    same i = elim (eqb_tells i 2) [
+      | inl there ↦ ap (after_records entered (counting 2000 ∷ counting 1 ∷ [])) there.1 ∙ sym (ap entered there.1)
+      | inr off ↦ unmoved (after_effects entered (counting 2000).effects) (effect.Names 2 1) i refl off.1 ∙ unmoved entered (effect.Names 2 2000) i refl off.1
+    ]
+
+-- ---- what holds of the inodes that a record of the inode 2 touches
+
+pub two_of : (f : Bool → Bool) → f false ≡ false → (i : ℕ) → f (2 == i) ≡ true → (i == 2) ≡ true
+two_of f none i e = elim (eqb_tells 2 i) [ inl same ↦ eq-eqb i 2 (sym same.1) | inr off ↦ absurd (false≢true (sym none ∙ sym (ap f off.0) ∙ e)) ]
+
+-- ---- a graph in which nothing is open any more
+
+pub sound_closed : (g : Graph) (d : Descriptors) → IsSound g d → IsSound g nobody
+sound_closed g d sound = record {
+  typed = record { kinds = sound.typed.kinds; numbers = sound.typed.numbers; root = sound.typed.root; opened = λ c n o e. none_some o e; in_range = λ c n o e. none_some o e };
+  counts = sound.counts;
+  reached = sound.reached;
+}

@@ -1,6 +1,5 @@
 -- Small worlds that break one part of the invariant each.
-use Rattle.std.specs.Prelude.{ℕ, ◌+◌, List, [], ◌∷◌, Bool, true, false, ◌==◌, ◌&&◌, Some, None, if◌then◌else◌}
-use Rattle.posix_calls.specs.Tree.{Descriptors}
+use Rattle.std.specs.Prelude.{ℕ, ◌+◌, List, [], ◌∷◌, Bool, false, ◌==◌, ◌||◌, Some, None, if◌then◌else◌}
 use Rattle.posix_calls.specs.declared.call.Call.{Call}
 use Rattle.posix_calls.specs.declared.call.Call.TheVariants as call
 use Rattle.posix_calls.specs.declared.call.Reply.TheVariants as reply
@@ -36,23 +35,16 @@ both_counting c = if c == 1 then counting 1 ∷ [] else (if c == 2 then counting
 abbrev pub one_file : Graph
 one_file i = if i == 2 then Some (record { names = 0; body = FileBody [] }) else None
 
--- ---- a client that makes two nodes of one number
+-- ---- records that make a node, and drop it
 
 abbrev pub making : Record
 making = record { units = 1; effects = effect.Make 2 kind.File ∷ [] }
 
+abbrev pub making_directory : Record
+making_directory = record { units = 1; effects = effect.Make 2 kind.Directory ∷ [] }
+
 abbrev pub dropping : Record
 dropping = record { units = 0; effects = effect.Drop 2 ∷ [] }
-
--- ---- a client that has a file open, and hasn't pinned it
-
-abbrev pub one_open : Descriptors
-one_open c n = if c == 1 && n == 0 then Some (record { inode = 2; reads = true; writes = true }) else None
-
--- ---- a client's record gives a name to a file that has none
-
-abbrev pub naming : Record
-naming = record { units = 0; effects = effect.Names 2 1 ∷ [] }
 
 -- ---- a mark past its records, once the call of the walk is answered
 
@@ -107,7 +99,7 @@ unbooked_number = moved walked.making 1 walked.making.kernel.shared (record (wal
 -- ---- a client has made and dropped a node, and may still give its number to another one
 
 abbrev pub used_number : World
-used_number = moved (idle_world (charge fresh + 1) fresh) 1 fresh (record (idle_account 0) { units = 1; numbers = λ i. i == 2 }) (record (idle_client 1 0) { knows = record (knows_nothing 1) { granted = λ i. i == 2 }; sealed = making ∷ dropping ∷ []; other = Away; writes = λ i. i == 2 })
+used_number = moved (idle_world (charge fresh + 1) fresh) 1 fresh (record (idle_account 0) { units = 1; numbers = λ i. i == 2 }) (record (idle_client 1 0) { knows = record (knows_nothing 1) { granted = λ i. i == 2 }; sealed = making_directory ∷ dropping ∷ []; other = Away; writes = λ i. i == 2 })
 
 -- ---- a client has a file open that lost its name, and the book has no pin of it
 
@@ -212,3 +204,26 @@ misnumbered = with_client unlink_walked.opening 1 (record (unlink_walked.opening
 
 abbrev pub unpinned_client : World
 unpinned_client = moved unlink_walked.kept 1 unlink_walked.kept.kernel.shared (record (unlink_walked.kept.kernel.accounts 1) { pins = λ i. false }) (record (unlink_walked.kept.clients 1) { pins = λ i. false })
+
+-- ---- a client makes two nodes of one number
+
+abbrev pub made_twice : World
+made_twice = moved (idle_world (charge fresh + 2) fresh) 1 fresh (record (idle_account 0) { units = 2; numbers = λ i. i == 2 }) (record (idle_client 1 0) { sealed = making_directory ∷ dropping ∷ making ∷ []; other = Away; writes = λ i. i == 2 })
+
+-- ---- a record that is not digested gives a name to a file that has none in the shared graph
+
+abbrev pub naming : Record
+naming = record { units = 1; effects = effect.Enter 1 2 kind.File (97 ∷ []) ∷ effect.Names 2 1 ∷ [] }
+
+abbrev pub to_be_named : World
+to_be_named = moved (idle_world (charge with_file + 1) with_file) 1 with_file (record (idle_account 0) { units = 1 }) (record (idle_client 1 0) { sealed = naming ∷ []; other = Away; writes = λ i. i == 1 || i == 2 })
+
+-- ---- a record takes a directory past a limit, and the next one back
+
+abbrev pub past_limit : World
+past_limit = moved (idle_world (charge entered) entered) 1 entered (idle_account 0) (record (idle_client 1 0) { sealed = counting 2000 ∷ counting 1 ∷ []; other = Away; writes = λ i. i == 2 })
+
+-- ---- the answered call of the walk made a directory that its client doesn't hold any more
+
+abbrev pub unleased : World
+unleased = with_client walked.made 1 (record (walked.made.clients 1) { reads = λ i. false; writes = root_alone })

@@ -10,10 +10,10 @@ ghost use Rattle.world_facts.specs.Limits.{AreWithin};
 ghost use Rattle.world_facts.specs.Logs.{after_records, after_each, units_in, LogsAreApart, IsMadeOnce, ArePaid, NameNone, KeepLimits};
 ghost use Rattle.world_facts.specs.World.{log_of, all_of, records_of, whole, held, has_lease, world_state};
 ghost use Rattle.world_facts.specs.Standing.{HasLeft, IsMarked, StartsWiped, IsNumbered, IsLeased, IsPinned, IsPending, IsBooked, IsBeside, Stands};
-ghost use Rattle.world_facts.specs.Parts.{Book, Each, WholeSound, NumbersInOneHand, NodesWithin, UnitsFit, OwnNumber, MadeBooked, GrantedBooked, OpenPinned, PinsBooked, BegunPlanned, BegunPinned, SettledClosed, SettledIdle, MarkNotPast, MarkNotBefore, AwayHasRecords, BackHasNone, UnwipedHasNone, UnwipedIsIdle, BreaksAlone};
+ghost use Rattle.world_facts.specs.Parts.{Book, Each, NumbersFree, NumbersInRange, RecordsLeased, RecordsPaid, RecordsNameNone, RecordsKeepLimits, UnitsBooked, MadeOnce, GrantedUnused, WholeSound, NumbersInOneHand, NodesWithin, UnitsFit, OwnNumber, MadeBooked, GrantedBooked, OpenPinned, PinsBooked, BegunPlanned, BegunPinned, SettledClosed, SettledIdle, MarkNotPast, MarkNotBefore, AwayHasRecords, BackHasNone, UnwipedHasNone, UnwipedIsIdle, BreaksAlone};
 ghost use Rattle.world_facts.specs.Machine.{CanAccept, sealed_of};
 ghost use Rattle.world_facts.specs.ClientSteps.{CanAnswer, answered, CanBegin, IsBegun, replied};
-ghost use Rattle.world_facts.specs.LeaseSteps.{CanFetch};
+ghost use Rattle.world_facts.specs.LeaseSteps.{IsUnheld, CanFetch, write_taken, fetched};
 ghost use Rattle.world_facts.specs.RegionSteps.{CanSeal, region_sealed, CanWipeOther, other_wiped, CanWipeCurrent, current_wiped};
 ghost use Rattle.world_facts.specs.KernelSteps.{CanDigest, records_digested, CanReclaim, reclaimed};
 ghost use Rattle.world_facts.specs.BookSteps.{IsUnbooked, number_granted};
@@ -22,7 +22,7 @@ ghost use Rattle.world_facts.specs.Halves.{IsOnItsWay, number_received};
 ghost use Rattle.world_facts.specs.Walk.{mkdir_a, made, handed};
 ghost use Rattle.world_facts.specs.UnlinkWalk.{open_a, unlink_a};
 ghost use Rattle.world_facts.specs.Stop.{Leaves, Stores};
-ghost use Rattle.world_facts.specs.Broken.{counting, taken_number, far_number, unbooked_number, used_number, unpinned_file, unbooked_node, still_open, both_counting, one_file, making, dropping, one_open, naming, marked_past, granted_twice, watching, root_alone, half, misbegun, unpaid, overdrawn, unwiped, left_behind, marked_before, unpinned_open, rootless, large_file, overfull, stale, stat_root, no_entries, begun_unwiped, settled_opening, away_empty, misnumbered, unpinned_client, unpinned_known, unpinned_unlinked, unpinned_kept};
+ghost use Rattle.world_facts.specs.Broken.{unleased, counting, taken_number, far_number, unbooked_number, used_number, unpinned_file, unbooked_node, still_open, both_counting, one_file, making, making_directory, dropping, made_twice, to_be_named, past_limit, marked_past, granted_twice, watching, root_alone, half, misbegun, unpaid, overdrawn, unwiped, left_behind, marked_before, unpinned_open, rootless, large_file, overfull, stale, stat_root, no_entries, begun_unwiped, settled_opening, away_empty, misnumbered, unpinned_client, unpinned_known, unpinned_unlinked, unpinned_kept};
 
 /// Where two clients write one inode, which takes a lease that one of them doesn't hold, the order of their digests is seen.
 pub fn writing_without_a_lease_is_seen()
@@ -30,12 +30,13 @@ pub fn writing_without_a_lease_is_seen()
     ensures seen { after_each both_counting one_file (1 ∷ 2 ∷ []) ≢ after_each both_counting one_file (2 ∷ 1 ∷ []) }
 {}
 
-/// Where a client makes two nodes of one number, a digest of the first records leaves the number free in the shared graph while the
-/// log makes a node of it.
+/// Where a client makes two nodes of one number, a digest of the first records leaves the number free: another client gets it, and finds
+/// a node there.
 pub fn number_used_twice_is_free_between()
-    ensures broken { IsMadeOnce 2 (making ∷ dropping ∷ making ∷ []) → ⊥ }
-    ensures free { (g : Graph) → after_records g (making ∷ dropping ∷ []) 2 ≡ None }
-    ensures again { (g : Graph) → IsSome (after_records g (making ∷ dropping ∷ making ∷ []) 2) }
+    ensures alone { BreaksAlone (Each MadeOnce) made_twice }
+    ensures can { CanDigest made_twice 1 (making_directory ∷ dropping ∷ []) (making ∷ []) }
+    ensures free { IsUnbooked (records_digested made_twice 1 (making_directory ∷ dropping ∷ [])).kernel 2 }
+    ensures taken { Agrees ((number_granted (records_digested made_twice 1 (making_directory ∷ dropping ∷ [])) 2 2).clients 2).knows (whole (number_granted (records_digested made_twice 1 (making_directory ∷ dropping ∷ [])) 2 2)) (held (number_granted (records_digested made_twice 1 (making_directory ∷ dropping ∷ [])) 2 2)) → ⊥ }
 {}
 
 /// Where a file is open that nobody has pinned, its reclaim is seen.
@@ -47,9 +48,9 @@ pub fn reclaim_of_an_open_file_is_seen()
 
 /// Where a record that is not digested gives a name to a file that has none, its reclaim is seen: what the record names is gone.
 pub fn reclaim_of_a_file_to_be_named_is_seen()
-    ensures broken { NameNone one_file (naming ∷ []) → ⊥ }
-    ensures named { IsSome (after_records one_file (naming ∷ []) 2) }
-    ensures gone { after_records (set_node one_file 2 None) (naming ∷ []) 2 ≡ None }
+    ensures alone { BreaksAlone (Each RecordsNameNone) to_be_named }
+    ensures can { CanReclaim to_be_named.kernel 2 }
+    ensures seen { world_state (reclaimed to_be_named 2) ≢ world_state to_be_named }
 {}
 
 /// Where a mark stands past the sealed records, the undigested ones are the same for now; but once the region is sealed, its record
@@ -95,31 +96,28 @@ pub fn record_of_no_call_breaks_the_whole()
 
 /// Where a record has no units for what it raises, its digest passes the capacity.
 pub fn unpaid_record_passes_the_capacity()
-    ensures broken { ArePaid fresh (unpaid ∷ []) → ⊥ }
-    ensures booked { IsBooked (overdrawn unpaid).kernel }
+    ensures alone { BreaksAlone (Each RecordsPaid) (overdrawn unpaid) }
     ensures can { CanDigest (overdrawn unpaid) 1 (unpaid ∷ []) [] }
     ensures passed { IsBooked (records_digested (overdrawn unpaid) 1 (unpaid ∷ [])).kernel → ⊥ }
 {}
 
 /// So does that of a record whose units are not in the book.
 pub fn unbooked_units_pass_the_capacity()
-    ensures broken { ((overdrawn making).clients 1).spare + units_in (records_of ((overdrawn making).kernel.accounts 1) ((overdrawn making).clients 1)) ≤ ((overdrawn making).kernel.accounts 1).units → ⊥ }
-    ensures paid { ArePaid fresh (making ∷ []) }
-    ensures booked { IsBooked (overdrawn making).kernel }
+    ensures alone { BreaksAlone (Each UnitsBooked) (overdrawn making) }
     ensures can { CanDigest (overdrawn making) 1 (making ∷ []) [] }
     ensures passed { IsBooked (records_digested (overdrawn making) 1 (making ∷ [])).kernel → ⊥ }
 {}
 
 /// Where the book has a number that a node of the shared graph has, its client takes it for a free one.
 pub fn booked_number_of_a_node_is_taken()
-    ensures broken { IsBooked taken_number.kernel → ⊥ }
+    ensures alone { BreaksAlone (Book NumbersFree) taken_number }
     ensures can { IsOnItsWay taken_number 1 2 }
     ensures taken { Agrees ((number_received taken_number 1 2).clients 1).knows (whole (number_received taken_number 1 2)) (held (number_received taken_number 1 2)) → ⊥ }
 {}
 
 /// Where it has one past all inodes, so does the client.
 pub fn booked_number_past_all_inodes_is_received()
-    ensures broken { IsBooked far_number.kernel → ⊥ }
+    ensures alone { BreaksAlone (Book NumbersInRange) far_number }
     ensures can { IsOnItsWay far_number 1 2000 }
     ensures received { Agrees ((number_received far_number 1 2000).clients 1).knows (whole (number_received far_number 1 2000)) (held (number_received far_number 1 2000)) → ⊥ }
 {}
@@ -133,9 +131,9 @@ pub fn number_without_an_account_is_granted_again()
 
 /// Where a client still has a number of which a record of its made a node, it has it without an account once that is digested.
 pub fn used_number_loses_its_account()
-    ensures broken { IsNumbered (used_number.kernel.accounts 1).numbers (used_number.clients 1).knows.granted (log_of used_number 1) → ⊥ }
-    ensures can { CanDigest used_number 1 (making ∷ dropping ∷ []) [] }
-    ensures lost { IsNumbered ((records_digested used_number 1 (making ∷ dropping ∷ [])).kernel.accounts 1).numbers ((records_digested used_number 1 (making ∷ dropping ∷ [])).clients 1).knows.granted (log_of (records_digested used_number 1 (making ∷ dropping ∷ [])) 1) → ⊥ }
+    ensures alone { BreaksAlone (Each GrantedUnused) used_number }
+    ensures can { CanDigest used_number 1 (making_directory ∷ dropping ∷ []) [] }
+    ensures lost { IsNumbered ((records_digested used_number 1 (making_directory ∷ dropping ∷ [])).kernel.accounts 1).numbers ((records_digested used_number 1 (making_directory ∷ dropping ∷ [])).clients 1).knows.granted (log_of (records_digested used_number 1 (making_directory ∷ dropping ∷ [])) 1) → ⊥ }
 {}
 
 /// Where a client counts on a pin that is not in the book, the file that it has open is reclaimed.
@@ -145,11 +143,12 @@ pub fn pin_without_the_book_is_no_pin()
     ensures seen { world_state (reclaimed unpinned_file 2) ≢ world_state unpinned_file }
 {}
 
-/// Where a record takes a node past a limit, its digest makes a shared graph that can't be spelled.
+/// Where a record takes a node past a limit, its digest makes a shared graph that can't be spelled, also if the next record takes the node
+/// back.
 pub fn record_past_a_limit_is_digested()
-    ensures within { AreWithin one_file }
-    ensures broken { KeepLimits one_file (counting 2000 ∷ []) → ⊥ }
-    ensures passed { AreWithin (after_records one_file (counting 2000 ∷ [])) → ⊥ }
+    ensures alone { BreaksAlone (Each RecordsKeepLimits) past_limit }
+    ensures can { CanDigest past_limit 1 (counting 2000 ∷ []) (counting 1 ∷ []) }
+    ensures passed { IsBooked (records_digested past_limit 1 (counting 2000 ∷ [])).kernel → ⊥ }
 {}
 
 /// Where a record made a node of a number that is not in its client's account, another client gets the number.
@@ -257,4 +256,13 @@ pub fn call_under_another_number_opens_nothing()
     ensures alone { BreaksAlone (Each OwnNumber) misnumbered }
     ensures begun { IsBegun misnumbered 1 open_a }
     ensures lost { Agrees ((replied misnumbered 1 open_a).clients 1).knows (whole (replied misnumbered 1 open_a)) (held (replied misnumbered 1 open_a)) → ⊥ }
+{}
+
+/// Where a record touches an inode that its client doesn't hold for writing, another client takes the lease, and fetches a copy that is not
+/// as the whole is.
+pub fn record_without_a_lease_is_not_fetched()
+    ensures alone { BreaksAlone (Each RecordsLeased) unleased }
+    ensures can { IsUnheld unleased 2 2 }
+    ensures fetches { CanFetch (write_taken unleased 2 2) 2 2 }
+    ensures stale { Agrees ((fetched (write_taken unleased 2 2) 2 2).clients 2).knows (whole (fetched (write_taken unleased 2 2) 2 2)) (held (fetched (write_taken unleased 2 2) 2 2)) → ⊥ }
 {}

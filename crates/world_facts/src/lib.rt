@@ -36,12 +36,12 @@ pub use broken_laws::{
     number_used_twice_is_free_between, number_without_an_account_is_granted_again,
     pin_without_the_book_is_no_pin, reclaim_of_a_file_to_be_named_is_seen,
     reclaim_of_an_open_file_is_seen, record_of_no_call_breaks_the_whole,
-    record_past_a_limit_is_digested, region_without_a_record_is_not_accepted,
-    stop_of_an_unsound_whole_is_not_recoverable, stop_past_the_capacity_is_not_recoverable,
-    stop_with_a_node_past_a_limit_is_not_recoverable, unbooked_units_pass_the_capacity,
-    unpaid_record_passes_the_capacity, used_number_loses_its_account,
-    wipe_of_a_region_that_is_back_loses_a_call, wipe_of_a_written_region_loses_a_call,
-    writing_without_a_lease_is_seen,
+    record_past_a_limit_is_digested, record_without_a_lease_is_not_fetched,
+    region_without_a_record_is_not_accepted, stop_of_an_unsound_whole_is_not_recoverable,
+    stop_past_the_capacity_is_not_recoverable, stop_with_a_node_past_a_limit_is_not_recoverable,
+    unbooked_units_pass_the_capacity, unpaid_record_passes_the_capacity,
+    used_number_loses_its_account, wipe_of_a_region_that_is_back_loses_a_call,
+    wipe_of_a_written_region_loses_a_call, writing_without_a_lease_is_seen,
 };
 pub use burial_laws::{
     buried_seat_may_be_taken, client_may_die, dead_client_may_depart, departed_client_may_be_buried,

@@ -1,8 +1,9 @@
-use Rattle.world_facts.proofs.BrokenBooks.{taken_broken, taken_coming, taken_received}
+use Rattle.world_facts.proofs.BrokenBooks.{taken_coming, taken_received}
+use Rattle.world_facts.proofs.AloneNumbers.{taken_alone}
 use Rattle.world_facts.proofs.broken_laws.booked_number_of_a_node_is_taken.Goals as goal
 
-pub returns-clause-broken : goal.returns-clause-broken
-returns-clause-broken c = taken_broken
+pub returns-clause-alone : goal.returns-clause-alone
+returns-clause-alone c = taken_alone
 
 pub returns-clause-can : goal.returns-clause-can
 returns-clause-can c = taken_coming

@@ -1,8 +1,9 @@
-use Rattle.world_facts.proofs.BrokenBooks.{far_broken, far_coming, far_received}
+use Rattle.world_facts.proofs.BrokenBooks.{far_coming, far_received}
+use Rattle.world_facts.proofs.AloneNumbers.{far_alone}
 use Rattle.world_facts.proofs.broken_laws.booked_number_past_all_inodes_is_received.Goals as goal
 
-pub returns-clause-broken : goal.returns-clause-broken
-returns-clause-broken c = far_broken
+pub returns-clause-alone : goal.returns-clause-alone
+returns-clause-alone c = far_alone
 
 pub returns-clause-can : goal.returns-clause-can
 returns-clause-can c = far_coming

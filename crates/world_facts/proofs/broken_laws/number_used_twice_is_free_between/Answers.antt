@@ -1,11 +1,15 @@
-use Rattle.world_facts.proofs.Breaks.{made_twice, free_between, there_again}
+use Rattle.world_facts.proofs.BrokenBooks.{twice_can, twice_free, twice_taken}
+use Rattle.world_facts.proofs.AloneNumbers.{twice_alone}
 use Rattle.world_facts.proofs.broken_laws.number_used_twice_is_free_between.Goals as goal
 
-pub returns-clause-broken : goal.returns-clause-broken
-returns-clause-broken c = made_twice
+pub returns-clause-alone : goal.returns-clause-alone
+returns-clause-alone c = twice_alone
+
+pub returns-clause-can : goal.returns-clause-can
+returns-clause-can c = twice_can
 
 pub returns-clause-free : goal.returns-clause-free
-returns-clause-free c = free_between
+returns-clause-free c = twice_free
 
-pub returns-clause-again : goal.returns-clause-again
-returns-clause-again c = there_again
+pub returns-clause-taken : goal.returns-clause-taken
+returns-clause-taken c = twice_taken

@@ -1,8 +1,9 @@
-use Rattle.world_facts.proofs.BrokenBooks.{used_broken, used_can, used_lost}
+use Rattle.world_facts.proofs.BrokenBooks.{used_can, used_lost}
+use Rattle.world_facts.proofs.AloneNumbers.{used_alone}
 use Rattle.world_facts.proofs.broken_laws.used_number_loses_its_account.Goals as goal
 
-pub returns-clause-broken : goal.returns-clause-broken
-returns-clause-broken c = used_broken
+pub returns-clause-alone : goal.returns-clause-alone
+returns-clause-alone c = used_alone
 
 pub returns-clause-can : goal.returns-clause-can
 returns-clause-can c = used_can

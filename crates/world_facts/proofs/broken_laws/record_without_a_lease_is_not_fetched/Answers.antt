@@ -1,0 +1,14 @@
+use Rattle.world_facts.proofs.AloneRecords.{fewer_alone, fewer_unheld, fewer_fetch, fewer_wrong}
+use Rattle.world_facts.proofs.broken_laws.record_without_a_lease_is_not_fetched.Goals as goal
+
+pub returns-clause-alone : goal.returns-clause-alone
+returns-clause-alone c = fewer_alone
+
+pub returns-clause-can : goal.returns-clause-can
+returns-clause-can c = fewer_unheld
+
+pub returns-clause-fetches : goal.returns-clause-fetches
+returns-clause-fetches c = fewer_fetch
+
+pub returns-clause-stale : goal.returns-clause-stale
+returns-clause-stale c = fewer_wrong
