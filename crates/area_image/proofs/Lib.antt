@@ -14,3 +14,4 @@ pub mod Takings
 pub mod Uses
 pub mod Sharing
 pub mod Costs
+pub mod Among

@@ -1,11 +1,10 @@
 -- A directory, block by block.
-use Rattle.std.proofs.Common.{◌≡◌, ◌≤◌, ◌<◌, ◌+◌, ◌*◌, ◌/◌, ◌%◌, ℕ, zero, suc, [], ◌∷◌, List, ◌++◌, length, get_or, Bool, true, false, refl, sym, ap, subst, ◌∙◌, arith, Option, Some, None, inl, inr}
-use Rattle.std.specs.Prelude.{Result, Ok, Err, min, not, IsSome, is_some, nat_lt, nat_le}
+use Rattle.std.proofs.Common.{◌≡◌, ◌≤◌, ◌<◌, ◌+◌, ◌*◌, ◌/◌, ◌%◌, ℕ, zero, suc, [], ◌∷◌, List, length, get_or, Bool, true, false, refl, sym, ap, subst, ◌∙◌, arith, Option, Some, None, inl, inr}
+use Rattle.std.specs.Prelude.{◌⊎◌, ◌↔◌, Result, Ok, Err, min, not, IsSome, is_some, nat_lt, nat_le}
 use Rattle.std.specs.List.{list_all}
 use Rattle.std.specs.Str.{bytes_eq}
-use Rattle.std.proofs.lemmas.Bool.{cases_lt, and_parts, or_right, le-leb, false≢true, true≢false}
+use Rattle.std.proofs.lemmas.Bool.{cases_eq, cases_lt, and_parts, or_right, le-leb, false≢true, true≢false}
 use Rattle.std.proofs.lemmas.Slice.Eq.{bytes_eq-Decides}
-use Rattle.std.proofs.lemmas.List.{get_or_append_left, get_or_push, length_push}
 use Rattle.tier_device.specs.declared.media.Tier.{Tier}
 use Rattle.tier_device.specs.declared.media.Tier.TheVariants.{Fast, Block, Slow}
 use Rattle.file_graph.specs.declared.effect.Kind.TheVariants as kind
@@ -22,12 +21,12 @@ use Rattle.layout.specs.declared.error.What.{What}
 use Rattle.layout.specs.declared.error.What.TheVariants as what
 use Rattle.layout.specs.Places.{Sizes, slot_block}
 use Rattle.tree_blocks.specs.Inode.{Blocks, Entry, IsDirectoryBlock, IsDirectory, AreDistinct, entry_at, entries_in, blocks_for}
-use Rattle.tree_blocks.specs.Directory.{numbered}
 use Rattle.tree_blocks.proofs.Held.{entry_is}
 use Rattle.area_image.specs.Store.{Store, extents_read, place, logical, inode}
 use Rattle.area_image.specs.Reads.{IsRoom}
 use Rattle.area_image.proofs.Damages.{at_fast, other_place}
-use Rattle.area_image.specs.Checks.{IsEntries, IsSlotDamageOf, IsEntryDamageOf, HasSameName, AreFirstBlocks}
+use Rattle.area_image.specs.Checks.{IsEntries, IsSlotDamageOf, IsEntryDamageOf, HasName, HasSameName, HasPart, AreFirstParts}
+use Rattle.area_image.specs.Names.{IsAmong, name_at, SharesName, AddsNames}
 
 -- what is entries is read as such
 pub entries_read : (block : List ℕ) → AreEntries block → entries_of block ≡ Some (listed block)
@@ -204,75 +203,102 @@ module _ (g : Sizes) (s : Store) (i n : ℕ) (dir : IsEntries g s i n) where
         of_it = refl;
       }
 
+-- ---- names of the first entries of a block
+
+pub adds_none : (block : List ℕ) (old : List (List ℕ)) → AddsNames block 0 old old
+adds_none block old = record {
+  fresh = λ e lt. absurd (omega (arith, lt));
+  all = λ name. (λ is. inl is, λ is. elim is [ inl there ↦ there | inr (e, lt, same) ↦ absurd (omega (arith, lt)) ]);
+}
+
+module _ (block : List ℕ) (are : AreEntries block) (k : ℕ) (inside : k < length (listed block).entries) (old mid : List (List ℕ)) (adds : AddsNames block k old mid) where
+  -- one more, which is new
+  pub adds_more : (new : List (List ℕ)) → (IsAmong mid (name_at block k) → ⊥) → ((n : List ℕ) → IsAmong new n ↔ (IsAmong mid n ⊎ (n ≡ name_at block k))) → AddsNames block (k + 1) old new
+  adds_more new fresh more = record {
+    fresh = λ e lt is. elim (cases_eq e k) [
+      | inl here ↦ fresh ((adds.all (name_at block k)).1 (inl (subst (λ j. IsAmong old (name_at block j)) here is)))
+      | inr off ↦ adds.fresh e (omega (arith, lt, off)) is
+    ];
+    all = λ name. (
+      λ is. elim ((more name).0 is) [
+        | inl before ↦ elim ((adds.all name).0 before) [ inl there ↦ inl there | inr (e, lt, same) ↦ inr (e, omega (arith, lt), same) ]
+        | inr here ↦ inr (k, omega arith, sym here)
+      ],
+      λ is. (more name).1 (elim is [
+        | inl there ↦ inl ((adds.all name).1 (inl there))
+        | inr (e, lt, same) ↦ elim (cases_eq e k) [
+          | inl here ↦ inr (sym same ∙ ap (name_at block) here)
+          | inr off ↦ inl ((adds.all name).1 (inr (e, omega (arith, lt, off), same)))
+        ]
+      ]),
+    );
+  }
+
+  -- one that was there: another entry of the block has another name
+  pub shares_name : IsAmong mid (name_at block k) → SharesName block old
+  shares_name is = elim ((adds.all (name_at block k)).0 is) [
+    | inl there ↦ record { entry = k; inside = inside; among = there }
+    | inr (e, lt, same) ↦ (
+        let one : e ≡ k = one_name (listed block).entries (fit_parts (listed block) are.fit).distinct e k (omega (arith, lt, inside)) inside same in
+        absurd (omega (arith, lt, one))
+        )
+  ]
+
 -- ---- the first blocks, one more and all
 
 module _ (g : Sizes) (s : Store) (i n : ℕ) where
-  pub first_none : AreFirstBlocks g s i n []
-  first_none = record { each = λ k lt. absurd (omega (arith, lt)); parts = λ k lt. absurd (omega (arith, lt)); distinct = λ e f le lf same. absurd (omega (arith, le)) }
+  pub first_none : AreFirstParts g s i n 0 []
+  first_none = record {
+    parts = λ k lt. absurd (omega (arith, lt));
+    distinct = λ e f le lf same. absurd (omega (arith, le));
+    all = λ name. (λ none. absurd none, λ has. (let lt = has.within in absurd (omega (arith, lt))));
+  }
 
-  module _ (bs : List (List ℕ)) (old : AreFirstBlocks g s i n bs) where
-    pub part_there : (k : ℕ) → k < length bs → IsDirectoryBlock i n k (logical g s i k)
-    part_there k lt = subst (IsDirectoryBlock i n k) (old.each k lt) (old.parts k lt)
+  pub part_held : (k : ℕ) → IsEntries g s i n → k < blocks_for n → IsDirectoryBlock i n k (logical g s i k) → HasPart g s i
+  part_held k dir lt part = record {
+    kind_is = dir.kind_is;
+    number = k;
+    within = subst (λ m. k < m) (sym dir.blocks) lt;
+    part = subst (λ m. IsDirectoryBlock i m k (logical g s i k)) (sym dir.size_is) part;
+  }
 
-    pub same_there : (block : List ℕ) → HasSameName (logical g s i) (length bs) block → HasSameName (numbered bs) (length bs) block
-    same_there block h =
-        let o = h.other in
-        let is : logical g s i o.block ≡ numbered bs o.block = sym (old.each o.block o.within) in
-        record {
-          entry = h.entry;
-          inside = h.inside;
-          other = record {
-            block = o.block;
-            within = o.within;
-            entry = o.entry;
-            inside = subst (λ (b : List ℕ). o.entry < length (listed b).entries) is o.inside;
-            same = sym (ap (λ (b : List ℕ). (entry_of (listed b) o.entry).name) is) ∙ o.same;
-          };
-        }
-
-    pub same_back : (block : List ℕ) → HasSameName (numbered bs) (length bs) block → HasSameName (logical g s i) (length bs) block
-    same_back block h =
-        let o = h.other in
-        let is : numbered bs o.block ≡ logical g s i o.block = old.each o.block o.within in
-        record {
-          entry = h.entry;
-          inside = h.inside;
-          other = record {
-            block = o.block;
-            within = o.within;
-            entry = o.entry;
-            inside = subst (λ (b : List ℕ). o.entry < length (listed b).entries) is o.inside;
-            same = sym (ap (λ (b : List ℕ). (entry_of (listed b) o.entry).name) is) ∙ o.same;
-          };
-        }
-
-    pub first_all : length bs ≡ blocks_for n → IsDirectory i n (logical g s i)
+  module _ (k : ℕ) (names : List (List ℕ)) (old : AreFirstParts g s i n k names) where
+    pub first_all : k ≡ blocks_for n → IsDirectory i n (logical g s i)
     first_all long = record {
-      parts = λ k lt. part_there k (omega (arith, long, lt));
+      parts = λ j lt. old.parts j (omega (arith, long, lt));
       distinct = λ e f le lf same. old.distinct e f (omega (arith, long, le)) (omega (arith, long, lf)) same;
     }
 
-    module _ (b : List ℕ) (is : b ≡ logical g s i (length bs)) (part : IsDirectoryBlock i n (length bs) b) (new : HasSameName (numbered bs) (length bs) b → ⊥) where
-      each_more : (k : ℕ) → k < length bs + 1 → numbered (bs ++ b ∷ []) k ≡ logical g s i k
-      each_more k lt = elim (cases_lt k (length bs)) [
-        | inl before ↦ get_or_append_left bs (b ∷ []) [] k before ∙ old.each k before
-        | inr past ↦ let here : length bs ≡ k = omega (arith, lt, past) in get_or_push bs b [] k here ∙ is ∙ ap (logical g s i) here
+    pub same_name : SharesName (logical g s i k) names → HasSameName (logical g s i) k (logical g s i k)
+    same_name shares = record { entry = shares.entry; inside = shares.inside; other = (old.all (name_at (logical g s i k) shares.entry)).0 shares.among }
+
+    module _ (part : IsDirectoryBlock i n k (logical g s i k)) (new : List (List ℕ)) (adds : AddsNames (logical g s i k) (length (listed (logical g s i k)).entries) names new) where
+      parts_more : (j : ℕ) → j < k + 1 → IsDirectoryBlock i n j (logical g s i j)
+      parts_more j lt = elim (cases_eq j k) [
+        | inl here ↦ subst (λ m. IsDirectoryBlock i n m (logical g s i m)) (sym here) part
+        | inr off ↦ old.parts j (omega (arith, lt, off))
       ]
 
-      parts_more : (k : ℕ) → k < length bs + 1 → IsDirectoryBlock i n k (logical g s i k)
-      parts_more k lt = elim (cases_lt k (length bs)) [
-        | inl before ↦ part_there k before
-        | inr past ↦ let here : length bs ≡ k = omega (arith, lt, past) in subst (λ j. IsDirectoryBlock i n j (logical g s i j)) here (subst (IsDirectoryBlock i n (length bs)) is part)
+      no_same : HasSameName (logical g s i) k (logical g s i k) → ⊥
+      no_same same = adds.fresh same.entry same.inside ((old.all (name_at (logical g s i k) same.entry)).1 same.other)
+
+      named_more : (name : List ℕ) → IsAmong new name → HasName (logical g s i) (k + 1) name
+      named_more name is = elim ((adds.all name).0 is) [
+        | inl there ↦ (
+            let has = (old.all name).0 there in
+            let within = has.within in
+            record { block = has.block; within = omega (arith, within); entry = has.entry; inside = has.inside; same = has.same }
+            )
+        | inr (e, lt, same) ↦ record { block = k; within = omega arith; entry = e; inside = lt; same = same }
       ]
 
-      long_more : length (bs ++ b ∷ []) ≡ length bs + 1
-      long_more = length_push bs b
+      among_more : (name : List ℕ) → HasName (logical g s i) (k + 1) name → IsAmong new name
+      among_more name has =
+          let within = has.within in
+          elim (cases_eq has.block k) [
+            | inl here ↦ (adds.all name).1 (inr (has.entry, subst (λ j. has.entry < length (listed (logical g s i j)).entries) here has.inside, ap (λ j. name_at (logical g s i j) has.entry) (sym here) ∙ has.same))
+            | inr off ↦ (adds.all name).1 (inl ((old.all name).1 (record { block = has.block; within = omega (arith, within, off); entry = has.entry; inside = has.inside; same = has.same })))
+          ]
 
-      pub first_more : AreFirstBlocks g s i n (bs ++ b ∷ [])
-      first_more =
-          let more = distinct_on i n (logical g s i) (length bs) parts_more (λ h. new (same_there b (subst (HasSameName (logical g s i) (length bs)) (sym is) h))) old.distinct in
-          record {
-            each = λ k lt. each_more k (subst (λ m. k < m) long_more lt);
-            parts = λ k lt. let lt' = subst (λ m. k < m) long_more lt in subst (IsDirectoryBlock i n k) (sym (each_more k lt')) (parts_more k lt');
-            distinct = subst (λ m. AreDistinct (entry_at (logical g s i)) (min n (56 * m))) (sym long_more) more;
-          }
+      pub first_more : AreFirstParts g s i n (k + 1) new
+      first_more = record { parts = parts_more; distinct = distinct_on i n (logical g s i) k parts_more no_same old.distinct; all = λ name. (named_more name, among_more name) }

@@ -1,5 +1,5 @@
 -- What is checked of an inode whose slot and extents are read.
-use Rattle.std.specs.Prelude.{◌≡◌, ◌+◌, ◌-◌, ◌/◌, ◌<◌, ◌*◌, ◌⊎◌, min, ℕ, List, length, true, Some, IsSome}
+use Rattle.std.specs.Prelude.{◌≡◌, ◌+◌, ◌-◌, ◌/◌, ◌<◌, ◌*◌, ◌⊎◌, ◌↔◌, min, ℕ, List, length, true, Some, IsSome}
 use Rattle.tier_device.specs.declared.media.Tier.{Tier}
 use Rattle.file_graph.specs.declared.effect.Kind.TheVariants as kind
 use Rattle.layout.specs.declared.error.What.{What}
@@ -7,11 +7,11 @@ use Rattle.layout.specs.declared.places.TheConstants.{BLOCK}
 use Rattle.layout.specs.declared.directory.TheConstants.{MAX_IN_BLOCK}
 use Rattle.layout.specs.Places.{Sizes, is_inode}
 use Rattle.layout.specs.Directory.{listed, entry_of}
-use Rattle.tree_blocks.specs.Inode.{Blocks, IsDirectoryBlock, AreDistinct, entry_at, blocks_for}
-use Rattle.tree_blocks.specs.Directory.{numbered}
+use Rattle.tree_blocks.specs.Inode.{Blocks, IsDirectoryBlock, AreDistinct, entry_at}
 use Rattle.area_image.specs.Store.{Store, logical, slot, length_of, extents_read, place, inode}
 use Rattle.area_image.specs.Damage.{IsSlotDamage, IsExtentDamage, IsEntryDamage, IsTailDamage}
 use Rattle.area_image.specs.Map.{in_tier, extents_in}
+use Rattle.area_image.specs.Names.{IsAmong}
 use Rattle.area_image.specs.declared.tiers.InodeExtents.{InodeExtents}
 
 -- What is read are the extents of inode i.
@@ -78,14 +78,15 @@ pub record HasSameName (blocks : Blocks) (count : ℕ) (block : List ℕ) : Type
   pub inside : entry < length (listed block).entries
   pub other : HasName blocks count (entry_of (listed block) entry).name
 
--- These are the first blocks of a directory of so many entries.
-pub record AreFirstBlocks (g : Sizes) (s : Store) (i entries : ℕ) (blocks : List (List ℕ)) : Type 0 where
-  pub each : (k : ℕ) → k < length blocks → numbered blocks k ≡ logical g s i k
-  pub parts : (k : ℕ) → k < length blocks → IsDirectoryBlock i entries k (numbered blocks k)
-  pub distinct : AreDistinct (entry_at (logical g s i)) (min entries (MAX_IN_BLOCK * length blocks))
+-- The first so many blocks of a directory are its parts, no two of their entries have one name, and these are the names.
+pub record AreFirstParts (g : Sizes) (s : Store) (i entries count : ℕ) (names : List (List ℕ)) : Type 0 where
+  pub parts : (k : ℕ) → k < count → IsDirectoryBlock i entries k (logical g s i k)
+  pub distinct : AreDistinct (entry_at (logical g s i)) (min entries (MAX_IN_BLOCK * count))
+  pub all : (name : List ℕ) → IsAmong names name ↔ HasName (logical g s i) count name
 
--- Some block of a directory is that part of it: it is held in memory.
-pub record HasPart (g : Sizes) (s : Store) (i entries : ℕ) : Type 0 where
+-- Inode i is a directory, and some block is its part of the entries: their names are held in memory.
+pub record HasPart (g : Sizes) (s : Store) (i : ℕ) : Type 0 where
+  pub kind_is : (inode g s i).kind ≡ Some kind.Directory
   pub number : ℕ
-  pub within : number < blocks_for entries
-  pub part : IsDirectoryBlock i entries number (logical g s i number)
+  pub within : number < length_of (slot g s i)
+  pub part : IsDirectoryBlock i (inode g s i).size number (logical g s i number)

@@ -10,3 +10,4 @@ pub mod Used
 pub mod Parts
 pub mod Whole
 pub mod Units
+pub mod Names

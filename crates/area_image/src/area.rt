@@ -42,7 +42,7 @@ fn add_inode<M: Media>(
     ensures units { IfOk result (λ units. units ≡ cost (graph journal.old.geometry (store_of (M.seen journal.old.media)) inode)) }
     ensures small { IfOk result (λ units. units ≤ 257) }
     ensures damaged { IfErr result (λ e. OnDamage e (IsDamaged journal.old.geometry (store_of (M.seen journal.old.media)))) }
-    ensures memory { IfErr result (λ e. e ≡ Memory → (WantsMemory journal.old.geometry (store_of (M.seen journal.old.media)) inode) ⊎ ((n : ℕ) × HasPart journal.old.geometry (store_of (M.seen journal.old.media)) inode n)) }
+    ensures memory { IfErr result (λ e. e ≡ Memory → WantsMemory journal.old.geometry (store_of (M.seen journal.old.media)) inode ⊎ HasPart journal.old.geometry (store_of (M.seen journal.old.media)) inode) }
     ensures looks { Looks M.moment M.seen M.left M.faults journal.old journal.new result }
 {
     match read_inode(alloc, journal, inode) {
@@ -74,7 +74,7 @@ pub fn read_area<M: Media>(
     ensures marked { OnOk result ((t : Tier) (k : ℕ) → IsMarked used.new t k ↔ ((u : Use) × (used_by journal.old.geometry (store_of (M.seen journal.old.media)) u ≡ Some (t, k)))) }
     ensures units { IfOk result (λ units. units ≡ charge (graph journal.old.geometry (store_of (M.seen journal.old.media)))) }
     ensures damaged { IfErr result (λ e. OnDamage e (IsDamaged journal.old.geometry (store_of (M.seen journal.old.media)))) }
-    ensures memory { IfErr result (λ e. e ≡ Memory → (i : ℕ) × ((WantsMemory journal.old.geometry (store_of (M.seen journal.old.media)) i) ⊎ ((n : ℕ) × HasPart journal.old.geometry (store_of (M.seen journal.old.media)) i n))) }
+    ensures memory { IfErr result (λ e. e ≡ Memory → (i : ℕ) × (WantsMemory journal.old.geometry (store_of (M.seen journal.old.media)) i ⊎ HasPart journal.old.geometry (store_of (M.seen journal.old.media)) i)) }
     ensures looks { Looks M.moment M.seen M.left M.faults journal.old journal.new result }
 {
     if journal.has_failed() {

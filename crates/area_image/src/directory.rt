@@ -1,54 +1,25 @@
 // A directory, all its blocks.
-ghost use Rattle.std.specs.Prelude.{◌≡◌, ◌<◌, ◌≤◌, ◌+◌, length, true, false, OnOk, IfErr};
+ghost use Rattle.std.specs.Prelude.{◌≡◌, ◌≤◌, false, OnOk, IfErr};
 ghost use Rattle.posix_calls.specs.declared.limits.TheConstants.{MAX_ENTRIES};
-ghost use Rattle.tree_blocks.specs.Inode.{IsDirectory, blocks_for};
+ghost use Rattle.tree_blocks.specs.Inode.{IsDirectory};
 ghost use Rattle.area_image.specs.Store.{store_of, logical};
 ghost use Rattle.area_image.specs.Damage.{OnDamage};
-ghost use Rattle.area_image.specs.Checks.{IsEntries, HasFound, AreFirstBlocks, HasPart, IsDirectoryDamageOf};
+ghost use Rattle.area_image.specs.Checks.{IsEntries, HasFound, HasPart, IsDirectoryDamageOf};
 ghost use Rattle.area_image.specs.Looks.{Looks};
 ghost use Rattle.area_image.specs.declared.error.AreaError.TheVariants.{Memory};
 
-use crate::entries::read_part;
+use crate::entries::check_part;
 use crate::error::AreaError;
+use crate::names::Names;
 use crate::slots::entry_blocks;
 use crate::tiers::InodeExtents;
 use batch_journal::Journal;
-use layout::BLOCK;
 use posix_calls::MAX_INODE;
 use std::alloc::Global;
 use tier_device::Media;
 
-// Reads one more block of a directory behind these.
-fn add_part<M: Media>(
-    journal: &mut Journal<M>,
-    inode: u32,
-    found: &InodeExtents,
-    entries: u64,
-    blocks: &mut Vec<[u8; BLOCK]>,
-) -> Result<(), AreaError>
-    requires low { 1 ≤ inode }
-    requires high { inode ≤ MAX_INODE }
-    requires directory { IsEntries journal.old.geometry (store_of (M.seen journal.old.media)) inode entries }
-    requires found { HasFound journal.old.geometry (store_of (M.seen journal.old.media)) inode found.now }
-    requires before { AreFirstBlocks journal.old.geometry (store_of (M.seen journal.old.media)) inode entries blocks.old.items }
-    requires more { length blocks.old.items < blocks_for entries }
-    requires few { length blocks.old.items < 65536 }
-    requires going { journal.old.failed ≡ false }
-    ensures before { OnOk result (AreFirstBlocks journal.old.geometry (store_of (M.seen journal.old.media)) inode entries blocks.new.items) }
-    ensures more { OnOk result (length blocks.new.items ≡ length blocks.old.items + 1) }
-    ensures damaged { IfErr result (λ e. OnDamage e (IsDirectoryDamageOf journal.old.geometry (store_of (M.seen journal.old.media)) inode)) }
-    ensures memory { IfErr result (λ e. e ≡ Memory → HasPart journal.old.geometry (store_of (M.seen journal.old.media)) inode entries) }
-    ensures looks { Looks M.moment M.seen M.left M.faults journal.old journal.new result }
-{
-    let block = read_part(journal, inode, found, entries, blocks)?;
-    match blocks.push(block) {
-        Ok(()) => Ok(()),
-        Err(_) => Err(AreaError::Memory),
-    }
-}
-
 /// Whether a directory's blocks are its entries, each in its place and of a name of its own; each block is read once. `Damaged` names the slot where a block is
-/// missing, or the block that does not hold its part of the entries or has a name of a block before it. `Memory` where there was none to hold a block.
+/// missing, or the block that does not hold its part of the entries or has a name of a block before it. `Memory` where there was none to hold the names; each is looked for by bisection.
 pub fn check_directory<M: Media>(
     alloc: Global,
     journal: &mut Journal<M>,
@@ -64,12 +35,12 @@ pub fn check_directory<M: Media>(
     requires going { journal.old.failed ≡ false }
     ensures directory { OnOk result (IsDirectory inode entries (logical journal.old.geometry (store_of (M.seen journal.old.media)) inode)) }
     ensures damaged { IfErr result (λ e. OnDamage e (IsDirectoryDamageOf journal.old.geometry (store_of (M.seen journal.old.media)) inode)) }
-    ensures memory { IfErr result (λ e. e ≡ Memory → HasPart journal.old.geometry (store_of (M.seen journal.old.media)) inode entries) }
+    ensures memory { IfErr result (λ e. e ≡ Memory → HasPart journal.old.geometry (store_of (M.seen journal.old.media)) inode) }
     ensures looks { Looks M.moment M.seen M.left M.faults journal.old journal.new result }
 {
-    let mut blocks = Vec::new(alloc);
-    'parts: for _ in 0..entry_blocks(entries) {
-        match add_part(journal, inode, found, entries, &mut blocks) {
+    let mut names = Names::new(alloc);
+    'parts: for number in 0..entry_blocks(entries) {
+        match check_part(alloc, journal, inode, found, entries, number, &mut names) {
             Ok(()) => {}
             Err(error) => return Err(error),
         }

@@ -1,17 +1,18 @@
 // The blocks of a directory.
-ghost use Rattle.std.specs.Prelude.{◌≡◌, ◌≢◌, ◌<◌, ◌≤◌, ℕ, length, MatchBool, MatchOption, true, false, IfOk, IfErr};
+ghost use Rattle.std.specs.Prelude.{◌≡◌, ◌≢◌, ◌<◌, ◌≤◌, ℕ, length, ◌+◌, MatchBool, true, false, IfOk, OnOk, IfErr};
 ghost use Rattle.layout.specs.Directory.{AreEntries, listed};
 ghost use Rattle.layout.specs.Places.{slot_block};
 ghost use Rattle.layout.specs.declared.error.What.TheVariants as what;
-ghost use Rattle.tree_blocks.specs.Directory.{numbered};
 ghost use Rattle.tree_blocks.specs.Inode.{IsDirectoryBlock, entries_in, blocks_for};
-ghost use Rattle.area_image.specs.Store.{store_of, logical};
+ghost use Rattle.area_image.specs.Names.{AddsNames, SharesName};
+ghost use Rattle.area_image.specs.Store.{store_of};
 ghost use Rattle.area_image.specs.Damage.{OnDamage};
-ghost use Rattle.area_image.specs.Checks.{IsEntries, HasFound, AreFirstBlocks, HasName, HasSameName, IsDirectoryDamageOf};
+ghost use Rattle.area_image.specs.Checks.{IsEntries, HasFound, AreFirstParts, HasPart, IsDirectoryDamageOf};
 ghost use Rattle.area_image.specs.Looks.{Looks};
 ghost use Rattle.area_image.specs.declared.error.AreaError.TheVariants.{Damaged, Memory};
 
 use crate::error::AreaError;
+use crate::names::Names;
 use crate::places::first_place;
 use crate::reading::{blank_block, read_block};
 use crate::tail::block_number;
@@ -19,6 +20,7 @@ use crate::tiers::InodeExtents;
 use batch_journal::Journal;
 use layout::{BLOCK, DirEntries, MAX_IN_BLOCK, What, slot_block};
 use posix_calls::MAX_INODE;
+use std::alloc::{AllocError, Global};
 use tier_device::Media;
 
 // How many of so many entries stand in a block.
@@ -45,60 +47,50 @@ fn is_part(block: &[u8; BLOCK], at: u32, inode: u32, entries: u64, number: u64) 
     }
 }
 
-// The number within its block of an entry of these blocks that has the name.
-fn name_in(blocks: &[[u8; BLOCK]], name: &[u8]) -> Option<usize>
-    requires { (k : ℕ) → k < length blocks.now → AreEntries (numbered blocks.now k) }
-    ensures { MatchOption result (HasName (numbered blocks.now) (length blocks.now) name.now → ⊥) (λ _. HasName (numbered blocks.now) (length blocks.now) name.now) }
-{
-    'each: for k in 0..blocks.len() {
-        if let Some(index) = DirEntries::known(&blocks[k]).find(name) {
-            return Some(index);
-        }
-    }
-    None
-}
-
-// An entry of a block that has a name of these blocks.
-fn twin_in(blocks: &[[u8; BLOCK]], block: &[u8; BLOCK]) -> Option<usize>
-    requires before { (k : ℕ) → k < length blocks.now → AreEntries (numbered blocks.now k) }
-    requires entries { AreEntries block.now }
-    ensures { MatchOption result (HasSameName (numbered blocks.now) (length blocks.now) block.now → ⊥) (λ _. HasSameName (numbered blocks.now) (length blocks.now) block.now) }
+// Adds the names of a block's entries, and tells whether all were new ones; else the names are of no use.
+fn add_names(alloc: Global, names: &mut Names, block: &[u8; BLOCK]) -> Result<bool, AllocError>
+    requires { AreEntries block.now }
+    ensures { IfOk result (λ new. MatchBool new (AddsNames block.now (length (listed block.now).entries) names.old names.new) (SharesName block.now names.old)) }
 {
     let list = DirEntries::known(block);
     'entries: for index in 0..list.len() {
         let entry = list.entry(index);
-        if let Some(_) = name_in(blocks, entry.name) {
-            return Some(index);
+        match names.add(alloc, entry.name) {
+            Ok(new) => {
+                if !new {
+                    return Ok(false);
+                }
+            }
+            Err(error) => return Err(error),
         }
     }
-    None
+    Ok(true)
 }
 
-// The next block of a directory, whose blocks up to it are these.
-pub fn read_part<M: Media>(
+// Reads the next block of a directory, of which so many were read before, and adds its names to theirs.
+pub fn check_part<M: Media>(
+    alloc: Global,
     journal: &mut Journal<M>,
     inode: u32,
     found: &InodeExtents,
     entries: u64,
-    before: &[[u8; BLOCK]],
-) -> Result<[u8; BLOCK], AreaError>
+    number: u64,
+    names: &mut Names,
+) -> Result<(), AreaError>
     requires low { 1 ≤ inode }
     requires high { inode ≤ MAX_INODE }
     requires directory { IsEntries journal.old.geometry (store_of (M.seen journal.old.media)) inode entries }
     requires found { HasFound journal.old.geometry (store_of (M.seen journal.old.media)) inode found.now }
-    requires before { AreFirstBlocks journal.old.geometry (store_of (M.seen journal.old.media)) inode entries before.now }
-    requires more { length before.now < blocks_for entries }
-    requires few { length before.now < 65536 }
+    requires before { AreFirstParts journal.old.geometry (store_of (M.seen journal.old.media)) inode entries number names.old }
+    requires more { number < blocks_for entries }
+    requires few { number < 65536 }
     requires going { journal.old.failed ≡ false }
-    ensures block { IfOk result (λ b. b ≡ logical journal.old.geometry (store_of (M.seen journal.old.media)) inode (length before.now)) }
-    ensures part { IfOk result (IsDirectoryBlock inode entries (length before.now)) }
-    ensures names { IfOk result (λ b. HasSameName (numbered before.now) (length before.now) b → ⊥) }
+    ensures parts { OnOk result (AreFirstParts journal.old.geometry (store_of (M.seen journal.old.media)) inode entries (number + 1) names.new) }
     ensures damaged { IfErr result (λ e. OnDamage e (IsDirectoryDamageOf journal.old.geometry (store_of (M.seen journal.old.media)) inode)) }
-    ensures only { IfErr result (λ e. e ≢ Memory) }
+    ensures memory { IfErr result (λ e. e ≡ Memory → HasPart journal.old.geometry (store_of (M.seen journal.old.media)) inode) }
     ensures looks { Looks M.moment M.seen M.left M.faults journal.old journal.new result }
 {
     let geometry = journal.geometry();
-    let number = before.len() as u64;
     let Some((tier, place)) = first_place(found, number) else {
         return Err(AreaError::Damaged {
             what: What::Slot,
@@ -111,9 +103,14 @@ pub fn read_part<M: Media>(
     if !is_part(&block, at, inode, entries, number) {
         return Err(entries_damaged(at));
     }
-    match twin_in(before, &block) {
-        Some(_) => Err(entries_damaged(at)),
-        None => Ok(block),
+    match add_names(alloc, names, &block) {
+        Ok(new) => {
+            if !new {
+                return Err(entries_damaged(at));
+            }
+            Ok(())
+        }
+        Err(_) => Err(AreaError::Memory),
     }
 }
 

@@ -10,6 +10,7 @@ mod extents;
 mod inode;
 mod laws;
 mod marks;
+mod names;
 mod opening;
 mod places;
 mod reading;

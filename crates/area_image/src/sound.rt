@@ -40,7 +40,7 @@ pub fn read_inode<M: Media>(
     ensures spelled { OnOk result (SpellsInode journal.old.geometry (store_of (M.seen journal.old.media)) inode) }
     ensures damaged { IfErr result (λ e. OnDamage e (IsDamaged journal.old.geometry (store_of (M.seen journal.old.media)))) }
     ensures own { IfErr result (λ e. OnDamage e (IsOwnDamage journal.old.geometry (store_of (M.seen journal.old.media)) inode)) }
-    ensures memory { IfErr result (λ e. e ≡ Memory → (WantsMemory journal.old.geometry (store_of (M.seen journal.old.media)) inode) ⊎ ((n : ℕ) × HasPart journal.old.geometry (store_of (M.seen journal.old.media)) inode n)) }
+    ensures memory { IfErr result (λ e. e ≡ Memory → WantsMemory journal.old.geometry (store_of (M.seen journal.old.media)) inode ⊎ HasPart journal.old.geometry (store_of (M.seen journal.old.media)) inode) }
     ensures looks { Looks M.moment M.seen M.left M.faults journal.old journal.new result }
 {
     match read_parts(alloc, journal, inode) {
@@ -67,7 +67,7 @@ fn check_parts<M: Media>(
     requires going { journal.old.failed ≡ false }
     ensures spelled { OnOk result (SpellsInode journal.old.geometry (store_of (M.seen journal.old.media)) inode) }
     ensures own { IfErr result (λ e. OnDamage e (IsOwnDamage journal.old.geometry (store_of (M.seen journal.old.media)) inode)) }
-    ensures memory { IfErr result (λ e. e ≡ Memory → (n : ℕ) × HasPart journal.old.geometry (store_of (M.seen journal.old.media)) inode n) }
+    ensures memory { IfErr result (λ e. e ≡ Memory → HasPart journal.old.geometry (store_of (M.seen journal.old.media)) inode) }
     ensures looks { Looks M.moment M.seen M.left M.faults journal.old journal.new result }
 {
     match mapped_twice(&parts.extents, length_of(&parts.slot)) {
@@ -98,7 +98,7 @@ fn check_content<M: Media>(
     requires going { journal.old.failed ≡ false }
     ensures consistent { OnOk result (IsConsistent inode (inode_at journal.old.geometry (store_of (M.seen journal.old.media)) inode)) }
     ensures own { IfErr result (λ e. OnDamage e (IsOwnDamage journal.old.geometry (store_of (M.seen journal.old.media)) inode)) }
-    ensures memory { IfErr result (λ e. e ≡ Memory → (n : ℕ) × HasPart journal.old.geometry (store_of (M.seen journal.old.media)) inode n) }
+    ensures memory { IfErr result (λ e. e ≡ Memory → HasPart journal.old.geometry (store_of (M.seen journal.old.media)) inode) }
     ensures looks { Looks M.moment M.seen M.left M.faults journal.old journal.new result }
 {
     match parts.slot {

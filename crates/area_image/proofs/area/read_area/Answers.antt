@@ -1,4 +1,4 @@
-use Rattle.std.proofs.Common.{◌≡◌, ◌+◌, ◌⊎◌, ◌∙◌, ℕ, Err, sym, arith}
+use Rattle.std.proofs.Common.{◌≡◌, ◌+◌, ◌⊎◌, ◌∙◌, Err, sym, arith}
 use Rattle.area_image.specs.Store.{store_of, graph}
 use Rattle.file_graph.specs.Graph.{cost}
 use Rattle.area_image.proofs.Costs.{total_none, total_more, total_all}
@@ -54,7 +54,7 @@ returns-in-Err-clause-damaged g c =
 pub returns-in-Err-clause-memory : goal.returns-in-Err-clause-memory
 returns-in-Err-clause-memory g c = λ is.
     let m = g.M.Media in
-    (c.inodes.inode, carried_back m.moment m.seen m.left m.faults (λ x s. (WantsMemory x s c.inodes.inode) ⊎ ((n : ℕ) × HasPart x s c.inodes.inode n)) c.args.journal.now c.inodes.journal looked c.inodes.invariant.looks (c.in-Err.ensures.memory is))
+    (c.inodes.inode, carried_back m.moment m.seen m.left m.faults (λ x s. (WantsMemory x s c.inodes.inode) ⊎ (HasPart x s c.inodes.inode)) c.args.journal.now c.inodes.journal looked c.inodes.invariant.looks (c.in-Err.ensures.memory is))
 
 pub returns-in-Err-clause-looks : goal.returns-in-Err-clause-looks
 returns-in-Err-clause-looks g c =

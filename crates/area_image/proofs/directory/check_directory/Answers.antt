@@ -1,29 +1,29 @@
-use Rattle.std.proofs.Common.{◌≡◌, ◌+◌, ◌∙◌, Err, length, sym, ap, subst, arith}
+use Rattle.std.proofs.Common.{◌+◌, Err, sym, subst, arith}
 use Rattle.area_image.specs.Store.{store_of}
 use Rattle.area_image.specs.Looks.{looked}
-use Rattle.area_image.specs.Checks.{IsEntries, HasFound, AreFirstBlocks, HasPart, IsDirectoryDamageOf}
+use Rattle.area_image.specs.Checks.{IsEntries, HasFound, AreFirstParts, HasPart, IsDirectoryDamageOf}
 use Rattle.area_image.proofs.Parts.{on_damage}
 use Rattle.area_image.proofs.Looked.{carried, carried_back, looks_on, looks_none}
 use Rattle.area_image.proofs.Twins.{first_none, first_all}
 use Rattle.area_image.proofs.directory.check_directory.Goals as goal
 
-pub add_part-requires-clause-directory : goal.add_part-requires-clause-directory
-add_part-requires-clause-directory g c =
+pub check_part-requires-clause-directory : goal.check_part-requires-clause-directory
+check_part-requires-clause-directory g c =
     let m = g.M.Media in
     carried m.moment m.seen m.left m.faults (λ x s. IsEntries x s c.args.inode c.args.entries) c.args.journal.now c.parts.journal looked c.parts.invariant.looks c.requires.directory
 
-pub add_part-requires-clause-found : goal.add_part-requires-clause-found
-add_part-requires-clause-found g c =
+pub check_part-requires-clause-found : goal.check_part-requires-clause-found
+check_part-requires-clause-found g c =
     let m = g.M.Media in
     carried m.moment m.seen m.left m.faults (λ x s. HasFound x s c.args.inode c.args.found.now) c.args.journal.now c.parts.journal looked c.parts.invariant.looks c.requires.found
 
-pub add_part-requires-clause-before : goal.add_part-requires-clause-before
-add_part-requires-clause-before g c =
+pub check_part-requires-clause-before : goal.check_part-requires-clause-before
+check_part-requires-clause-before g c =
     let m = g.M.Media in
-    carried m.moment m.seen m.left m.faults (λ x s. AreFirstBlocks x s c.args.inode c.args.entries c.parts.blocks.items) c.args.journal.now c.parts.journal looked c.parts.invariant.looks c.parts.invariant.before
+    carried m.moment m.seen m.left m.faults (λ x s. AreFirstParts x s c.args.inode c.args.entries c.parts.number c.parts.names) c.args.journal.now c.parts.journal looked c.parts.invariant.looks c.parts.invariant.before
 
-pub add_part-requires-clause-going : goal.add_part-requires-clause-going
-add_part-requires-clause-going g c = c.parts.invariant.looks.going.1
+pub check_part-requires-clause-going : goal.check_part-requires-clause-going
+check_part-requires-clause-going g c = c.parts.invariant.looks.going.1
 
 pub parts-init : goal.parts-init
 parts-init g c =
@@ -31,8 +31,7 @@ parts-init g c =
     let old = c.args.journal.now in
     record {
       looks = looks_none m.moment m.seen m.left m.faults old tt c.requires.going;
-      before = subst (AreFirstBlocks old.geometry (store_of (m.seen old.media)) c.args.inode c.args.entries) (sym c.new-blocks.ensures.items) (first_none old.geometry (store_of (m.seen old.media)) c.args.inode c.args.entries);
-      count = ap length c.new-blocks.ensures.items;
+      before = subst (AreFirstParts old.geometry (store_of (m.seen old.media)) c.args.inode c.args.entries 0) (sym c.new-names.ensures) (first_none old.geometry (store_of (m.seen old.media)) c.args.inode c.args.entries);
     }
 
 pub parts-preserved : goal.parts-preserved
@@ -41,9 +40,8 @@ parts-preserved g c =
     let old = c.args.journal.now in
     let first = c.parts.invariant.looks in
     record {
-      looks = looks_on m.moment m.seen m.left m.faults old c.parts.journal c.add_part.new.journal tt looked first c.in-Ok.ensures.looks;
-      before = carried_back m.moment m.seen m.left m.faults (λ x s. AreFirstBlocks x s c.args.inode c.args.entries c.add_part.new.blocks.items) old c.parts.journal looked first c.in-Ok.ensures.before;
-      count = c.in-Ok.ensures.more ∙ ap (λ n. n + 1) c.parts.invariant.count;
+      looks = looks_on m.moment m.seen m.left m.faults old c.parts.journal c.check_part.new.journal tt looked first c.in-Ok.ensures.looks;
+      before = carried_back m.moment m.seen m.left m.faults (λ x s. AreFirstParts x s c.args.inode c.args.entries (c.parts.number + 1) c.check_part.new.names) old c.parts.journal looked first c.in-Ok.ensures.parts;
     }
 
 pub returns-in-Err-clause-damaged : goal.returns-in-Err-clause-damaged
@@ -54,19 +52,19 @@ returns-in-Err-clause-damaged g c =
 pub returns-in-Err-clause-memory : goal.returns-in-Err-clause-memory
 returns-in-Err-clause-memory g c = λ is.
     let m = g.M.Media in
-    carried_back m.moment m.seen m.left m.faults (λ x s. HasPart x s c.args.inode c.args.entries) c.args.journal.now c.parts.journal looked c.parts.invariant.looks (c.in-Err.ensures.memory is)
+    carried_back m.moment m.seen m.left m.faults (λ x s. HasPart x s c.args.inode) c.args.journal.now c.parts.journal looked c.parts.invariant.looks (c.in-Err.ensures.memory is)
 
 pub returns-in-Err-clause-looks : goal.returns-in-Err-clause-looks
 returns-in-Err-clause-looks g c =
     let m = g.M.Media in
-    looks_on m.moment m.seen m.left m.faults c.args.journal.now c.parts.journal c.add_part.new.journal tt (Err c.in-Err.error) c.parts.invariant.looks c.in-Err.ensures.looks
+    looks_on m.moment m.seen m.left m.faults c.args.journal.now c.parts.journal c.check_part.new.journal tt (Err c.in-Err.error) c.parts.invariant.looks c.in-Err.ensures.looks
 
 pub returns-clause-directory : goal.returns-clause-directory
 returns-clause-directory g c =
     let old = c.args.journal.now in
     let past = c.parts-test.false in
-    let count : length c.parts.blocks.items ≡ c.parts.counter = c.parts.invariant.count in
-    first_all old.geometry (store_of (g.M.Media.seen old.media)) c.args.inode c.args.entries c.parts.blocks.items c.parts.invariant.before (omega arith)
+    let end = c.parts.auto.number-end in
+    first_all old.geometry (store_of (g.M.Media.seen old.media)) c.args.inode c.args.entries c.parts.number c.parts.names c.parts.invariant.before (omega (arith, past, end))
 
 pub returns-clause-looks : goal.returns-clause-looks
 returns-clause-looks g c = c.parts.invariant.looks

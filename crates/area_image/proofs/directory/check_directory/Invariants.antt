@@ -1,7 +1,6 @@
-use Rattle.std.proofs.Common.{◌≡◌, length}
 use Rattle.area_image.specs.Store.{store_of}
 use Rattle.area_image.specs.Looks.{Looks, looked}
-use Rattle.area_image.specs.Checks.{AreFirstBlocks}
+use Rattle.area_image.specs.Checks.{AreFirstParts}
 use Rattle.area_image.proofs.directory.check_directory.Given as goal
 
 abbrev pub invariant-parts : goal.invariant-parts
@@ -9,6 +8,5 @@ invariant-parts g l =
     let m = g.M.Media in
     record {
       looks : Looks m.moment m.seen m.left m.faults l.fn.journal l.journal looked;
-      before : AreFirstBlocks l.fn.journal.geometry (store_of (m.seen l.fn.journal.media)) l.inode l.entries l.blocks.items;
-      count : length l.blocks.items ≡ l.counter;
+      before : AreFirstParts l.fn.journal.geometry (store_of (m.seen l.fn.journal.media)) l.inode l.entries l.number l.names;
     }

@@ -1,4 +1,4 @@
-use Rattle.std.proofs.Common.{sym, ap, refl, arith, ◌∙◌}
+use Rattle.std.proofs.Common.{ap, arith}
 use Rattle.tier_device.specs.declared.media.Tier.TheVariants.{Fast}
 use Rattle.layout.specs.Places.{Sizes}
 use Rattle.area_image.proofs.Damages.{is_some_at}

@@ -58,4 +58,4 @@ returns-in-Err-check_directory-clause-own g c =
     on_damage c.in-Err-check_directory.error (directory_own old.geometry (store_of (g.M.Media.seen old.media)) c.args.inode) c.in-Err-check_directory.ensures.damaged
 
 pub returns-in-Err-check_directory-clause-memory : goal.returns-in-Err-check_directory-clause-memory
-returns-in-Err-check_directory-clause-memory g c = λ is. (c.in-Directory.entries, c.in-Err-check_directory.ensures.memory is)
+returns-in-Err-check_directory-clause-memory g c = λ is. c.in-Err-check_directory.ensures.memory is

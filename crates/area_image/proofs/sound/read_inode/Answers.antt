@@ -51,8 +51,7 @@ returns-in-Err-check_parts-clause-damaged g c =
 pub returns-in-Err-check_parts-clause-memory : goal.returns-in-Err-check_parts-clause-memory
 returns-in-Err-check_parts-clause-memory g c = λ is.
     let m = g.M.Media in
-    let part = c.in-Err-check_parts.ensures.memory is in
-    inr (part.0, carried_back m.moment m.seen m.left m.faults (λ x s. HasPart x s c.args.inode part.0) c.args.journal.now c.read_parts.new.journal (Ok c.in-Ok.parts) c.in-Ok.ensures.looks part.1)
+    inr (carried_back m.moment m.seen m.left m.faults (λ x s. HasPart x s c.args.inode) c.args.journal.now c.read_parts.new.journal (Ok c.in-Ok.parts) c.in-Ok.ensures.looks (c.in-Err-check_parts.ensures.memory is))
 
 pub returns-in-Err-check_parts-clause-looks : goal.returns-in-Err-check_parts-clause-looks
 returns-in-Err-check_parts-clause-looks g c =
