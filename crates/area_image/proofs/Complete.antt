@@ -123,7 +123,7 @@ module _ (g : Sizes) (s : Store) (sound : (w : What) (b : ℕ) → IsDamaged g s
       tier = t;
       some = root_some g s i t k here;
       at = refl;
-      wrong = inr (inl (record { other = u; block = k; differ = λ e. differ (sym e); here = here; there = there }));
+      wrong = inr (record { other = u; block = k; differ = λ e. differ (sym e); here = here; there = there });
     }))))
   ]
 
@@ -198,16 +198,13 @@ module _ (g : Sizes) (s : Store) (sound : (w : What) (b : ℕ) → IsDamaged g s
   used_once u v b here there = elim (use_cases u v) [
     | inl same ↦ same
     | inr differ ↦
-        let some = used_root g s u.inode u.tier u.logical b here in
-        absurd (sound what.ExtentBlock (root_of (slot g s u.inode) u.tier) (inr (inl (record {
+        absurd (sound what.ExtentBlock (root_of (slot g s u.inode) u.tier) (inr (inr (inr (inr (inr (inr (record {
           structure = refl;
           inode = u.inode;
-          is = root_inode g s u.inode u.tier some;
           tier = u.tier;
-          some = some;
           at = refl;
-          wrong = inr (inr (record { logical = u.logical; other = v; block = b; differ = differ; here = here; there = there }));
-        }))))
+          shared = record { logical = u.logical; other = v; block = b; differ = differ; here = here; there = there };
+        }))))))))
   ]
 
   marks_some : IsSome (marks s)
@@ -218,7 +215,7 @@ module _ (g : Sizes) (s : Store) (sound : (w : What) (b : ℕ) → IsDamaged g s
 
   keeps_units : charge (graph g s) ≤ g.units
   keeps_units = elim (cases_lt g.units (charge (graph g s))) [
-    | inl more ↦ absurd (sound what.Super SUPER_BLOCK (inr (inr (inr (inr (inr (record { structure = refl; at = refl; more = more })))))))
+    | inl more ↦ absurd (sound what.Super SUPER_BLOCK (inr (inr (inr (inr (inr (inl (record { structure = refl; at = refl; more = more }))))))))
     | inr few ↦ few
   ]
 

@@ -149,8 +149,7 @@ damage_none g s what block (inl x) is units = elim (x.wrong) [
 ]
 damage_none g s what block (inr (inl x)) is units = elim (x.wrong) [
   | inl none ↦ no_some _ none ((is.inodes x.inode x.is).extents x.tier)
-  | inr (inl twice) ↦ no_twice g s x.inode x.is (is.inodes x.inode x.is) x.tier twice
-  | inr (inr shared) ↦ no_shared g s x.inode x.tier is shared
+  | inr twice ↦ no_twice g s x.inode x.is (is.inodes x.inode x.is) x.tier twice
 ]
 damage_none g s what block (inr (inr (inl x))) is units = elim (x.wrong) [
   | inl wrong ↦ no_part g s x.inode x.is (is.inodes x.inode x.is) x.kind x.number x.within wrong
@@ -158,4 +157,5 @@ damage_none g s what block (inr (inr (inl x))) is units = elim (x.wrong) [
 ]
 damage_none g s what block (inr (inr (inr (inl x)))) is units = no_tail g s x.number x.is (is.inodes x.number x.is) x.kind x.tier block x.byte x.behind x.at x.wrong
 damage_none g s what block (inr (inr (inr (inr (inl x))))) is units = no_some _ x.none is.marks
-damage_none g s what block (inr (inr (inr (inr (inr x))))) is units = omega (arith, x.more, units)
+damage_none g s what block (inr (inr (inr (inr (inr (inl x)))))) is units = omega (arith, x.more, units)
+damage_none g s what block (inr (inr (inr (inr (inr (inr x)))))) is units = no_shared g s x.inode x.tier is x.shared

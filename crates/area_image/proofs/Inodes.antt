@@ -89,7 +89,7 @@ module _ (g : Sizes) (s : Store) (i : ℕ) where
             tier = t;
             some = root_some g s i t k here;
             at = is ∙ ap (λ (y : Slot). root_of y t) (sym (slot_as g s i x read));
-            wrong = inr (inl (record { other = twice.other; block = k; differ = twice.differ; here = here; there = there }));
+            wrong = inr (record { other = twice.other; block = k; differ = twice.differ; here = here; there = there });
           };
           of_it = refl;
         }

@@ -157,19 +157,15 @@ module _ (g : Sizes) (s : Store) (i : ℕ) (x : InodeParts) (read : slot_read g 
             record { logical = one.1; other = part_use c; block = pair clash.tier clash.block; differ = λ e. differ (part_same one c (ap (λ (v : Use). v.tier) e ∙ sym of_tier) (ap (λ (v : Use). v.logical) e)); here = here; there = used_is c ∙ there }
       ]
 
-  pub clash_damage : (old : UsedMarks) (t : Tier) → is_inode i ≡ true → MarksUses g s i old → Clashes old (part_block x) (IsOfTier t x) → IsDamaged g s what.ExtentBlock (root_of x.slot t)
-  clash_damage old t number before clash =
-      let one = clash.one in
-      let here : used g s (use_in t one) ≡ spot clash.tier clash.block = used_in t one (tier_of x t one clash.is) ∙ clash.here in
-      inr (inl (record {
+  pub clash_damage : (old : UsedMarks) (t : Tier) → MarksUses g s i old → Clashes old (part_block x) (IsOfTier t x) → IsDamaged g s what.ExtentBlock (root_of x.slot t)
+  clash_damage old t before clash =
+      inr (inr (inr (inr (inr (inr (record {
         structure = refl;
         inode = i;
-        is = number;
         tier = t;
-        some = used_root g s i t (one.1) (pair clash.tier clash.block) here;
         at = ap (λ (y : Slot). root_of y t) (sym slot_here);
-        wrong = inr (inr (shared old t before clash));
-      }))
+        shared = shared old t before clash;
+      }))))))
 
 -- ---- before the first inode, and behind the last
 

@@ -52,7 +52,7 @@ pub record IsShared (g : Sizes) (s : Store) (i : ℕ) (t : Tier) : Type 0 where
   pub here : used g s (record { inode = i; tier = t; logical = logical }) ≡ Some block
   pub there : used g s other ≡ Some block
 
--- An extent block spells none that are the inode's within its size, or what it names has another use.
+-- An extent block spells none that are the inode's within its size, or some that another tier has too.
 pub record IsExtentDamage (g : Sizes) (s : Store) (part : What) (block : ℕ) : Type 0 where
   pub structure : part ≡ what.ExtentBlock
   pub inode : ℕ
@@ -60,7 +60,15 @@ pub record IsExtentDamage (g : Sizes) (s : Store) (part : What) (block : ℕ) : 
   pub tier : Tier
   pub some : root_of (slot g s inode) tier ≢ 0
   pub at : block ≡ root_of (slot g s inode) tier
-  pub wrong : (extents_read g s inode tier ≡ None) ⊎ IsMappedTwice g s inode tier ⊎ IsShared g s inode tier
+  pub wrong : (extents_read g s inode tier ≡ None) ⊎ IsMappedTwice g s inode tier
+
+-- An extent block, or a block that it names, has another use.
+pub record IsShareDamage (g : Sizes) (s : Store) (part : What) (block : ℕ) : Type 0 where
+  pub structure : part ≡ what.ExtentBlock
+  pub inode : ℕ
+  pub tier : Tier
+  pub at : block ≡ root_of (slot g s inode) tier
+  pub shared : IsShared g s inode tier
 
 -- ---- contents
 
@@ -121,7 +129,7 @@ pub record IsOverUnits (g : Sizes) (s : Store) (part : What) (block : ℕ) : Typ
 abbrev pub IsDamaged : Sizes → Store → What → ℕ → Type 0
 IsDamaged g s part block =
     IsSlotDamage g s part block ⊎ IsExtentDamage g s part block ⊎ IsEntryDamage g s part block ⊎ IsTailDamage g s part block ⊎ IsMarksDamage s part block
-    ⊎ IsOverUnits g s part block
+    ⊎ IsOverUnits g s part block ⊎ IsShareDamage g s part block
 
 -- a fact on the structure and the block that a refusal names, if it is for damage
 abbrev pub OnDamage : AreaError → (What → ℕ → Type 0) → Type 0

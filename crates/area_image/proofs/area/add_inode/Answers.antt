@@ -1,7 +1,6 @@
 use Rattle.std.proofs.Common.{sym, subst}
 use Rattle.area_image.specs.Store.{store_of}
 use Rattle.area_image.specs.Damage.{IsDamaged}
-use Rattle.area_image.proofs.Shown.{inode_is}
 use Rattle.std.proofs.Common.{◌∙◌, ◌≤◌, ℕ}
 use Rattle.area_image.proofs.Costs.{parts_units, few_units}
 use Rattle.area_image.proofs.Sharing.{room_for, marks_more, clash_damage}
@@ -25,7 +24,7 @@ returns-in-Ok-clause-damaged g c =
     let old = c.args.journal.now in
     let s = store_of (g.M.Media.seen old.media) in
     let x = c.in-Ok.parts in
-    let damage = clash_damage old.geometry s c.args.inode x c.in-Ok.ensures.slot c.in-Ok.ensures.extents c.args.used.now c.in-Some.tier (inode_is c.args.inode c.requires.low c.requires.high) c.requires.before c.in-Some.ensures.some in
+    let damage = clash_damage old.geometry s c.args.inode x c.in-Ok.ensures.slot c.in-Ok.ensures.extents c.args.used.now c.in-Some.tier c.requires.before c.in-Some.ensures.some in
     subst (IsDamaged old.geometry s what.ExtentBlock) (sym c.root_of.ensures) damage
 
 pub returns-in-None-clause-units : goal.returns-in-None-clause-units
