@@ -48,3 +48,7 @@ module _ (g : Sizes) (old new : Store) (loose : Loose g old new) where
 
   pub free_back : (t : Tier) (k : ℕ) → Free g new t k → Free g old t k
   free_back t k free = record { room = free.room; unread = λ i reads. free.unread i (reads_back i t k reads) }
+
+-- where the blocks of a tier stay, and what comes into use there is in its place
+pub loose_over : (g : Sizes) (old new : Store) (t : Tier) (blocks : Blocks) → LooseIn g old t blocks → new t ≡ old t → ((k : ℕ) → (Free g new t k → ⊥) → Free g old t k → ⊥) → LooseIn g new t blocks
+loose_over g old new t blocks loose stays kept = λ k taken. loose k (kept k taken) ∙ sym (ap (λ (b : Blocks). b k) stays)

@@ -23,7 +23,9 @@ mod units;
 mod used;
 
 pub use area::read_area;
-pub use change_laws::{free_blocks_have_no_use, rewritten_inodes_are_spelled};
+pub use change_laws::{
+    batch_leaves_the_other_tiers, free_blocks_have_no_use, rewritten_inodes_are_spelled,
+};
 pub use error::AreaError;
 pub use extents::read_extents;
 pub use inode::{InodeParts, read_parts};
