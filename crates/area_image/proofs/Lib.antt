@@ -15,3 +15,4 @@ pub mod Uses
 pub mod Sharing
 pub mod Costs
 pub mod Among
+pub mod Apart

@@ -18,11 +18,11 @@ use Rattle.extent_nodes.specs.Places.{has, end_of, place_in, extent_at as first_
 use Rattle.area_image.specs.Store.{Store, slot_bytes, slot_read, slot, root_of, space_of, length_of, is_own, own_extents, extents_read, place}
 use Rattle.area_image.specs.Reads.{IsRoom, IsPlaced, first_room}
 
-bind_some : {A B : Type 0} (o : Option A) (f : A → Option B) (y : B) → (o >>= f) ≡ Some y → (x : A) × (o ≡ Some x) × (f x ≡ Some y)
+pub bind_some : {A B : Type 0} (o : Option A) (f : A → Option B) (y : B) → (o >>= f) ≡ Some y → (x : A) × (o ≡ Some x) × (f x ≡ Some y)
 bind_some (Some x) f y e = (x, refl, e)
 bind_some None f y e = absurd cc
 
-test_some : {A : Type 0} (b : Bool) (x y : A) → cond b (Some x) None ≡ Some y → (b ≡ true) × (x ≡ y)
+pub test_some : {A : Type 0} (b : Bool) (x y : A) → cond b (Some x) None ≡ Some y → (b ≡ true) × (x ≡ y)
 test_some true x y e = (refl, cc)
 test_some false x y e = absurd cc
 
@@ -30,7 +30,7 @@ guard_some : {A : Type 0} (b : Bool) (o : Option A) (y : A) → cond b o None �
 guard_some true o y e = (refl, e)
 guard_some false o y e = absurd cc
 
-some_is : {A : Type 0} (x y : A) → Some x ≡ Some y → x ≡ y
+pub some_is : {A : Type 0} (x y : A) → Some x ≡ Some y → x ≡ y
 some_is x y e = cc
 
 -- ---- slots

@@ -72,3 +72,8 @@ pub fn places_are_in_pools()
     ensures roots { (g : Sizes) (s : Store) (i : ℕ) (t : Tier) → root_of (slot g s i) t ≢ 0 → is_node g (root_of (slot g s i) t) ≡ true }
     ensures places { (g : Sizes) (s : Store) (i : ℕ) (t : Tier) (k at : ℕ) → place g s i t k ≡ Some at → IsPlaced g t (length_of (slot g s i)) k at }
 {}
+
+/// No two logical blocks of an inode lie in one block of a tier.
+pub fn logical_blocks_lie_apart()
+    ensures { (g : Sizes) (s : Store) (i : ℕ) (t : Tier) (j k at : ℕ) → place g s i t j ≡ Some at → place g s i t k ≡ Some at → j ≡ k }
+{}

@@ -30,9 +30,9 @@ pub use error::AreaError;
 pub use extents::read_extents;
 pub use inode::{InodeParts, read_parts};
 pub use laws::{
-    damage_spells_no_graph, free_blocks_are_not_read, free_blocks_stay_free, places_are_in_pools,
-    sound_blocks_spell_a_graph, torn_free_run_stays_loose, untouched_inodes_stay,
-    write_to_free_blocks_stays_loose,
+    damage_spells_no_graph, free_blocks_are_not_read, free_blocks_stay_free,
+    logical_blocks_lie_apart, places_are_in_pools, sound_blocks_spell_a_graph,
+    torn_free_run_stays_loose, untouched_inodes_stay, write_to_free_blocks_stays_loose,
 };
 pub use marks::read_marks;
 pub use opening::{OpenArea, open_area};
