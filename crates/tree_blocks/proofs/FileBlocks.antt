@@ -1,16 +1,16 @@
 -- The bytes of a file, as its blocks are written for a change.
-use Rattle.std.proofs.Common.{◌≡◌, ◌≢◌, inl, inr, ℕ, ◌+◌, ◌-◌, ◌*◌, ◌/◌, ◌%◌, ◌≤◌, ◌<◌, Bool, true, false, cond, List, ◌++◌, length, take, map, get_or, refl, sym, ◌∙◌, ap, arith, eq-eqb, Option, Some, None}
-use Rattle.std.specs.Prelude.{nat_lt, nat_le, replicate, unwrap_or, is_some, not, ◌&&◌, ◌||◌}
+use Rattle.std.proofs.Common.{◌≡◌, ◌≢◌, inl, inr, ℕ, ◌+◌, ◌-◌, ◌*◌, ◌/◌, ◌%◌, ◌≤◌, ◌<◌, Bool, true, false, cond, List, [], ◌++◌, length, take, map, get_or, refl, sym, ◌∙◌, ap, arith, eq-eqb, Option, Some, None}
+use Rattle.std.specs.Prelude.{nat_lt, nat_le, replicate, unwrap_or, is_some, IsSome, not, ◌&&◌, ◌||◌}
 use Rattle.std.specs.List.{range_with_len}
 use Rattle.std.specs.FinMap as fin
 use Rattle.std.proofs.lemmas.Bool.{cases_lt, cases_Bool, lt-ltb, le-ltb, le-leb, leb-true, ne_eqb}
 use Rattle.std.proofs.lemmas.List.{get_or_append_left, get_or-append_right, get_or-take, get_or-replicate, get_or_past, ext_get_or, length-take, length-append, length-replicate}
 use Rattle.std.proofs.lemmas.List.FromFn.{get_or-map-range_with_len, length-map-range_with_len}
 use Rattle.graph_change.specs.Bytes.{Length, Grown, Cut, length_after, left, byte_after, end, IsOrdered, IsTidy}
-use Rattle.graph_change.specs.Change.{Change, Patch, blank, patch_at, net_of, patched, writes_block, ends_within, cuts_within}
+use Rattle.graph_change.specs.Change.{Change, Patch, blank, patch_at, net_of, patched, IsWhole, writes_block, ends_within, cuts_within}
 use Rattle.tree_blocks.specs.Inode.{Blocks, byte_of, file_bytes, IsZeroFrom}
 use Rattle.tree_blocks.specs.After.{IsFileAfter}
-use Rattle.tree_blocks.specs.FileBlock.{kept_in, in_block, block_after, is_cut_off, AreWritten}
+use Rattle.tree_blocks.specs.FileBlock.{kept_in, in_block, block_after, is_cut_off, ReadSame, ReadsAfter, AreWritten}
 use Rattle.tree_blocks.proofs.Alike.{mapped_same}
 use Rattle.tree_blocks.proofs.Files.{length_file, byte_read}
 
@@ -66,6 +66,29 @@ block_is_cut len k old long le =
     sym (itself (take kept old ++ replicate (length old - kept) 0) (length old) (cut_long old kept low))
     ∙ ap (λ (n : ℕ). map (λ p. get_or (take kept old ++ replicate (length old - kept) 0) p 0) (range_with_len 0 n)) (sym (cut_long old kept low)) ∙ block_is len blank k old long le
 
+-- what a change makes of a buffer, byte by byte
+byte_made : (len : Length) (patch : Patch) (k : ℕ) (buffer : List ℕ) (p : ℕ) → p < 4096 → get_or (block_after len patch k buffer) p 0 ≡ byte_after (in_block len patch k) buffer p
+byte_made len patch k buffer p lt = get_or-map-range_with_len (byte_after (in_block len patch k) buffer) 0 4096 p p 0 lt (omega arith)
+
+pub made_of_same : (len : Length) (patch : Patch) (k : ℕ) (old buffer : List ℕ) → ReadSame buffer old → ReadsAfter len patch k old (block_after len patch k buffer)
+made_of_same len patch k old buffer same p lt =
+    byte_made len patch k buffer p lt ∙ ap (λ x. elim (patch p) [ None ↦ cond (nat_lt p (kept_in len k)) x 0 | Some b ↦ b ]) (same p lt)
+
+pub made_whole : (len : Length) (patch : Patch) (k : ℕ) (old buffer : List ℕ) → IsWhole patch → ReadsAfter len patch k old (block_after len patch k buffer)
+made_whole len patch k old buffer is p lt = byte_made len patch k buffer p lt ∙ put (patch p) (is p lt) where
+  put : (o : Option ℕ) → IsSome o → ◌≡◌ {A = ℕ} (elim o [ None ↦ left (Cut (kept_in len k) 4096) buffer p | Some b ↦ b ]) (elim o [ None ↦ left (Cut (kept_in len k) 4096) old p | Some b ↦ b ])
+  put (Some b) some = refl
+  put None some = absurd cc
+
+pub zeros_are_none : ReadSame (replicate 4096 0) []
+zeros_are_none p lt = get_or-replicate 4096 p 0 0 lt
+
+pub hole_stays : (len : Length) (k : ℕ) → ReadsAfter len blank k [] []
+hole_stays len k p lt = zero (nat_lt p (kept_in len k)) where
+  zero : (b : Bool) → ◌≡◌ {A = ℕ} 0 (cond b 0 0)
+  zero true = refl
+  zero false = refl
+
 -- ---- a file
 
 module _ (c : Change) (old_size new_size : ℕ) (old new : Blocks) (tidy : IsTidy (net_of c).bytes) (zeros : IsZeroFrom old_size old) (size : new_size ≡ length_after c.length old_size) (are : AreWritten c old new) where
@@ -119,7 +142,7 @@ module _ (c : Change) (old_size new_size : ℕ) (old new : Blocks) (tidy : IsTid
 
   block_byte : (k p : ℕ) → p < 4096 → get_or (new k) p 0 ≡ byte_after (in_block c.length (patch_at c.patches k) k) (old k) p
   block_byte k p lt = elim (cases_Bool (writes_block c k)) [
-    | inl put ↦ ap (λ w. get_or w p 0) (are.written k put) ∙ get_or-map-range_with_len (byte_after (in_block c.length (patch_at c.patches k) k) (old k)) 0 4096 p p 0 lt (omega arith)
+    | inl put ↦ are.written k put p lt
     | inr unset ↦
         let both = neither (fin.contains_key c.patches k) (cuts_within c.length k) unset in
         let none : patch_at c.patches k ≡ blank = unput (fin.get c.patches k) both.0 in

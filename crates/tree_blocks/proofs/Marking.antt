@@ -17,7 +17,7 @@ use Rattle.layout.proofs.DirChanges.{listed_now}
 use Rattle.graph_change.specs.Net.{Child}
 use Rattle.tree_blocks.specs.Inode.{entry_at, named}
 use Rattle.tree_blocks.specs.Directory.{numbered, AreHeld}
-use Rattle.tree_blocks.specs.Written.{numbers_from, count_set, Marks, AreWritten}
+use Rattle.tree_blocks.specs.Written.{numbers_from, count_set, Marks, TellsWritten}
 use Rattle.tree_blocks.proofs.Directories.{len_named}
 
 count_cons : (b : Bool) (marks : List Bool) → count_set (b ∷ marks) ≡ cond b 1 0 + count_set marks
@@ -138,7 +138,7 @@ module _ (most n : ℕ) (marks : List Bool) (old new : List (List ℕ)) (are : M
   numbered_in : (k : ℕ) → k < length new → get_or marks k false ≡ true → Contains (numbers_from 0 (take (length new) marks)) k
   numbered_in k lt on = subst (Contains (numbers_from 0 (take (length new) marks))) (omega arith) (has 0 (take (length new) marks) k (get_or-take (length new) marks k false lt ∙ on))
 
-  pub written_are : AreWritten old new (numbers_from 0 (take (length new) marks))
+  pub written_are : TellsWritten old new (numbers_from 0 (take (length new) marks))
   written_are = record {
     rising = numbers_rise 0 (take (length new) marks);
     inside = All-from_recursion (λ k. k < length new) (numbers_from 0 (take (length new) marks)) (below 0 (length new) (take (length new) marks) (omega (arith, length-take (length new) marks)));

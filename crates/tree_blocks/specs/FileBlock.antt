@@ -21,17 +21,25 @@ kept_in (Cut least to) k = min BLOCK (least - BLOCK * k)
 abbrev pub in_block : Length → Patch → ℕ → BytesChange
 in_block len patch k = record { length = Cut (kept_in len k) BLOCK; new = patch }
 
--- the block after it; one that no tier holds was zeros
+-- the bytes of the block after it; one that no tier holds was zeros
 abbrev pub block_after : Length → Patch → ℕ → List ℕ → List ℕ
 block_after len patch k old = map (byte_after (in_block len patch k) old) (range_with_len 0 BLOCK)
+
+-- two blocks read the same; what no tier holds reads as zeros
+abbrev pub ReadSame : List ℕ → List ℕ → Type 0
+ReadSame one other = (p : ℕ) → p < BLOCK → get_or one p 0 ≡ get_or other p 0
+
+-- a block reads as the change makes it of the old one
+abbrev pub ReadsAfter : Length → Patch → ℕ → List ℕ → List ℕ → Type 0
+ReadsAfter len patch k old new = (p : ℕ) → p < BLOCK → get_or new p 0 ≡ byte_after (in_block len patch k) old p
 
 -- whether a block begins where the file was cut off, or behind
 abbrev pub is_cut_off : Length → ℕ → Bool
 is_cut_off (Grown to) k = false
 is_cut_off (Cut least to) k = nat_le least (BLOCK * k)
 
--- the blocks that have to be written are, those behind a cut read as zero, and all others read as they did
+-- the blocks that are to be written read as the change makes them, those behind a cut as zero, and all others as they did; whether a tier holds them is not told
 pub record AreWritten (c : Change) (old new : Blocks) : Type 0 where
-  pub written : (k : ℕ) → writes_block c k ≡ true → new k ≡ block_after c.length (patch_at c.patches k) k (old k)
+  pub written : (k : ℕ) → writes_block c k ≡ true → ReadsAfter c.length (patch_at c.patches k) k (old k) (new k)
   pub gone : (k p : ℕ) → writes_block c k ≡ false → is_cut_off c.length k ≡ true → p < BLOCK → get_or (new k) p 0 ≡ 0
   pub others : (k p : ℕ) → writes_block c k ≡ false → is_cut_off c.length k ≡ false → p < BLOCK → get_or (new k) p 0 ≡ get_or (old k) p 0

@@ -10,8 +10,8 @@ abbrev pub numbers_from : ℕ → List Bool → List ℕ
 numbers_from n [] = []
 numbers_from n (b ∷ marks) = if b then n ∷ numbers_from (n + 1) marks else numbers_from (n + 1) marks
 
--- the numbers of the blocks that are there and have been written; each other block is as it was
-pub record AreWritten (old new : List (List ℕ)) (written : List ℕ) : Type 0 where
+-- these are the numbers of the blocks that are there and have been written; each other block is as it was
+pub record TellsWritten (old new : List (List ℕ)) (written : List ℕ) : Type 0 where
   pub rising : IsStrictlySortedBy nat_cmp written
   pub inside : All (λ k. k < length new) written
   pub added : (k : ℕ) → length old ≤ k → k < length new → Contains written k

@@ -9,7 +9,7 @@ ghost use Rattle.std.specs.FinMap as fin;
 ghost use Rattle.graph_change.specs.Net.{entries_after};
 ghost use Rattle.tree_blocks.specs.After.{IsEntered, IsTakenOut, IsDirectoryAfter};
 ghost use Rattle.tree_blocks.specs.Directory.{EntryBlocks, IsHeld, LeadToInodes, coming, numbered, entries_of};
-ghost use Rattle.tree_blocks.specs.Written.{AreWritten};
+ghost use Rattle.tree_blocks.specs.Written.{TellsWritten};
 
 use crate::changing::{are_too_many, change_names, coming};
 use crate::entry_blocks::{add_to, find_in, take_from};
@@ -210,7 +210,7 @@ impl Directory {
     ) -> Result<WrittenBlocks, EnterError>
         requires { LeadToInodes (fin.entries changes.now) }
         ensures changed { OnOk result (IsDirectoryAfter self.old.owner changes.now self.old.count (numbered self.old.blocks) self.new.count (numbered self.new.blocks)) }
-        ensures written { IfOk result (AreWritten self.old.blocks self.new.blocks) }
+        ensures written { IfOk result (TellsWritten self.old.blocks self.new.blocks) }
         ensures few { IfOk result (λ written. length written ≤ 2 * fin.len changes.now) }
         ensures long { OnOk result (length self.new.blocks ≡ blocks_for self.new.count) }
         ensures owner { self.new.owner ≡ self.old.owner }

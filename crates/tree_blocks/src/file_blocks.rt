@@ -1,13 +1,13 @@
 //! Blocks of a file, as a change of its bytes makes them.
 
-ghost use Rattle.std.specs.Prelude.{◌≡◌, ◌≤◌, ◌-◌, ◌++◌, ℕ, length, take, replicate, option_map};
-ghost use Rattle.graph_change.specs.Bytes.{length_after, IsTidy};
-ghost use Rattle.graph_change.specs.Change.{Change, net_of};
+ghost use Rattle.std.specs.Prelude.{◌≡◌, ◌≤◌, ◌-◌, ◌++◌, ℕ, List, [], length, take, replicate, option_map};
+ghost use Rattle.graph_change.specs.Bytes.{Length, length_after, IsTidy};
+ghost use Rattle.graph_change.specs.Change.{Change, Patch, blank, net_of, IsWhole};
 ghost use Rattle.graph_change.specs.View.{length_of};
 ghost use Rattle.layout.specs.declared.places.TheConstants.{BLOCK};
 ghost use Rattle.tree_blocks.specs.Inode.{Blocks, IsZeroFrom};
 ghost use Rattle.tree_blocks.specs.After.{IsFileAfter};
-ghost use Rattle.tree_blocks.specs.FileBlock.{put_in, kept_in, block_after, AreWritten};
+ghost use Rattle.tree_blocks.specs.FileBlock.{put_in, kept_in, block_after, ReadSame, ReadsAfter, AreWritten};
 
 use graph_change::{BlockChange, NodeLength};
 use layout::BLOCK;
@@ -50,6 +50,15 @@ fn cut_block(block: &mut [u8], place: usize)
 {
     block[place..].fill(0);
 }
+
+/// What `change_block` makes of a buffer reads as the change makes it of the old block: where the buffer read as that, as one of zeros does where no tier held the block, or
+/// where a byte is put at each place. A block that no tier held and into which nothing is put needs no block: it reads as zeros, also where the file was cut within it.
+pub fn changed_blocks_read_as_after()
+    ensures same { (len : Length) (patch : Patch) (k : ℕ) (old buffer : List ℕ) → ReadSame buffer old → ReadsAfter len patch k old (block_after len patch k buffer) }
+    ensures zeros { ReadSame (replicate BLOCK 0) [] }
+    ensures whole { (len : Length) (patch : Patch) (k : ℕ) (old buffer : List ℕ) → IsWhole patch → ReadsAfter len patch k old (block_after len patch k buffer) }
+    ensures hole { (len : Length) (k : ℕ) → ReadsAfter len blank k [] [] }
+{}
 
 /// Where the blocks that a change has to write are written so, and all others read as they did or as zero behind a cut, the file is that after the change.
 pub fn blocks_after_are_file_after()

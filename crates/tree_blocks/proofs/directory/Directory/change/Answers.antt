@@ -6,7 +6,7 @@ use Rattle.node_bodies.specs.Named.{pairs}
 use Rattle.graph_change.specs.Net.{with_entries}
 use Rattle.tree_blocks.specs.Inode.{entry_at, named}
 use Rattle.tree_blocks.specs.Directory.{EntryBlocks, numbered}
-use Rattle.tree_blocks.specs.Written.{numbers_from, AreWritten}
+use Rattle.tree_blocks.specs.Written.{numbers_from, TellsWritten}
 use Rattle.tree_blocks.proofs.NameChanges.{NameChange, pairs_long, sorted_entries}
 use Rattle.tree_blocks.proofs.Marking.{block_has, few_left, written_few, written_are}
 use Rattle.tree_blocks.proofs.directory.Directory.change.Goals as goal
@@ -57,8 +57,8 @@ returns-clause-written c =
     let old : c.reserve.new.self.items ≡ c.args.self.now.blocks = c.in_ok-reserve.ensures.items ∙ ap (λ (d : EntryBlocks). d.blocks) c.self.view_is in
     let size : c.len-2.result ≡ length new = omega (arith, c.len-2.ensures) in
     let numbers : c.marked.result ≡ numbers_from 0 (take (length new) marks) = c.marked.ensures ∙ ap (λ (n : ℕ). numbers_from 0 (take n marks)) size in
-    subst (λ (w : List ℕ). AreWritten c.args.self.now.blocks new w) (sym numbers)
-    (subst (λ (bs : List (List ℕ)). AreWritten bs new (numbers_from 0 (take (length new) marks))) old
+    subst (λ (w : List ℕ). TellsWritten c.args.self.now.blocks new w) (sym numbers)
+    (subst (λ (bs : List (List ℕ)). TellsWritten bs new (numbers_from 0 (take (length new) marks))) old
     (written_are (2 * length c.as_slice-names.result.now) 64 marks c.reserve.new.self.items new c.change_names-self-inside.ensures.marks (omega (arith, few, held.long)) (block_has c.self.inside.owner c.change_names-self-inside.result new held)))
 
 pub returns-clause-few : goal.returns-clause-few
