@@ -20,7 +20,7 @@ use Rattle.graph_change.proofs.Bytes.{tidy_nothing}
 none_new : (i : ℕ) → new_in fin.empty i ≡ None
 none_new i = ap (λ o. unwrap_or o blank (i % UNIT_BYTES)) (fin.get-empty nat_cmp (i / UNIT_BYTES))
 
-empty_of : (base : Base) → net_of (new_change base) ≡ from_base base
+pub empty_of : (base : Base) → net_of (new_change base) ≡ from_base base
 empty_of base = ap (λ w. record { base = base; names = None; bytes = record { length = Grown 0; new = w }; entries = fin.empty }) (λ t i. none_new i t)
 
 -- the blocks of a change stand for the net change

@@ -8,4 +8,5 @@ pub mod Nodes
 pub mod Overs
 pub mod Patches
 pub mod Pieces
+pub mod Tidying
 pub mod Touched

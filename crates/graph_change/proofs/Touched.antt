@@ -24,7 +24,7 @@ or_right : (a b : Bool) → b ≡ true → (a || b) ≡ true
 or_right true b h = refl
 or_right false b h = h
 
-or_cases : (a b : Bool) → (a || b) ≡ true → (a ≡ true) ⊎ (b ≡ true)
+pub or_cases : (a b : Bool) → (a || b) ≡ true → (a ≡ true) ⊎ (b ≡ true)
 or_cases true b h = inl refl
 or_cases false b h = inr h
 
@@ -57,7 +57,7 @@ or_nothing false = refl
 
 -- ---- one effect, one block
 
-put_has : (at : ℕ) (bytes : List ℕ) (bs : List ℕ) (ps : Patches) (b : ℕ) → fin.contains_key (put_blocks at bytes bs ps) b ≡ true → (fin.contains_key ps b || list_any (nat_eq b) bs) ≡ true
+pub put_has : (at : ℕ) (bytes : List ℕ) (bs : List ℕ) (ps : Patches) (b : ℕ) → fin.contains_key (put_blocks at bytes bs ps) b ≡ true → (fin.contains_key ps b || list_any (nat_eq b) bs) ≡ true
 put_has at bytes [] ps b h = or_left (fin.contains_key ps b) false h
 put_has at bytes (x ∷ bs) ps b h =
     elim (or_cases (fin.contains_key (put_block at bytes x ps) b) (list_any (nat_eq b) bs) (put_has at bytes bs (put_block at bytes x ps) b h)) [
@@ -75,7 +75,7 @@ begun_has n ps b h = kept_some (nat_lt (UNIT_BYTES * b) n) (fin.get ps b) (sym (
     kept_some true o e = e
     kept_some false o e = absurd (false≢true e)
 
-last_has : (n : ℕ) (ps : Patches) (o : Option Patch) (b : ℕ) → fin.get ps (n / UNIT_BYTES) ≡ o → fin.contains_key (elim o [ None ↦ ps | Some old ↦ fin.insert ps (n / UNIT_BYTES) (cut_patch (n % UNIT_BYTES) old) ]) b ≡ true → fin.contains_key ps b ≡ true
+pub last_has : (n : ℕ) (ps : Patches) (o : Option Patch) (b : ℕ) → fin.get ps (n / UNIT_BYTES) ≡ o → fin.contains_key (elim o [ None ↦ ps | Some old ↦ fin.insert ps (n / UNIT_BYTES) (cut_patch (n % UNIT_BYTES) old) ]) b ≡ true → fin.contains_key ps b ≡ true
 last_has n ps None b is h = h
 last_has n ps (Some old) b is h =
     elim (eqb_tells b (n / UNIT_BYTES)) [
@@ -101,7 +101,7 @@ grown_cuts : (n : ℕ) (l : Length) (b : ℕ) → cuts_within (grown_to n l) b �
 grown_cuts n (Grown to) b = refl
 grown_cuts n (Cut least to) b = refl
 
-nothing_written : (base : Base) (b : ℕ) → writes_block (new_change base) b ≡ false
+pub nothing_written : (base : Base) (b : ℕ) → writes_block (new_change base) b ≡ false
 nothing_written base b = ap (λ o. is_some o || false) (fin.get-empty nat_cmp b)
 
 one_effect : (e : Effect) (c : Change) (b : ℕ) → writes_block (change_after e c) b ≡ true → (writes_block c b || touches_block e b) ≡ true

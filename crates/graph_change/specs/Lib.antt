@@ -1,4 +1,5 @@
 pub mod Bytes
 pub mod Change
 pub mod Net
+pub mod Tidy
 pub mod View

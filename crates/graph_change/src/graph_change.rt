@@ -1,6 +1,7 @@
 ghost use Rattle.std.specs.Prelude.{◌≡◌, OnOk};
 ghost use Rattle.std.specs.FinMap as fin;
 ghost use Rattle.graph_change.specs.Change.{subject, with_effect};
+ghost use Rattle.graph_change.specs.Tidy.{AreTidyChanges};
 ghost use Rattle.graph_change.specs.View.{changes_of, nodes_of};
 
 use crate::node_change::NodeChange;
@@ -18,7 +19,8 @@ pub struct GraphChange {
 impl GraphChange {
     /// No change.
     pub fn new(alloc: Global) -> Self
-        ensures { changes_of result ≡ fin.empty }
+        ensures change { changes_of result ≡ fin.empty }
+        ensures tidy { AreTidyChanges (changes_of result) }
     {
         GraphChange {
             nodes: BTreeMap::new(alloc),
@@ -28,7 +30,8 @@ impl GraphChange {
     /// Adds an effect behind those that are in it. Where there is no memory for it, nothing is said of what is left: it is to be
     /// dropped.
     pub fn add(&mut self, alloc: Global, effect: &Effect) -> Result<(), AllocError>
-        ensures { OnOk result (changes_of self.new ≡ with_effect effect.now (changes_of self.old)) }
+        ensures change { OnOk result (changes_of self.new ≡ with_effect effect.now (changes_of self.old)) }
+        ensures tidy { AreTidyChanges (changes_of self.old) → OnOk result (AreTidyChanges (changes_of self.new)) }
     {
         add(alloc, &mut self.nodes, subject(effect), effect)
     }

@@ -1,14 +1,37 @@
 //! What holds of every change.
 
-ghost use Rattle.std.specs.Prelude.{◌≡◌, List, ℕ, length};
+ghost use Rattle.std.specs.Prelude.{◌≡◌, List, ℕ, Bool, Option, None, length, option_map};
+ghost use Rattle.std.specs.Ordering.{nat_cmp};
+ghost use Rattle.std.specs.BTreeMap.{BTreeMap, get};
+ghost use Rattle.std.specs.FinMap as fin;
 ghost use Rattle.file_graph.specs.declared.effect.Effect.{Effect};
-ghost use Rattle.graph_change.specs.Change.{Coalesces, coalesced, Patch, patched, IsWhole};
+ghost use Rattle.file_graph.specs.Graph.{Node};
+ghost use Rattle.graph_change.specs.Change.{Change, Coalesces, Patch, change_after, coalesced, net_of, new_change, patched, IsWhole};
+ghost use Rattle.graph_change.specs.Net.{Base, Gone, node_after};
+ghost use Rattle.graph_change.specs.Tidy.{IsTidyChange, AreTidyChanges};
+ghost use Rattle.graph_change.specs.View.{change_of, nodes_of, patch_of, patches_of};
+ghost use Rattle.graph_change.specs.declared.node_change.NodeChange.{NodeChange};
 ghost use Rattle.posix_calls.specs.declared.limits.TheConstants.{UNIT_BYTES};
 
 /// The changes of a list of effects make of every graph what the effects make of it, one after the other. The inodes in it are those that the effects are on; each of
 /// them and each block of a file is changed at most once, and no block that the effects leave alone.
 pub fn changes_are_the_effects()
     ensures { (es : List Effect) → Coalesces es (coalesced es) }
+{}
+
+/// What effects come to is tidy: no byte is put, and no block of a file begins, at the end that the file is left with or behind it. It makes no difference what else is said
+/// of a node that goes.
+pub fn changes_are_tidy()
+    ensures new { (base : Base) → IsTidyChange (new_change base) }
+    ensures kept { (e : Effect) (c : Change) → IsTidyChange c → IsTidyChange (change_after e c) }
+    ensures coalesced { (es : List Effect) → AreTidyChanges (coalesced es) }
+    ensures gone { (c : Change) (old : Option Node) → c.base ≡ Gone → node_after (net_of c) old ≡ None }
+{}
+
+/// The change of an inode, and what is put into a block of its file, is what is kept under its number; each number is there once at most, and they rise.
+pub fn changes_are_read_by_number()
+    ensures nodes { (nodes : BTreeMap ℕ NodeChange) (i : ℕ) → fin.get (nodes_of nodes) i ≡ option_map change_of (get nat_cmp nodes i) }
+    ensures blocks { (blocks : BTreeMap ℕ (List ℕ × List Bool)) (b : ℕ) → fin.get (patches_of blocks) b ≡ option_map patch_of (get nat_cmp blocks b) }
 {}
 
 /// A block that is put whole needs none of the bytes that it had.

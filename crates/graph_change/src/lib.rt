@@ -17,6 +17,9 @@ mod parts;
 
 pub use block_change::BlockChange;
 pub use graph_change::GraphChange;
-pub use laws::{changes_are_the_effects, whole_block_needs_no_old_bytes};
+pub use laws::{
+    changes_are_read_by_number, changes_are_the_effects, changes_are_tidy,
+    whole_block_needs_no_old_bytes,
+};
 pub use node_change::NodeChange;
 pub use parts::{NodeBase, NodeLength};

@@ -9,4 +9,4 @@ loop-effect-preserved c =
     let all = ap length c.as_slice-effect-items.ensures in
     let test = c.loop-effect-test.true in
     let next = next_effect (changes_of c.args.change.now) c.args.logged.now.effects i c.effect-item.result (omega (arith, all, test)) in
-    cc (c.in_ok-add.ensures, c.loop-effect.invariant, c.effect-item.is, c.as_slice-effect-items.ensures, next)
+    cc (c.in_ok-add.ensures.change, c.loop-effect.invariant, c.effect-item.is, c.as_slice-effect-items.ensures, next)
