@@ -8,6 +8,7 @@ use Rattle.std.proofs.lemmas.List.{get_or_append_left, get_or-append_right, get_
 use Rattle.std.proofs.lemmas.List.FromFn.{get_or-map-range_with_len, length-map-range_with_len}
 use Rattle.graph_change.specs.Bytes.{Length, Grown, Cut, length_after, left, byte_after, end, IsOrdered, IsTidy}
 use Rattle.graph_change.specs.Change.{Change, Patch, blank, patch_at, net_of, patched, IsWhole, writes_block, ends_within, cuts_within}
+use Rattle.graph_change.specs.Tidy.{IsTidyChange}
 use Rattle.tree_blocks.specs.Inode.{Blocks, byte_of, file_bytes, IsZeroFrom}
 use Rattle.tree_blocks.specs.After.{IsFileAfter}
 use Rattle.tree_blocks.specs.FileBlock.{kept_in, in_block, block_after, is_cut_off, ReadSame, ReadsAfter, AreWritten}
@@ -89,6 +90,26 @@ hole_stays len k p lt = zero (nat_lt p (kept_in len k)) where
   zero true = refl
   zero false = refl
 
+-- ---- where blocks begin
+
+-- nothing ends behind the end
+end_in : (len : Length) (old_size : ℕ) → end len ≤ length_after len old_size
+end_in (Grown to) old_size = omega arith
+end_in (Cut least to) old_size = omega arith
+
+pub written_inside : (c : Change) (old_size k : ℕ) → IsTidyChange c → writes_block c k ≡ true → 4096 * k < length_after c.length old_size
+written_inside c old_size k tidy put = let low = tidy.blocks k put in let e = end_in c.length old_size in omega (arith, low, e)
+
+left_by : (len : Length) (old_size k : ℕ) → IsOrdered len → is_cut_off len k ≡ false → 4096 * k < old_size → 4096 * k < length_after len old_size
+left_by (Grown to) old_size k ordered on lt = omega (arith, lt)
+left_by (Cut least to) old_size k ordered on lt = elim (cases_lt (4096 * k) least) [
+  | inl low ↦ omega (arith, low, ordered)
+  | inr le ↦ (let off : nat_le least (4096 * k) ≡ true = le-leb least (4096 * k) le in let bad : true ≡ false = sym off ∙ on in absurd (cc))
+]
+
+pub left_inside : (c : Change) (old_size k : ℕ) → IsTidyChange c → is_cut_off c.length k ≡ false → 4096 * k < old_size → 4096 * k < length_after c.length old_size
+left_inside c old_size k tidy = left_by c.length old_size k tidy.bytes.ordered
+
 -- ---- a file
 
 module _ (c : Change) (old_size new_size : ℕ) (old new : Blocks) (tidy : IsTidy (net_of c).bytes) (zeros : IsZeroFrom old_size old) (size : new_size ≡ length_after c.length old_size) (are : AreWritten c old new) where
@@ -157,10 +178,6 @@ module _ (c : Change) (old_size new_size : ℕ) (old new : Blocks) (tidy : IsTid
   ]
 
   -- nothing is left behind the end
-  end_in : (len : Length) → end len ≤ length_after len old_size
-  end_in (Grown to) = omega arith
-  end_in (Cut least to) = omega arith
-
   left_past : (len : Length) (at : ℕ) → IsOrdered len → length_after len old_size ≤ at → left len (file_bytes old old_size) at ≡ 0
   left_past (Grown to) at ordered past = let long = length_file old old_size in get_or_past (file_bytes old old_size) at 0 (omega (arith, long, past))
   left_past (Cut least to) at ordered past = ap (λ b. cond b (get_or (file_bytes old old_size) at 0) 0) (le-ltb at least (omega (arith, ordered, past)))
@@ -170,7 +187,7 @@ module _ (c : Change) (old_size new_size : ℕ) (old new : Blocks) (tidy : IsTid
 
   nothing : (at : ℕ) → new_size ≤ at → byte_after (net_of c).bytes (file_bytes old old_size) at ≡ 0
   nothing at ge =
-      let e = end_in c.length in
+      let e = end_in c.length old_size in
       ap (λ o. or_put o (left c.length (file_bytes old old_size) at)) (tidy.inside at (omega (arith, e, ge, size))) ∙ left_past c.length at tidy.ordered (omega (arith, ge, size))
 
   pub file_law : IsFileAfter (net_of c).bytes old_size old new_size new

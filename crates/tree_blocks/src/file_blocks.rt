@@ -1,13 +1,14 @@
 //! Blocks of a file, as a change of its bytes makes them.
 
-ghost use Rattle.std.specs.Prelude.{◌≡◌, ◌≤◌, ◌-◌, ◌++◌, ℕ, List, [], length, take, replicate, option_map};
+ghost use Rattle.std.specs.Prelude.{◌≡◌, ◌≤◌, ◌<◌, ◌-◌, ◌*◌, ◌++◌, ℕ, true, false, List, [], length, take, replicate, option_map};
 ghost use Rattle.graph_change.specs.Bytes.{Length, length_after, IsTidy};
-ghost use Rattle.graph_change.specs.Change.{Change, Patch, blank, net_of, IsWhole};
+ghost use Rattle.graph_change.specs.Change.{Change, Patch, blank, net_of, writes_block, IsWhole};
+ghost use Rattle.graph_change.specs.Tidy.{IsTidyChange};
 ghost use Rattle.graph_change.specs.View.{length_of};
 ghost use Rattle.layout.specs.declared.places.TheConstants.{BLOCK};
 ghost use Rattle.tree_blocks.specs.Inode.{Blocks, IsZeroFrom};
 ghost use Rattle.tree_blocks.specs.After.{IsFileAfter};
-ghost use Rattle.tree_blocks.specs.FileBlock.{put_in, kept_in, block_after, ReadSame, ReadsAfter, AreWritten};
+ghost use Rattle.tree_blocks.specs.FileBlock.{put_in, kept_in, block_after, is_cut_off, ReadSame, ReadsAfter, AreWritten};
 
 use graph_change::{BlockChange, NodeLength};
 use layout::BLOCK;
@@ -63,4 +64,10 @@ pub fn changed_blocks_read_as_after()
 /// Where the blocks that a change has to write are written so, and all others read as they did or as zero behind a cut, the file is that after the change.
 pub fn blocks_after_are_file_after()
     ensures { (c : Change) (old_size new_size : ℕ) (old new : Blocks) → IsTidy (net_of c).bytes → IsZeroFrom old_size old → new_size ≡ length_after c.length old_size → AreWritten c old new → IsFileAfter (net_of c).bytes old_size old new_size new }
+{}
+
+/// A block that a change writes, or that it leaves where it was before the end of the file, begins before the end that the file has then.
+pub fn blocks_begin_before_the_end()
+    ensures written { (c : Change) (old_size k : ℕ) → IsTidyChange c → writes_block c k ≡ true → BLOCK * k < length_after c.length old_size }
+    ensures left { (c : Change) (old_size k : ℕ) → IsTidyChange c → is_cut_off c.length k ≡ false → BLOCK * k < old_size → BLOCK * k < length_after c.length old_size }
 {}

@@ -16,6 +16,9 @@ mod written;
 pub use after::{entries_change_by_name, inode_after_is_node_after, inodes_after_are_graph_after};
 pub use directory::Directory;
 pub use error::EnterError;
-pub use file_blocks::{blocks_after_are_file_after, change_block, changed_blocks_read_as_after};
+pub use file_blocks::{
+    blocks_after_are_file_after, blocks_begin_before_the_end, change_block,
+    changed_blocks_read_as_after,
+};
 pub use reading::{alike_inodes_are_one_node, nodes_are_read_by_place};
 pub use written::WrittenBlocks;
