@@ -89,7 +89,7 @@ any_range (suc k) a j low high =
       | inr off ↦ ap (λ t. t || list_any (nat_eq j) (range_with_len (a + 1) k)) off.0 ∙ any_range k (a + 1) j (let o = off.1 in omega (arith, o)) (omega arith)
     ]
 
-in_span : (at n i : ℕ) → at ≤ i → i < at + n → list_any (nat_eq (i / UNIT_BYTES)) (span at n) ≡ true
+pub in_span : (at n i : ℕ) → at ≤ i → i < at + n → list_any (nat_eq (i / UNIT_BYTES)) (span at n) ≡ true
 in_span at n i low high =
     elim (eqb_tells n 0) [
       | inl none ↦ let e = none.1 in absurd (omega (arith, e))

@@ -3,6 +3,7 @@ pub mod Bytes
 pub mod Ends
 pub mod Entries
 pub mod Law
+pub mod Making
 pub mod Maps
 pub mod Nodes
 pub mod Overs

@@ -1,5 +1,6 @@
 -- A map in memory as the finite map of what its values say.
-use Rattle.std.proofs.Common.{◌≡◌, ℕ, List, [], ◌∷◌, Bool, true, false, Option, Some, None, refl, sym, ap, ◌∙◌, cond, subst}
+use Rattle.std.proofs.Common.{◌≡◌, inl, inr, ℕ, List, [], ◌∷◌, Bool, true, false, Option, Some, None, refl, sym, ap, ◌∙◌, cond, subst}
+use Rattle.std.proofs.lemmas.Bool.Decides.{eqb_tells}
 use Rattle.std.specs.Prelude.{option_map, unwrap_or, IsSome}
 use Rattle.std.specs.Ordering.{nat_cmp, is_eq, eq_by_cmp}
 use Rattle.std.specs.Cmp.{nat_cmp_total, eq_by_cmp_equiv}
@@ -7,6 +8,7 @@ use Rattle.std.specs.Map.{lookup}
 use Rattle.std.specs.FinMap as fin
 use Rattle.std.specs.BTreeMap.{BTreeMap, get, is_at, Updates}
 use Rattle.graph_change.specs.View.{map_of}
+use Rattle.graph_change.proofs.Blocks.{get_put}
 
 in_option : {X Y : Type 0} (f : X → Y) (b : Bool) (x : X) (o : Option X) → cond b (Some (f x)) (option_map f o) ≡ option_map f (cond b (Some x) o)
 in_option f true x o = refl
@@ -45,3 +47,13 @@ put_over f g old new i x w none there same updates =
 pub put_new : {X Y : Type 0} (f : X → Y) (g : Y → Y) (old new : BTreeMap ℕ X) (i : ℕ) (w : X) (none : Y) → get nat_cmp old i ≡ None → f w ≡ g none → Updates nat_cmp old new i (Some w) → map_of f new.entries ≡ fin.insert (map_of f old.entries) i (g (unwrap_or (fin.get (map_of f old.entries) i) none))
 put_new f g old new i w none absent same updates =
     put_at f old new i w _ (same ∙ ap g (sym (was_there f old i None none absent))) updates
+
+-- what is there stays, if it says the same
+pub put_same : {X Y : Type 0} (f : X → Y) (old new : BTreeMap ℕ X) (i : ℕ) (x w : X) → get nat_cmp old i ≡ Some x → f w ≡ f x → (IsSome (get nat_cmp old i) → Updates nat_cmp old new i (Some w)) → map_of f new.entries ≡ map_of f old.entries
+put_same f old new i x w there same updates =
+    put_at f old new i w (f x) same (updates (subst IsSome (sym there) refl))
+    ∙ fin.same_map nat_cmp_total fin.nat_cmp-IsAntisymmetric _ _ (λ q.
+    get_put (map_of f old.entries) i (f x) q ∙ elim (eqb_tells q i) [
+      | inl here ↦ ap (λ t. cond t (Some (f x)) (fin.get (map_of f old.entries) q)) here.0 ∙ sym (ap (fin.get (map_of f old.entries)) here.1 ∙ value_at f old i ∙ ap (option_map f) there)
+      | inr off ↦ ap (λ t. cond t (Some (f x)) (fin.get (map_of f old.entries) q)) off.0
+    ])

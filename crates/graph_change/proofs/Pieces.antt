@@ -1,6 +1,6 @@
 -- Bytes that are put into the blocks of a file one part after the other, each into one block.
 use Rattle.std.proofs.Common.{◌≡◌, ◌≢◌, ◌⊎◌, inl, inr, ℕ, zero, suc, ◌+◌, ◌-◌, ◌*◌, ◌/◌, ◌%◌, ◌<◌, ◌≤◌, if◌then◌else◌, cond, Bool, true, false, List, [], ◌∷◌, length, get_or, take, drop, refl, Some, Option, ap, sym, ◌∙◌, arith}
-use Rattle.std.specs.Prelude.{nat_lt, nat_le, nat_eq, ◌&&◌, ◌||◌, unwrap_or}
+use Rattle.std.specs.Prelude.{nat_lt, nat_le, nat_eq, ◌&&◌, ◌||◌, unwrap_or, is_some}
 use Rattle.std.specs.List.{range_with_len, list_any}
 use Rattle.std.specs.Cmp.{nat_cmp_total}
 use Rattle.std.specs.FinMap as fin
@@ -33,7 +33,7 @@ same_both : {A : Type 0} (b : Bool) (x : A) → (if b then x else x) ≡ x
 same_both true x = refl
 same_both false x = refl
 
-get_blocks : (at : ℕ) (bytes : List ℕ) (bs : List ℕ) (ps : Patches) (b : ℕ) → fin.get (put_blocks at bytes bs ps) b ≡ (if list_any (nat_eq b) bs then Some (over_patch at bytes b (patch_at ps b)) else fin.get ps b)
+pub get_blocks : (at : ℕ) (bytes : List ℕ) (bs : List ℕ) (ps : Patches) (b : ℕ) → fin.get (put_blocks at bytes bs ps) b ≡ (if list_any (nat_eq b) bs then Some (over_patch at bytes b (patch_at ps b)) else fin.get ps b)
 get_blocks at bytes [] ps b = refl
 get_blocks at bytes (x ∷ bs) ps b =
     let new = over_patch at bytes x (patch_at ps x) in
@@ -56,6 +56,13 @@ all_put at bytes old now put = fin.same_map nat_cmp_total fin.nat_cmp-IsAntisymm
 
 pub none_yet : (at : ℕ) (bytes : List ℕ) (old : Patches) → PutSoFar at 0 bytes old old
 none_yet at bytes old b = refl
+
+-- a block that was there still is
+pub still_there : (at done b : ℕ) (bytes : List ℕ) (old now : Patches) → PutSoFar at done bytes old now → fin.contains_key old b ≡ true → fin.contains_key now b ≡ true
+still_there at done b bytes old now put there = ap is_some (put b) ∙ elim (either (list_any (nat_eq b) (span at done))) [
+  | inl on ↦ ap (λ t. is_some (cond t (Some (so_far at done bytes b (patch_at old b))) (fin.get old b))) on
+  | inr off ↦ ap (λ t. is_some (cond t (Some (so_far at done bytes b (patch_at old b))) (fin.get old b))) off ∙ there
+]
 
 -- ---- which blocks so many bytes lie in
 

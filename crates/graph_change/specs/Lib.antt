@@ -1,5 +1,6 @@
 pub mod Bytes
 pub mod Change
+pub mod Memory
 pub mod Net
 pub mod Tidy
 pub mod View

@@ -1,6 +1,7 @@
-ghost use Rattle.std.specs.Prelude.{◌≡◌, OnOk};
+ghost use Rattle.std.specs.Prelude.{◌≡◌, true, OnOk, OnErr};
 ghost use Rattle.std.specs.FinMap as fin;
 ghost use Rattle.graph_change.specs.Change.{subject, with_effect};
+ghost use Rattle.graph_change.specs.Memory.{takes_memory_among};
 ghost use Rattle.graph_change.specs.Tidy.{AreTidyChanges};
 ghost use Rattle.graph_change.specs.View.{changes_of, nodes_of};
 
@@ -27,10 +28,12 @@ impl GraphChange {
         }
     }
 
-    /// Adds an effect behind those that are in it. Where there is no memory for it, nothing is said of what is left: it is to be
-    /// dropped.
+    /// Adds an effect behind those that are in it. It wants memory where it is the first on its inode, for the name of an entry, and for a block into which nothing was put
+    /// yet; a write that would end past all numbers finds none. Where there is none for it, the change stays as it was.
     pub fn add(&mut self, alloc: Global, effect: &Effect) -> Result<(), AllocError>
         ensures change { OnOk result (changes_of self.new ≡ with_effect effect.now (changes_of self.old)) }
+        ensures refused { OnErr result (changes_of self.new ≡ changes_of self.old) }
+        ensures memory { OnErr result (takes_memory_among effect.now (changes_of self.old) ≡ true) }
         ensures tidy { AreTidyChanges (changes_of self.old) → OnOk result (AreTidyChanges (changes_of self.new)) }
     {
         add(alloc, &mut self.nodes, subject(effect), effect)
@@ -44,7 +47,9 @@ fn add(
     effect: &Effect,
 ) -> Result<(), AllocError>
     requires { inode ≡ subject effect.now }
-    ensures { OnOk result (nodes_of nodes.new ≡ with_effect effect.now (nodes_of nodes.old)) }
+    ensures change { OnOk result (nodes_of nodes.new ≡ with_effect effect.now (nodes_of nodes.old)) }
+    ensures refused { OnErr result (nodes_of nodes.new ≡ nodes_of nodes.old) }
+    ensures memory { OnErr result (takes_memory_among effect.now (nodes_of nodes.old) ≡ true) }
 {
     if let Some(node) = nodes.get_mut(&inode) {
         return node.add(alloc, effect);

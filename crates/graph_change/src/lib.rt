@@ -12,6 +12,7 @@
 mod block_change;
 mod graph_change;
 mod laws;
+mod made_blocks;
 mod node_change;
 mod parts;
 

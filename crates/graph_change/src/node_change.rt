@@ -1,13 +1,16 @@
-ghost use Rattle.std.specs.Prelude.{◌≡◌, ℕ, false, None, IsSome, IsTrue, nat_lt, ◌+◌, ◌*◌, ◌<◌, ◌≤◌, ◌^◌, length, OnOk};
+ghost use Rattle.std.specs.Prelude.{◌≡◌, ℕ, false, None, IsSome, IsTrue, nat_eq, nat_lt, true, ◌+◌, ◌-◌, ◌*◌, ◌/◌, ◌<◌, ◌≤◌, ◌^◌, length, OnOk, OnErr};
+ghost use Rattle.std.specs.List.{range_with_len, list_any};
 ghost use Rattle.std.specs.Ordering.{nat_cmp};
 ghost use Rattle.std.specs.BTreeMap.{get, btree_map_len};
 ghost use Rattle.std.specs.FinMap as fin;
 ghost use Rattle.graph_change.specs.Bytes.{grown_to};
 ghost use Rattle.posix_calls.specs.declared.limits.TheConstants.{UNIT_BYTES};
 ghost use Rattle.graph_change.specs.Change.{new_change, change_after, patch_at, put_patch, put_blocks, span, cut_last, cut_patches};
+ghost use Rattle.graph_change.specs.Memory.{lacks_one, write_takes_memory, takes_memory};
 ghost use Rattle.graph_change.specs.View.{base_of, length_of, patches_of, change_of};
 
 use crate::block_change::BlockChange;
+use crate::made_blocks::make_blocks;
 use crate::parts::{NodeBase, NodeLength};
 use file_graph::{Effect, Kind};
 use node_bodies::NameMap;
@@ -43,10 +46,12 @@ impl NodeChange {
         }
     }
 
-    /// Adds an effect, which is one on this inode, behind those that are in it. A write that would end past all numbers finds no
-    /// memory.
+    /// Adds an effect, which is one on this inode, behind those that are in it. It wants memory for the name of an entry and for a block into which nothing was put yet;
+    /// a write that would end past all numbers finds none. Where there is none for it, the change stays as it was.
     pub fn add(&mut self, alloc: Global, effect: &Effect) -> Result<(), AllocError>
-        ensures { OnOk result (change_of self.new ≡ change_after effect.now (change_of self.old)) }
+        ensures change { OnOk result (change_of self.new ≡ change_after effect.now (change_of self.old)) }
+        ensures refused { OnErr result (change_of self.new ≡ change_of self.old) }
+        ensures memory { OnErr result (takes_memory effect.now (change_of self.old) ≡ true) }
     {
         match effect {
             Effect::Make { kind, .. } => {
@@ -84,7 +89,7 @@ impl NodeChange {
     }
 }
 
-// Puts bytes at an offset of the file. A write that would end past all numbers finds no memory.
+// Puts bytes at an offset of the file. A write that would end past all numbers finds no memory; nothing changes then.
 fn write(
     alloc: Global,
     len: &mut NodeLength,
@@ -94,6 +99,9 @@ fn write(
 ) -> Result<(), AllocError>
     ensures length { OnOk result (length_of len.new ≡ grown_to (at + length bytes.now) (length_of len.old)) }
     ensures blocks { OnOk result (patches_of blocks.new ≡ put_blocks at bytes.now (span at (length bytes.now)) (patches_of blocks.old)) }
+    ensures same_length { OnErr result (length_of len.new ≡ length_of len.old) }
+    ensures same_blocks { OnErr result (patches_of blocks.new ≡ patches_of blocks.old) }
+    ensures memory { OnErr result (write_takes_memory at (length bytes.now) (patches_of blocks.old) ≡ true) }
 {
     let Some(end) = at.checked_add(bytes.len() as u64) else {
         return Err(AllocError);
@@ -103,7 +111,7 @@ fn write(
     Ok(())
 }
 
-// Puts bytes into the blocks that they lie in, one after the other.
+// Puts bytes into the blocks that they lie in. Where there is no memory for one of these, none changes.
 fn put_bytes(
     alloc: Global,
     blocks: &mut BTreeMap<u64, BlockChange>,
@@ -111,7 +119,38 @@ fn put_bytes(
     bytes: &[u8],
 ) -> Result<(), AllocError>
     requires { at + length bytes.now < 2 ^ 64 }
-    ensures { OnOk result (patches_of blocks.new ≡ put_blocks at bytes.now (span at (length bytes.now)) (patches_of blocks.old)) }
+    ensures put { OnOk result (patches_of blocks.new ≡ put_blocks at bytes.now (span at (length bytes.now)) (patches_of blocks.old)) }
+    ensures refused { OnErr result (patches_of blocks.new ≡ patches_of blocks.old) }
+    ensures memory { OnErr result (lacks_one (span at (length bytes.now)) (patches_of blocks.old) ≡ true) }
+{
+    make_blocks(
+        alloc,
+        blocks,
+        at / UNIT_BYTES as u64,
+        span_end(at, bytes.len()),
+    )?;
+    put_parts(blocks, at, bytes);
+    Ok(())
+}
+
+// The number behind the last of the blocks that so many bytes from an offset on lie in.
+fn span_end(at: u64, count: usize) -> u64
+    requires { at + count < 2 ^ 64 }
+    ensures end { span at count ≡ range_with_len (at / UNIT_BYTES) (result - at / UNIT_BYTES) }
+    ensures order { at / UNIT_BYTES ≤ result }
+{
+    if count == 0 {
+        at / UNIT_BYTES as u64
+    } else {
+        (at + (count as u64 - 1)) / UNIT_BYTES as u64 + 1
+    }
+}
+
+// Puts bytes into the blocks that they lie in, one after the other, where all of these are there.
+fn put_parts(blocks: &mut BTreeMap<u64, BlockChange>, at: u64, bytes: &[u8])
+    requires end { at + length bytes.now < 2 ^ 64 }
+    requires there { (b : ℕ) → list_any (nat_eq b) (span at (length bytes.now)) ≡ true → fin.contains_key (patches_of blocks.old) b ≡ true }
+    ensures { patches_of blocks.new ≡ put_blocks at bytes.now (span at (length bytes.now)) (patches_of blocks.old) }
 {
     let mut done = 0;
     while done < bytes.len() {
@@ -119,36 +158,25 @@ fn put_bytes(
         let place = (start % UNIT_BYTES as u64) as usize;
         let count = (UNIT_BYTES as usize - place).min(bytes.len() - done);
         put_part(
-            alloc,
             blocks,
             start / UNIT_BYTES as u64,
             place,
             &bytes[done..done + count],
-        )?;
+        );
         done += count;
     }
-    Ok(())
 }
 
-// Puts bytes into one block.
-fn put_part(
-    alloc: Global,
-    blocks: &mut BTreeMap<u64, BlockChange>,
-    block: u64,
-    place: usize,
-    part: &[u8],
-) -> Result<(), AllocError>
-    requires { place + length part.now ≤ UNIT_BYTES }
-    ensures { OnOk result (patches_of blocks.new ≡ fin.insert (patches_of blocks.old) block (put_patch place part.now (patch_at (patches_of blocks.old) block))) }
+// Puts bytes into one block, which is there.
+fn put_part(blocks: &mut BTreeMap<u64, BlockChange>, block: u64, place: usize, part: &[u8])
+    requires within { place + length part.now ≤ UNIT_BYTES }
+    requires there { fin.contains_key (patches_of blocks.old) block ≡ true }
+    ensures { patches_of blocks.new ≡ fin.insert (patches_of blocks.old) block (put_patch place part.now (patch_at (patches_of blocks.old) block)) }
 {
-    if let Some(there) = blocks.get_mut(&block) {
-        there.put(place, part);
-        return Ok(());
-    }
-    let mut new = BlockChange::new(alloc)?;
-    new.put(place, part);
-    blocks.insert(block, new)?;
-    Ok(())
+    let Some(there) = blocks.get_mut(&block) else {
+        unreachable!()
+    };
+    there.put(place, part);
 }
 
 // Drops what is put behind a size.
