@@ -29,7 +29,7 @@ node_same old new same =
     ap (λ k. node_by k new.names new.size new.blocks) same.kind ∙ ap (λ n. node_by old.kind n new.size new.blocks) same.names
     ∙ ap (λ n. node_by old.kind old.names n new.blocks) same.size ∙ by_kind old.kind old.names old.size old.blocks new.blocks same.blocks
 
-consistent_by : (number : ℕ) (k : Option Kind) (size : ℕ) (b c : Blocks) → ReadAlike k size b c → IsConsistentBy number k size b → IsConsistentBy number k size c
+pub consistent_by : (number : ℕ) (k : Option Kind) (size : ℕ) (b c : Blocks) → ReadAlike k size b c → IsConsistentBy number k size b → IsConsistentBy number k size c
 consistent_by number None size b c same is = tt
 consistent_by number (Some kind.File) size b c same is = λ at ge. same at ∙ is at ge
 consistent_by number (Some kind.Directory) size b c same is =

@@ -50,7 +50,7 @@ no_bytes : IsZeroFrom 0 (λ k. [])
 unfolding byte_of
 no_bytes at ge = refl
 
-started_consistent : (number : ℕ) (b : Base) (old : Inode) → IsConsistent number old → IsConsistent number (started b old)
+pub started_consistent : (number : ℕ) (b : Base) (old : Inode) → IsConsistent number old → IsConsistent number (started b old)
 started_consistent number Kept old is = is
 started_consistent number (Made kind.File) old is = no_bytes
 started_consistent number (Made kind.Directory) old is = record { parts = λ k lt. absurd (omega (arith, lt)); distinct = λ i j lt. absurd (omega (arith, lt)) }

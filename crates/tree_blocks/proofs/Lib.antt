@@ -11,3 +11,4 @@ pub mod Leaving
 pub mod Lists
 pub mod Marking
 pub mod NameChanges
+pub mod Rewriting

@@ -2,4 +2,5 @@ pub mod After
 pub mod Directory
 pub mod FileBlock
 pub mod Inode
+pub mod Rewritten
 pub mod Written

@@ -11,6 +11,7 @@ mod entry_blocks;
 mod error;
 mod file_blocks;
 mod reading;
+mod rewritten;
 mod written;
 
 pub use after::{entries_change_by_name, inode_after_is_node_after, inodes_after_are_graph_after};
@@ -21,4 +22,5 @@ pub use file_blocks::{
     changed_blocks_read_as_after,
 };
 pub use reading::{alike_inodes_are_one_node, nodes_are_read_by_place};
+pub use rewritten::rewritten_inode_is_inode_after;
 pub use written::WrittenBlocks;
