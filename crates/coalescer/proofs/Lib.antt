@@ -3,4 +3,5 @@ mod Counts
 mod Exchanges
 mod Folds
 mod Runs
+mod Single
 mod Within

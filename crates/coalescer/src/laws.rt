@@ -1,12 +1,17 @@
 //! What holds of every list of effects.
 
-ghost use Rattle.std.specs.Prelude.{◌≡◌, ◌≤◌, ℕ, List, length, false, nat_eq, map, count_by};
+ghost use Rattle.std.specs.Prelude.{◌≡◌, ◌≤◌, ℕ, List, length, take, true, false, nat_eq, map, count_by};
+ghost use Rattle.std.specs.List.{AllByRecursion};
 ghost use Rattle.std.specs.Set.{distinct_count};
 ghost use Rattle.std.specs.FinMap as fin;
 ghost use Rattle.file_graph.specs.declared.effect.Effect.{Effect};
 ghost use Rattle.file_graph.specs.Graph.{Graph, after_effects};
 ghost use Rattle.graph_change.specs.Change.{Changes, change_at, changed, with_effects, coalesced, subject, writes_block};
-ghost use Rattle.coalescer.specs.Weight.{is_entry, blocks};
+ghost use Rattle.log_record.specs.declared.format.Record.{Record};
+ghost use Rattle.log_record.specs.Grammar.{IsRecord};
+ghost use Rattle.coalescer.specs.declared.weight.TheConstants.{CHUNK_IMAGES, CHUNK_BLOCKS};
+ghost use Rattle.coalescer.specs.Records.{effects_of};
+ghost use Rattle.coalescer.specs.Weight.{is_entry, images, blocks, fits, IsLongestRun};
 ghost use Rattle.coalescer.specs.Within.{AreEntriesIn, AreBlocksIn};
 ghost use Rattle.coalescer.specs.Exchange.{Place, exchanged, each, front, rest};
 
@@ -24,4 +29,19 @@ pub fn change_is_within_its_weight()
     ensures inodes { (es : List Effect) → fin.len (coalesced es) ≡ distinct_count nat_eq (map subject es) }
     ensures entries { (es : List Effect) (ns : List (ℕ × List ℕ)) → AreEntriesIn (coalesced es) ns → length ns ≤ count_by is_entry es }
     ensures blocks { (es : List Effect) (bs : List (ℕ × ℕ)) → AreBlocksIn (coalesced es) bs → length bs ≤ blocks es }
+{}
+
+/// How much is taken at once.
+pub fn chunk_has_its_limits()
+    ensures images { CHUNK_IMAGES ≡ 256 }
+    ensures blocks { CHUNK_BLOCKS ≡ 512 }
+{}
+
+/// Whatever the limits of the format let one record hold, it fits; so the longest run of a list of such records fits always, also where it
+/// is a single one.
+pub fn single_record_fits()
+    ensures images { (r : Record) → IsRecord r → images r.effects ≤ 49 }
+    ensures blocks { (r : Record) → IsRecord r → blocks r.effects ≤ 136 }
+    ensures single { (r : Record) → IsRecord r → fits r.effects ≡ true }
+    ensures run { (rs : List Record) (n : ℕ) → AllByRecursion IsRecord rs → IsLongestRun rs n → fits (effects_of (take n rs)) ≡ true }
 {}

@@ -16,7 +16,9 @@ mod records;
 mod run;
 mod weight;
 
-pub use laws::{change_is_within_its_weight, exchange_has_its_place};
+pub use laws::{
+    change_is_within_its_weight, chunk_has_its_limits, exchange_has_its_place, single_record_fits,
+};
 pub use records::{add_record, coalesce};
 pub use run::longest_run;
 pub use weight::{CHUNK_BLOCKS, CHUNK_IMAGES};
