@@ -83,3 +83,74 @@ fn a_record_that_is_too_heavy_is_taken_alone(rt: HostRuntime) -> Result<(), Fail
     assert_eq!(rt; longest_run(rt.alloc(), &records)?, 1);
     Ok(())
 }
+
+// A record of one effect for each of so many numbers: a name of the root, or another node.
+fn entries(alloc: Global, records: &mut Vec<Record>, count: u32) -> Result<(), AllocError> {
+    for number in 0..count {
+        let name = [b'a' + (number % 26) as u8, b'a' + (number / 26 % 26) as u8];
+        records.push(alone(alloc, enter(alloc, 1, &name, 2)?)?)?;
+    }
+    Ok(())
+}
+
+fn counted(alloc: Global, records: &mut Vec<Record>, nodes: u32) -> Result<(), AllocError> {
+    for number in 0..nodes {
+        let inode = number % 1_000 + 2;
+        records.push(alone(alloc, Effect::Names { inode, names: 1 })?)?;
+    }
+    Ok(())
+}
+
+// So many writes of one block each, one behind the other from a block on.
+fn singles(
+    alloc: Global,
+    records: &mut Vec<Record>,
+    first: u32,
+    count: u32,
+) -> Result<(), AllocError> {
+    for number in 0..count {
+        let at = (u64::from(first) + u64::from(number)) * 4_096;
+        records.push(alone(alloc, fill(alloc, 2, at, 1, 1)?)?)?;
+    }
+    Ok(())
+}
+
+// How many are taken of changes of so many nodes beside the root, and then of so many of its entries.
+fn taken(alloc: Global, nodes: u32, names: u32) -> Result<usize, AllocError> {
+    let mut records = Vec::new(alloc);
+    counted(alloc, &mut records, nodes)?;
+    entries(alloc, &mut records, names)?;
+    longest_run(alloc, &records)
+}
+
+#[test]
+fn a_run_takes_255_images_and_not_257(rt: HostRuntime) -> Result<(), Fail> {
+    // Each row has 255 images without its last record, and 257 with it: 4 for the root and each node, 2 for an entry, 1 for the mark.
+    let rows: [(u32, u32); 4] = [(0, 126), (1, 124), (40, 46), (62, 2)];
+    for (nodes, names) in rows {
+        let all = (nodes + names) as usize;
+        assert_eq!(rt; taken(rt.alloc(), nodes, names)?, all - 1);
+        assert_eq!(rt; taken(rt.alloc(), nodes, names - 1)?, all - 1);
+    }
+    Ok(())
+}
+
+#[test]
+fn a_run_takes_512_blocks_and_not_513(rt: HostRuntime) -> Result<(), Fail> {
+    // 31 writes of 16 blocks, then single ones up to 511, 512 and 513 blocks.
+    let rows: [(u32, usize); 3] = [(15, 46), (16, 47), (17, 47)];
+    for (more, wanted) in rows {
+        let mut records = written(rt.alloc(), 31)?;
+        singles(rt.alloc(), &mut records, 496, more)?;
+        assert_eq!(rt; longest_run(rt.alloc(), &records)?, wanted);
+    }
+    Ok(())
+}
+
+#[test]
+fn a_write_that_ends_past_all_numbers_has_its_blocks(rt: HostRuntime) -> Result<(), Fail> {
+    let mut records = Vec::new(rt.alloc());
+    records.push(alone(rt.alloc(), fill(rt.alloc(), 2, u64::MAX, 7, 9)?)?)?;
+    assert_eq!(rt; longest_run(rt.alloc(), &records)?, 1);
+    Ok(())
+}
