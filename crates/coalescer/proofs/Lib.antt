@@ -1,7 +1,7 @@
 mod Counted
 mod Counts
 mod Exchanges
-mod Folds
+pub mod Folds
 mod Runs
-mod Single
+pub mod Single
 mod Within

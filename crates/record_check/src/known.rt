@@ -23,7 +23,8 @@ pub fn first_unknown(known: &BTreeMap<u32, Option<NodeSummary>>, effects: &[Effe
     None
 }
 
-fn is_unknown(known: &BTreeMap<u32, Option<NodeSummary>>, inode: u32) -> bool
+/// Whether nothing is known of an inode.
+pub fn is_unknown(known: &BTreeMap<u32, Option<NodeSummary>>, inode: u32) -> bool
     ensures { result ≡ is_unknown known.now inode }
 {
     known.get(&inode).is_none()
@@ -39,7 +40,7 @@ pub fn node_at(known: &BTreeMap<u32, Option<NodeSummary>>, inode: u32) -> Option
     }
 }
 
-// The inode that an effect is on.
+/// The inode that an effect is on.
 pub fn subject(effect: &Effect) -> u32
     ensures { subjects effect.now ≡ result ∷ [] }
 {

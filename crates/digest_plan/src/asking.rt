@@ -1,0 +1,57 @@
+//! Nodes are asked for before a record is tested.
+
+ghost use Rattle.std.specs.Prelude.{◌≡◌, ℕ, true, false, None, IfErr, OnOk};
+ghost use Rattle.file_graph.specs.Graph.{Graph, touches, is_among};
+ghost use Rattle.record_check.specs.Known.{first_unknown, is_unknown};
+ghost use Rattle.record_check.specs.Row.{HasCome};
+ghost use Rattle.digest_plan.specs.declared.error.PlanError.TheVariants as why;
+
+use crate::error::PlanError;
+use crate::nodes::Nodes;
+use file_graph::Effect;
+use record_check::{RecordCheck, is_unknown, subject};
+use std::alloc::Global;
+
+/// Asks for each inode that effects touch and of which nothing is known.
+pub fn learn_touched<N: Nodes>(
+    alloc: Global,
+    nodes: &mut N,
+    check: &mut RecordCheck,
+    effects: &[Effect],
+) -> Result<(), PlanError<N::Error>>
+    ensures stays { N.graph nodes.new ≡ N.graph nodes.old }
+    ensures come { OnOk result ((h : Graph) → HasCome check.old (N.graph nodes.old) h → HasCome check.new (N.graph nodes.old) h) }
+    ensures known { OnOk result (first_unknown check.new.known effects.now ≡ None) }
+    ensures failed { IfErr result (λ e. (x : N.Error) → e ≡ why.Nodes x → N.has_failed nodes.new x) }
+{
+    for effect in effects {
+        learn(alloc, nodes, check, subject(effect))?;
+    }
+    Ok(())
+}
+
+// Asks for an inode, where nothing is known of it.
+fn learn<N: Nodes>(
+    alloc: Global,
+    nodes: &mut N,
+    check: &mut RecordCheck,
+    inode: u32,
+) -> Result<(), PlanError<N::Error>>
+    ensures stays { N.graph nodes.new ≡ N.graph nodes.old }
+    ensures come { OnOk result ((h : Graph) → HasCome check.old (N.graph nodes.old) h → HasCome check.new (N.graph nodes.old) h) }
+    ensures known { OnOk result (is_unknown check.new.known inode ≡ false) }
+    ensures others { OnOk result ((i : ℕ) → is_unknown check.old.known i ≡ false → is_unknown check.new.known i ≡ false) }
+    ensures failed { IfErr result (λ e. (x : N.Error) → e ≡ why.Nodes x → N.has_failed nodes.new x) }
+{
+    if !is_unknown(&check.known, inode) {
+        return Ok(());
+    }
+    let node = match nodes.node(alloc, inode) {
+        Ok(node) => node,
+        Err(error) => return Err(PlanError::Nodes(error)),
+    };
+    match check.learn(inode, node) {
+        Ok(()) => Ok(()),
+        Err(_) => Err(PlanError::Memory),
+    }
+}

@@ -1,0 +1,26 @@
+//! What holds of every plan.
+
+ghost use Rattle.std.specs.Prelude.{◌≡◌, ◌<◌, ℕ, List, length, take, get_or};
+ghost use Rattle.file_graph.specs.Graph.{Graph, after_effects};
+ghost use Rattle.log_record.specs.declared.format.Record.{Record};
+ghost use Rattle.layout.specs.declared.places.TheConstants.{MAX_IMAGES, SPARE_BLOCKS};
+ghost use Rattle.coalescer.specs.declared.weight.TheConstants.{CHUNK_IMAGES, CHUNK_BLOCKS};
+ghost use Rattle.coalescer.specs.Records.{effects_of};
+ghost use Rattle.record_check.specs.Good.{IsGood};
+ghost use Rattle.digest_plan.specs.Plan.{AreGood, IsFirstBad};
+
+/// What is counted for a chunk is there on the shared media: as many images as a batch takes, and as many data blocks as are spare.
+pub fn a_chunk_is_a_batch()
+    ensures images { CHUNK_IMAGES ≡ MAX_IMAGES }
+    ensures blocks { CHUNK_BLOCKS ≡ SPARE_BLOCKS }
+{}
+
+/// The first bad record of some is bad over the graph as those before it leave it, and those are good; there is no other first one, and
+/// none where all are good.
+pub fn a_first_bad_record_is_the_only_one()
+    ensures place { (held : List ℕ) (capacity : ℕ) (g : Graph) (rs : List Record) (k : ℕ) → IsFirstBad held capacity g rs k → k < length rs }
+    ensures before { (held : List ℕ) (capacity : ℕ) (g : Graph) (rs : List Record) (k : ℕ) → IsFirstBad held capacity g rs k → AreGood held capacity g (take k rs) }
+    ensures bad { (held : List ℕ) (capacity : ℕ) (g : Graph) (rs : List Record) (k : ℕ) (d : Record) → IsFirstBad held capacity g rs k → IsGood held capacity (after_effects g (effects_of (take k rs))) (get_or rs k d) → ⊥ }
+    ensures alone { (held : List ℕ) (capacity : ℕ) (g : Graph) (rs : List Record) (k l : ℕ) → IsFirstBad held capacity g rs k → IsFirstBad held capacity g rs l → k ≡ l }
+    ensures never { (held : List ℕ) (capacity : ℕ) (g : Graph) (rs : List Record) (k : ℕ) → IsFirstBad held capacity g rs k → AreGood held capacity g rs → ⊥ }
+{}

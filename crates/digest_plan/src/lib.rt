@@ -1,0 +1,19 @@
+//! Which records of a client's log are digested next, and what they come to.
+//!
+//! `prepare` looks at the records of one client that are not digested yet, in their order. It takes the longest run of the first of them that
+//! a batch holds (`coalescer`), tests each record of it over the graph as those before it leave it (`record_check`), and asks for each node
+//! that such a test needs and that is not known yet (`Nodes`). It answers what the run comes to, or the first of its records that is bad.
+//! It changes nothing.
+#![tactic(auto)]
+
+mod asking;
+mod error;
+mod laws;
+mod nodes;
+mod planning;
+mod testing;
+
+pub use error::PlanError;
+pub use laws::{a_chunk_is_a_batch, a_first_bad_record_is_the_only_one};
+pub use nodes::Nodes;
+pub use planning::{Chunk, Plan, prepare};

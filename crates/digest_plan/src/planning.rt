@@ -1,0 +1,67 @@
+ghost use Rattle.std.specs.Prelude.{◌≡◌, ◌<◌, IfErr, IfOk, length};
+ghost use Rattle.std.specs.List.{AllByRecursion};
+ghost use Rattle.log_record.specs.Grammar.{IsRecord};
+ghost use Rattle.digest_plan.specs.Plan.{Tells};
+ghost use Rattle.digest_plan.specs.declared.error.PlanError.TheVariants as why;
+
+use crate::error::PlanError;
+use crate::nodes::Nodes;
+use crate::testing::{Found, test_records};
+use coalescer::{coalesce, longest_run};
+use graph_change::GraphChange;
+use log_record::Record;
+use std::alloc::Global;
+
+/// The next records of a log that are digested at once, and what they come to.
+#[derive(Drop)]
+pub struct Chunk {
+    /// How many records they are.
+    pub count: usize,
+    /// What they make of the graph.
+    pub change: GraphChange,
+    /// The charge of the graph after them, in units.
+    pub charge: u64,
+}
+
+/// What is to be done with the next records of a log.
+#[derive(Drop)]
+pub enum Plan {
+    /// They are good.
+    Digest(Chunk),
+    /// The record at this place is the first bad one among those that would be digested at once.
+    Bad { place: usize },
+}
+
+/// What is to be done with the records of a client that are not digested yet, where it holds the inodes `held` for writing, and where there
+/// are `capacity` units in all. The records that are taken are the longest run of the first ones that a batch holds, one at least where
+/// there is one. Each is tested over the graph as those before it leave it.
+pub fn prepare<N: Nodes>(
+    alloc: Global,
+    nodes: &mut N,
+    capacity: u64,
+    held: &[u32],
+    records: &[Record],
+) -> Result<Plan, PlanError<N::Error>>
+    requires spelled { AllByRecursion IsRecord records.now }
+    ensures stays { N.graph nodes.new ≡ N.graph nodes.old }
+    ensures tells { IfOk result (λ plan. Tells held.now capacity (N.graph nodes.old) records.now plan) }
+    ensures failed { IfErr result (λ e. (x : N.Error) → e ≡ why.Nodes x → N.has_failed nodes.new x) }
+    ensures some { IfErr result (λ e. 0 < length records.now) }
+{
+    let count = match longest_run(alloc, records) {
+        Ok(count) => count,
+        Err(_) => return Err(PlanError::Memory),
+    };
+    let run = &records[..count];
+    match test_records(alloc, nodes, capacity, held, run)? {
+        Found::FirstBad { place } => Ok(Plan::Bad { place }),
+        Found::AllGood { charge } => match coalesce(alloc, run) {
+            Ok(change) => Ok(Plan::Digest(Chunk {
+                count,
+                change,
+                charge,
+            })),
+            Err(_) => Err(PlanError::Memory),
+        },
+    }
+}
