@@ -1,0 +1,80 @@
+-- What is taken from the pools.
+use Rattle.std.specs.Prelude.{◌≡◌, ◌≤◌, ◌+◌, ◌++◌, ℕ, List, [], length}
+use Rattle.tier_device.specs.declared.media.Tier.{Tier}
+use Rattle.tier_device.specs.declared.media.Tier.TheVariants as tiers
+use Rattle.block_alloc.specs.declared.runs.Run.{Run}
+use Rattle.block_alloc.specs.Runs.{blocks_of, IsNormal, Rising}
+use Rattle.block_alloc.specs.Value.{FreeBlocks, SamePool}
+use Rattle.free_pools.specs.Value.{PoolsView, data_pool, on_tier}
+use Rattle.free_pools.specs.declared.taking.Taken.{Taken}
+
+-- the runs that were taken of a tier's data blocks
+abbrev pub runs_of : Taken → Tier → List Run
+runs_of taken tiers.Fast = taken.fast.items
+runs_of taken tiers.Block = taken.block.items
+runs_of taken tiers.Slow = taken.slow.items
+
+-- the data blocks that were taken, fastest tier first
+abbrev pub taken_data : Taken → List (Tier × ℕ)
+taken_data taken = on_tier tiers.Fast (blocks_of taken.fast.items) ++ (on_tier tiers.Block (blocks_of taken.block.items) ++ on_tier tiers.Slow (blocks_of taken.slow.items))
+
+-- These runs stood at the front of a pool's free blocks; they can be given back without memory where there was room for one run.
+pub record WasTaken (old new : FreeBlocks) (runs : List Run) : Type 0 where
+  pub apart : IsNormal old.first old.end runs
+  pub front : blocks_of runs ++ new.free ≡ old.free
+  pub room : old.room + length runs ≤ new.room + 1
+  pub kept : old.room ≤ new.room
+  pub pool : SamePool old new
+
+-- These runs stand before the pool's free blocks, and there is room for them.
+pub record CanGive (p : FreeBlocks) (runs : List Run) : Type 0 where
+  pub apart : IsNormal p.first p.end runs
+  pub before : Rising p.first p.end (blocks_of runs ++ p.free)
+  pub room : length runs ≤ p.room
+
+-- The runs stand at the front of the pool again.
+pub record WasGiven (old new : FreeBlocks) (runs : List Run) : Type 0 where
+  pub free : new.free ≡ blocks_of runs ++ old.free
+  pub room : old.room ≤ new.room + length runs
+  pub pool : SamePool old new
+
+-- What was taken stood at the front of the pools.
+pub record WereTaken (old new : PoolsView) (taken : Taken) : Type 0 where
+  pub nodes : WasTaken old.nodes new.nodes taken.nodes.items
+  pub per_tier : (t : Tier) → WasTaken (data_pool old t) (data_pool new t) (runs_of taken t)
+
+-- What was taken can be given back without memory.
+pub record CanUndo (p : PoolsView) (taken : Taken) : Type 0 where
+  pub nodes : CanGive p.nodes taken.nodes.items
+  pub per_tier : (t : Tier) → CanGive (data_pool p t) (runs_of taken t)
+
+-- What was taken stands in the pools again.
+pub record WasUndone (old new : PoolsView) (taken : Taken) : Type 0 where
+  pub nodes : WasGiven old.nodes new.nodes taken.nodes.items
+  pub per_tier : (t : Tier) → WasGiven (data_pool old t) (data_pool new t) (runs_of taken t)
+
+-- Nothing is taken.
+pub record IsNone (taken : Taken) : Type 0 where
+  pub nodes : taken.nodes.items ≡ []
+  pub fast : taken.fast.items ≡ []
+  pub block : taken.block.items ≡ []
+  pub slow : taken.slow.items ≡ []
+
+-- the same free blocks of the same range
+pub record SameBlocks (old new : FreeBlocks) : Type 0 where
+  pub free : new.free ≡ old.free
+  pub pool : SamePool old new
+
+-- The pools have the same free blocks.
+pub record SameFree (old new : PoolsView) : Type 0 where
+  pub nodes : SameBlocks old.nodes new.nodes
+  pub fast : SameBlocks old.fast new.fast
+  pub block : SameBlocks old.block new.block
+  pub slow : SameBlocks old.slow new.slow
+
+-- No pool has less room.
+pub record KeepsRoom (old new : PoolsView) : Type 0 where
+  pub nodes : old.nodes.room ≤ new.nodes.room
+  pub fast : old.fast.room ≤ new.fast.room
+  pub block : old.block.room ≤ new.block.room
+  pub slow : old.slow.room ≤ new.slow.room

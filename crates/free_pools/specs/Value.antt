@@ -1,0 +1,50 @@
+-- The free blocks of four pools, as callers see them.
+use Rattle.std.specs.Prelude.{◌≡◌, ◌<◌, ◌≤◌, ◌↔◌, ◌++◌, ℕ, List, map}
+use Rattle.std.specs.List.{Contains}
+use Rattle.tier_device.specs.declared.media.Tier.{Tier}
+use Rattle.tier_device.specs.declared.media.Tier.TheVariants as tiers
+use Rattle.layout.specs.declared.places.TheConstants.{FIRST_NODE_BLOCK}
+use Rattle.layout.specs.Places.{Sizes, node_end, data_first, tier_blocks}
+use Rattle.block_alloc.specs.Value.{FreeBlocks, InOrder}
+use Rattle.area_image.specs.Store.{Store}
+use Rattle.area_image.specs.Reads.{Free}
+
+-- the node pool, and the data blocks of each tier
+pub record PoolsView : Type 0 where
+  pub nodes : FreeBlocks
+  pub fast : FreeBlocks
+  pub block : FreeBlocks
+  pub slow : FreeBlocks
+
+-- the data blocks of a tier
+abbrev pub data_pool : PoolsView → Tier → FreeBlocks
+data_pool p tiers.Fast = p.fast
+data_pool p tiers.Block = p.block
+data_pool p tiers.Slow = p.slow
+
+-- blocks of a tier, each with the tier
+abbrev pub on_tier : Tier → List ℕ → List (Tier × ℕ)
+on_tier t blocks = map (λ k. (t, k)) blocks
+
+-- the free data blocks: fastest tier first, in each tier rising
+abbrev pub free_data : PoolsView → List (Tier × ℕ)
+free_data p = on_tier tiers.Fast p.fast.free ++ (on_tier tiers.Block p.block.free ++ on_tier tiers.Slow p.slow.free)
+
+-- In each pool the free blocks rise strictly, within its range.
+pub record AreInOrder (p : PoolsView) : Type 0 where
+  pub nodes : InOrder p.nodes
+  pub fast : InOrder p.fast
+  pub block : InOrder p.block
+  pub slow : InOrder p.slow
+
+-- The pools have the ranges that the sizes tell.
+pub record HasRanges (g : Sizes) (p : PoolsView) : Type 0 where
+  pub nodes_first : p.nodes.first ≡ FIRST_NODE_BLOCK
+  pub nodes_end : p.nodes.end ≡ node_end g
+  pub first : (t : Tier) → (data_pool p t).first ≡ data_first g t
+  pub end : (t : Tier) → (data_pool p t).end ≡ tier_blocks g t
+
+-- The pools have exactly the blocks that no inode reads: the node pool those of its range, a tier's its data blocks.
+pub record AreFree (g : Sizes) (s : Store) (p : PoolsView) : Type 0 where
+  pub nodes : (k : ℕ) → Contains p.nodes.free k ↔ (Free g s tiers.Fast k × (k < node_end g))
+  pub per_tier : (t : Tier) (k : ℕ) → Contains (data_pool p t).free k ↔ (Free g s t k × (data_first g t ≤ k))

@@ -1,0 +1,8 @@
+//! The free blocks of the shared media in four pools: the node pool, and the data blocks of three tiers.
+#![tactic(auto)]
+
+mod pools;
+mod taking;
+
+pub use pools::Pools;
+pub use taking::Taken;

@@ -1,0 +1,174 @@
+ghost use Rattle.std.specs.Prelude.{◌≡◌, ◌≤◌, ◌<◌, ◌⊎◌, ◌↔◌, length, take, drop, OnOk, OnErr, IfOk, IfErr, IsErrOf};
+ghost use Rattle.block_alloc.specs.Runs.{blocks_of};
+ghost use Rattle.block_alloc.specs.declared.error.AllocatorError.TheVariants.{NoBlock, Memory};
+ghost use Rattle.free_pools.specs.Value.{data_pool, free_data, AreInOrder};
+ghost use Rattle.free_pools.specs.Taking.{taken_data, WereTaken, CanUndo, WasUndone, IsNone, SameFree, KeepsRoom};
+
+use crate::taking::{Taken, give_runs, take_runs};
+use block_alloc::{AllocatorError, FreeRuns};
+use std::alloc::{AllocError, Global};
+use std::marker::Model;
+use tier_device::Tier;
+
+/// The free blocks of the shared media: those of the node pool, which extent blocks and directory blocks share, and the data blocks of each tier. Contracts see each
+/// pool as `FreeRuns` is seen: its range, its free blocks as a rising list, and how many runs can be given without memory.
+#[derive(Debug, Drop)]
+pub struct Pools {
+    alloc: Global,
+    nodes: FreeRuns,
+    fast: FreeRuns,
+    block: FreeRuns,
+    slow: FreeRuns,
+}
+
+impl Model for Pools {
+    ghost use Rattle.free_pools.specs.Value.{PoolsView, AreInOrder};
+
+    ghost Value = { PoolsView };
+
+    ghost view = { λ p. record { nodes = p.nodes; fast = p.fast; block = p.block; slow = p.slow } };
+
+    ghost invariant = { λ p. AreInOrder (record { nodes = p.nodes; fast = p.fast; block = p.block; slow = p.slow }) };
+}
+
+impl Pools {
+    /// How many data blocks of a tier are free.
+    pub fn free(&self, tier: Tier) -> u32
+        ensures count { result ≡ length (data_pool self.now tier).free }
+        ensures ordered { AreInOrder self.now }
+    {
+        match tier {
+            Tier::Fast => self.fast.free(),
+            Tier::Block => self.block.free(),
+            Tier::Slow => self.slow.free(),
+        }
+    }
+
+    /// How many blocks of the node pool are free.
+    pub fn free_nodes(&self) -> u32
+        ensures { result ≡ length self.now.nodes.free }
+    {
+        self.nodes.free()
+    }
+
+    /// Makes room for so many runs to be given to each pool without memory. After a refusal the pools have the same free blocks.
+    pub fn reserve(
+        &mut self,
+        nodes: usize,
+        fast: usize,
+        block: usize,
+        slow: usize,
+    ) -> Result<(), AllocError>
+        ensures nodes { OnOk result (nodes ≤ self.new.nodes.room) }
+        ensures fast { OnOk result (fast ≤ self.new.fast.room) }
+        ensures block { OnOk result (block ≤ self.new.block.room) }
+        ensures slow { OnOk result (slow ≤ self.new.slow.room) }
+        ensures same { SameFree self.old self.new }
+        ensures kept { KeepsRoom self.old self.new }
+    {
+        self.nodes.reserve(nodes)?;
+        self.fast.reserve(fast)?;
+        self.block.reserve(block)?;
+        self.slow.reserve(slow)
+    }
+
+    // Takes so many blocks of each pool, as far as there is memory.
+    fn fill(
+        &mut self,
+        taken: &mut Taken,
+        nodes: u32,
+        fast: u32,
+        block: u32,
+        slow: u32,
+    ) -> Result<(), AllocatorError>
+        requires { IsNone taken.old }
+        ensures taken { WereTaken self.old self.new taken.new }
+        ensures nodes { OnOk result (length (blocks_of taken.new.nodes.items) ≡ nodes) }
+        ensures fast { OnOk result (length (blocks_of taken.new.fast.items) ≡ fast) }
+        ensures block { OnOk result (length (blocks_of taken.new.block.items) ≡ block) }
+        ensures slow { OnOk result (length (blocks_of taken.new.slow.items) ≡ slow) }
+        ensures few { IsErrOf result NoBlock → (length self.old.nodes.free < nodes) ⊎ (length self.old.fast.free < fast) ⊎ (length self.old.block.free < block) ⊎ (length self.old.slow.free < slow) }
+        ensures ordered { AreInOrder self.new }
+    {
+        take_runs(&mut self.nodes, nodes, &mut taken.nodes)?;
+        take_runs(&mut self.fast, fast, &mut taken.fast)?;
+        take_runs(&mut self.block, block, &mut taken.block)?;
+        take_runs(&mut self.slow, slow, &mut taken.slow)
+    }
+
+    // Takes so many blocks of each pool.
+    fn take_parts(
+        &mut self,
+        nodes: u32,
+        fast: u32,
+        block: u32,
+        slow: u32,
+    ) -> Result<Taken, AllocatorError>
+        requires nodes { nodes ≤ length self.old.nodes.free }
+        requires fast { fast ≤ length self.old.fast.free }
+        requires block { block ≤ length self.old.block.free }
+        requires slow { slow ≤ length self.old.slow.free }
+        ensures fronts { IfOk result (WereTaken self.old self.new) }
+        ensures room { OnOk result (KeepsRoom self.old self.new) }
+        ensures undone { IfOk result (CanUndo self.new) }
+        ensures nodes { IfOk result (λ taken. length (blocks_of taken.nodes.items) ≡ nodes) }
+        ensures fast { IfOk result (λ taken. length (blocks_of taken.fast.items) ≡ fast) }
+        ensures block { IfOk result (λ taken. length (blocks_of taken.block.items) ≡ block) }
+        ensures slow { IfOk result (λ taken. length (blocks_of taken.slow.items) ≡ slow) }
+        ensures only { IfErr result (λ e. e ≡ Memory) }
+        ensures err { OnErr result (SameFree self.old self.new) }
+    {
+        match self.reserve(1, 1, 1, 1) {
+            Ok(()) => (),
+            Err(_) => return Err(AllocatorError::Memory),
+        }
+        let mut taken = Taken {
+            nodes: Vec::new(self.alloc),
+            fast: Vec::new(self.alloc),
+            block: Vec::new(self.alloc),
+            slow: Vec::new(self.alloc),
+        };
+        match self.fill(&mut taken, nodes, fast, block, slow) {
+            Ok(()) => Ok(taken),
+            Err(error) => {
+                self.undo(taken);
+                Err(error)
+            }
+        }
+    }
+
+    /// Takes the lowest free blocks of the node pool, and the first free data blocks: fastest tier first, in each tier the lowest. `NoBlock` exactly where fewer blocks
+    /// of the node pool are free, or fewer data blocks of all tiers together; `Memory` where the answer found no room. After a refusal the pools have the same free
+    /// blocks.
+    pub fn take(&mut self, nodes: u32, blocks: u32) -> Result<Taken, AllocatorError>
+        ensures nodes { IfOk result (λ taken. blocks_of taken.nodes.items ≡ take nodes self.old.nodes.free) }
+        ensures data { IfOk result (λ taken. taken_data taken ≡ take blocks (free_data self.old)) }
+        ensures left_nodes { OnOk result (self.new.nodes.free ≡ drop nodes self.old.nodes.free) }
+        ensures left_data { OnOk result (free_data self.new ≡ drop blocks (free_data self.old)) }
+        ensures fronts { IfOk result (WereTaken self.old self.new) }
+        ensures room { OnOk result (KeepsRoom self.old self.new) }
+        // What was taken can be given back without memory.
+        ensures undone { IfOk result (CanUndo self.new) }
+        ensures few { IsErrOf result NoBlock ↔ ((length self.old.nodes.free < nodes) ⊎ (length (free_data self.old) < blocks)) }
+        ensures err { OnErr result (SameFree self.old self.new) }
+    {
+        let fast = self.fast.free().min(blocks);
+        let block = self.block.free().min(blocks - fast);
+        let slow = blocks - fast - block;
+        if self.nodes.free() < nodes || self.slow.free() < slow {
+            return Err(AllocatorError::NoBlock);
+        }
+        self.take_parts(nodes, fast, block, slow)
+    }
+
+    /// Gives back what was taken, without memory.
+    pub fn undo(&mut self, taken: Taken)
+        requires { CanUndo self.old taken }
+        ensures { WasUndone self.old self.new taken }
+    {
+        give_runs(&mut self.nodes, &taken.nodes);
+        give_runs(&mut self.fast, &taken.fast);
+        give_runs(&mut self.block, &taken.block);
+        give_runs(&mut self.slow, &taken.slow);
+    }
+}
