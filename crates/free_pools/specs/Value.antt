@@ -1,13 +1,17 @@
 -- The free blocks of four pools, as callers see them.
-use Rattle.std.specs.Prelude.{◌≡◌, ◌<◌, ◌≤◌, ◌↔◌, ◌++◌, ℕ, List, map}
+use Rattle.std.specs.Prelude.{◌≡◌, ◌<◌, ◌≤◌, ◌↔◌, ◌⊎◌, ◌+◌, ◌++◌, ℕ, List, false, Some, map}
 use Rattle.std.specs.List.{Contains}
 use Rattle.tier_device.specs.declared.media.Tier.{Tier}
 use Rattle.tier_device.specs.declared.media.Tier.TheVariants as tiers
 use Rattle.layout.specs.declared.places.TheConstants.{FIRST_NODE_BLOCK}
 use Rattle.layout.specs.Places.{Sizes, node_end, data_first, tier_blocks}
-use Rattle.block_alloc.specs.Value.{FreeBlocks, InOrder}
+use Rattle.block_alloc.specs.declared.runs.Run.{Run}
+use Rattle.block_alloc.specs.Runs.{run_blocks}
+use Rattle.block_alloc.specs.Value.{FreeBlocks, InOrder, SamePool}
 use Rattle.area_image.specs.Store.{Store}
 use Rattle.area_image.specs.Reads.{Free}
+use Rattle.area_image.specs.Spelled.{Use, used}
+use Rattle.area_image.specs.Used.{UsedMarks, is_marked, IsMarked}
 
 -- the node pool, and the data blocks of each tier
 pub record PoolsView : Type 0 where
@@ -48,3 +52,17 @@ pub record HasRanges (g : Sizes) (p : PoolsView) : Type 0 where
 pub record AreFree (g : Sizes) (s : Store) (p : PoolsView) : Type 0 where
   pub nodes : (k : ℕ) → Contains p.nodes.free k ↔ (Free g s tiers.Fast k × (k < node_end g))
   pub per_tier : (t : Tier) (k : ℕ) → Contains (data_pool p t).free k ↔ (Free g s t k × (data_first g t ≤ k))
+
+-- A run of blocks stands among a pool's free blocks; there was room for it.
+pub record GivesRun (old new : FreeBlocks) (run : Run) : Type 0 where
+  pub blocks : (k : ℕ) → Contains new.free k ↔ (Contains old.free k ⊎ Contains (run_blocks run) k)
+  pub room : old.room ≤ new.room + 1
+  pub pool : SamePool old new
+
+-- The pool has exactly the blocks of its range that are not marked.
+abbrev pub HasUnmarked : UsedMarks → Tier → FreeBlocks → Type 0
+HasUnmarked m t p = (k : ℕ) → Contains p.free k ↔ ((p.first ≤ k) × (k < p.end) × (is_marked m t k ≡ false))
+
+-- Marked are exactly the blocks that have a use.
+abbrev pub MarksAll : Sizes → Store → UsedMarks → Type 0
+MarksAll g s m = (t : Tier) (k : ℕ) → IsMarked m t k ↔ ((u : Use) × (used g s u ≡ Some (t, k)))

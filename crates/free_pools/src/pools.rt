@@ -1,11 +1,20 @@
-ghost use Rattle.std.specs.Prelude.{◌≡◌, ◌≤◌, ◌<◌, ◌⊎◌, ◌↔◌, length, take, drop, OnOk, OnErr, IfOk, IfErr, IsErrOf};
+ghost use Rattle.std.specs.Prelude.{◌≡◌, ◌≢◌, ◌≤◌, ◌<◌, ◌+◌, ◌^◌, ◌⊎◌, ◌↔◌, ℕ, [], false, length, take, drop, get_or, OnOk, OnErr, IfOk, IfErr, IsErrOf};
+ghost use Rattle.tier_device.specs.declared.media.Tier.{Tier};
+ghost use Rattle.tier_device.specs.declared.media.Tier.TheVariants.{Fast};
+ghost use Rattle.layout.specs.declared.places.TheConstants.{FIRST_NODE_BLOCK};
+ghost use Rattle.layout.specs.Places.{node_end, data_first, tier_blocks};
+ghost use Rattle.area_image.specs.Store.{Store};
+ghost use Rattle.area_image.specs.Used.{UsedMarks, marks_in, is_marked};
+ghost use Rattle.block_alloc.specs.Value.{InOrder, IsUsed};
 ghost use Rattle.block_alloc.specs.Runs.{blocks_of};
 ghost use Rattle.block_alloc.specs.declared.error.AllocatorError.TheVariants.{NoBlock, Memory};
-ghost use Rattle.free_pools.specs.Value.{data_pool, free_data, AreInOrder};
+ghost use Rattle.free_pools.specs.Value.{data_pool, free_data, AreInOrder, HasRanges, AreFree, GivesRun, HasUnmarked, MarksAll};
 ghost use Rattle.free_pools.specs.Taking.{taken_data, WereTaken, CanUndo, WasUndone, IsNone, SameFree, KeepsRoom};
 
-use crate::taking::{Taken, give_runs, take_runs};
-use block_alloc::{AllocatorError, FreeRuns};
+use crate::taking::{Taken, give_run, give_runs, take_runs};
+use area_image::UsedBlocks;
+use block_alloc::{AllocatorError, FreeRuns, Run};
+use layout::{FIRST_NODE_BLOCK, Geometry};
 use std::alloc::{AllocError, Global};
 use std::marker::Model;
 use tier_device::Tier;
@@ -31,7 +40,75 @@ impl Model for Pools {
     ghost invariant = { λ p. AreInOrder (record { nodes = p.nodes; fast = p.fast; block = p.block; slow = p.slow }) };
 }
 
+// The blocks of a tier's range that are not marked, one for each mark.
+fn unmarked(alloc: Global, first: u32, marks: &[bool]) -> Result<FreeRuns, AllocError>
+    requires { first + length marks.now < 2 ^ 32 }
+    ensures first { IfOk result (λ v. v.first ≡ first) }
+    ensures end { IfOk result (λ v. v.end ≡ first + length marks.now) }
+    ensures free { (m : UsedMarks) (t : Tier) → ((k : ℕ) → k < length marks.now → get_or marks.now k false ≡ is_marked m t (first + k)) → IfOk result (HasUnmarked m t) }
+    ensures ordered { IfOk result InOrder }
+{
+    FreeRuns::from_used(alloc, first, marks)
+}
+
+// The data blocks of a tier that are not marked.
+fn unmarked_data(
+    alloc: Global,
+    geometry: &Geometry,
+    used: &UsedBlocks,
+    tier: Tier,
+) -> Result<FreeRuns, AllocError>
+    requires { length (marks_in used.now tier) ≡ tier_blocks geometry.now tier }
+    ensures first { IfOk result (λ v. v.first ≡ data_first geometry.now tier) }
+    ensures end { IfOk result (λ v. v.end ≡ tier_blocks geometry.now tier) }
+    ensures free { IfOk result (HasUnmarked used.now tier) }
+    ensures ordered { IfOk result InOrder }
+{
+    let marks = used.data_marks(geometry, tier);
+    unmarked(alloc, geometry.data_first(tier), marks)
+}
+
+// The blocks of the node pool that are not marked.
+fn unmarked_nodes(
+    alloc: Global,
+    geometry: &Geometry,
+    used: &UsedBlocks,
+) -> Result<FreeRuns, AllocError>
+    requires { length (marks_in used.now Fast) ≡ tier_blocks geometry.now Fast }
+    ensures first { IfOk result (λ v. v.first ≡ FIRST_NODE_BLOCK) }
+    ensures end { IfOk result (λ v. v.end ≡ node_end geometry.now) }
+    ensures free { IfOk result (HasUnmarked used.now Fast) }
+    ensures ordered { IfOk result InOrder }
+{
+    let _end = geometry.node_end();
+    let marks = used.node_marks(geometry);
+    unmarked(alloc, FIRST_NODE_BLOCK, marks)
+}
+
 impl Pools {
+    /// The pools of media of this geometry where the blocks in use are marked: all others are free. The cost is one look at each mark.
+    pub fn from_used(
+        alloc: Global,
+        geometry: &Geometry,
+        used: &UsedBlocks,
+    ) -> Result<Pools, AllocError>
+        requires { (t : Tier) → length (marks_in used.now t) ≡ tier_blocks geometry.now t }
+        ensures ranges { IfOk result (HasRanges geometry.now) }
+        ensures free { IfOk result (λ pools. (s : Store) → MarksAll geometry.now s used.now → AreFree geometry.now s pools) }
+    {
+        let nodes = unmarked_nodes(alloc, geometry, used)?;
+        let fast = unmarked_data(alloc, geometry, used, Tier::Fast)?;
+        let block = unmarked_data(alloc, geometry, used, Tier::Block)?;
+        let slow = unmarked_data(alloc, geometry, used, Tier::Slow)?;
+        Ok(Pools {
+            alloc,
+            nodes,
+            fast,
+            block,
+            slow,
+        })
+    }
+
     /// How many data blocks of a tier are free.
     pub fn free(&self, tier: Tier) -> u32
         ensures count { result ≡ length (data_pool self.now tier).free }
@@ -170,5 +247,30 @@ impl Pools {
         give_runs(&mut self.fast, &taken.fast);
         give_runs(&mut self.block, &taken.block);
         give_runs(&mut self.slow, &taken.slow);
+    }
+
+    /// Gives back a run of data blocks, none of which is free. It takes no memory: there has to be room for a run.
+    pub fn give(&mut self, tier: Tier, run: Run)
+        requires used { IsUsed (data_pool self.old tier) run }
+        requires room { 0 < (data_pool self.old tier).room }
+        ensures given { GivesRun (data_pool self.old tier) (data_pool self.new tier) run }
+        ensures others { (t : Tier) → t ≢ tier → data_pool self.new t ≡ data_pool self.old t }
+        ensures nodes { self.new.nodes ≡ self.old.nodes }
+    {
+        match tier {
+            Tier::Fast => give_run(&mut self.fast, run),
+            Tier::Block => give_run(&mut self.block, run),
+            Tier::Slow => give_run(&mut self.slow, run),
+        }
+    }
+
+    /// Gives back a run of the node pool, none of whose blocks is free. It takes no memory: there has to be room for a run.
+    pub fn give_nodes(&mut self, run: Run)
+        requires used { IsUsed self.old.nodes run }
+        requires room { 0 < self.old.nodes.room }
+        ensures given { GivesRun self.old.nodes self.new.nodes run }
+        ensures others { (t : Tier) → data_pool self.new t ≡ data_pool self.old t }
+    {
+        give_run(&mut self.nodes, run);
     }
 }

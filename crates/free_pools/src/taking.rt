@@ -1,7 +1,8 @@
 // Taking runs of one pool, and giving them back.
 ghost use Rattle.std.specs.Prelude.{◌≡◌, ◌≤◌, ◌<◌, [], length, OnOk, IsErrOf, IfErr, ◌↔◌};
 ghost use Rattle.block_alloc.specs.Runs.{blocks_of};
-ghost use Rattle.block_alloc.specs.Value.{InOrder};
+ghost use Rattle.block_alloc.specs.Value.{InOrder, IsUsed};
+ghost use Rattle.free_pools.specs.Value.{GivesRun};
 ghost use Rattle.block_alloc.specs.declared.error.AllocatorError.TheVariants.{NoBlock, Memory};
 ghost use Rattle.free_pools.specs.Taking.{WasTaken, CanGive, WasGiven};
 
@@ -38,4 +39,14 @@ pub fn give_runs(pool: &mut FreeRuns, runs: &[Run])
     'runs: for place in 0..runs.len() {
         let _ = pool.give(runs[runs.len() - 1 - place]);
     }
+}
+
+// Gives back a run, none of whose blocks is free.
+pub fn give_run(pool: &mut FreeRuns, run: Run)
+    requires used { IsUsed pool.old run }
+    requires room { 0 < pool.old.room }
+    ensures given { GivesRun pool.old pool.new run }
+    ensures ordered { InOrder pool.new }
+{
+    let _ = pool.give(run);
 }
