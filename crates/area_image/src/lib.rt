@@ -36,9 +36,11 @@ pub use laws::{
 };
 pub use marks::read_marks;
 pub use opening::{OpenArea, open_area};
+pub use places::first_place;
 pub use reading::{blank_block, read_block};
 pub use slots::{length_of, read_slot, root_of, space_of};
 pub use sound::read_inode;
+pub use tail::block_number;
 pub use taking::mark_inode;
 pub use tiers::{InodeExtents, read_all_extents};
 pub use units::{slots_tell_the_units, units_of};
