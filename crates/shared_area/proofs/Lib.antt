@@ -1,0 +1,3 @@
+pub mod Ready
+pub mod Sound
+pub mod Replays

@@ -1,0 +1,12 @@
+use Rattle.std.proofs.Common.{◌≡◌, false}
+use Rattle.area_image.specs.Store.{store_of}
+use Rattle.area_image.proofs.Parts.{on_damage, own_damage}
+use Rattle.shared_area.proofs.Sound.{undamaged}
+use Rattle.shared_area.proofs.finding.sound_parts.Goals as goal
+
+pub returns-in-Err-clause-only : goal.returns-in-Err-clause-only
+returns-in-Err-clause-only g c =
+    let old = c.args.journal.now in
+    let s = store_of (g.M.Media.seen old.media) in
+    undamaged old.geometry s c.in-Err.error (old.failed ≡ false) (λ other. (c.in-Err.ensures.looks.quiet_refused other).1) c.requires.opens
+    (on_damage c.in-Err.error (own_damage old.geometry s c.args.inode) c.in-Err.ensures.own)

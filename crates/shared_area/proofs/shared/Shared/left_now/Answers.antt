@@ -1,0 +1,18 @@
+use Rattle.std.proofs.Common.{◌≡◌, ◌∙◌, List, ℕ, false, subst, arith}
+use Rattle.tier_device.specs.declared.media.Tier.{Tier}
+use Rattle.tier_device.specs.declared.media.Tier.TheVariants.{Fast}
+use Rattle.tier_device.specs.Media.{Left}
+use Rattle.batch_journal.specs.View.{JournalView}
+use Rattle.area_image.specs.Store.{store_of}
+use Rattle.shared_area.specs.Ready.{OpensAs}
+use Rattle.shared_area.proofs.Ready.{left_opens}
+use Rattle.shared_area.proofs.shared.Shared.left_now.Goals as goal
+
+pub returns-clause-same : goal.returns-clause-same
+returns-clause-same g c =
+    let m = g.M.Media in
+    let j = c.self.inside.journal in
+    subst (λ (v : JournalView _). v.failed ≡ false → (content : Tier → List ℕ) → Left (m.left v.media) (m.moment v.media) content → OpensAs v.geometry (store_of (m.seen v.media)) content) c.self.view_is
+    (λ going content l. left_opens j.geometry (store_of (m.seen j.media)) (m.left j.media (m.moment j.media)) c.self.inside.used c.self.inside.units (c.self.invariant going) content l
+    (λ t. g.met.M.Media.sized j.media (m.moment j.media) t (content t) (omega arith) (l t) ∙ c.left_now.ensures.sizes going t)
+    (c.left_now.ensures.journal going (content Fast) (l Fast)))

@@ -1,0 +1,3 @@
+pub mod Ready
+pub mod Parts
+pub mod Opening

@@ -1,0 +1,33 @@
+-- What the opening of shared media answers.
+use Rattle.std.specs.Prelude.{◌≡◌, ◌⊎◌, ℕ, List, IsSome}
+use Rattle.tier_device.specs.declared.media.Tier.{Tier}
+use Rattle.layout.specs.declared.error.What.{What}
+use Rattle.layout.specs.Places.{Sizes}
+use Rattle.batch_journal.specs.declared.error.JournalError.{JournalError}
+use Rattle.batch_journal.specs.declared.error.JournalError.TheVariants as journal
+use Rattle.batch_journal.specs.Volume.{IsVolume}
+use Rattle.batch_journal.specs.Damage.{Names, AwaitsReplay}
+use Rattle.area_image.specs.declared.error.AreaError.{AreaError}
+use Rattle.area_image.specs.declared.error.AreaError.TheVariants as errors
+use Rattle.area_image.specs.Store.{store_of, marks}
+use Rattle.area_image.specs.Spelled.{IsOpenable}
+use Rattle.area_image.specs.Damage.{IsDamaged}
+
+-- By no geometry do the media hold a journal and spell a graph within the units.
+abbrev pub SpellsNone : (Tier → List ℕ) → Type 0
+SpellsNone seen = (g : Sizes) → IsVolume g seen → IsOpenable g (store_of seen) → ⊥
+
+-- This structure is damaged, and stands in that block: the media hold no journal, or their blocks, an open journal replayed, spell no graph within the units.
+abbrev pub IsMediumDamage : (Tier → List ℕ) → What → ℕ → Type 0
+IsMediumDamage seen w block = Names seen w block ⊎ ((g : Sizes) × IsVolume g seen × IsDamaged g (store_of seen) w block)
+
+-- Memory is wanted: for a replay, or behind sound marks for what the blocks spell.
+abbrev pub WantsMemory : (Tier → List ℕ) → Type 0
+WantsMemory seen = AwaitsReplay seen ⊎ (((g : Sizes) × IsVolume g seen) × IsSome (marks (store_of seen)))
+
+-- The area tells what the journal was refused for; it commits no batch.
+abbrev pub IsTold : JournalError → AreaError → Type 0
+IsTold journal.DeviceFault e = e ≡ errors.DeviceFault
+IsTold journal.BatchTooLarge e = ⊥
+IsTold (journal.Damaged w block) e = e ≡ errors.Damaged w block
+IsTold journal.Memory e = e ≡ errors.Memory

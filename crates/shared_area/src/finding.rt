@@ -1,0 +1,87 @@
+// Where the blocks of an inode lie.
+ghost use Rattle.std.specs.Prelude.{◌≡◌, ◌≤◌, None, IsSome, false, IfOk, IfErr, IfSome, IfNone};
+ghost use Rattle.tier_device.specs.declared.media.Tier.{Tier};
+ghost use Rattle.area_image.specs.Store.{store_of};
+ghost use Rattle.area_image.specs.Spelled.{IsOpenable};
+ghost use Rattle.area_image.specs.Map.{place_by};
+ghost use Rattle.area_image.specs.Looks.{Looks};
+ghost use Rattle.shared_area.specs.Parts.{IsNoDamage, IsTierOf, HasParts, FindsParts};
+
+use area_image::{AreaError, InodeParts, first_place, read_parts};
+use batch_journal::Journal;
+use layout::is_inode;
+use posix_calls::MAX_INODE;
+use std::alloc::Global;
+use tier_device::{Media, Tier};
+
+// Slot and extents of an inode.
+fn sound_parts<M: Media>(
+    alloc: Global,
+    journal: &mut Journal<M>,
+    inode: u32,
+) -> Result<InodeParts, AreaError>
+    requires low { 1 ≤ inode }
+    requires high { inode ≤ MAX_INODE }
+    requires opens { journal.old.failed ≡ false → IsOpenable journal.old.geometry (store_of (M.seen journal.old.media)) }
+    ensures parts { IfOk result (HasParts journal.old.geometry (store_of (M.seen journal.old.media)) inode) }
+    ensures only { IfErr result IsNoDamage }
+    ensures looks { Looks M.moment M.seen M.left M.faults journal.old journal.new result }
+{
+    match read_parts(alloc, journal, inode) {
+        Ok(parts) => Ok(parts),
+        Err(error) => Err(error),
+    }
+}
+
+// Slot and extents of an inode; `None` for a number that is no inode's.
+pub fn find_parts<M: Media>(
+    alloc: Global,
+    journal: &mut Journal<M>,
+    inode: u32,
+) -> Result<Option<InodeParts>, AreaError>
+    requires { journal.old.failed ≡ false → IsOpenable journal.old.geometry (store_of (M.seen journal.old.media)) }
+    ensures parts { IfOk result (FindsParts journal.old.geometry (store_of (M.seen journal.old.media)) inode) }
+    ensures only { IfErr result IsNoDamage }
+    ensures looks { Looks M.moment M.seen M.left M.faults journal.old journal.new result }
+{
+    if journal.has_failed() {
+        return Err(AreaError::DeviceFault);
+    }
+    if !is_inode(inode) {
+        return Ok(None);
+    }
+    match sound_parts(alloc, journal, inode) {
+        Ok(parts) => Ok(Some(parts)),
+        Err(error) => Err(error),
+    }
+}
+
+// The tier that maps a logical block.
+fn mapping_tier(parts: &InodeParts, block: u64) -> Option<Tier>
+    ensures some { IfSome result (λ t. IsSome (place_by parts.now.extents t block)) }
+    ensures none { IfNone result ((t : Tier) → place_by parts.now.extents t block ≡ None) }
+{
+    match first_place(&parts.extents, block) {
+        Some((tier, _)) => Some(tier),
+        None => None,
+    }
+}
+
+/// The tier that maps a logical block of an inode, if one does.
+pub fn find_tier<M: Media>(
+    alloc: Global,
+    journal: &mut Journal<M>,
+    inode: u32,
+    block: u64,
+) -> Result<Option<Tier>, AreaError>
+    requires { journal.old.failed ≡ false → IsOpenable journal.old.geometry (store_of (M.seen journal.old.media)) }
+    ensures tier { IfOk result (IsTierOf journal.old.geometry (store_of (M.seen journal.old.media)) inode block) }
+    ensures only { IfErr result IsNoDamage }
+    ensures looks { Looks M.moment M.seen M.left M.faults journal.old journal.new result }
+{
+    match find_parts(alloc, journal, inode) {
+        Ok(Some(parts)) => Ok(mapping_tier(&parts, block)),
+        Ok(None) => Ok(None),
+        Err(error) => Err(error),
+    }
+}

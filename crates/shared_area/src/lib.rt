@@ -1,0 +1,12 @@
+//! The shared area: a graph of inodes with its charge and marks, kept in the blocks of shared media.
+//!
+//! Contracts speak of the medium alone, through `store_of`, `graph` and `marks` of `area_image`.
+#![tactic(auto)]
+
+mod finding;
+mod opening;
+mod shared;
+mod touching;
+
+pub use area_image::AreaError;
+pub use shared::Shared;

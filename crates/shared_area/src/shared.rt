@@ -1,0 +1,163 @@
+ghost use Rattle.std.specs.Prelude.{◌≡◌, ◌≢◌, ◌≤◌, ◌+◌, ℕ, List, false, IfOk, IfErr};
+ghost use Rattle.tier_device.specs.declared.media.Tier.{Tier};
+ghost use Rattle.tier_device.specs.declared.media.Tier.TheVariants.{Fast};
+ghost use Rattle.tier_device.specs.Media.{AtRest, Left, Rose};
+ghost use Rattle.batch_journal.specs.Blocks.{calls_of};
+ghost use Rattle.batch_journal.specs.Course.{Since, Unmoved};
+ghost use Rattle.batch_journal.specs.Damage.{AwaitsReplay};
+ghost use Rattle.batch_journal.specs.Volume.{IsVolume, SameJournal};
+ghost use Rattle.file_graph.specs.Units.{charge};
+ghost use Rattle.area_image.specs.Store.{store_of, graph, slot, touch_of};
+ghost use Rattle.area_image.specs.Reads.{Loose};
+ghost use Rattle.area_image.specs.Spelled.{IsOpenable};
+ghost use Rattle.area_image.specs.Looks.{Looks};
+ghost use Rattle.area_image.specs.declared.error.AreaError.TheVariants.{DeviceFault, Memory};
+ghost use Rattle.area_image.specs.Damage.{OnDamage};
+ghost use Rattle.shared_area.specs.Opening.{SpellsNone, IsMediumDamage, WantsMemory};
+ghost use Rattle.shared_area.specs.Ready.{OpensAs};
+ghost use Rattle.shared_area.specs.Parts.{IsNoDamage, IsTierOf};
+
+use crate::finding::find_tier;
+use crate::opening::told;
+use crate::touching::find_touch;
+use area_image::{AreaError, UsedBlocks, open_area};
+use batch_journal::Journal;
+use layout::Geometry;
+use std::alloc::Global;
+use std::marker::Model;
+use tier_device::{Media, Tier};
+
+/// The shared media, opened: a graph of inodes with its charge and marks.
+///
+/// Contracts see the medium, its geometry, and whether a device has failed. What its blocks spell is `graph` and `marks` of the store that is read.
+///
+/// A call that meets a device fault makes the area answer `DeviceFault` to each later call, with nothing changed, until the medium is opened again.
+#[derive(Debug, Drop)]
+pub struct Shared<M: Media> {
+    alloc: Global,
+    journal: Journal<M>,
+    used: UsedBlocks,
+    units: u64,
+}
+
+impl<M: Media> Model for Shared<M> {
+    ghost use Rattle.std.specs.Prelude.{◌≡◌, false, ℕ, List};
+    ghost use Rattle.tier_device.specs.declared.media.Tier.{Tier};
+    ghost use Rattle.batch_journal.specs.View.{JournalView};
+    ghost use Rattle.area_image.specs.Store.{store_of};
+    ghost use Rattle.shared_area.specs.Ready.{IsReady};
+
+    ghost Value = { JournalView M };
+
+    ghost view = { λ a. a.journal };
+
+    // until a device has failed
+    ghost invariant = { λ a. a.journal.failed ≡ false → IsReady a.journal.geometry (store_of (M.seen a.journal.media)) (M.left a.journal.media (M.moment a.journal.media)) a.used a.units };
+}
+
+impl<M: Media> Shared<M> {
+    /// Opens media on which nothing is pending. An open journal is replayed; then all slots, extent blocks and directories are read, and of a file the last block at most.
+    /// What is opened spells the graph and the marks that the bytes spelled.
+    ///
+    /// `Damaged` exactly where the bytes spell no graph within the units, by the structure that shows it and its block; an open journal that is sound was replayed then, and
+    /// nothing else was written. `Memory` where there was none for the replay or for what is read. The medium is handed back with each refusal; where no device has failed it
+    /// is at rest, with the same blocks.
+    pub fn reopen(alloc: Global, medium: M) -> Result<Self, (AreaError, M)>
+        requires { (t : Tier) → AtRest (M.seen medium) (M.left medium (M.moment medium)) t }
+
+        // At each moment a stop leaves contents that are opened with the same blocks.
+        ensures any_moment { IfOk result (λ a. Since Fast (SameJournal (M.seen medium Fast)) (M.moment medium) (M.moment a.media) (M.left medium) (M.left a.media)) }
+        ensures any_moment_refused { IfErr result (λ e. Since Fast (SameJournal (M.seen medium Fast)) (M.moment medium) (M.moment e.1) (M.left medium) (M.left e.1)) }
+
+        ensures volume { IfOk result (λ a. IsVolume a.geometry (M.seen medium)) }
+        ensures opens { IfOk result (λ a. IsOpenable a.geometry (store_of (M.seen medium))) }
+        ensures blocks { IfOk result (λ a. store_of (M.seen a.media) ≡ store_of (M.seen medium)) }
+        ensures rests { IfOk result (λ a. (t : Tier) → AtRest (M.seen a.media) (M.left a.media (M.moment a.media)) t) }
+        ensures unfailed { IfOk result (λ a. a.failed ≡ false) }
+        ensures calls { IfOk result (λ a. M.moment a.media ≡ M.moment medium + calls_of (M.seen medium Fast)) }
+        ensures quiet { IfOk result (λ a. M.faults a.media ≡ M.faults medium) }
+
+        ensures damaged { IfErr result (λ e. OnDamage e.0 (λ _ _. SpellsNone (M.seen medium))) }
+        ensures named { IfErr result (λ e. OnDamage e.0 (IsMediumDamage (M.seen medium))) }
+        ensures memory { IfErr result (λ e. e.0 ≡ Memory → WantsMemory (M.seen medium)) }
+        ensures untouched { IfErr result (λ e. e.0 ≢ DeviceFault → (AwaitsReplay (M.seen medium) → ⊥) → Unmoved (M.moment medium) (M.moment e.1) (M.seen medium) (M.seen e.1) (M.left medium) (M.left e.1)) }
+        ensures blocks_refused { IfErr result (λ e. e.0 ≢ DeviceFault → store_of (M.seen e.1) ≡ store_of (M.seen medium)) }
+        ensures rests_refused { IfErr result (λ e. e.0 ≢ DeviceFault → (t : Tier) → AtRest (M.seen e.1) (M.left e.1 (M.moment e.1)) t) }
+        ensures fault { IfErr result (λ e. e.0 ≡ DeviceFault → Rose (M.faults medium) (M.faults e.1)) }
+        ensures quiet_refused { IfErr result (λ e. e.0 ≢ DeviceFault → M.faults e.1 ≡ M.faults medium) }
+        ensures at_most { IfErr result (λ e. M.moment e.1 ≤ M.moment medium + calls_of (M.seen medium Fast)) }
+        ensures faults_refused { IfErr result (λ e. M.faults medium ≤ M.faults e.1) }
+        ensures one_fault { IfErr result (λ e. M.faults e.1 ≤ M.faults medium + 1) }
+    {
+        let mut journal = match Journal::reopen(alloc, medium) {
+            Ok(journal) => journal,
+            Err((error, medium)) => return Err((told(error), medium)),
+        };
+        match open_area(alloc, &mut journal) {
+            Ok(found) => Ok(Shared {
+                alloc,
+                journal,
+                used: found.used,
+                units: found.charge,
+            }),
+            Err(error) => Err((error, journal.into_media())),
+        }
+    }
+
+    /// The tier that maps a logical block of an inode, a block of 4,096 bytes of a file or of 56 entries of a directory; `None` where no tier does, or there is no such
+    /// inode. `Memory` where there was none for an extent block.
+    pub fn tier_of(&mut self, inode: u32, block: u64) -> Result<Option<Tier>, AreaError>
+        ensures tier { IfOk result (IsTierOf self.old.geometry (store_of (M.seen self.old.media)) inode block) }
+        ensures only { IfErr result IsNoDamage }
+        ensures looks { Looks M.moment M.seen M.left M.faults self.old self.new result }
+    {
+        let alloc = self.alloc;
+        find_tier(alloc, &mut self.journal, inode, block)
+    }
+
+    /// The number of the last digest that wrote an inode; 0 where there is no such inode. It takes no memory.
+    pub fn touch(&mut self, inode: u32) -> Result<u64, AreaError>
+        ensures touch { IfOk result (λ t. t ≡ touch_of (slot self.old.geometry (store_of (M.seen self.old.media)) inode)) }
+        ensures only { IfErr result (λ e. e ≡ DeviceFault) }
+        ensures looks { Looks M.moment M.seen M.left M.faults self.old self.new result }
+    {
+        find_touch(&mut self.journal, inode)
+    }
+
+    /// What the graph costs, in units: one for each inode and one for each logical block, holes too.
+    pub fn charge(&self) -> u64
+        ensures { self.now.failed ≡ false → result ≡ charge (graph self.now.geometry (store_of (M.seen self.now.media))) }
+    {
+        self.units
+    }
+
+    /// The sizes of the medium.
+    pub fn geometry(&self) -> Geometry
+        ensures { result ≡ self.now.geometry }
+    {
+        self.journal.geometry()
+    }
+
+    /// Whether a device has failed since the medium was opened.
+    pub fn has_failed(&self) -> bool
+        ensures { result ≡ self.now.failed }
+    {
+        self.journal.has_failed()
+    }
+
+    /// What may be left of the medium by a stop now, between two calls: contents that can be opened, and spell the graph and the marks that are read.
+    pub fn left_now(&self)
+        ensures opens { self.now.failed ≡ false → IsOpenable self.now.geometry (store_of (M.seen self.now.media)) }
+        ensures loose { self.now.failed ≡ false → (content : Tier → List ℕ) → Left (M.left self.now.media) (M.moment self.now.media) content → Loose self.now.geometry (store_of (M.seen self.now.media)) (store_of content) }
+        ensures same { self.now.failed ≡ false → (content : Tier → List ℕ) → Left (M.left self.now.media) (M.moment self.now.media) content → OpensAs self.now.geometry (store_of (M.seen self.now.media)) content }
+    {
+        self.journal.left_now();
+    }
+
+    /// The medium beneath.
+    pub fn into_medium(self) -> M
+        ensures { result ≡ self.media }
+    {
+        self.journal.into_media()
+    }
+}

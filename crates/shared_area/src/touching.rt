@@ -1,0 +1,41 @@
+// The number of the last digest that wrote an inode.
+ghost use Rattle.std.specs.Prelude.{◌≡◌, false, IfOk, IfErr};
+ghost use Rattle.area_image.specs.Store.{store_of, slot, touch_of};
+ghost use Rattle.area_image.specs.Spelled.{IsOpenable};
+ghost use Rattle.area_image.specs.Looks.{Looks};
+ghost use Rattle.area_image.specs.declared.error.AreaError.TheVariants.{DeviceFault};
+
+use area_image::{AreaError, read_slot};
+use batch_journal::Journal;
+use layout::{Slot, is_inode};
+use tier_device::Media;
+
+// The touch number that a slot tells.
+fn touch_of(slot: &Slot) -> u64
+    ensures { result ≡ touch_of slot.now }
+{
+    match *slot {
+        Slot::Free => 0,
+        Slot::File { touch, .. } => touch,
+        Slot::Directory { touch, .. } => touch,
+    }
+}
+
+/// The touch number of an inode, 0 where there is none.
+pub fn find_touch<M: Media>(journal: &mut Journal<M>, inode: u32) -> Result<u64, AreaError>
+    requires { journal.old.failed ≡ false → IsOpenable journal.old.geometry (store_of (M.seen journal.old.media)) }
+    ensures touch { IfOk result (λ t. t ≡ touch_of (slot journal.old.geometry (store_of (M.seen journal.old.media)) inode)) }
+    ensures only { IfErr result (λ e. e ≡ DeviceFault) }
+    ensures looks { Looks M.moment M.seen M.left M.faults journal.old journal.new result }
+{
+    if journal.has_failed() {
+        return Err(AreaError::DeviceFault);
+    }
+    if !is_inode(inode) {
+        return Ok(0);
+    }
+    match read_slot(journal, inode) {
+        Ok(slot) => Ok(touch_of(&slot)),
+        Err(error) => Err(error),
+    }
+}
