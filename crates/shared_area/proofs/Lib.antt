@@ -1,3 +1,4 @@
 pub mod Ready
 pub mod Sound
 pub mod Replays
+pub mod Files

@@ -1,3 +1,4 @@
 pub mod Ready
 pub mod Parts
 pub mod Opening
+pub mod Reading

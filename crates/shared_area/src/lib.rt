@@ -5,6 +5,7 @@
 
 mod finding;
 mod opening;
+mod reading;
 mod shared;
 mod touching;
 
