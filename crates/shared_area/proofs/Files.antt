@@ -1,5 +1,5 @@
 -- Bytes of a file, block by block.
-use Rattle.std.proofs.Common.{◌≡◌, ◌≢◌, ◌≤◌, ◌<◌, ◌+◌, ◌-◌, ◌*◌, ◌/◌, ◌%◌, ◌∙◌, ℕ, List, [], ◌++◌, length, take, drop, map, get_or, true, false, refl, sym, ap, subst, arith, Some, None, inl, inr}
+use Rattle.std.proofs.Common.{◌≡◌, ◌≤◌, ◌<◌, ◌+◌, ◌-◌, ◌*◌, ◌/◌, ◌%◌, ◌∙◌, ℕ, List, [], ◌++◌, length, take, drop, map, get_or, false, refl, sym, ap, arith, Some, None, inl, inr}
 use Rattle.std.specs.Prelude.{min, unwrap_or, replicate}
 use Rattle.std.specs.List.{range_with_len}
 use Rattle.std.proofs.lemmas.Bool.{cases_lt}

@@ -2,3 +2,4 @@ pub mod Ready
 pub mod Sound
 pub mod Replays
 pub mod Files
+pub mod Counts

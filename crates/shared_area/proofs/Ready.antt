@@ -6,6 +6,7 @@ use Rattle.tier_device.specs.declared.media.Tier.{Tier}
 use Rattle.tier_device.specs.declared.media.Tier.TheVariants.{Fast}
 use Rattle.file_graph.specs.Graph.{Graph}
 use Rattle.file_graph.specs.Units.{charge}
+use Rattle.layout.specs.declared.marks.Marks.{Marks}
 use Rattle.layout.specs.Places.{Sizes, tier_blocks}
 use Rattle.batch_journal.specs.View.{JournalView}
 use Rattle.batch_journal.specs.Volume.{IsJournal}
@@ -13,12 +14,12 @@ use Rattle.batch_journal.proofs.Courses.{left_before}
 use Rattle.area_image.specs.declared.error.AreaError.{AreaError}
 use Rattle.area_image.specs.Store.{Store, store_of}
 use Rattle.area_image.specs.Spelled.{IsOpenable}
-use Rattle.area_image.specs.Used.{UsedMarks}
 use Rattle.area_image.specs.Looks.{Looks}
 use Rattle.area_image.specs.Reads.{Loose}
 use Rattle.area_image.proofs.Looked.{carried}
 use Rattle.area_image.proofs.Frames.{loose_graph, loose_marks, loose_spelled}
 use Rattle.area_image.proofs.Torn.{loose_whole}
+use Rattle.free_pools.specs.Value.{PoolsView}
 use Rattle.shared_area.specs.Ready.{IsReady, OpensAs}
 
 module _ {M : Type 0} (moment : M → ℕ) (seen : M → Tier → List ℕ) (left : M → ℕ → Tier → List ℕ → Type 0) (faults : M → ℕ) where
@@ -29,16 +30,17 @@ module _ {M : Type 0} (moment : M → ℕ) (seen : M → Tier → List ℕ) (lef
     | inr still ↦ still
   ]
 
-  pub still_ready : {T : Type 0} (old new : JournalView M) (r : Result T AreaError) → Looks moment seen left faults old new r → (marked : UsedMarks) (units : ℕ)
-      → (old.failed ≡ false → IsReady old.geometry (store_of (seen old.media)) (left old.media (moment old.media)) marked units)
-      → new.failed ≡ false → IsReady new.geometry (store_of (seen new.media)) (left new.media (moment new.media)) marked units
-  still_ready old new r looks marked units before going =
+  pub still_ready : {T : Type 0} (old new : JournalView M) (r : Result T AreaError) → Looks moment seen left faults old new r → (pools : PoolsView) (told : Marks) (units : ℕ)
+      → (old.failed ≡ false → IsReady old.geometry (store_of (seen old.media)) (left old.media (moment old.media)) pools told units)
+      → new.failed ≡ false → IsReady new.geometry (store_of (seen new.media)) (left new.media (moment new.media)) pools told units
+  still_ready old new r looks pools told units before going =
       let ready = before (was_going old new r looks going) in
-      carried moment seen left faults (λ g s. IsReady g s (left new.media (moment new.media)) marked units) old new r looks (record {
+      carried moment seen left faults (λ g s. IsReady g s (left new.media (moment new.media)) pools told units) old new r looks (record {
         opens = ready.opens;
         left = λ t x l. ready.left t x (left_before looks.unmoved t x l);
-        room = ready.room;
-        in_use = ready.in_use;
+        ranges = ready.ranges;
+        free = ready.free;
+        marked = ready.marked;
         charged = ready.charged;
       })
 
@@ -50,13 +52,13 @@ keeps_opens g s x opens loose = record {
 }
 
 -- what a stop may leave now
-pub left_loose : (g : Sizes) (s : Store) (may_leave : Tier → List ℕ → Type 0) (marked : UsedMarks) (units : ℕ) → IsReady g s may_leave marked units → (content : Tier → List ℕ) → ((t : Tier) → may_leave t (content t)) → Loose g s (store_of content)
-left_loose g s may_leave marked units ready content l = loose_whole g s content (λ t. ready.left t (content t) (l t))
+pub left_loose : (g : Sizes) (s : Store) (may_leave : Tier → List ℕ → Type 0) (pools : PoolsView) (told : Marks) (units : ℕ) → IsReady g s may_leave pools told units → (content : Tier → List ℕ) → ((t : Tier) → may_leave t (content t)) → Loose g s (store_of content)
+left_loose g s may_leave pools told units ready content l = loose_whole g s content (λ t. ready.left t (content t) (l t))
 
-pub left_opens : (g : Sizes) (s : Store) (may_leave : Tier → List ℕ → Type 0) (marked : UsedMarks) (units : ℕ) → IsReady g s may_leave marked units → (content : Tier → List ℕ) → ((t : Tier) → may_leave t (content t))
+pub left_opens : (g : Sizes) (s : Store) (may_leave : Tier → List ℕ → Type 0) (pools : PoolsView) (told : Marks) (units : ℕ) → IsReady g s may_leave pools told units → (content : Tier → List ℕ) → ((t : Tier) → may_leave t (content t))
     → ((t : Tier) → length (content t) ≡ 4096 * tier_blocks g t) → IsJournal g (content Fast) → OpensAs g s content
-left_opens g s may_leave marked units ready content l sizes journal =
-    let loose = left_loose g s may_leave marked units ready content l in
+left_opens g s may_leave pools told units ready content l sizes journal =
+    let loose = left_loose g s may_leave pools told units ready content l in
     record {
       volume = record { sizes = sizes; journal = journal };
       opens = keeps_opens g s (store_of content) ready.opens loose;

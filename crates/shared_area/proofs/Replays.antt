@@ -1,5 +1,5 @@
 -- What is opened, or handed back, is as it was.
-use Rattle.std.proofs.Common.{◌≡◌, ◌≢◌, ◌+◌, ◌∙◌, ℕ, List, length, refl, sym, ap, subst, arith, inl, inr, cond}
+use Rattle.std.proofs.Common.{◌≡◌, ◌≢◌, ◌+◌, ◌∙◌, ℕ, List, refl, sym, ap, subst, arith, inl, inr, cond}
 use Rattle.std.specs.Prelude.{Some}
 use Rattle.std.proofs.lemmas.Bool.{cases_Bool}
 use Rattle.tier_device.specs.declared.media.Tier.{Tier}
@@ -7,7 +7,7 @@ use Rattle.tier_device.specs.declared.media.Tier.TheVariants.{Fast, Block, Slow}
 use Rattle.tier_device.specs.Media.{AtRest}
 use Rattle.file_graph.specs.Units.{charge}
 use Rattle.layout.specs.declared.error.What.{What}
-use Rattle.layout.specs.Places.{Sizes, tier_blocks}
+use Rattle.layout.specs.Places.{Sizes}
 use Rattle.batch_journal.specs.declared.error.JournalError.{JournalError}
 use Rattle.batch_journal.specs.declared.error.JournalError.TheVariants as journal
 use Rattle.batch_journal.specs.Images.{count_of}
@@ -19,9 +19,10 @@ use Rattle.batch_journal.proofs.Courses.{and_then, still, left_before, tiers_sam
 use Rattle.batch_journal.proofs.Openings.{spells_one}
 use Rattle.area_image.specs.declared.error.AreaError.{AreaError}
 use Rattle.area_image.specs.declared.error.AreaError.TheVariants as errors
-use Rattle.area_image.specs.Store.{Store, store_of, content_blocks, graph}
-use Rattle.area_image.specs.Spelled.{Use, used, IsOpenable}
-use Rattle.area_image.specs.Used.{UsedMarks, marks_in, IsMarked}
+use Rattle.area_image.specs.Store.{Store, store_of, content_blocks, graph, marks}
+use Rattle.area_image.specs.Spelled.{IsOpenable}
+use Rattle.free_pools.specs.Value.{PoolsView, HasRanges, AreFree}
+use Rattle.layout.specs.declared.marks.Marks.{Marks}
 use Rattle.area_image.specs.Damage.{OnDamage}
 use Rattle.area_image.proofs.Parts.{on_damage}
 use Rattle.shared_area.specs.Opening.{SpellsNone, IsTold}
@@ -82,14 +83,14 @@ module _ (s s' : Tier → List ℕ) (a b : ℕ) (L M : ℕ → Tier → List ℕ
     store_read = ap store_of (tiers_same s' s'' un.reads) ∙ same_store
 
 -- what is in memory of a medium at rest
-pub ready_at_rest : (g : Sizes) (s : Tier → List ℕ) (may_leave : Tier → List ℕ → Type 0) (marked : UsedMarks) (units : ℕ) → IsOpenable g (store_of s) → ((t : Tier) → AtRest s may_leave t) → ((t : Tier) → length (marks_in marked t) ≡ tier_blocks g t)
-    → ((t : Tier) (k : ℕ) → (IsMarked marked t k → (u : Use) × (used g (store_of s) u ≡ Some (t, k))) × ((u : Use) × (used g (store_of s) u ≡ Some (t, k)) → IsMarked marked t k)) → units ≡ charge (graph g (store_of s))
-    → IsReady g (store_of s) may_leave marked units
-ready_at_rest g s may_leave marked units opens rests room in_use charged = record {
+pub ready_at_rest : (g : Sizes) (s : Tier → List ℕ) (may_leave : Tier → List ℕ → Type 0) (pools : PoolsView) (told : Marks) (units : ℕ) → IsOpenable g (store_of s) → ((t : Tier) → AtRest s may_leave t) → HasRanges g pools → AreFree g (store_of s) pools
+    → marks (store_of s) ≡ Some told → units ≡ charge (graph g (store_of s)) → IsReady g (store_of s) may_leave pools told units
+ready_at_rest g s may_leave pools told units opens rests ranges free marked charged = record {
   opens = opens;
   left = λ t x l k used. ap (λ d. content_blocks t d k) (rests t x l);
-  room = room;
-  in_use = in_use;
+  ranges = ranges;
+  free = free;
+  marked = marked;
   charged = charged;
 }
 

@@ -1,10 +1,60 @@
-// Why media were not opened.
-ghost use Rattle.std.specs.Prelude.{◌≢◌};
+// What is known of media once they are opened, and why they were not.
+ghost use Rattle.std.specs.Prelude.{◌≡◌, ◌≢◌, Some, IsSome, OnOk, IfOk, IfErr};
+ghost use Rattle.file_graph.specs.Units.{charge};
 ghost use Rattle.batch_journal.specs.declared.error.JournalError.TheVariants.{BatchTooLarge};
+ghost use Rattle.area_image.specs.Store.{store_of, graph, marks as marks_of};
+ghost use Rattle.area_image.specs.Spelled.{IsOpenable};
+ghost use Rattle.area_image.specs.Damage.{OnDamage, IsDamaged};
+ghost use Rattle.area_image.specs.Looks.{Looks};
+ghost use Rattle.area_image.specs.declared.error.AreaError.TheVariants.{Memory};
+ghost use Rattle.free_pools.specs.Value.{HasRanges, AreFree};
 ghost use Rattle.shared_area.specs.Opening.{IsTold};
 
-use area_image::AreaError;
-use batch_journal::JournalError;
+use area_image::{AreaError, open_area};
+use batch_journal::{Journal, JournalError};
+use free_pools::Pools;
+use layout::Marks;
+use std::alloc::Global;
+use tier_device::Media;
+
+/// What is kept in memory of opened media.
+#[derive(Drop)]
+pub struct Contents {
+    pub pools: Pools,
+    pub marks: Marks,
+    pub units: u64,
+}
+
+/// Reads the whole area behind a journal, and finds the free blocks.
+pub fn read_contents<M: Media>(
+    alloc: Global,
+    journal: &mut Journal<M>,
+) -> Result<Contents, AreaError>
+    ensures opens { OnOk result (IsOpenable journal.old.geometry (store_of (M.seen journal.old.media))) }
+    ensures ranges { IfOk result (λ x. HasRanges journal.old.geometry x.pools) }
+    ensures free { IfOk result (λ x. AreFree journal.old.geometry (store_of (M.seen journal.old.media)) x.pools) }
+    ensures marks { IfOk result (λ x. marks_of (store_of (M.seen journal.old.media)) ≡ Some x.marks) }
+    ensures units { IfOk result (λ x. x.units ≡ charge (graph journal.old.geometry (store_of (M.seen journal.old.media)))) }
+    ensures damaged { IfErr result (λ e. OnDamage e (IsDamaged journal.old.geometry (store_of (M.seen journal.old.media)))) }
+    ensures unopenable { IfErr result (λ e. OnDamage e (λ _ _. IsOpenable journal.old.geometry (store_of (M.seen journal.old.media)) → ⊥)) }
+    ensures memory { IfErr result (λ e. e ≡ Memory → IsSome (marks_of (store_of (M.seen journal.old.media)))) }
+    ensures looks { Looks M.moment M.seen M.left M.faults journal.old journal.new result }
+{
+    match open_area(alloc, journal) {
+        Ok(found) => {
+            let geometry = journal.geometry();
+            match Pools::from_used(alloc, &geometry, &found.used) {
+                Ok(pools) => Ok(Contents {
+                    pools,
+                    marks: found.marks,
+                    units: found.charge,
+                }),
+                Err(_) => Err(AreaError::Memory),
+            }
+        }
+        Err(error) => Err(error),
+    }
+}
 
 /// What the journal was refused for.
 pub fn told(error: JournalError) -> AreaError

@@ -1,4 +1,4 @@
-ghost use Rattle.std.specs.Prelude.{◌≡◌, ◌≢◌, ◌≤◌, ◌+◌, ℕ, List, false, IfOk, IfErr};
+ghost use Rattle.std.specs.Prelude.{◌≡◌, ◌≢◌, ◌≤◌, ◌<◌, ◌+◌, ◌-◌, ℕ, List, min, length, false, Some, OnErr, IfOk, IfErr};
 ghost use Rattle.tier_device.specs.declared.media.Tier.{Tier};
 ghost use Rattle.tier_device.specs.declared.media.Tier.TheVariants.{Fast};
 ghost use Rattle.tier_device.specs.Media.{AtRest, Left, Rose};
@@ -7,22 +7,27 @@ ghost use Rattle.batch_journal.specs.Course.{Since, Unmoved};
 ghost use Rattle.batch_journal.specs.Damage.{AwaitsReplay};
 ghost use Rattle.batch_journal.specs.Volume.{IsVolume, SameJournal};
 ghost use Rattle.file_graph.specs.Units.{charge};
-ghost use Rattle.area_image.specs.Store.{store_of, graph, slot, touch_of};
-ghost use Rattle.area_image.specs.Reads.{Loose};
+ghost use Rattle.layout.specs.declared.places.TheConstants.{FIRST_NODE_BLOCK};
+ghost use Rattle.layout.specs.Places.{data_first, tier_blocks, node_end};
+ghost use Rattle.area_image.specs.Store.{store_of, graph, slot, touch_of, marks as marks_of};
+ghost use Rattle.area_image.specs.Reads.{Free, Loose};
 ghost use Rattle.area_image.specs.Spelled.{IsOpenable};
 ghost use Rattle.area_image.specs.Looks.{Looks};
 ghost use Rattle.area_image.specs.declared.error.AreaError.TheVariants.{DeviceFault, Memory};
 ghost use Rattle.area_image.specs.Damage.{OnDamage};
 ghost use Rattle.shared_area.specs.Opening.{SpellsNone, IsMediumDamage, WantsMemory};
-ghost use Rattle.shared_area.specs.Ready.{OpensAs};
+ghost use Rattle.shared_area.specs.Ready.{OpensAs, HasCount};
+ghost use Rattle.shared_area.specs.Reading.{bytes_at, IsReadFrom};
 ghost use Rattle.shared_area.specs.Parts.{IsNoDamage, IsTierOf};
 
 use crate::finding::find_tier;
-use crate::opening::told;
+use crate::opening::{read_contents, told};
+use crate::reading::read_file;
 use crate::touching::find_touch;
-use area_image::{AreaError, UsedBlocks, open_area};
+use area_image::AreaError;
 use batch_journal::Journal;
-use layout::Geometry;
+use free_pools::Pools;
+use layout::{Geometry, Marks};
 use std::alloc::Global;
 use std::marker::Model;
 use tier_device::{Media, Tier};
@@ -36,7 +41,8 @@ use tier_device::{Media, Tier};
 pub struct Shared<M: Media> {
     alloc: Global,
     journal: Journal<M>,
-    used: UsedBlocks,
+    pools: Pools,
+    marks: Marks,
     units: u64,
 }
 
@@ -52,7 +58,7 @@ impl<M: Media> Model for Shared<M> {
     ghost view = { λ a. a.journal };
 
     // until a device has failed
-    ghost invariant = { λ a. a.journal.failed ≡ false → IsReady a.journal.geometry (store_of (M.seen a.journal.media)) (M.left a.journal.media (M.moment a.journal.media)) a.used a.units };
+    ghost invariant = { λ a. a.journal.failed ≡ false → IsReady a.journal.geometry (store_of (M.seen a.journal.media)) (M.left a.journal.media (M.moment a.journal.media)) a.pools a.marks a.units };
 }
 
 impl<M: Media> Shared<M> {
@@ -93,15 +99,31 @@ impl<M: Media> Shared<M> {
             Ok(journal) => journal,
             Err((error, medium)) => return Err((told(error), medium)),
         };
-        match open_area(alloc, &mut journal) {
+        match read_contents(alloc, &mut journal) {
             Ok(found) => Ok(Shared {
                 alloc,
                 journal,
-                used: found.used,
-                units: found.charge,
+                pools: found.pools,
+                marks: found.marks,
+                units: found.units,
             }),
             Err(error) => Err((error, journal.into_media())),
         }
+    }
+
+    /// Bytes of a file from a byte on, into the front of the buffer, as many as the file and the buffer have; holes as zeros. It answers how many: none behind the end, or where
+    /// there is no file. It makes one device call for each block that it reads, and four at most to find them. `Memory` where there was none for an extent block.
+    ///
+    /// After a refusal the front of the buffer may have been read.
+    pub fn read_range(&mut self, inode: u32, at: u64, out: &mut [u8]) -> Result<usize, AreaError>
+        ensures count { IfOk result (λ n. n ≡ min (length out.old) (length (bytes_at (graph self.old.geometry (store_of (M.seen self.old.media))) inode) - at)) }
+        ensures bytes { IfOk result (λ n. IsReadFrom (bytes_at (graph self.old.geometry (store_of (M.seen self.old.media))) inode) at n out.old out.new) }
+        ensures refused { OnErr result ((n : ℕ) × IsReadFrom (bytes_at (graph self.old.geometry (store_of (M.seen self.old.media))) inode) at n out.old out.new) }
+        ensures only { IfErr result IsNoDamage }
+        ensures looks { Looks M.moment M.seen M.left M.faults self.old self.new result }
+    {
+        let alloc = self.alloc;
+        read_file(alloc, &mut self.journal, inode, at, out)
     }
 
     /// The tier that maps a logical block of an inode, a block of 4,096 bytes of a file or of 56 entries of a directory; `None` where no tier does, or there is no such
@@ -129,6 +151,30 @@ impl<M: Media> Shared<M> {
         ensures { self.now.failed ≡ false → result ≡ charge (graph self.now.geometry (store_of (M.seen self.now.media))) }
     {
         self.units
+    }
+
+    /// How far each client's records are digested, and the number of digests.
+    pub fn marks(&self) -> Marks
+        ensures { self.now.failed ≡ false → marks_of (store_of (M.seen self.now.media)) ≡ Some result }
+    {
+        self.marks
+    }
+
+    /// How many data blocks of a tier are free.
+    pub fn free(&self, tier: Tier) -> u32
+        ensures { self.now.failed ≡ false → HasCount (data_first self.now.geometry tier) (tier_blocks self.now.geometry tier)
+            (λ k. Free self.now.geometry (store_of (M.seen self.now.media)) tier k × (data_first self.now.geometry tier ≤ k)) result }
+    {
+        self.pools.free(tier)
+    }
+
+    /// How many blocks of the node pool are free.
+    pub fn free_nodes(&self) -> u32
+        ensures { self.now.failed ≡ false → HasCount FIRST_NODE_BLOCK (node_end self.now.geometry)
+            (λ k. Free self.now.geometry (store_of (M.seen self.now.media)) Fast k × (k < node_end self.now.geometry)) result }
+    {
+        let _data = self.pools.free(Tier::Fast);
+        self.pools.free_nodes()
     }
 
     /// The sizes of the medium.

@@ -1,4 +1,4 @@
-use Rattle.std.proofs.Common.{length, ◌∙◌}
+use Rattle.std.proofs.Common.{length}
 use Rattle.shared_area.proofs.Files.{part_shown}
 use Rattle.shared_area.proofs.reading.read_part.Goals as goal
 

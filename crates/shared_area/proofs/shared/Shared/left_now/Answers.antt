@@ -13,6 +13,6 @@ returns-clause-same g c =
     let m = g.M.Media in
     let j = c.self.inside.journal in
     subst (λ (v : JournalView _). v.failed ≡ false → (content : Tier → List ℕ) → Left (m.left v.media) (m.moment v.media) content → OpensAs v.geometry (store_of (m.seen v.media)) content) c.self.view_is
-    (λ going content l. left_opens j.geometry (store_of (m.seen j.media)) (m.left j.media (m.moment j.media)) c.self.inside.used c.self.inside.units (c.self.invariant going) content l
+    (λ going content l. left_opens j.geometry (store_of (m.seen j.media)) (m.left j.media (m.moment j.media)) c.self.inside.pools c.self.inside.marks c.self.inside.units (c.self.invariant going) content l
     (λ t. g.met.M.Media.sized j.media (m.moment j.media) t (content t) (omega arith) (l t) ∙ c.left_now.ensures.sizes going t)
     (c.left_now.ensures.journal going (content Fast) (l Fast)))

@@ -53,22 +53,22 @@ invariant_of-result g c going =
     let old = c.args.medium in
     let j = c.in-Ok.journal in
     let opened = c.in-Ok.ensures in
-    let new = c.open_area.new.journal in
-    let found = c.in-Ok-open_area in
+    let new = c.read_contents.new.journal in
+    let found = c.in-Ok-read_contents in
     let looks = found.ensures.looks in
     let is : IsReplayed (m.seen old) (m.seen j.media) (m.moment old) (m.moment j.media) (m.left old) (m.left j.media) = record { course = opened.any_moment; rest = c.requires; rests = opened.rests; others = opened.others; blocks = opened.blocks } in
     let rest = rest_after (m.seen old) (m.seen j.media) (m.moment old) (m.moment j.media) (m.left old) (m.left j.media) is in
-    let before = ready_at_rest j.geometry (m.seen j.media) (m.left j.media (m.moment j.media)) found.found.used found.found.charge found.ensures.openable rest found.ensures.room found.ensures.used found.ensures.charge in
-    still_ready m.moment m.seen m.left m.faults j new (Ok found.found) looks found.found.used found.found.charge (λ _. before) going
+    let before = ready_at_rest j.geometry (m.seen j.media) (m.left j.media (m.moment j.media)) found.found.pools found.found.marks found.found.units found.ensures.opens rest found.ensures.ranges found.ensures.free found.ensures.marks found.ensures.units in
+    still_ready m.moment m.seen m.left m.faults j new (Ok found.found) looks found.found.pools found.found.marks found.found.units (λ _. before) going
 
-pub returns-in-Ok-open_area : goal.returns-in-Ok-open_area
-returns-in-Ok-open_area g c =
+pub returns-in-Ok-read_contents : goal.returns-in-Ok-read_contents
+returns-in-Ok-read_contents g c =
     let m = g.M.Media in
     let old = c.args.medium in
     let j = c.in-Ok.journal in
     let opened = c.in-Ok.ensures in
-    let new = c.open_area.new.journal in
-    let found = c.in-Ok-open_area in
+    let new = c.read_contents.new.journal in
+    let found = c.in-Ok-read_contents in
     let looks = found.ensures.looks in
     let is : IsReplayed (m.seen old) (m.seen j.media) (m.moment old) (m.moment j.media) (m.left old) (m.left j.media) = record { course = opened.any_moment; rest = c.requires; rests = opened.rests; others = opened.others; blocks = opened.blocks } in
     let rest = rest_after (m.seen old) (m.seen j.media) (m.moment old) (m.moment j.media) (m.left old) (m.left j.media) is in
@@ -77,7 +77,7 @@ returns-in-Ok-open_area g c =
       any_moment = course_read (m.seen old) (m.seen j.media) (m.moment old) (m.moment j.media) (m.left old) (m.left j.media) is (m.seen new.media) (m.moment new.media) (m.left new.media) looks.unmoved;
       any_moment_refused = tt;
       volume = subst (λ (x : Sizes). IsVolume x (m.seen old)) (sym looks.geometry) opened.is;
-      opens = subst (λ (x : Sizes). IsOpenable x (store_of (m.seen old))) (sym looks.geometry) (subst (IsOpenable j.geometry) same found.ensures.openable);
+      opens = subst (λ (x : Sizes). IsOpenable x (store_of (m.seen old))) (sym looks.geometry) (subst (IsOpenable j.geometry) same found.ensures.opens);
       blocks = store_read (m.seen old) (m.seen j.media) (m.moment old) (m.moment j.media) (m.left old) (m.left j.media) is (m.seen new.media) (m.moment new.media) (m.left new.media) looks.unmoved;
       rests = rest_read looks.unmoved rest;
       unfailed = looks.going.1;
@@ -96,15 +96,15 @@ returns-in-Ok-open_area g c =
       one_fault = tt;
     }
 
-pub returns-in-Err-open_area : goal.returns-in-Err-open_area
-returns-in-Err-open_area g c =
+pub returns-in-Err-read_contents : goal.returns-in-Err-read_contents
+returns-in-Err-read_contents g c =
     let m = g.M.Media in
     let old = c.args.medium in
     let j = c.in-Ok.journal in
     let opened = c.in-Ok.ensures in
-    let last = c.open_area.new.journal in
-    let e = c.in-Err-open_area.error in
-    let refused = c.in-Err-open_area.ensures in
+    let last = c.read_contents.new.journal in
+    let e = c.in-Err-read_contents.error in
+    let refused = c.in-Err-read_contents.ensures in
     let back = c.into_media.result in
     let new : JournalView _ = record { media = back; geometry = last.geometry; failed = last.failed } in
     let looks : Looks {T = Unit {0}} m.moment m.seen m.left m.faults j new (Err e) =
