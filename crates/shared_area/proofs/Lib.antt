@@ -3,3 +3,4 @@ pub mod Sound
 pub mod Replays
 pub mod Files
 pub mod Counts
+pub mod Entries

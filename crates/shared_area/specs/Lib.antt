@@ -2,3 +2,4 @@ pub mod Ready
 pub mod Parts
 pub mod Opening
 pub mod Reading
+pub mod Naming

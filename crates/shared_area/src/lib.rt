@@ -4,6 +4,8 @@
 #![tactic(auto)]
 
 mod finding;
+mod naming;
+mod node;
 mod opening;
 mod reading;
 mod shared;

@@ -47,7 +47,7 @@ fn clear(out: &mut [u8])
 }
 
 // Bytes of one logical block, from a byte of the inode on: zeros where no tier maps it.
-fn read_within<M: Media>(
+pub fn read_within<M: Media>(
     journal: &mut Journal<M>,
     inode: u32,
     found: &InodeExtents,

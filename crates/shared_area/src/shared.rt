@@ -7,6 +7,7 @@ ghost use Rattle.batch_journal.specs.Course.{Since, Unmoved};
 ghost use Rattle.batch_journal.specs.Damage.{AwaitsReplay};
 ghost use Rattle.batch_journal.specs.Volume.{IsVolume, SameJournal};
 ghost use Rattle.file_graph.specs.Units.{charge};
+ghost use Rattle.call_effects.specs.NodeView.{view_at};
 ghost use Rattle.layout.specs.declared.places.TheConstants.{FIRST_NODE_BLOCK};
 ghost use Rattle.layout.specs.Places.{data_first, tier_blocks, node_end};
 ghost use Rattle.area_image.specs.Store.{store_of, graph, slot, touch_of, marks as marks_of};
@@ -21,6 +22,7 @@ ghost use Rattle.shared_area.specs.Reading.{bytes_at, IsReadFrom};
 ghost use Rattle.shared_area.specs.Parts.{IsNoDamage, IsTierOf};
 
 use crate::finding::find_tier;
+use crate::node::find_node;
 use crate::opening::{read_contents, told};
 use crate::reading::read_file;
 use crate::touching::find_touch;
@@ -28,6 +30,7 @@ use area_image::AreaError;
 use batch_journal::Journal;
 use free_pools::Pools;
 use layout::{Geometry, Marks};
+use record_check::NodeSummary;
 use std::alloc::Global;
 use std::marker::Model;
 use tier_device::{Media, Tier};
@@ -109,6 +112,17 @@ impl<M: Media> Shared<M> {
             }),
             Err(error) => Err((error, journal.into_media())),
         }
+    }
+
+    /// What stands at an inode: a file with its size and how many names it has, a directory with its entries by name; `None` where nothing does. It makes four device calls at
+    /// most, and one more for each block of a directory. `Memory` where there was none for an extent block or for an entry.
+    pub fn node(&mut self, inode: u32) -> Result<Option<NodeSummary>, AreaError>
+        ensures node { IfOk result (λ x. x ≡ view_at (graph self.old.geometry (store_of (M.seen self.old.media))) inode) }
+        ensures only { IfErr result IsNoDamage }
+        ensures looks { Looks M.moment M.seen M.left M.faults self.old self.new result }
+    {
+        let alloc = self.alloc;
+        find_node(alloc, &mut self.journal, inode)
     }
 
     /// Bytes of a file from a byte on, into the front of the buffer, as many as the file and the buffer have; holes as zeros. It answers how many: none behind the end, or where

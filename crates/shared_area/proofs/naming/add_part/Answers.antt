@@ -1,0 +1,20 @@
+use Rattle.std.proofs.Common.{◌≡◌, ◌+◌, ◌*◌, ◌∙◌, ℕ, sym, ap, subst, length}
+use Rattle.layout.specs.Directory.{EntryList, listed}
+use Rattle.tree_blocks.specs.Inode.{entry_at, named}
+use Rattle.area_image.specs.Store.{store_of, logical}
+use Rattle.shared_area.specs.Naming.{AreNext}
+use Rattle.shared_area.proofs.Entries.{next_block, so_far, and_more}
+use Rattle.shared_area.proofs.naming.add_part.Goals as goal
+
+pub returns-in-Ok-put_entries-clause-after : goal.returns-in-Ok-put_entries-clause-after
+returns-in-Ok-put_entries-clause-after g c =
+    let old = c.args.journal.now in
+    let blocks = logical old.geometry (store_of (g.M.Media.seen old.media)) c.args.inode in
+    let k : ℕ = c.args.number in
+    let directory = c.requires.directory in
+    let v : listed c.in-Ok.block ≡ listed (blocks k) = ap listed c.in-Ok.ensures.block in
+    let next = subst (AreNext (entry_at blocks) (56 * k)) (sym v) (next_block c.args.inode c.args.entries blocks directory k c.requires.within) in
+    let before = c.requires.before ∙ ap (named (entry_at blocks)) (so_far c.args.inode c.args.entries blocks directory k c.requires.within) in
+    c.in-Ok-put_entries.ensures (entry_at blocks) (56 * k) next before
+    ∙ ap (λ (l : EntryList). named (entry_at blocks) (56 * k + length l.entries)) v
+    ∙ ap (named (entry_at blocks)) (and_more c.args.inode c.args.entries blocks directory k c.requires.within)

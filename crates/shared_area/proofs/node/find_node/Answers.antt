@@ -1,0 +1,19 @@
+use Rattle.std.proofs.Common.{Ok}
+use Rattle.area_image.specs.Store.{store_of}
+use Rattle.area_image.specs.Spelled.{IsOpenable}
+use Rattle.area_image.proofs.Looked.{carried}
+use Rattle.shared_area.proofs.Sound.{parts_none}
+use Rattle.shared_area.proofs.Entries.{no_view}
+use Rattle.shared_area.proofs.node.find_node.Goals as goal
+
+pub node_of-requires-clause-opens : goal.node_of-requires-clause-opens
+node_of-requires-clause-opens g c =
+    let m = g.M.Media in
+    let looks = c.in-Ok-Some.ensures.looks in
+    carried m.moment m.seen m.left m.faults (λ x s. IsOpenable x s) c.args.journal.now c.find_parts.new.journal (Ok c.in-Ok-Some.field-0) looks (c.requires looks.going.0)
+
+pub returns-in-Ok-None-clause-node : goal.returns-in-Ok-None-clause-node
+returns-in-Ok-None-clause-node g c =
+    let old = c.args.journal.now in
+    let s = store_of (g.M.Media.seen old.media) in
+    no_view old.geometry s c.args.inode (parts_none old.geometry s c.args.inode c.in-Ok-None.field-0 c.in-Ok-None.field-0-is c.in-Ok-None.ensures.parts)

@@ -1,0 +1,130 @@
+// The entries of a directory.
+ghost use Rattle.std.specs.Prelude.{◌≡◌, ◌≤◌, ◌<◌, ◌+◌, ◌*◌, ℕ, min, length, true, false, OnOk, IfOk, IfErr};
+ghost use Rattle.std.specs.FinMap as fin;
+ghost use Rattle.posix_calls.specs.declared.limits.TheConstants.{MAX_ENTRIES};
+ghost use Rattle.layout.specs.declared.directory.TheConstants.{MAX_IN_BLOCK};
+ghost use Rattle.layout.specs.Directory.{AreEntries, listed, fits_entry};
+ghost use Rattle.layout.specs.Lent.{owned};
+ghost use Rattle.tree_blocks.specs.Inode.{Entry, IsDirectory, entry_at, named, blocks_for};
+ghost use Rattle.area_image.specs.Store.{store_of, logical};
+ghost use Rattle.area_image.specs.Checks.{HasFound, IsOnce};
+ghost use Rattle.area_image.specs.Looks.{Looks};
+ghost use Rattle.area_image.specs.declared.error.AreaError.TheVariants.{DeviceFault};
+ghost use Rattle.shared_area.specs.Naming.{AreNext};
+ghost use Rattle.shared_area.specs.Parts.{IsNoDamage};
+
+use crate::reading::read_within;
+use area_image::{AreaError, InodeExtents, blank_block};
+use batch_journal::Journal;
+use file_graph::Child;
+use layout::{BLOCK, DirEntries, EntryRef};
+use node_bodies::NameMap;
+use std::alloc::{AllocError, Global};
+use tier_device::Media;
+
+// Puts one more entry.
+fn put_entry(
+    alloc: Global,
+    entries: &mut NameMap<Child>,
+    entry: EntryRef<'_>,
+) -> Result<(), AllocError>
+    requires { fits_entry (owned entry) ≡ true }
+    ensures { OnOk result (entries.new ≡ fin.insert entries.old entry.entry.name.now (entry.entry.inode, entry.entry.kind)) }
+{
+    let owned = entry.to_entry(alloc)?;
+    entries.put(owned.name, Child::new(owned.inode, owned.kind))
+}
+
+// Puts the entries of a block behind those of a directory up to it.
+fn put_entries(alloc: Global, entries: &mut NameMap<Child>, block: &[u8]) -> Result<(), AllocError>
+    requires { AreEntries block.now }
+    ensures { OnOk result ((entry : ℕ → Entry) (n : ℕ) → AreNext entry n (listed block.now) → entries.old ≡ named entry n → entries.new ≡ named entry (n + length (listed block.now).entries)) }
+{
+    let list = DirEntries::known(block);
+    'entries: for index in 0..list.len() {
+        put_entry(alloc, entries, list.entry(index))?;
+    }
+    Ok(())
+}
+
+// A block of a directory.
+fn read_entry_block<M: Media>(
+    journal: &mut Journal<M>,
+    inode: u32,
+    found: &InodeExtents,
+    number: u64,
+) -> Result<[u8; BLOCK], AreaError>
+    requires few { number < 65536 }
+    requires entries { AreEntries (logical journal.old.geometry (store_of (M.seen journal.old.media)) inode number) }
+    requires found { HasFound journal.old.geometry (store_of (M.seen journal.old.media)) inode found.now }
+    requires once { IsOnce journal.old.geometry (store_of (M.seen journal.old.media)) inode }
+    requires going { journal.old.failed ≡ false }
+    ensures block { IfOk result (λ b. b ≡ logical journal.old.geometry (store_of (M.seen journal.old.media)) inode number) }
+    ensures only { IfErr result (λ e. e ≡ DeviceFault) }
+    ensures looks { Looks M.moment M.seen M.left M.faults journal.old journal.new result }
+{
+    let mut block = blank_block();
+    match read_within(journal, inode, found, BLOCK as u64 * number, &mut block) {
+        Ok(()) => Ok(block),
+        Err(error) => Err(error),
+    }
+}
+
+// Puts the entries of one more block of a directory.
+fn add_part<M: Media>(
+    alloc: Global,
+    journal: &mut Journal<M>,
+    inode: u32,
+    found: &InodeExtents,
+    entries: u64,
+    number: u64,
+    map: &mut NameMap<Child>,
+) -> Result<(), AreaError>
+    requires few { number < 65536 }
+    requires within { number < blocks_for entries }
+    requires directory { IsDirectory inode entries (logical journal.old.geometry (store_of (M.seen journal.old.media)) inode) }
+    requires found { HasFound journal.old.geometry (store_of (M.seen journal.old.media)) inode found.now }
+    requires once { IsOnce journal.old.geometry (store_of (M.seen journal.old.media)) inode }
+    requires before { map.old ≡ named (entry_at (logical journal.old.geometry (store_of (M.seen journal.old.media)) inode)) (min entries (MAX_IN_BLOCK * number)) }
+    requires going { journal.old.failed ≡ false }
+    ensures after { OnOk result (map.new ≡ named (entry_at (logical journal.old.geometry (store_of (M.seen journal.old.media)) inode)) (min entries (MAX_IN_BLOCK * (number + 1)))) }
+    ensures only { IfErr result IsNoDamage }
+    ensures looks { Looks M.moment M.seen M.left M.faults journal.old journal.new result }
+{
+    match read_entry_block(journal, inode, found, number) {
+        Ok(block) => match put_entries(alloc, map, &block) {
+            Ok(()) => Ok(()),
+            Err(_) => Err(AreaError::Memory),
+        },
+        Err(error) => Err(error),
+    }
+}
+
+/// The entries of a directory by name; so many blocks are read, each once.
+pub fn read_entries<M: Media>(
+    alloc: Global,
+    journal: &mut Journal<M>,
+    inode: u32,
+    found: &InodeExtents,
+    entries: u64,
+    blocks: u64,
+) -> Result<NameMap<Child>, AreaError>
+    requires few { entries ≤ MAX_ENTRIES }
+    requires blocks { blocks ≡ blocks_for entries }
+    requires directory { IsDirectory inode entries (logical journal.old.geometry (store_of (M.seen journal.old.media)) inode) }
+    requires found { HasFound journal.old.geometry (store_of (M.seen journal.old.media)) inode found.now }
+    requires once { IsOnce journal.old.geometry (store_of (M.seen journal.old.media)) inode }
+    requires going { journal.old.failed ≡ false }
+    ensures entries { IfOk result (λ m. m ≡ named (entry_at (logical journal.old.geometry (store_of (M.seen journal.old.media)) inode)) entries) }
+    ensures only { IfErr result IsNoDamage }
+    ensures looks { Looks M.moment M.seen M.left M.faults journal.old journal.new result }
+{
+    let mut map = NameMap::new(alloc);
+    'parts: for number in 0..blocks {
+        match add_part(alloc, journal, inode, found, entries, number, &mut map) {
+            Ok(()) => {}
+            Err(error) => return Err(error),
+        }
+    }
+    Ok(map)
+}

@@ -1,0 +1,64 @@
+// What stands at an inode.
+ghost use Rattle.std.specs.Prelude.{◌≡◌, false, IfOk, IfErr};
+ghost use Rattle.call_effects.specs.NodeView.{view_at};
+ghost use Rattle.area_image.specs.Store.{store_of, graph};
+ghost use Rattle.area_image.specs.Spelled.{IsOpenable};
+ghost use Rattle.area_image.specs.Looks.{Looks};
+ghost use Rattle.shared_area.specs.Parts.{IsNoDamage, HasParts};
+
+use crate::finding::find_parts;
+use crate::naming::read_entries;
+use area_image::{AreaError, InodeParts, length_of};
+use batch_journal::Journal;
+use layout::Slot;
+use record_check::NodeSummary;
+use std::alloc::Global;
+use tier_device::Media;
+
+// The node that has these parts, if one does.
+fn node_of<M: Media>(
+    alloc: Global,
+    journal: &mut Journal<M>,
+    inode: u32,
+    parts: &InodeParts,
+) -> Result<Option<NodeSummary>, AreaError>
+    requires parts { HasParts journal.old.geometry (store_of (M.seen journal.old.media)) inode parts.now }
+    requires opens { IsOpenable journal.old.geometry (store_of (M.seen journal.old.media)) }
+    requires going { journal.old.failed ≡ false }
+    ensures node { IfOk result (λ x. x ≡ view_at (graph journal.old.geometry (store_of (M.seen journal.old.media))) inode) }
+    ensures only { IfErr result IsNoDamage }
+    ensures looks { Looks M.moment M.seen M.left M.faults journal.old journal.new result }
+{
+    match parts.slot {
+        Slot::Free => Ok(None),
+        Slot::File { names, size, .. } => Ok(Some(NodeSummary::file(names, size))),
+        Slot::Directory { names, entries, .. } => {
+            let blocks = length_of(&parts.slot);
+            match read_entries(alloc, journal, inode, &parts.extents, entries, blocks) {
+                Ok(map) => Ok(Some(NodeSummary::directory(names, map))),
+                Err(error) => Err(error),
+            }
+        }
+    }
+}
+
+/// What stands at an inode, without the bytes of a file; `None` where nothing does.
+pub fn find_node<M: Media>(
+    alloc: Global,
+    journal: &mut Journal<M>,
+    inode: u32,
+) -> Result<Option<NodeSummary>, AreaError>
+    requires { journal.old.failed ≡ false → IsOpenable journal.old.geometry (store_of (M.seen journal.old.media)) }
+    ensures node { IfOk result (λ x. x ≡ view_at (graph journal.old.geometry (store_of (M.seen journal.old.media))) inode) }
+    ensures only { IfErr result IsNoDamage }
+    ensures looks { Looks M.moment M.seen M.left M.faults journal.old journal.new result }
+{
+    match find_parts(alloc, journal, inode) {
+        Ok(Some(parts)) => match node_of(alloc, journal, inode, &parts) {
+            Ok(found) => Ok(found),
+            Err(error) => Err(error),
+        },
+        Ok(None) => Ok(None),
+        Err(error) => Err(error),
+    }
+}
