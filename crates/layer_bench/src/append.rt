@@ -1,46 +1,66 @@
 // Appends to a client's log, beside copies of the same bytes.
-use crate::desk::{Desk, Sum, bytes_of, keep_freed_memory, time_copies};
+use crate::desk::{Desk, Sum, bytes_of, keep_room, time_copies};
 use crate::failure::Failure;
-use crate::regions::{Over, REGIONS, Work, append, fill_all};
+use crate::regions::{Over, Work, append, fill_all};
 use file_graph::{Effect, Effects};
 use log_record::Record;
 use posix_calls::Bytes;
-use std::alloc::Global;
+use std::alloc::{AllocError, Global};
 use tier_device::Media;
 use update_log::{REGION_SIZE, Region, RegionError};
 
 /// Tells the time of an append of a record that writes so many bytes, that of a copy of the same bytes, and their ratio. Over
 /// one medium at least so many appends are made.
+///
+/// Memory is taken and freed before, so that no append waits for the system to hand out a page for the first time. A region is
+/// filled and as many bytes are copied, in turn, so that both meet the machine in the same state; the copies are made twice to
+/// the same place, and the second time counts, when that is in the cache.
 pub fn run(desk: &mut Desk<'_>, bytes: usize, times: u64, over: Over<'_>) -> Result<(), Failure> {
-    let append = time_appends(desk, bytes, times, over)?;
-    let copy = time_of_copies(desk, bytes)?;
+    keep_room(desk.alloc(), 64 * REGION_SIZE)?;
+    let entry = write_of(desk.alloc(), bytes)?;
+    let copies = Copies::new(desk.alloc(), bytes)?;
+    let (append, copy) = time_both(desk, entry, copies, times, over)?;
     desk.tell_sized("append", bytes, "bytes", append.each());
     desk.tell_sized("copy", bytes, "bytes", copy.each());
     desk.tell_ratio("ratio", append.each(), copy.each());
     Ok(())
 }
 
-fn time_appends(
-    desk: &mut Desk<'_>,
-    bytes: usize,
-    times: u64,
-    over: Over<'_>,
-) -> Result<Sum, Failure> {
-    keep_freed_memory(desk.alloc(), 64 * REGION_SIZE)?;
-    let entry = write_of(desk.alloc(), bytes)?;
-    time_all(desk, entry, times, over)
-}
-
-fn time_all(
+fn time_both(
     desk: &mut Desk<'_>,
     entry: Record,
+    copies: Copies,
     times: u64,
     over: Over<'_>,
-) -> Result<Sum, Failure> {
+) -> Result<(Sum, Sum), Failure> {
     let sum = Sum::new();
-    let mut appends = Appends { entry, sum };
+    let mut appends = Appends { entry, sum, copies };
     fill_all(desk, &mut appends, over, times)?;
-    Ok(appends.sum)
+    Ok((appends.sum, appends.copies.sum))
+}
+
+// Copies of as many bytes as a record writes.
+#[derive(Drop)]
+struct Copies {
+    from: Vec<u8>,
+    to: Vec<u8>,
+    sum: Sum,
+}
+
+impl Copies {
+    fn new(alloc: Global, bytes: usize) -> Result<Self, AllocError> {
+        let from = bytes_of(alloc, 0x61, bytes)?;
+        let to = bytes_of(alloc, 0, REGION_SIZE)?;
+        let sum = Sum::new();
+        Ok(Copies { from, to, sum })
+    }
+
+    // Fills a region's bytes with copies.
+    fn time(&mut self, desk: &mut Desk<'_>) {
+        let _first = time_copies(desk, &mut self.to, &self.from);
+        let second = time_copies(desk, &mut self.to, &self.from);
+        self.sum.add_all(second);
+    }
 }
 
 // The same record, again and again.
@@ -48,6 +68,7 @@ fn time_all(
 struct Appends {
     entry: Record,
     sum: Sum,
+    copies: Copies,
 }
 
 impl Work for Appends {
@@ -59,6 +80,7 @@ impl Work for Appends {
         let start = desk.now();
         let count = append_all(region, &self.entry)?;
         self.sum.add(count, desk.since(start));
+        self.copies.time(desk);
         Ok(count)
     }
 }
@@ -79,16 +101,6 @@ fn count_at_end(count: u64, error: RegionError) -> Result<u64, Failure> {
         return Ok(count);
     }
     Err(Failure::from(error))
-}
-
-fn time_of_copies(desk: &mut Desk<'_>, bytes: usize) -> Result<Sum, Failure> {
-    let from = bytes_of(desk.alloc(), 0x61, bytes)?;
-    let mut to = bytes_of(desk.alloc(), 0, REGION_SIZE)?;
-    let mut sum = Sum::new();
-    for _ in 0..REGIONS {
-        sum.add_all(time_copies(desk, &mut to, &from));
-    }
-    Ok(sum)
 }
 
 // The record of a write of so many bytes.

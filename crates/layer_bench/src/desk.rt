@@ -129,18 +129,16 @@ pub fn bytes_of(alloc: Global, byte: u8, count: usize) -> Result<Vec<u8>, AllocE
     Ok(vec![in alloc; byte; count]?)
 }
 
-/// Takes so much memory and frees it: the allocator then keeps what is freed, so that no page is asked of the system while what
-/// comes next is timed.
-pub fn keep_freed_memory(alloc: Global, count: usize) -> Result<(), AllocError> {
-    let _block = bytes_of(alloc, 0x61, count)?;
-    Ok(())
-}
-
 /// Has the allocator keep so much memory, or a little less, whose pages are there from now on: the first time that so much is freed it goes
 /// back to the system, and from then on it stays.
 pub fn keep_room(alloc: Global, count: usize) -> Result<(), AllocError> {
-    keep_freed_memory(alloc, count)?;
-    keep_freed_memory(alloc, count - count / 16)
+    take_and_free(alloc, count)?;
+    take_and_free(alloc, count - count / 16)
+}
+
+fn take_and_free(alloc: Global, count: usize) -> Result<(), AllocError> {
+    let _block = bytes_of(alloc, 0x61, count)?;
+    Ok(())
 }
 
 /// Copies the bytes to each place of the buffer, one after the other, and tells their number and time.

@@ -17,8 +17,8 @@ use std::fs;
 use tier_device::{Media, MediaError, MemMedia, Tier};
 use update_log::{CLOSED, HEADER, REGION_SIZE, Region, RegionError, Stage};
 
-/// How many regions are filled that each have a new medium, and how many bytes of their size are copied.
-pub const REGIONS: u32 = 200;
+/// How many regions are filled that each have a new medium.
+const REGIONS: u32 = 200;
 
 /// The medium that is logged to.
 #[derive(Clone, Copy)]
