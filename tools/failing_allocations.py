@@ -1,75 +1,352 @@
 #!/usr/bin/env python3
-"""Runs the tour of strata_sh with each of its allocations failing in turn, and tells which runs did not end as they should.
+"""Runs the programs with each of their allocations failing in turn, and tells which runs did not end as they should:
+tools/failing_allocations.py [--quick] [PROGRAM..].
 
-Before the script is read, want of memory ends the program with `fault 15` and status 3. Within it, the line that meets it is
-answered ENOMEM, and all others as if that line were not there.
+They are those that read scripts, records, blocks and media: `strata_sh` over its tour, `strata_first` with and without stops, `file_log`
+over files with and without records, and torn and damaged ones, `media_rows` and `format_rows` row by row over their tables, where
+damaged images are read. A run ends as it should where it tells the want of memory by its name, or says what it says with all memory
+there. It does not where it answers anything else: damage, no such entry, or fewer bytes. Nor does a row that tells a want of memory
+while no allocation failed. How each program tells it stands at its function below.
 
-`rt try` builds anew for each number of an allocation, and runs many scripts with one build. So three numbers are tried, over tours that
-have more and more lines in front: the allocation that fails moves back through the tour, as each such line takes three. It takes
-about 15 minutes; the gate does not run it.
+The programs are built by `rt run`; `tools/failing_allocations.c` makes their allocations fail. It takes three minutes, and those that a
+build takes; the gate does not run it. With --quick only each seventh allocation of a run fails. Exit status: 0 where all runs ended as
+they should, else 1.
 """
+import argparse
+import concurrent.futures
 import os
 import re
 import subprocess
 import sys
 import tempfile
+import typing
 
-CRATE = os.path.join(os.path.dirname(os.path.abspath(__file__)), "..", "crates", "strata_sh")
-FRONT = "1 stat /x"
-EACH = 3  # the allocations of a line in front
-BEFORE = 14  # those before the script is read
-LINES = 36  # the most lines in front, with which it is one of theirs that fails
+TOP = os.path.dirname(os.path.dirname(os.path.abspath(__file__)))
+CRATES = f"{TOP}/crates"
+# How the crates' errors display the want of memory. A `MemMedia` keeps a record of its calls; where the record can't grow, the call fails.
+NAMES = ("out of memory", "ENOMEM", "the device failed")
+ROOM = tempfile.TemporaryDirectory(prefix="allocations-")
+STEP = 1
 
 
-def runs(scripts, failing=None):
-    """What each script printed, line by line, and its status."""
-    with tempfile.TemporaryDirectory() as folder:
-        for name, lines in scripts.items():
-            with open(f"{folder}/{name}", "w", encoding="ascii") as file:
-                file.writelines(f"{it}\n" for it in lines)
-        words = ["rt", "try", "--cases", folder] + ([] if failing is None else ["--fail-alloc", str(failing)])
-        ran = subprocess.run(words, cwd=CRATE, capture_output=True, text=True, check=False)
-    printed = {}
-    for line in ran.stdout.splitlines():
-        if line.startswith("== "):
-            here = printed.setdefault(line[3:], [])
+class Run(typing.NamedTuple):
+    """What a run printed, and how it ended; the allocation with this number was to fail, and so many were made."""
+
+    number: int
+    made: int
+    status: int
+    out: str
+    err: str
+
+    def failed(self):
+        return 0 < self.number <= self.made
+
+
+def build(name):
+    """Proves the program where it changed, and links it."""
+    ran = subprocess.run(["rt", "run", "--jobs", "1"], cwd=f"{CRATES}/{name}", stdin=subprocess.DEVNULL, capture_output=True, text=True, check=False)
+    if not os.path.exists(f"{CRATES}/{name}/out/{name}"):
+        sys.exit(f"{name} was not built: {ran.stderr[-2000:]}")
+
+
+def sweep(name, text="", words=(), folder=None, clear=None, numbers=None):
+    """The run of a program over a text with all memory there, and those with one allocation failing: each, or these."""
+    first, last, step = numbers or (0, 1 << 40, 1)
+    told, to = os.pipe()
+    env = {**os.environ, "LD_PRELOAD": f"{ROOM.name}/allocations.so", "ALLOC_TO": str(to), "ALLOC_FIRST": str(first), "ALLOC_LAST": str(last), "ALLOC_STEP": str(step)}
+    if clear:
+        env["ALLOC_CLEAR"] = clear
+    with tempfile.TemporaryFile() as file:
+        file.write(text.encode("utf-8"))
+        file.seek(0)
+        with subprocess.Popen([f"{CRATES}/{name}/out/{name}", *words], stdin=file, env=env, cwd=folder or ROOM.name, pass_fds=[to]) as child:
+            os.close(to)
+            with os.fdopen(told, "rb") as pipe:
+                said = pipe.read()
+    if child.returncode:
+        raise RuntimeError(f"{name} could not be run with failing allocations: {child.returncode}")
+    runs = []
+    while said:
+        head, _, said = said.partition(b"\n")
+        number, made, status, out, err = map(int, head.split())
+        runs.append(Run(number, made, status, said[:out].decode("utf-8", "replace"), said[out : out + err].decode("utf-8", "replace")))
+        said = said[out + err :]
+    return runs
+
+
+def all_of(*words, **more):
+    """The whole run, and those in which an allocation failed."""
+    if STEP == 1:
+        whole, *rest = sweep(*words, **more)
+    else:
+        [whole] = sweep(*words, **more, numbers=(0, 0, 1))
+        rest = sweep(*words, **more, numbers=(1, 1 << 40, STEP))
+    return whole, [it for it in rest if it.failed()]
+
+
+class Tally(typing.NamedTuple):
+    """How many allocations failed in turn, in how many runs of those the want of memory was told, and those that ended as they should not."""
+
+    tried: int
+    told: int
+    bad: list
+
+    def and_also(self, other):
+        return Tally(self.tried + other.tried, self.told + other.told, self.bad + other.bad)
+
+
+def tally(what, whole, runs, ends_well):
+    """Each run says what the whole one says, or ends well."""
+    bad, told = [], 0
+    for run in runs:
+        if run[2:] == whole[2:]:
+            continue
+        told += 1
+        if not ends_well(run):
+            bad.append(f"{what}, allocation {run.number} of {whole.made}: status {run.status}, {run.out!r}, {run.err!r}")
+    return Tally(len(runs), told, bad)
+
+
+# Before the script is read, want of memory ends strata_sh with `fault 15` and status 3. Within it, the line that meets it is answered
+# ENOMEM, and all others as if that line were not there.
+
+
+def tour():
+    with open(f"{CRATES}/strata_sh/stdin", encoding="ascii") as file:
+        lines = file.read().splitlines()
+    calls = [at for at, line in enumerate(lines) if line and not line.startswith("#")]
+    without = {}
+
+    def answers_without(at):
+        if at not in without:
+            silent = lines[: calls[at]] + ["#"] + lines[calls[at] + 1 :]
+            [run] = sweep("strata_sh", "\n".join(silent) + "\n", numbers=(0, 0, 1))
+            without[at] = run.out.splitlines()
+        return without[at]
+
+    def ends_well(run):
+        answers = run.out.splitlines()
+        if run.status == 3:
+            return not answers and run.err == "fault 15\n"
+        met = [at for at, line in enumerate(answers) if line == "ENOMEM"]
+        return run.status == 0 and not run.err and len(met) == 1 and answers[: met[0]] + answers[met[0] + 1 :] == answers_without(met[0])
+
+    whole, runs = all_of("strata_sh", "\n".join(lines) + "\n")
+    if whole.status or "ENOMEM" in whole.out:
+        return Tally(0, 0, [f"the tour itself: status {whole.status}"])
+    return tally("the tour", whole, runs, ends_well)
+
+
+# strata_first prints line by line, and ends with `fault 15` and status 3. Or a client's medium can't note a call: that client has then
+# stopped, as `--stop` stops it, and what it was to log is there or not.
+
+FIRST = re.compile(r"1 (?:wrote 4|(stopped))\n2 (?:ok|(stopped))\napplied ([01])\n/f bytes (?:4 61x4|(0 -))\n/ names (a )?f\n")
+
+
+def has_stopped(run, whole):
+    found, before = FIRST.fullmatch(run.out), FIRST.fullmatch(whole.out)
+    if not found or run.status:
+        return False
+    is_told = (found[3] == "0") == bool(found[1]) and not (found[4] and not found[1]) and (found[2] or found[5])
+    return bool(is_told and (found[1] or found[2])) and all(found[it] or not before[it] for it in (1, 2))
+
+
+def first(words):
+    whole, runs = all_of("strata_first", words=words)
+    if whole.status or whole.err:
+        return Tally(0, 0, [f"strata_first {words} itself: status {whole.status}, {whole.err!r}"])
+    return tally(f"strata_first {' '.join(words)}", whole, runs, lambda it: has_stopped(it, whole) or it.status == 3 and it.err == "fault 15\n" and whole.out.startswith(it.out))
+
+
+# file_log prints the number of each record once it is answered. Want of memory ends it with an error that names it, and what was
+# answered is in its file, with at most one record more.
+
+OUT_OF_MEMORY = re.compile(r"^Error: (?:.*: )?(?:out of memory|memory allocation failed|Kind\(OutOfMemory\))\n$")
+
+
+def ends_by_name(run):
+    return run.status == 1 and bool(OUT_OF_MEMORY.match(run.err))
+
+
+def log_reads(path, what):
+    """Reads a file, which stays as it is."""
+    whole, runs = all_of("file_log", words=("read", path))
+    return tally(f"file_log read {what}", whole, runs, lambda it: ends_by_name(it) and whole.out.startswith(it.out))
+
+
+def log_appends(before):
+    """Appends three records to a file of some, which is made anew for each run."""
+    path, found, told, number = f"{ROOM.name}/append-{before}", [], 0, 0
+    while True:
+        if os.path.exists(path):
+            os.remove(path)
+        if before:
+            sweep("file_log", words=("append", str(before), path), numbers=(0, 0, 1))
+        [run] = sweep("file_log", words=("append", "3", path), numbers=(number, number, 1))
+        kept = sweep("file_log", words=("read", path), numbers=(0, 0, 1))[0].out.split() if os.path.exists(path) else []
+        answered = [str(it) for it in range(before)] + run.out.split()
+        all_told = [str(it) for it in range(before + 3)]
+        is_kept = kept[: len(answered)] == answered == all_told[: len(answered)] and kept in (answered, all_told[: len(answered) + 1])
+        if number and not run.failed():
+            return Tally(sum(it > 0 for it, _ in found), told, [it for _, it in found if it])
+        is_whole = run.status == 0 and answered == all_told
+        told += not is_whole
+        if not is_kept or not (is_whole or ends_by_name(run)):
+            found.append((number, f"file_log append to {before}, allocation {number}: status {run.status}, {run.out!r}, {run.err!r}, kept {kept}"))
         else:
-            here.append(line)
-    status = dict(re.findall(r"^case=(\w+) run=ended status=(\d+) ", ran.stderr, re.M))
-    return {name: (printed.get(name, []), status.get(name), ran.stderr) for name in scripts}
+            found.append((number, None))
+        number += STEP if number else 1
+
+
+def logs():
+    """The runs over files, as jobs."""
+    files = {}
+    for name, count in (("none", 0), ("some", 5)):
+        files[name] = f"{ROOM.name}/{name}"
+        sweep("file_log", words=("append", str(count), files[name]), numbers=(0, 0, 1))
+    with open(files["some"], "rb") as file:
+        some = file.read()
+    cut = some.rstrip(b"\0")[:-5].ljust(len(some), b"\0")
+    for name, made in (("short", some[:-1]), ("foreign", some[:40] + b"\x3c" * 8 + some[48:]), ("torn", cut)):
+        files[name] = f"{ROOM.name}/{name}"
+        with open(files[name], "wb") as file:
+            file.write(made)
+    return [(log_reads, (path, name)) for name, path in files.items()] + [(log_appends, (before,)) for before in (0, 4)]
+
+
+# A row of a table. What format_rows and media_rows say in place of its answer stands between `says` and `not`.
+
+SAYS = re.compile(r"^(.*)\n  says (.*)\n  not  (.*)\n", re.M)
+
+
+def items(text):
+    return re.split(r"; | / |, ", text)
+
+
+def has_in_order(items_of, found):
+    left = iter(items_of)
+    return all(it in left for it in found)
+
+
+def said_well(said, answer):
+    """Some of what is said names the want of memory, and all else stands in the answer, in order."""
+    found = items(said)
+    rest = [it for it in found if not it.endswith(NAMES)]
+    return len(rest) < len(found) and has_in_order(items(answer), rest)
+
+
+# format_rows tells the want of memory of what it tries as the crates name it, and its own by one of these.
+OF_ITS_OWN = ("no memory for the report\n", "no memory for a row\n0 rows hold, 1 do not\n")
+
+
+def format_row_ends_well(run):
+    if run.status != 1:
+        return False
+    if not run.out:
+        return bool(OUT_OF_MEMORY.match(run.err))
+    found = SAYS.match(run.out)
+    if not found:
+        return run.out in OF_ITS_OWN
+    said = found[2]
+    return run.out.endswith("\n0 rows hold, 1 do not\n") and (said == "no memory for what is said" or said.endswith("the row can't be read") or said_well(said, found[3]))
+
+
+def format_row(text):
+    whole, runs = all_of("format_rows", text, folder=f"{CRATES}/format_rows/data")
+    if whole.status or whole.out != "1 rows hold, 0 do not\n":
+        return Tally(0, 0, [f"the row itself: {text.partition(': ')[0]}"])
+    return tally(f"format_rows, {text.partition(': ')[0]}", whole, runs, format_row_ends_well)
+
+
+def rows_of(path):
+    """The rows of a table, each as its lines: one that begins with two spaces goes on with the row above it."""
+    rows = []
+    with open(path, encoding="utf-8") as file:
+        for line in file.read().splitlines():
+            if line.startswith("  ") and rows:
+                rows[-1] += f"{line}\n"
+            elif line and not line.startswith("#"):
+                rows.append(f"{line}\n")
+    return rows
+
+
+# A call of a medium that can't note it fails, and all others answer as if that call were not there.
+
+
+def without_call(text, at):
+    """What is said of a row but for a call."""
+    front, _, answer = text.rstrip("\n").partition(" => ")
+    name, sizes, calls = front.split(": ", 2)
+    left = calls.split("; ")
+    left = left[:at] + left[at + 1 :]
+    if not left:
+        return [" ".join("0" * int(size)) or "-" for size in sizes.split()]
+    with tempfile.TemporaryDirectory(dir=ROOM.name) as folder:
+        [run] = sweep("media_rows", f"{name}: {sizes}: {'; '.join(left)} => {answer}\n", folder=folder, numbers=(0, 0, 1))
+    return items(SAYS.match(run.out)[2])
+
+
+def media_row_ends_well(run, text):
+    if ends_by_name(run):
+        return True
+    found = SAYS.match(run.out)
+    if run.status != 1 or not found:
+        return False
+    said = items(found[2])
+    if said.count("the device failed") == 1:
+        at = said.index("the device failed")
+        return said[:at] + said[at + 1 :] == without_call(text, at)
+    return said_well(found[2], found[3])
+
+
+def media_row(text):
+    with tempfile.TemporaryDirectory(dir=ROOM.name) as folder:
+        whole, runs = all_of("media_rows", text, folder=folder, clear="medium")
+    if whole.status or whole.out != "1 rows hold, 0 do not\n":
+        return Tally(0, 0, [f"the row itself: {text.partition(': ')[0]}, {whole.out!r}, {whole.err!r}"])
+    return tally(f"media_rows, {text.partition(': ')[0]}", whole, runs, lambda it: media_row_ends_well(it, text))
+
+
+def jobs_of(program):
+    """What is run of a program: functions and what they take."""
+    if program == "strata_sh":
+        return [(tour, ())]
+    if program == "strata_first":
+        stops = [("--stop", str(call), "--fill", fill) for call in range(1, 9) for fill in ("00", "a5", "ff")]
+        return [(first, (words,)) for words in [(), *stops]]
+    if program == "file_log":
+        return logs()
+    if program == "media_rows":
+        return [(media_row, (it,)) for it in rows_of(f"{CRATES}/media_rows/stdin")]
+    return [(format_row, (it,)) for it in rows_of(f"{CRATES}/format_rows/stdin")]
+
+
+PROGRAMS = ("strata_sh", "strata_first", "file_log", "media_rows", "format_rows")
 
 
 def main():
-    with open(f"{CRATE}/stdin", encoding="ascii") as file:
-        tour = file.read().splitlines()
-    calls = [at for at, line in enumerate(tour) if line and not line.startswith("#")]
-    silent = {f"s{at}": tour[:at] + ["#"] + tour[at + 1 :] for at in calls}
-    without = {at: printed for at, (printed, _, _) in zip(calls, runs(silent).values())}
-    failed, tried = [], 0
-    for failing in range(1, BEFORE + 1):
-        [(printed, status, said)] = runs({"tour": tour}, failing).values()
-        tried += 1
-        if printed or status != "3" or "fault 15" not in said:
-            failed.append(f"allocation {failing}, before the script: status {status}, {printed}")
-    whole = [printed for printed, _, _ in runs({"tour": tour}).values()][0]
-    first = BEFORE + 1 + EACH * (LINES - 1)
-    for failing in range(first, first + EACH):
-        swept = runs({f"f{it}": [FRONT] * it + tour for it in range(LINES + 1)}, failing)
-        for front, (printed, status, _) in enumerate(swept.values()):
-            answers = printed[front:]
-            met = [at for at, line in enumerate(answers) if line == "ENOMEM"]
-            if front == LINES:  # the sweep has gone back through the whole tour
-                right = not met and printed[front - 1] == "ENOMEM"
-            elif front == 0:  # it began behind the tour's last allocation
-                right = answers == whole
-            else:
-                left_out = [without[calls[at]] == answers[:at] + answers[at + 1 :] for at in met]
-                right = printed[:front] == ["ENOENT"] * front and (left_out == [True] if met else answers == whole)
-                tried += len(met)
-            if status != "0" or not right:
-                failed.append(f"allocation {failing} with {front} lines in front: status {status}, ENOMEM at {met}")
-    print("\n".join(failed + [f"{tried} allocations tried, {len(failed)} runs ended as they should not"]))
-    return 1 if failed else 0
+    words = argparse.ArgumentParser(description=__doc__.partition("\n")[0])
+    words.add_argument("--quick", action="store_true", help="each seventh allocation alone fails")
+    words.add_argument("--jobs", type=int, default=2, help="how many runs side by side (default: 2)")
+    words.add_argument("programs", nargs="*", metavar="PROGRAM", help=f"of {', '.join(PROGRAMS)} (default: all)")
+    asked = words.parse_args()
+    global STEP
+    STEP = 7 if asked.quick else 1
+    subprocess.run([os.environ.get("CC", "cc"), "-O2", "-shared", "-fPIC", "-o", f"{ROOM.name}/allocations.so", f"{TOP}/tools/failing_allocations.c"], check=True)
+    bad, tried = 0, 0
+    for program in asked.programs or PROGRAMS:
+        build(program)
+        all_told = Tally(0, 0, [])
+        with concurrent.futures.ThreadPoolExecutor(asked.jobs) as lanes:
+            started = [lanes.submit(function, *given) for function, given in jobs_of(program)]
+            for done in concurrent.futures.as_completed(started):
+                all_told = all_told.and_also(done.result())
+        for text in all_told.bad:
+            print(text)
+        print(f"{program}: {all_told.tried} allocations in {len(started)} runs, {all_told.told} told the want of memory or ended by it, {all_told.tried - all_told.told} said the same; {len(all_told.bad)} ended as they should not", flush=True)
+        bad, tried = bad + len(all_told.bad), tried + all_told.tried
+    print(f"{tried} allocations failed in turn, {bad} runs ended as they should not")
+    return 1 if bad else 0
 
 
 if __name__ == "__main__":

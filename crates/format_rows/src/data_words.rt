@@ -1,7 +1,7 @@
 // What stands in a row's input.
 use layout::Geometry;
 use script_lines::DataText;
-use std::alloc::Global;
+use std::alloc::{AllocError, Global};
 
 /// A row's input, which is read from its front on. What can't be read is kept: the row does not hold.
 #[derive(Clone, Copy)]
@@ -116,10 +116,7 @@ fn add_data(alloc: Global, bytes: &mut Vec<u8>, word: &str) -> bool {
     }
 }
 
-/// So many equal bytes, or none where memory is wanting.
-pub fn filled(alloc: Global, byte: u8, size: usize) -> Vec<u8> {
-    match vec![in alloc; byte; size] {
-        Ok(bytes) => bytes,
-        Err(_) => Vec::new(alloc),
-    }
+/// So many equal bytes.
+pub fn filled(alloc: Global, byte: u8, size: usize) -> Result<Vec<u8>, AllocError> {
+    Ok(vec![in alloc; byte; size]?)
 }

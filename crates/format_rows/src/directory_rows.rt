@@ -2,7 +2,7 @@
 use crate::data_words::{Input, filled};
 use crate::words::Text;
 use file_graph::Kind;
-use layout::{BLOCK, DirBlock, DirEntry, MAX_IN_BLOCK};
+use layout::{BLOCK, DirBlock, DirEntry, LayoutError, MAX_IN_BLOCK};
 use posix_calls::Name;
 use std::alloc::{AllocError, Global};
 
@@ -51,11 +51,13 @@ impl Walk {
     fn try_block(&mut self, number: u32) -> Result<(), AllocError> {
         self.blocks = self.blocks.saturating_add(1);
         let made = DirBlock::new(self.owner, self.entries(number)?);
-        let bytes = spelled(self.alloc, &made);
-        let Ok(found) = DirBlock::decode(self.alloc, number, &bytes) else {
-            return Ok(());
+        let bytes = spelled(self.alloc, &made)?;
+        let found = match DirBlock::decode(self.alloc, number, &bytes) {
+            Ok(found) => found,
+            Err(LayoutError::Memory) => return Err(AllocError),
+            Err(_) => return Ok(()),
         };
-        if spelled(self.alloc, &found) == bytes {
+        if spelled(self.alloc, &found)? == bytes {
             self.spelled = self.spelled.saturating_add(1);
         }
         if found.owner() == self.owner && are_same(made.entries(), found.entries()) {
@@ -100,12 +102,12 @@ fn entry_of(alloc: Global, number: u32) -> Result<DirEntry, AllocError> {
 }
 
 // The block that the entries are spelled as, over bytes that are not zero.
-fn spelled(alloc: Global, entries: &DirBlock) -> Vec<u8> {
-    let mut bytes = filled(alloc, 0x78, BLOCK);
+fn spelled(alloc: Global, entries: &DirBlock) -> Result<Vec<u8>, AllocError> {
+    let mut bytes = filled(alloc, 0x78, BLOCK)?;
     if bytes.len() == BLOCK && entries.entries().len() <= MAX_IN_BLOCK {
         entries.encode(&mut bytes);
     }
-    bytes
+    Ok(bytes)
 }
 
 fn are_same(one: &[DirEntry], other: &[DirEntry]) -> bool {

@@ -3,7 +3,7 @@ use crate::data_words::Input;
 use crate::record_rows::put_record;
 use crate::words::Text;
 use file_graph::{Effects, PlainEntry, PlainGraph};
-use log_record::read_record;
+use log_record::{RecordError, read_record};
 use posix_calls::MAX_INODE;
 
 /// `graph DATA ..`: the records that the words spell, one each, and the graph after them, which begins with the root alone.
@@ -35,6 +35,7 @@ fn apply_record(payload: &mut Input<'_>, graph: &mut PlainGraph, out: &mut Text)
             out.put("; ");
             apply_all(graph, &found.effects)
         }
+        Err(RecordError::Memory) => false,
         Err(error) => {
             out.field("", &error);
             out.put("; ");

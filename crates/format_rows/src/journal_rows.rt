@@ -40,7 +40,14 @@ fn put_medium<M: Media + Drop>(alloc: Global, media: M, out: &mut Text)
 }
 
 fn put_home<M: Media>(alloc: Global, journal: &mut Journal<M>, out: &mut Text) {
-    let mut block = filled(alloc, 0, BLOCK);
+    match filled(alloc, 0, BLOCK) {
+        Ok(block) => put_blocks(journal, block, out),
+        Err(_) => out.cut(),
+    }
+}
+
+fn put_blocks<M: Media>(journal: &mut Journal<M>, block: Vec<u8>, out: &mut Text) {
+    let mut block = block;
     if read_home(journal, 0, &mut block) {
         put_reading(&Super::decode(&block), out);
     }

@@ -12,7 +12,7 @@ use update_log::REGION_SIZE;
 /// How many regions there are: two for each of the eight clients.
 pub const REGIONS: usize = 16;
 
-/// The tiers one after the other, and behind them the regions, by client and number.
+/// The tiers one after the other, and behind them the regions, by client and number; or no bytes where memory was wanting.
 #[derive(Drop)]
 pub struct Image {
     pub alloc: Global,
@@ -27,7 +27,7 @@ impl Image {
         Image {
             alloc,
             geometry,
-            bytes: filled(alloc, 0, size),
+            bytes: filled(alloc, 0, size).unwrap_or(Vec::new(alloc)),
         }
     }
 
@@ -55,22 +55,25 @@ impl Image {
     pub fn tiers(&self) -> Result<MemMedia, AllocError>
         ensures { IfOk result IsAtRest }
     {
-        let fast = self.tier(Tier::Fast);
-        let block = self.tier(Tier::Block);
-        let slow = self.tier(Tier::Slow);
+        let fast = self.tier(Tier::Fast)?;
+        let block = self.tier(Tier::Block)?;
+        let slow = self.tier(Tier::Slow)?;
         match MemMedia::of_bytes(self.alloc, fast, block, slow) {
             Ok(media) => Ok(media),
             Err(_) => Err(AllocError),
         }
     }
 
-    fn tier(&self, tier: Tier) -> Vec<u8> {
+    fn tier(&self, tier: Tier) -> Result<Vec<u8>, AllocError> {
+        if self.bytes.is_empty() {
+            return Err(AllocError);
+        }
         let count = self.geometry.tier_blocks(tier) as usize;
         let part = self.part(
             tier_start(&self.geometry, tier),
             count.saturating_mul(BLOCK),
         );
-        part.to_vec(self.alloc).unwrap_or(Vec::new(self.alloc))
+        part.to_vec(self.alloc)
     }
 
     /// The bytes of a region.

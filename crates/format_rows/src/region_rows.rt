@@ -68,7 +68,7 @@ fn all_of<M: Media>(
     match region.records() {
         Ok(records) => {
             let room = region.room();
-            let is_same = is_appended(alloc, &records, front_of(bytes, room));
+            let is_same = is_appended(alloc, &records, front_of(bytes, room))?;
             Ok(Found {
                 stage: region.stage(),
                 room,
@@ -100,39 +100,61 @@ fn front_of(bytes: &[u8], room: Option<usize>) -> &[u8] {
 }
 
 // Whether an empty region that the records are appended to then begins with these bytes.
-fn is_appended(alloc: Global, records: &[Record], front: &[u8]) -> bool {
-    match medium(alloc, &filled(alloc, 0, REGION_SIZE)) {
+fn is_appended(alloc: Global, records: &[Record], front: &[u8]) -> Result<bool, RegionError> {
+    match fresh_medium(alloc) {
         Ok(media) => is_written(alloc, media, records, front),
-        Err(_) => false,
+        Err(_) => Err(RegionError::Memory),
     }
 }
 
-fn is_written<M: Media + Drop>(alloc: Global, media: M, records: &[Record], front: &[u8]) -> bool
+fn fresh_medium(alloc: Global) -> Result<MemMedia, AllocError>
+    ensures { IfOk result IsAtRest }
+{
+    let zeros = filled(alloc, 0, REGION_SIZE)?;
+    medium(alloc, &zeros)
+}
+
+fn is_written<M: Media + Drop>(
+    alloc: Global,
+    media: M,
+    records: &[Record],
+    front: &[u8],
+) -> Result<bool, RegionError>
     requires { (t : Tier) → AtRest (M.seen media) (M.left media (M.moment media)) t }
 {
     match Region::reopen(alloc, media) {
-        Ok(mut region) => append_all(&mut region, records) && begins_with(alloc, region, front),
-        Err(_) => false,
+        Ok(mut region) => {
+            let is_appended = append_all(&mut region, records)?;
+            Ok(is_appended && begins_with(alloc, region, front)?)
+        }
+        Err((error, _media)) => Err(error),
     }
 }
 
-fn begins_with<M: Media + Drop>(alloc: Global, region: Region<M>, front: &[u8]) -> bool {
+fn begins_with<M: Media + Drop>(
+    alloc: Global,
+    region: Region<M>,
+    front: &[u8],
+) -> Result<bool, RegionError> {
     let mut media = region.into_media();
-    let mut found = filled(alloc, 0, front.len());
-    media.read(Tier::Fast, HEADER, &mut found).is_ok() && found.as_slice() == front
+    match filled(alloc, 0, front.len()) {
+        Ok(mut found) => {
+            let is_read = media.read(Tier::Fast, HEADER, &mut found).is_ok();
+            Ok(is_read && found.as_slice() == front)
+        }
+        Err(_) => Err(RegionError::Memory),
+    }
 }
 
 // Whether all could be appended.
-fn append_all<M: Media>(region: &mut Region<M>, records: &[Record]) -> bool {
+fn append_all<M: Media>(region: &mut Region<M>, records: &[Record]) -> Result<bool, RegionError> {
     for entry in records {
         if region.stage() != Stage::Resting || !entry.has_spelling() {
-            return false;
+            return Ok(false);
         }
-        if region.append(entry).is_err() {
-            return false;
-        }
+        region.append(entry)?;
     }
-    true
+    Ok(true)
 }
 
 fn put_found(found: &Found, out: &mut Text) {

@@ -37,20 +37,24 @@ impl Rows {
             if line.starts_with("  ") {
                 row.put(" ");
             } else {
-                self.try_line(rt, row.as_str());
+                self.try_line(rt, &row);
                 row.clear();
             }
             row.put(line.trim());
         }
-        self.try_line(rt, row.as_str());
+        self.try_line(rt, &row);
         self.report.field("", &self.held);
         self.report.field(" rows hold, ", &self.failed);
         self.report.put(" do not");
     }
 
     // A line that is empty or a comment is no row.
-    fn try_line(&mut self, rt: &HostRuntime, text: &str) {
-        if !text.is_empty() && !text.starts_with('#') {
+    fn try_line(&mut self, rt: &HostRuntime, line: &Text) {
+        let text = line.as_str();
+        if line.is_cut() {
+            self.failed = self.failed.saturating_add(1);
+            self.report.put("no memory for a row\n");
+        } else if !text.is_empty() && !text.starts_with('#') {
             self.try_row(rt, Row::read(text));
         }
     }
@@ -69,12 +73,15 @@ impl Rows {
     }
 
     pub fn report(&self) -> &str {
+        if self.report.is_cut() {
+            return "no memory for the report";
+        }
         self.report.as_str()
     }
 
-    /// 1 where a row does not hold.
+    /// 1 where a row does not hold, or there was no memory to tell it.
     pub fn status(&self) -> ExitCode {
-        if self.failed == 0 {
+        if self.failed == 0 && !self.report.is_cut() {
             ExitCode::SUCCESS
         } else {
             ExitCode::FAILURE
@@ -121,6 +128,10 @@ fn told(rt: &HostRuntime, row: Row<'_>) -> Text {
     }
     if input.is_bad() {
         out.put("the row can't be read");
+    }
+    if out.is_cut() {
+        out.clear();
+        out.put("no memory for what is said");
     }
     out
 }

@@ -76,11 +76,18 @@ fn put_medium<M: Media + Drop>(alloc: Global, media: M, out: &mut Text)
 }
 
 fn put_tiers<M: Media + Drop>(alloc: Global, journal: Journal<M>, out: &mut Text) {
+    match filled(alloc, 0, BLOCK) {
+        Ok(block) => put_walk(alloc, journal, block, out),
+        Err(_) => out.cut(),
+    }
+}
+
+fn put_walk<M: Media + Drop>(alloc: Global, journal: Journal<M>, block: Vec<u8>, out: &mut Text) {
     let mut walk = Walk {
         alloc,
         geometry: journal.geometry(),
         journal,
-        block: filled(alloc, 0, BLOCK),
+        block,
     };
     walk.put_all(out);
 }
