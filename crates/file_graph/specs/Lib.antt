@@ -4,4 +4,5 @@ pub mod Fields
 pub mod Graph
 pub mod Numbers
 pub mod Plain
+pub mod Subject
 pub mod Units

@@ -1,10 +1,10 @@
 -- What the parts of a plain graph are.
-use Rattle.std.specs.Prelude.{ℕ, Bool, true, false, ◌&&◌, nat_le, if◌then◌else◌, Some}
-use Rattle.posix_calls.specs.declared.limits.TheConstants.{MAX_INODE}
+use Rattle.std.specs.Prelude.{ℕ, Bool, true, false, if◌then◌else◌, Some}
 use Rattle.file_graph.specs.declared.effect.Kind.{Kind}
 use Rattle.file_graph.specs.declared.effect.Effect.{Effect}
 use Rattle.file_graph.specs.declared.effect.Effect.TheVariants as effect
 use Rattle.file_graph.specs.Graph.{Node, cost}
+use Rattle.file_graph.specs.Numbers.{is_inode}
 use Rattle.node_bodies.specs.declared.name_map.NamedEntry.{NamedEntry}
 pub use Rattle.node_bodies.specs.Named.{pairs}
 
@@ -24,4 +24,4 @@ is_drop (effect.Drop i) = true
 
 -- units of a node, where its number is an inode's
 abbrev pub units_at : ℕ → Node → ℕ
-units_at i n = if nat_le 1 i && nat_le i MAX_INODE then cost (Some n) else 0
+units_at i n = if is_inode i then cost (Some n) else 0

@@ -1,4 +1,6 @@
-ghost use Rattle.std.specs.Prelude.{◌≡◌, ◌==◌, length};
+ghost use Rattle.std.specs.Prelude.{◌≡◌, ◌==◌, [], ◌∷◌, length};
+ghost use Rattle.file_graph.specs.Graph.{subjects};
+ghost use Rattle.file_graph.specs.Subject.{subject};
 
 use posix_calls::{Bytes, Name};
 use std::marker::Model;
@@ -95,6 +97,24 @@ pub enum Effect {
     Drop {
         inode: u32,
     },
+}
+
+impl Effect {
+    /// The inode that it changes.
+    pub fn subject(&self) -> u32
+        ensures is { result ≡ subject self.now }
+        ensures alone { subjects self.now ≡ result ∷ [] }
+    {
+        match self {
+            Effect::Make { inode, .. } => *inode,
+            Effect::Enter { directory, .. } => *directory,
+            Effect::Leave { directory, .. } => *directory,
+            Effect::Names { inode, .. } => *inode,
+            Effect::Size { inode, .. } => *inode,
+            Effect::Bytes { inode, .. } => *inode,
+            Effect::Drop { inode } => *inode,
+        }
+    }
 }
 
 /// Effects in their order. Contracts see them as their list.

@@ -8,6 +8,7 @@
 mod effect;
 mod laws;
 mod node;
+mod numbers;
 mod plain;
 
 pub use effect::{Child, Effect, Effects, Kind};
@@ -15,4 +16,5 @@ pub use laws::{
     apart_effects_commute, charge_rises_by_growth_at_most, effects_change_what_they_touch,
 };
 pub use node::PlainEntry;
+pub use numbers::is_inode;
 pub use plain::PlainGraph;

@@ -1,5 +1,5 @@
-ghost use Rattle.std.specs.Prelude.{◌≡◌, ◌<◌, ◌^◌, [], ◌∷◌, OnOk, OnErr, IfOk, option_map};
-ghost use Rattle.file_graph.specs.Graph.{fresh, subjects, after_effect, graph_of, file_bytes, directory_entries};
+ghost use Rattle.std.specs.Prelude.{◌≡◌, ◌<◌, ◌^◌, OnOk, OnErr, IfOk, option_map};
+ghost use Rattle.file_graph.specs.Graph.{fresh, after_effect, graph_of, file_bytes, directory_entries};
 ghost use Rattle.std.specs.Ordering.{nat_cmp};
 ghost use Rattle.std.specs.BTreeMap.{get};
 ghost use Rattle.file_graph.specs.Plain.{pairs, is_drop, units_at};
@@ -7,7 +7,8 @@ ghost use Rattle.file_graph.specs.Units.{charge};
 
 use crate::effect::{Effect, Kind};
 use crate::node::{PlainEntry, PlainNode};
-use posix_calls::{MAX_INODE, ROOT};
+use crate::numbers::is_inode;
+use posix_calls::ROOT;
 use std::alloc::{AllocError, Global};
 use std::collections::BTreeMap;
 use std::marker::Model;
@@ -103,7 +104,7 @@ fn apply(
     ensures ok { OnOk result (get nat_cmp nodes.new ≡ after_effect (get nat_cmp nodes.old) effect.now) }
     ensures err { OnErr result (get nat_cmp nodes.new ≡ get nat_cmp nodes.old) }
 {
-    let inode = subject(effect);
+    let inode = effect.subject();
     if is_drop(effect) {
         nodes.remove(&inode);
         return Ok(());
@@ -115,21 +116,6 @@ fn apply(
         nodes.insert(inode, PlainNode::new(alloc, *kind, 0))?;
     }
     Ok(())
-}
-
-// The inode of the node that an effect changes.
-fn subject(effect: &Effect) -> u32
-    ensures { subjects effect.now ≡ result ∷ [] }
-{
-    match effect {
-        Effect::Make { inode, .. } => *inode,
-        Effect::Enter { directory, .. } => *directory,
-        Effect::Leave { directory, .. } => *directory,
-        Effect::Names { inode, .. } => *inode,
-        Effect::Size { inode, .. } => *inode,
-        Effect::Bytes { inode, .. } => *inode,
-        Effect::Drop { inode } => *inode,
-    }
 }
 
 fn is_drop(effect: &Effect) -> bool
@@ -153,7 +139,7 @@ fn units_at(inode: u32, node: &PlainNode) -> u64
     ensures units { result ≡ units_at inode node.now }
     ensures small { result < 2 ^ 53 }
 {
-    if 1 <= inode && inode <= MAX_INODE {
+    if is_inode(inode) {
         return node.cost();
     }
     0

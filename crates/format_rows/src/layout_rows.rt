@@ -2,9 +2,10 @@
 use crate::data_words::Input;
 use crate::structures::put_reading;
 use crate::words::Text;
+use file_graph::is_inode;
 use layout::{
-    BLOCK, DirBlock, ExtentBlock, Geometry, Marks, SLOT_SIZE, Slot, Space, Super, is_inode,
-    slot_block, slot_byte,
+    BLOCK, DirBlock, ExtentBlock, Geometry, Marks, SLOT_SIZE, Slot, Space, Super, slot_block,
+    slot_byte,
 };
 use tier_device::Tier;
 

@@ -7,10 +7,9 @@ ghost use Rattle.posix_calls.specs.Name.{is_name};
 
 use crate::directory::DirEntry;
 use crate::kinds::{DIRECTORY, FILE};
-use crate::places::is_inode;
 use crate::reading::{are_zero, text_of, u32_of};
 use crate::writing::{put, put_u32};
-use file_graph::Kind;
+use file_graph::{Kind, is_inode};
 use posix_calls::{MAX_NAME, Name};
 use std::alloc::{AllocError, Global};
 

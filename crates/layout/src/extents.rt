@@ -8,9 +8,10 @@ ghost use Rattle.layout.specs.declared.error.What.TheVariants as what;
 use crate::error::{LayoutError, What};
 use crate::geometry::{Geometry, Space};
 use crate::image::Image;
-use crate::places::{BLOCK, is_inode};
+use crate::places::BLOCK;
 use crate::reading::{are_zero, u32_of};
 use crate::writing::{clear, put_u32};
+use file_graph::is_inode;
 use std::alloc::Global;
 use std::marker::Model;
 

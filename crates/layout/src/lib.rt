@@ -42,7 +42,7 @@ pub use numbers::{format_has_its_bytes, format_has_its_limits, format_has_its_pl
 pub use places::{
     BLOCK, FIRST_IMAGE_BLOCK, FIRST_NODE_BLOCK, FIRST_SLOT_BLOCK, GATE_BLOCK, HEAD_BLOCK,
     MARKS_BLOCK, MAX_DATA_BLOCKS, MAX_IMAGES, MAX_UNITS, MIN_UNITS, SLOT_SIZE, SLOTS_IN_BLOCK,
-    SUPER_BLOCK, is_inode, slot_block, slot_byte,
+    SUPER_BLOCK, slot_block, slot_byte,
 };
 pub use reading::are_zero;
 pub use slot::Slot;

@@ -1,5 +1,5 @@
 ghost use Rattle.std.specs.Prelude.{◌≡◌, ◌≤◌, ◌<◌};
-ghost use Rattle.layout.specs.Places.{is_inode, slot_block, slot_byte};
+ghost use Rattle.layout.specs.Places.{slot_block, slot_byte};
 
 use posix_calls::MAX_INODE;
 
@@ -77,10 +77,3 @@ pub const FILE_BLOCKS: u32 = 256;
 
 /// The most blocks of entries that a directory has.
 pub const DIRECTORY_BLOCKS: u32 = 64;
-
-/// Whether a number is an inode's.
-pub fn is_inode(inode: u32) -> bool
-    ensures { result ≡ is_inode inode }
-{
-    1 <= inode && inode <= MAX_INODE
-}

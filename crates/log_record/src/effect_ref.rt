@@ -1,10 +1,10 @@
 ghost use Rattle.std.specs.Prelude.{◌≡◌, if◌then◌else◌};
 ghost use Rattle.log_record.specs.Outcome.{Gives, owned};
-ghost use Rattle.log_record.specs.Grammar.{fits, is_inode, is_write};
+ghost use Rattle.log_record.specs.Grammar.{fits, is_write};
 
 use crate::format::RecordError;
-use file_graph::{Effect, Kind};
-use posix_calls::{Bytes, MAX_FILE, MAX_INODE, MAX_NAMES, MAX_TRANSFER, Name};
+use file_graph::{Effect, Kind, is_inode};
+use posix_calls::{Bytes, MAX_FILE, MAX_NAMES, MAX_TRANSFER, Name};
 use std::alloc::Global;
 
 /// An effect whose name or bytes lie elsewhere.
@@ -140,12 +140,6 @@ pub fn lend(effect: &Effect) -> EffectRef<'_>
         },
         Effect::Drop { inode } => EffectRef::Drop { inode: *inode },
     }
-}
-
-fn is_inode(inode: u32) -> bool
-    ensures { result ≡ is_inode inode }
-{
-    1 <= inode && inode <= MAX_INODE
 }
 
 // A write of some bytes that ends within the greatest file.
