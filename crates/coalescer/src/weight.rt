@@ -55,7 +55,7 @@ impl Weight {
     fn add_effect(&mut self, effect: &Effect) -> Result<(), AllocError>
         ensures { OnOk result ((es : List Effect) → Weighs es self.old → Weighs (es ++ effect.now ∷ []) self.new) }
     {
-        self.inodes.insert(subject(effect))?;
+        self.inodes.insert(effect.subject())?;
         self.entries = counted(self.entries, is_entry(effect));
         add_file_blocks(&mut self.blocks, effect)
     }
@@ -86,21 +86,6 @@ fn are_few(inodes: usize, entries: usize, blocks: usize) -> bool
         && entries < CHUNK_IMAGES
         && 4 * inodes + 2 * entries + 1 <= CHUNK_IMAGES
         && blocks <= CHUNK_BLOCKS
-}
-
-// The inode that an effect changes.
-fn subject(effect: &Effect) -> u32
-    ensures { result ≡ subject effect.now }
-{
-    match effect {
-        Effect::Make { inode, .. } => *inode,
-        Effect::Enter { directory, .. } => *directory,
-        Effect::Leave { directory, .. } => *directory,
-        Effect::Names { inode, .. } => *inode,
-        Effect::Size { inode, .. } => *inode,
-        Effect::Bytes { inode, .. } => *inode,
-        Effect::Drop { inode } => *inode,
-    }
 }
 
 fn is_entry(effect: &Effect) -> bool

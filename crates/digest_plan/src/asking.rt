@@ -9,7 +9,7 @@ ghost use Rattle.digest_plan.specs.declared.error.PlanError.TheVariants as why;
 use crate::error::PlanError;
 use crate::nodes::Nodes;
 use file_graph::Effect;
-use record_check::{RecordCheck, is_unknown, subject};
+use record_check::{RecordCheck, is_unknown};
 use std::alloc::Global;
 
 /// Asks for each inode that effects touch and of which nothing is known.
@@ -25,7 +25,7 @@ pub fn learn_touched<N: Nodes>(
     ensures failed { IfErr result (λ e. (x : N.Error) → e ≡ why.Nodes x → N.has_failed nodes.new x) }
 {
     for effect in effects {
-        learn(alloc, nodes, check, subject(effect))?;
+        learn(alloc, nodes, check, effect.subject())?;
     }
     Ok(())
 }

@@ -5,6 +5,7 @@ use Rattle.std.specs.Ordering.{nat_cmp}
 use Rattle.std.specs.FinMap as fin
 use Rattle.posix_calls.specs.declared.limits.TheConstants.{UNIT_BYTES}
 use Rattle.file_graph.specs.Graph.{Graph, after_effects}
+pub use Rattle.file_graph.specs.Subject.{subject}
 use Rattle.file_graph.specs.declared.effect.Effect.{Effect}
 use Rattle.file_graph.specs.declared.effect.Effect.TheVariants as effect
 use Rattle.graph_change.specs.Bytes.{Length, Grown, Cut, grown_to, sized_to, in_run}
@@ -127,16 +128,6 @@ change_at cs i = unwrap_or (fin.get cs i) (new_change Kept)
 -- the graph after it
 abbrev pub changed : Changes → Graph → Graph
 changed cs g i = node_after (net_of (change_at cs i)) (g i)
-
--- the inode that an effect changes
-abbrev pub subject : Effect → ℕ
-subject (effect.Make i kind) = i
-subject (effect.Enter d i kind name) = d
-subject (effect.Leave d name) = d
-subject (effect.Names i n) = i
-subject (effect.Size i size) = i
-subject (effect.Bytes i at bytes) = i
-subject (effect.Drop i) = i
 
 -- with one more effect
 abbrev pub with_effect : Effect → Changes → Changes

@@ -36,7 +36,7 @@ impl GraphChange {
         ensures memory { OnErr result (takes_memory_among effect.now (changes_of self.old) ≡ true) }
         ensures tidy { AreTidyChanges (changes_of self.old) → OnOk result (AreTidyChanges (changes_of self.new)) }
     {
-        add(alloc, &mut self.nodes, subject(effect), effect)
+        add(alloc, &mut self.nodes, effect.subject(), effect)
     }
 }
 
@@ -58,19 +58,4 @@ fn add(
     node.add(alloc, effect)?;
     nodes.insert(inode, node)?;
     Ok(())
-}
-
-// The inode that an effect changes.
-fn subject(effect: &Effect) -> u32
-    ensures { result ≡ subject effect.now }
-{
-    match effect {
-        Effect::Make { inode, .. } => *inode,
-        Effect::Enter { directory, .. } => *directory,
-        Effect::Leave { directory, .. } => *directory,
-        Effect::Names { inode, .. } => *inode,
-        Effect::Size { inode, .. } => *inode,
-        Effect::Bytes { inode, .. } => *inode,
-        Effect::Drop { inode } => *inode,
-    }
 }

@@ -10,7 +10,7 @@ ghost use Rattle.record_check.specs.Known.{Agrees, first_unknown, known_at};
 ghost use Rattle.record_check.specs.Rises.{sum_distinct, view_cost, view_cost_after, view_rise};
 
 use crate::counting::{counts_after, counts_of, is_on};
-use crate::known::{first_unknown, node_at, subject};
+use crate::known::{first_unknown, node_at};
 use crate::node_counts::cost;
 use crate::node_summary::NodeSummary;
 use file_graph::Effect;
@@ -87,7 +87,7 @@ fn costs_once(
     ensures after { sum_distinct (view_cost_after effects.now (known_at known.now)) (touches (effect.now ∷ behind.now)) ≡ result.after + sum_distinct (view_cost_after effects.now (known_at known.now)) (touches behind.now) }
     ensures small { (result.growth < 2 ^ 60) × (result.before < 2 ^ 60) × (result.after < 2 ^ 60) }
 {
-    let inode = subject(effect);
+    let inode = effect.subject();
     if are_on(behind, inode) {
         return RecordCosts {
             growth: 0,

@@ -1,7 +1,6 @@
 //! What is known of the inodes that effects touch.
 
-ghost use Rattle.std.specs.Prelude.{◌≡◌, [], ◌∷◌, option_map};
-ghost use Rattle.file_graph.specs.Graph.{subjects};
+ghost use Rattle.std.specs.Prelude.{◌≡◌, option_map};
 ghost use Rattle.record_check.specs.Known.{first_unknown, is_unknown, known_at};
 
 use crate::node_summary::NodeSummary;
@@ -15,7 +14,7 @@ pub fn first_unknown(known: &BTreeMap<u32, Option<NodeSummary>>, effects: &[Effe
     ensures { result ≡ first_unknown known.now effects.now }
 {
     for effect in effects {
-        let inode = subject(effect);
+        let inode = effect.subject();
         if is_unknown(known, inode) {
             return Some(inode);
         }
@@ -37,20 +36,5 @@ pub fn node_at(known: &BTreeMap<u32, Option<NodeSummary>>, inode: u32) -> Option
     match known.get(&inode) {
         Some(Some(node)) => Some(node),
         _ => None,
-    }
-}
-
-/// The inode that an effect is on.
-pub fn subject(effect: &Effect) -> u32
-    ensures { subjects effect.now ≡ result ∷ [] }
-{
-    match effect {
-        Effect::Make { inode, .. } => *inode,
-        Effect::Enter { directory, .. } => *directory,
-        Effect::Leave { directory, .. } => *directory,
-        Effect::Names { inode, .. } => *inode,
-        Effect::Size { inode, .. } => *inode,
-        Effect::Bytes { inode, .. } => *inode,
-        Effect::Drop { inode } => *inode,
     }
 }

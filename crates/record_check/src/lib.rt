@@ -22,7 +22,7 @@ mod verdict;
 
 pub use costs::{RecordCosts, record_costs};
 pub use counting::counts_after;
-pub use known::{first_unknown, is_unknown, subject};
+pub use known::{first_unknown, is_unknown};
 pub use laws::{
     counts_are_of_the_node_after, growth_is_told_by_what_is_touched, summary_is_of_the_node_after,
 };

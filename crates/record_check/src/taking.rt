@@ -11,7 +11,6 @@ ghost use Rattle.call_effects.specs.NodeView.{view_acted};
 ghost use Rattle.record_check.specs.Known.{Agrees, known_after, known_acted};
 ghost use Rattle.record_check.specs.Memory.{is_enter};
 
-use crate::known::subject;
 use crate::node_summary::NodeSummary;
 use file_graph::Effect;
 use std::alloc::{AllocError, Global};
@@ -45,7 +44,7 @@ fn take_effect(
     ensures known { OnOk result (get nat_cmp known.new ≡ known_acted effect.now (get nat_cmp known.old)) }
     ensures memory { OnErr result (is_enter effect.now ≡ true) }
 {
-    let inode = subject(effect);
+    let inode = effect.subject();
     if let Some(node) = known.get_mut(&inode) {
         return act(alloc, node, effect);
     }

@@ -11,7 +11,7 @@ ghost use Rattle.record_check.specs.Known.{Agrees, first_unknown};
 
 use crate::costs::{RecordCosts, record_costs};
 use crate::counting::counts_after;
-use crate::known::{node_at, subject};
+use crate::known::node_at;
 use crate::node_counts::NodeCounts;
 use crate::node_summary::NodeSummary;
 use file_graph::Effect;
@@ -83,7 +83,7 @@ fn are_held(held: &[u32], effects: &[Effect]) -> bool
     ensures { result ≡ are_held held.now effects.now }
 {
     for effect in effects {
-        if !is_among(held, subject(effect)) {
+        if !is_among(held, effect.subject()) {
             return false;
         }
     }
@@ -109,7 +109,7 @@ fn keep_limits(known: &BTreeMap<u32, Option<NodeSummary>>, effects: &[Effect]) -
     ensures { result ≡ list_all (keeps known.now effects.now) (touches effects.now) }
 {
     for effect in effects {
-        if !keeps(known, effects, subject(effect)) {
+        if !keeps(known, effects, effect.subject()) {
             return false;
         }
     }
