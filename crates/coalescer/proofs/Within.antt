@@ -23,7 +23,7 @@ use Rattle.posix_calls.specs.declared.limits.TheConstants.{UNIT_BYTES}
 use Rattle.file_graph.specs.declared.effect.Effect.{Effect}
 use Rattle.file_graph.specs.declared.effect.Effect.TheVariants as effect
 use Rattle.graph_change.specs.Net.{Base, Kept, Made, Gone, Child, EntryChanges}
-use Rattle.graph_change.specs.Change.{Change, Changes, subject, span, new_change, change_after, change_at, with_effect, with_effects, coalesced, writes_block, touches_block, change_inode, change_block}
+use Rattle.graph_change.specs.Change.{Change, Changes, subject, span, new_change, change_after, change_at, with_effect, with_effects, coalesced, writes_block, touches_block, changes_inode, changes_block}
 use Rattle.graph_change.proofs.Law.{change_put, empty_at}
 use Rattle.graph_change.proofs.Touched.{coalesces}
 use Rattle.coalescer.specs.Weight.{is_entry, file_blocks, blocks_at, same_block, blocks}
@@ -96,10 +96,10 @@ named_block (effect.Size s size) i b = of_last i s b (size / UNIT_BYTES) (size %
 named_block (effect.Bytes s at bytes) i b = of_row i s b (span at (length bytes))
 named_block (effect.Drop s) i b = and_nothing (i == s)
 
-named_blocks : (es : List Effect) (i b : ℕ) → change_block es i b ≡ is_member same_block (flat_map file_blocks es) (i, b)
+named_blocks : (es : List Effect) (i b : ℕ) → changes_block es i b ≡ is_member same_block (flat_map file_blocks es) (i, b)
 named_blocks [] i b = refl
 named_blocks (e ∷ es) i b =
-    ap (λ t. t || change_block es i b) (named_block e i b)
+    ap (λ t. t || changes_block es i b) (named_block e i b)
     ∙ ap (λ t. is_member same_block (file_blocks e) (i, b) || t) (named_blocks es i b)
     ∙ sym (list_any-append (same_block (i, b)) (file_blocks e) (flat_map file_blocks es))
 
@@ -207,7 +207,7 @@ entries_within es ns are =
 
 -- ---- inodes
 
-any_subject : (es : List Effect) (q : ℕ) → change_inode es q ≡ is_member nat_eq (map subject es) q
+any_subject : (es : List Effect) (q : ℕ) → changes_inode es q ≡ is_member nat_eq (map subject es) q
 any_subject [] q = refl
 any_subject (e ∷ es) q = ap (λ t. (q == subject e) || t) (any_subject es q)
 

@@ -11,7 +11,7 @@ use Rattle.file_graph.specs.declared.effect.Effect.{Effect}
 use Rattle.file_graph.specs.declared.effect.Effect.TheVariants as effect
 use Rattle.graph_change.specs.Bytes.{Length, Grown, Cut, grown_to, sized_to}
 use Rattle.graph_change.specs.Net.{Base, Kept, Made, Gone}
-use Rattle.graph_change.specs.Change.{Patch, Patches, Change, Changes, Coalesces, subject, span, over_patch, patch_at, put_block, put_blocks, cut_patch, cut_patches, new_change, change_after, change_at, with_effect, with_effects, coalesced, ends_within, cuts_within, writes_block, touches_block, change_inode, change_block}
+use Rattle.graph_change.specs.Change.{Patch, Patches, Change, Changes, Coalesces, subject, span, over_patch, patch_at, put_block, put_blocks, cut_patch, cut_patches, new_change, change_after, change_at, with_effect, with_effects, coalesced, ends_within, cuts_within, writes_block, touches_block, changes_inode, changes_block}
 use Rattle.graph_change.proofs.Blocks.{get_put, get_begun, begun}
 use Rattle.graph_change.proofs.Law.{change_put, empty_at, coalesced_law}
 
@@ -130,12 +130,12 @@ one_effect (effect.Drop i) c b h = absurd (false≢true (sym (nothing_written Go
 
 -- ---- many effects
 
-with_has : (es : List Effect) (cs : Changes) (i : ℕ) → fin.contains_key (with_effects cs es) i ≡ (fin.contains_key cs i || change_inode es i)
+with_has : (es : List Effect) (cs : Changes) (i : ℕ) → fin.contains_key (with_effects cs es) i ≡ (fin.contains_key cs i || changes_inode es i)
 with_has [] cs i = or_nothing (fin.contains_key cs i)
 with_has (e ∷ es) cs i =
     with_has es (with_effect e cs) i
-    ∙ ap (λ t. t || change_inode es i) (key_put cs (subject e) (change_after e (change_at cs (subject e))) i)
-    ∙ or_turned (i == subject e) (fin.contains_key cs i) (change_inode es i)
+    ∙ ap (λ t. t || changes_inode es i) (key_put cs (subject e) (change_after e (change_at cs (subject e))) i)
+    ∙ or_turned (i == subject e) (fin.contains_key cs i) (changes_inode es i)
 
 and_right : (a b : Bool) → a ≡ true → b ≡ true → (a && b) ≡ true
 and_right a b h k = ap (λ x. x && b) h ∙ k
@@ -154,21 +154,21 @@ block_there e cs i b h =
       | inr off ↦ inl (sym (ap (λ x. writes_block x b) (change_put e cs i ∙ ap (λ t. cond t c (change_at cs i)) off.0)) ∙ h)
     ]
 
-with_blocks : (es : List Effect) (cs : Changes) (i b : ℕ) → writes_block (change_at (with_effects cs es) i) b ≡ true → (writes_block (change_at cs i) b || change_block es i b) ≡ true
+with_blocks : (es : List Effect) (cs : Changes) (i b : ℕ) → writes_block (change_at (with_effects cs es) i) b ≡ true → (writes_block (change_at cs i) b || changes_block es i b) ≡ true
 with_blocks [] cs i b h = or_left (writes_block (change_at cs i) b) false h
 with_blocks (e ∷ es) cs i b h =
     let here = i == subject e && touches_block e b in
-    elim (or_cases (writes_block (change_at (with_effect e cs) i) b) (change_block es i b) (with_blocks es (with_effect e cs) i b h)) [
+    elim (or_cases (writes_block (change_at (with_effect e cs) i) b) (changes_block es i b) (with_blocks es (with_effect e cs) i b h)) [
       | inl one ↦ elim (block_there e cs i b one) [
-        | inl old ↦ or_left (writes_block (change_at cs i) b) (change_block (e ∷ es) i b) old
-        | inr new ↦ or_right (writes_block (change_at cs i) b) (here || change_block es i b) (or_left here (change_block es i b) new)
+        | inl old ↦ or_left (writes_block (change_at cs i) b) (changes_block (e ∷ es) i b) old
+        | inr new ↦ or_right (writes_block (change_at cs i) b) (here || changes_block es i b) (or_left here (changes_block es i b) new)
       ]
-      | inr rest ↦ or_right (writes_block (change_at cs i) b) (here || change_block es i b) (or_right here (change_block es i b) rest)
+      | inr rest ↦ or_right (writes_block (change_at cs i) b) (here || changes_block es i b) (or_right here (changes_block es i b) rest)
     ]
 
 pub coalesces : (es : List Effect) → Coalesces es (coalesced es)
 coalesces es = record {
   meaning = coalesced_law es;
-  inodes = λ i. with_has es fin.empty i ∙ ap (λ o. is_some o || change_inode es i) (fin.get-empty nat_cmp i);
-  blocks = λ i b h. sym (ap (λ t. t || change_block es i b) (ap (λ c. writes_block c b) (empty_at i) ∙ nothing_written Kept b)) ∙ with_blocks es fin.empty i b h;
+  inodes = λ i. with_has es fin.empty i ∙ ap (λ o. is_some o || changes_inode es i) (fin.get-empty nat_cmp i);
+  blocks = λ i b h. sym (ap (λ t. t || changes_block es i b) (ap (λ c. writes_block c b) (empty_at i) ∙ nothing_written Kept b)) ∙ with_blocks es fin.empty i b h;
 }

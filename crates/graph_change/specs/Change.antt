@@ -151,16 +151,16 @@ touches_block (effect.Bytes i at bytes) b = list_any (nat_eq b) (span at (length
 touches_block _ b = false
 
 -- whether one of the effects changes an inode
-abbrev pub change_inode : List Effect → ℕ → Bool
-change_inode es i = list_any (λ e. i == subject e) es
+abbrev pub changes_inode : List Effect → ℕ → Bool
+changes_inode es i = list_any (λ e. i == subject e) es
 
 -- whether one of the effects puts bytes into a block of this file, or cuts within it
-abbrev pub change_block : List Effect → ℕ → ℕ → Bool
-change_block es i b = list_any (λ e. i == subject e && touches_block e b) es
+abbrev pub changes_block : List Effect → ℕ → ℕ → Bool
+changes_block es i b = list_any (λ e. i == subject e && touches_block e b) es
 
 -- a change makes of every graph what effects make of it; the inodes in it are those that the effects are on, and no block changes that they leave
 -- alone; each stands in it once, since it is a map
 pub record Coalesces (es : List Effect) (cs : Changes) : Type 0 where
   pub meaning : (g : Graph) → changed cs g ≡ after_effects g es
-  pub inodes : (i : ℕ) → fin.contains_key cs i ≡ change_inode es i
-  pub blocks : (i b : ℕ) → writes_block (change_at cs i) b ≡ true → change_block es i b ≡ true
+  pub inodes : (i : ℕ) → fin.contains_key cs i ≡ changes_inode es i
+  pub blocks : (i b : ℕ) → writes_block (change_at cs i) b ≡ true → changes_block es i b ≡ true
