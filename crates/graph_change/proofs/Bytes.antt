@@ -7,7 +7,7 @@ use Rattle.std.proofs.lemmas.List.{get_or-drop, get_or_append_left, get_or-appen
 use Rattle.std.proofs.lemmas.List.FromFn.{length-map-range_with_len, get_or-map-range_with_len}
 use Rattle.std.proofs.lemmas.Grind.{common_steps}
 use Rattle.posix_calls.specs.Content.{resized, written}
-use Rattle.graph_change.specs.Bytes.{BytesChange, Length, Grown, Cut, end, length_after, left, no_bytes, byte_after, bytes_after, grown_to, sized_to, in_run, with_write, with_size, IsOrdered, IsTidy}
+use Rattle.graph_change.specs.Bytes.{BytesChange, Length, Grown, Cut, end, length_after, kept_byte, no_bytes, byte_after, bytes_after, grown_to, sized_to, in_run, with_write, with_size, IsOrdered, IsTidy}
 
 length_resized : (n : ℕ) (bs : List ℕ) → length (resized n bs) ≡ n
 length_resized n bs = grind (arith, common_steps)
@@ -55,7 +55,7 @@ end_within : (e : Length) (n : ℕ) → end e ≤ length_after e n
 end_within (Grown to) n = omega arith
 end_within (Cut least to) n = omega arith
 
-left_past : (e : Length) (old : List ℕ) (i : ℕ) → IsOrdered e → length_after e (length old) ≤ i → left e old i ≡ 0
+left_past : (e : Length) (old : List ℕ) (i : ℕ) → IsOrdered e → length_after e (length old) ≤ i → kept_byte e old i ≡ 0
 left_past (Grown to) old i ordered h = get_or_past old i 0 (omega arith)
 left_past (Cut least to) old i ordered h = grind (arith, nat_tests)
 
@@ -65,7 +65,7 @@ byte_of o x = elim o [ None ↦ x | Some b ↦ b ]
 past_end : (c : BytesChange) (old : List ℕ) (i : ℕ) → IsTidy c → length_after c.length (length old) ≤ i → byte_after c old i ≡ 0
 past_end c old i tidy h =
     let e = end_within c.length (length old) in
-    ap (λ o. byte_of o (left c.length old i)) (tidy.inside i (omega (arith, e, h))) ∙ left_past c.length old i tidy.ordered h
+    ap (λ o. byte_of o (kept_byte c.length old i)) (tidy.inside i (omega (arith, e, h))) ∙ left_past c.length old i tidy.ordered h
 
 after_at : (c : BytesChange) (old : List ℕ) (i : ℕ) → IsTidy c → get_or (bytes_after c old) i 0 ≡ byte_after c old i
 after_at c old i tidy =
@@ -82,7 +82,7 @@ size_length : (n : ℕ) (e : Length) (k : ℕ) → length_after (sized_to n e) k
 size_length n (Grown to) k = refl
 size_length n (Cut least to) k = refl
 
-size_left : (n : ℕ) (e : Length) (old : List ℕ) (i : ℕ) → i < n → left (sized_to n e) old i ≡ left e old i
+size_left : (n : ℕ) (e : Length) (old : List ℕ) (i : ℕ) → i < n → kept_byte (sized_to n e) old i ≡ kept_byte e old i
 size_left n (Grown to) old i h = grind (arith, nat_tests)
 size_left n (Cut least to) old i h = grind (arith, nat_tests)
 
@@ -110,7 +110,7 @@ tidy_size n c tidy =
 
 size_byte : (n : ℕ) (c : BytesChange) (old : List ℕ) (i : ℕ) → i < n → byte_after (with_size n c) old i ≡ byte_after c old i
 size_byte n c old i h =
-    ap (λ o. byte_of o (left (sized_to n c.length) old i)) (below i n (c.new i) None h)
+    ap (λ o. byte_of o (kept_byte (sized_to n c.length) old i)) (below i n (c.new i) None h)
     ∙ ap (byte_of (c.new i)) (size_left n c.length old i h)
 
 pub size_law : (n : ℕ) (c : BytesChange) (old : List ℕ) → IsTidy c → bytes_after (with_size n c) old ≡ resized n (bytes_after c old)
@@ -128,7 +128,7 @@ write_length : (n : ℕ) (e : Length) (k : ℕ) → length_after (grown_to n e) 
 write_length n (Grown to) k = omega arith
 write_length n (Cut least to) k = refl
 
-write_left : (n : ℕ) (e : Length) (old : List ℕ) (i : ℕ) → left (grown_to n e) old i ≡ left e old i
+write_left : (n : ℕ) (e : Length) (old : List ℕ) (i : ℕ) → kept_byte (grown_to n e) old i ≡ kept_byte e old i
 write_left n (Grown to) old i = refl
 write_left n (Cut least to) old i = refl
 
@@ -157,12 +157,12 @@ tidy_write at bytes c tidy =
       inside = λ i h. past at (length bytes) i (Some (get_or bytes (i - at) 0)) (c.new i) (omega (arith, e, h)) ∙ tidy.inside i (omega (arith, e, h));
     }
 
-write_byte : (at : ℕ) (bytes : List ℕ) (c : BytesChange) (old : List ℕ) (i : ℕ) → byte_after (with_write at bytes c) old i ≡ byte_of (if in_run at (length bytes) i then Some (get_or bytes (i - at) 0) else c.new i) (left c.length old i)
+write_byte : (at : ℕ) (bytes : List ℕ) (c : BytesChange) (old : List ℕ) (i : ℕ) → byte_after (with_write at bytes c) old i ≡ byte_of (if in_run at (length bytes) i then Some (get_or bytes (i - at) 0) else c.new i) (kept_byte c.length old i)
 write_byte at bytes c old i = ap (byte_of (if in_run at (length bytes) i then Some (get_or bytes (i - at) 0) else c.new i)) (write_left (at + length bytes) c.length old i)
 
 write_over : (at : ℕ) (bytes : List ℕ) (c : BytesChange) (old : List ℕ) (i : ℕ) → IsTidy c → byte_after (with_write at bytes c) old i ≡ get_or (written at bytes (bytes_after c old)) i 0
 write_over at bytes c old i tidy =
-    let chosen = λ (o : Option ℕ). byte_of o (left c.length old i) in
+    let chosen = λ (o : Option ℕ). byte_of o (kept_byte c.length old i) in
     let new : Option ℕ = Some (get_or bytes (i - at) 0) in
     write_byte at bytes c old i ∙ elim (cases_lt i at) [
       | inl low ↦ ap chosen (before at (length bytes) i new (c.new i) low) ∙ sym (over_before (bytes_after c old) at bytes i low ∙ after_at c old i tidy)

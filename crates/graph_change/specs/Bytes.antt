@@ -30,13 +30,13 @@ length_after (Grown to) old = max old to
 length_after (Cut least to) old = to
 
 -- the old byte at a place, or zero where it was cut off
-abbrev pub left : Length → List ℕ → ℕ → ℕ
-left (Grown to) old i = get_or old i 0
-left (Cut least to) old i = if nat_lt i least then get_or old i 0 else 0
+abbrev pub kept_byte : Length → List ℕ → ℕ → ℕ
+kept_byte (Grown to) old i = get_or old i 0
+kept_byte (Cut least to) old i = if nat_lt i least then get_or old i 0 else 0
 
 -- the byte at a place after it
 abbrev pub byte_after : BytesChange → List ℕ → ℕ → ℕ
-byte_after c old i = elim (c.new i) [ None ↦ left c.length old i | Some b ↦ b ]
+byte_after c old i = elim (c.new i) [ None ↦ kept_byte c.length old i | Some b ↦ b ]
 
 -- a file's bytes after it
 unfoldable pub bytes_after : BytesChange → List ℕ → List ℕ

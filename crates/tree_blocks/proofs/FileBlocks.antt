@@ -6,7 +6,7 @@ use Rattle.std.specs.FinMap as fin
 use Rattle.std.proofs.lemmas.Bool.{cases_lt, cases_Bool, lt-ltb, le-ltb, le-leb, leb-true, ne_eqb}
 use Rattle.std.proofs.lemmas.List.{get_or_append_left, get_or-append_right, get_or-take, get_or-replicate, get_or_past, ext_get_or, length-take, length-append, length-replicate}
 use Rattle.std.proofs.lemmas.List.FromFn.{get_or-map-range_with_len, length-map-range_with_len}
-use Rattle.graph_change.specs.Bytes.{Length, Grown, Cut, length_after, left, byte_after, end, IsOrdered, IsTidy}
+use Rattle.graph_change.specs.Bytes.{Length, Grown, Cut, length_after, kept_byte, byte_after, end, IsOrdered, IsTidy}
 use Rattle.graph_change.specs.Change.{Change, Patch, blank, patch_at, net_of, patched, IsWhole, writes_block, ends_within, cuts_within}
 use Rattle.graph_change.specs.Tidy.{IsTidyChange}
 use Rattle.tree_blocks.specs.Inode.{Blocks, byte_of, file_bytes, IsZeroFrom}
@@ -51,7 +51,7 @@ block_is len patch k old long le =
     let size : length (take kept old ++ replicate (length old - kept) 0) ≡ 4096 = cut_long old kept low ∙ long in
     ap (λ (n : ℕ). map (λ p. unwrap_or (patch p) (get_or (take kept old ++ replicate (length old - kept) 0) p 0)) (range_with_len 0 n)) size
     ∙ mapped_same (λ p. unwrap_or (patch p) (get_or (take kept old ++ replicate (length old - kept) 0) p 0)) (byte_after (in_block len patch k) old) 0 4096
-    (λ p lt. or_left (patch p) (get_or (take kept old ++ replicate (length old - kept) 0) p 0) (left (Cut kept 4096) old p) (cut_read old kept (length old - kept) p low))
+    (λ p lt. or_left (patch p) (get_or (take kept old ++ replicate (length old - kept) 0) p 0) (kept_byte (Cut kept 4096) old p) (cut_read old kept (length old - kept) p low))
 
 -- no bytes are put
 itself : (xs : List ℕ) (n : ℕ) → length xs ≡ n → map (λ p. get_or xs p 0) (range_with_len 0 n) ≡ xs
@@ -77,7 +77,7 @@ made_of_same len patch k old buffer same p lt =
 
 pub made_whole : (len : Length) (patch : Patch) (k : ℕ) (old buffer : List ℕ) → IsWhole patch → ReadsAfter len patch k old (block_after len patch k buffer)
 made_whole len patch k old buffer is p lt = byte_made len patch k buffer p lt ∙ put (patch p) (is p lt) where
-  put : (o : Option ℕ) → IsSome o → ◌≡◌ {A = ℕ} (elim o [ None ↦ left (Cut (kept_in len k) 4096) buffer p | Some b ↦ b ]) (elim o [ None ↦ left (Cut (kept_in len k) 4096) old p | Some b ↦ b ])
+  put : (o : Option ℕ) → IsSome o → ◌≡◌ {A = ℕ} (elim o [ None ↦ kept_byte (Cut (kept_in len k) 4096) buffer p | Some b ↦ b ]) (elim o [ None ↦ kept_byte (Cut (kept_in len k) 4096) old p | Some b ↦ b ])
   put (Some b) some = refl
   put None some = absurd cc
 
@@ -114,7 +114,7 @@ left_inside c old_size k tidy = left_by c.length old_size k tidy.bytes.ordered
 
 module _ (c : Change) (old_size new_size : ℕ) (old new : Blocks) (tidy : IsTidy (net_of c).bytes) (zeros : IsZeroFrom old_size old) (size : new_size ≡ length_after c.length old_size) (are : AreWritten c old new) where
   -- what is left of a byte, told by its block or by the file
-  left_is : (len : Length) (at : ℕ) → left (Cut (kept_in len (at / 4096)) 4096) (old (at / 4096)) (at % 4096) ≡ left len (file_bytes old old_size) at
+  left_is : (len : Length) (at : ℕ) → kept_byte (Cut (kept_in len (at / 4096)) 4096) (old (at / 4096)) (at % 4096) ≡ kept_byte len (file_bytes old old_size) at
   unfolding byte_of
   left_is (Grown to) at = ap (λ b. cond b (get_or (old (at / 4096)) (at % 4096) 0) 0) (lt-ltb (at % 4096) 4096 (omega arith)) ∙ sym (byte_read old old_size at zeros)
   left_is (Cut least to) at =
@@ -178,7 +178,7 @@ module _ (c : Change) (old_size new_size : ℕ) (old new : Blocks) (tidy : IsTid
   ]
 
   -- nothing is left behind the end
-  left_past : (len : Length) (at : ℕ) → IsOrdered len → length_after len old_size ≤ at → left len (file_bytes old old_size) at ≡ 0
+  left_past : (len : Length) (at : ℕ) → IsOrdered len → length_after len old_size ≤ at → kept_byte len (file_bytes old old_size) at ≡ 0
   left_past (Grown to) at ordered past = let long = length_file old old_size in get_or_past (file_bytes old old_size) at 0 (omega (arith, long, past))
   left_past (Cut least to) at ordered past = ap (λ b. cond b (get_or (file_bytes old old_size) at 0) 0) (le-ltb at least (omega (arith, ordered, past)))
 
@@ -188,7 +188,7 @@ module _ (c : Change) (old_size new_size : ℕ) (old new : Blocks) (tidy : IsTid
   nothing : (at : ℕ) → new_size ≤ at → byte_after (net_of c).bytes (file_bytes old old_size) at ≡ 0
   nothing at ge =
       let e = end_in c.length old_size in
-      ap (λ o. or_put o (left c.length (file_bytes old old_size) at)) (tidy.inside at (omega (arith, e, ge, size))) ∙ left_past c.length at tidy.ordered (omega (arith, ge, size))
+      ap (λ o. or_put o (kept_byte c.length (file_bytes old old_size) at)) (tidy.inside at (omega (arith, e, ge, size))) ∙ left_past c.length at tidy.ordered (omega (arith, ge, size))
 
   pub file_law : IsFileAfter (net_of c).bytes old_size old new_size new
   unfolding byte_of
