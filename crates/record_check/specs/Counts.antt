@@ -29,10 +29,10 @@ counts_cost (Some (counts.File names size)) = file_units size
 counts_cost (Some (counts.Directory names entries)) = directory_units entries
 
 -- how many entries there are
-abbrev pub entries_in : Option NodeCounts → ℕ
-entries_in None = 0
-entries_in (Some (counts.File names size)) = 0
-entries_in (Some (counts.Directory names entries)) = entries
+abbrev pub entry_count : Option NodeCounts → ℕ
+entry_count None = 0
+entry_count (Some (counts.File names size)) = 0
+entry_count (Some (counts.Directory names entries)) = entries
 
 -- ---- one name of a directory
 

@@ -8,7 +8,7 @@ ghost use Rattle.file_graph.specs.Graph.{subjects, is_among};
 ghost use Rattle.log_record.specs.Grammar.{Fits};
 ghost use Rattle.log_record.specs.declared.format.TheConstants.{MAX_EFFECTS};
 ghost use Rattle.call_effects.specs.NodeView.{view_after};
-ghost use Rattle.record_check.specs.Counts.{counts_of, counts_after, entries_in, entry_in, entry_acted, entry_after, empty_entry, is_named};
+ghost use Rattle.record_check.specs.Counts.{counts_of, counts_after, entry_count, entry_in, entry_acted, entry_after, empty_entry, is_named};
 
 use crate::node_counts::{NodeCounts, acted};
 use crate::node_summary::NodeSummary;
@@ -36,7 +36,7 @@ pub fn counts_after(effects: &[Effect], inode: u32, old: Option<&NodeSummary>) -
 // The numbers of a node that is known.
 pub fn counts_of(old: Option<&NodeSummary>) -> Option<NodeCounts>
     ensures is { result ≡ option_map counts_of (option_map (λ n. n.now) old.entry) }
-    ensures few { entries_in result ≤ 4294967295 }
+    ensures few { entry_count result ≤ 4294967295 }
 {
     match old {
         Some(node) => Some(node.counts()),
@@ -54,10 +54,10 @@ fn counts_more(
     old: Option<&NodeSummary>,
 ) -> Option<NodeCounts>
     requires fits { Fits effect.now }
-    requires few { entries_in counts ≤ 4294967303 }
+    requires few { entry_count counts ≤ 4294967303 }
     requires is { counts ≡ counts_after before.now inode (option_map (λ n. n.now) old) }
     ensures is { result ≡ counts_after (before.now ++ effect.now ∷ []) inode (option_map (λ n. n.now) old.entry) }
-    ensures few { entries_in result ≤ entries_in counts + 1 }
+    ensures few { entry_count result ≤ entry_count counts + 1 }
 {
     if is_on(effect, inode) {
         return acted(counts, effect, is_named(effect, before, inode, old));

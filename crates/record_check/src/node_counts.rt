@@ -1,7 +1,7 @@
 ghost use Rattle.std.specs.Prelude.{◌≡◌, ◌+◌, ◌-◌, ◌≤◌, ◌<◌, ◌^◌, Some, max, option_map, if◌then◌else◌};
 ghost use Rattle.posix_calls.specs.Content.{file_units, directory_units};
 ghost use Rattle.log_record.specs.Grammar.{Fits};
-ghost use Rattle.record_check.specs.Counts.{counts_acted, counts_cost, empty_counts, entries_in, in_count, in_length, with_count};
+ghost use Rattle.record_check.specs.Counts.{counts_acted, counts_cost, empty_counts, entry_count, in_count, in_length, with_count};
 
 use file_graph::{Effect, Kind};
 use posix_calls::{UNIT_BYTES, UNIT_ENTRIES};
@@ -57,14 +57,14 @@ fn directory_units(entries: u64) -> u64
 /// takes out.
 pub fn acted(counts: Option<NodeCounts>, effect: &Effect, was: bool) -> Option<NodeCounts>
     requires fits { Fits effect.now }
-    requires few { entries_in counts ≤ 4294967303 }
+    requires few { entry_count counts ≤ 4294967303 }
     ensures is { result ≡ counts_acted effect.now was counts }
-    ensures few { entries_in result ≤ entries_in counts + 1 }
+    ensures few { entry_count result ≤ entry_count counts + 1 }
 {
     match effect {
         Effect::Make { kind, .. } => Some(empty(*kind)),
         Effect::Enter { .. } => entered(counts, was),
-        Effect::Leave { .. } => left(counts, was),
+        Effect::Leave { .. } => taken_out(counts, was),
         Effect::Names { names, .. } => named(counts, *names),
         Effect::Size { size, .. } => sized(counts, *size),
         Effect::Bytes { at, bytes, .. } => grown(counts, *at + bytes.as_slice().len() as u64),
@@ -75,7 +75,7 @@ pub fn acted(counts: Option<NodeCounts>, effect: &Effect, was: bool) -> Option<N
 // The numbers of a new node.
 fn empty(kind: Kind) -> NodeCounts
     ensures is { result ≡ empty_counts kind }
-    ensures few { entries_in (Some result) ≤ 0 }
+    ensures few { entry_count (Some result) ≤ 0 }
 {
     match kind {
         Kind::File => NodeCounts::File { names: 0, size: 0 },
@@ -88,9 +88,9 @@ fn empty(kind: Kind) -> NodeCounts
 
 // With a name entered, which was there or not.
 fn entered(counts: Option<NodeCounts>, was: bool) -> Option<NodeCounts>
-    requires { entries_in counts ≤ 4294967303 }
+    requires { entry_count counts ≤ 4294967303 }
     ensures is { result ≡ option_map (in_count (λ n. if was then n else n + 1)) counts }
-    ensures few { entries_in result ≤ entries_in counts + 1 }
+    ensures few { entry_count result ≤ entry_count counts + 1 }
 {
     match counts {
         Some(NodeCounts::Directory { names, entries }) => Some(NodeCounts::Directory {
@@ -102,9 +102,9 @@ fn entered(counts: Option<NodeCounts>, was: bool) -> Option<NodeCounts>
 }
 
 // With a name taken out, which was there or not.
-fn left(counts: Option<NodeCounts>, was: bool) -> Option<NodeCounts>
+fn taken_out(counts: Option<NodeCounts>, was: bool) -> Option<NodeCounts>
     ensures is { result ≡ option_map (in_count (λ n. if was then n - 1 else n)) counts }
-    ensures few { entries_in result ≤ entries_in counts }
+    ensures few { entry_count result ≤ entry_count counts }
 {
     match counts {
         Some(NodeCounts::Directory { names, entries }) => Some(NodeCounts::Directory {
@@ -122,7 +122,7 @@ fn left(counts: Option<NodeCounts>, was: bool) -> Option<NodeCounts>
 // With another number of names.
 fn named(counts: Option<NodeCounts>, count: u32) -> Option<NodeCounts>
     ensures is { result ≡ option_map (with_count count) counts }
-    ensures few { entries_in result ≤ entries_in counts }
+    ensures few { entry_count result ≤ entry_count counts }
 {
     match counts {
         Some(NodeCounts::File { size, .. }) => Some(NodeCounts::File { names: count, size }),
@@ -137,7 +137,7 @@ fn named(counts: Option<NodeCounts>, count: u32) -> Option<NodeCounts>
 // With another size.
 fn sized(counts: Option<NodeCounts>, len: u64) -> Option<NodeCounts>
     ensures is { result ≡ option_map (in_length (λ size. len)) counts }
-    ensures few { entries_in result ≤ entries_in counts }
+    ensures few { entry_count result ≤ entry_count counts }
 {
     match counts {
         Some(NodeCounts::File { names, .. }) => Some(NodeCounts::File { names, size: len }),
@@ -148,7 +148,7 @@ fn sized(counts: Option<NodeCounts>, len: u64) -> Option<NodeCounts>
 // With a size that is at least this.
 fn grown(counts: Option<NodeCounts>, end: u64) -> Option<NodeCounts>
     ensures is { result ≡ option_map (in_length (λ size. max size end)) counts }
-    ensures few { entries_in result ≤ entries_in counts }
+    ensures few { entry_count result ≤ entry_count counts }
 {
     match counts {
         Some(NodeCounts::File { names, size }) => Some(NodeCounts::File {

@@ -5,7 +5,7 @@ ghost use Rattle.log_record.specs.Grammar.{Fits};
 ghost use Rattle.call_effects.specs.NodeView.{FileView, DirView, empty_view, in_entries, in_size, view_acted, view_is_dir};
 ghost use Rattle.record_check.specs.Memory.{is_enter};
 ghost use Rattle.record_check.specs.Summary.{view_of};
-ghost use Rattle.record_check.specs.Counts.{counts_of, entry_in, entries_in};
+ghost use Rattle.record_check.specs.Counts.{counts_of, entry_in, entry_count};
 
 use crate::node_counts::NodeCounts;
 use file_graph::{Child, Effect, Kind};
@@ -75,7 +75,7 @@ impl NodeSummary {
     /// Its numbers alone.
     pub fn counts(&self) -> NodeCounts
         ensures is { result ≡ counts_of self.now }
-        ensures few { entries_in (Some result) < 2 ^ 32 }
+        ensures few { entry_count (Some result) < 2 ^ 32 }
     {
         match &self.body {
             SummaryBody::File { size } => NodeCounts::File {
