@@ -15,7 +15,7 @@ use Rattle.graph_change.specs.Change.{Change, Changes, blank, new_in, new_change
 use Rattle.graph_change.proofs.Bytes.{tidy_nothing, nothing_after}
 use Rattle.graph_change.proofs.Entries.{no_entries}
 use Rattle.graph_change.proofs.Law.{AreTidy, tidy_with, empty_at, more_effects, coalesced_law}
-use Rattle.coalescer.specs.Exchange.{Place, entries_in, child_at, entered, exchanged, each, front, rest}
+use Rattle.coalescer.specs.Exchange.{Place, node_entries, child_at, entered, exchanged, each, front, rest}
 
 -- ---- the change of each inode
 
@@ -67,11 +67,11 @@ front_first cs g = λ t i. (
 
 -- ---- the rest leaves entries alone
 
-rest_entries : (c : Change) (x : Option Node) → entries_in (node_after (net_of (rest c)) x) ≡ entries_in x
+rest_entries : (c : Change) (x : Option Node) → node_entries (node_after (net_of (rest c)) x) ≡ node_entries x
 rest_entries c None = refl
 rest_entries c (Some n) = of_body n.body
   where
-    of_body : (b : Body) → entries_in (Some (record { names = names_after c.names n.names; body = body_after (net_of (rest c)).bytes fin.empty b })) ≡ entries_in (Some (record { names = n.names; body = b }))
+    of_body : (b : Body) → node_entries (Some (record { names = names_after c.names n.names; body = body_after (net_of (rest c)).bytes fin.empty b })) ≡ node_entries (Some (record { names = n.names; body = b }))
     of_body (FileBody old) = refl
     of_body (DirBody old) = no_entries old
 
@@ -104,7 +104,7 @@ entered_past cs p q (Some x) None g = refl
 entered_past cs p q None y g = refl
 
 child_stays : (cs : Changes) (p : Place) (g : Graph) → child_at (changed (each rest cs) g) p ≡ child_at g p
-child_stays cs p g = ap (λ es. fin.get es p.1) (ap entries_in (rest_at cs g p.0) ∙ rest_entries (change_at cs p.0) (g p.0))
+child_stays cs p g = ap (λ es. fin.get es p.1) (ap node_entries (rest_at cs g p.0) ∙ rest_entries (change_at cs p.0) (g p.0))
 
 rest_past : (cs : Changes) (p q : Place) (g : Graph) → exchanged p q (changed (each rest cs) g) ≡ changed (each rest cs) (exchanged p q g)
 rest_past cs p q g =

@@ -13,13 +13,13 @@ abbrev pub Place : Type 0
 Place = ℕ × List ℕ
 
 -- the entries of a directory, none of what is no directory
-abbrev pub entries_in : Option Node → Entries Child
-entries_in None = fin.empty
-entries_in (Some n) = elim (n.body) [ FileBody bytes ↦ fin.empty | DirBody entries ↦ entries ]
+abbrev pub node_entries : Option Node → Entries Child
+node_entries None = fin.empty
+node_entries (Some n) = elim (n.body) [ FileBody bytes ↦ fin.empty | DirBody entries ↦ entries ]
 
 -- what a name leads to
 abbrev pub child_at : Graph → Place → Option Child
-child_at g p = fin.get (entries_in (g p.0)) p.1
+child_at g p = fin.get (node_entries (g p.0)) p.1
 
 -- with each of these entered under the other's name, where both are there
 abbrev pub entered : Place → Place → Option Child → Option Child → Graph → Graph

@@ -56,7 +56,7 @@ impl Weight {
         ensures { OnOk result ((es : List Effect) → Weighs es self.old → Weighs (es ++ effect.now ∷ []) self.new) }
     {
         self.inodes.insert(effect.subject())?;
-        self.entries = counted(self.entries, is_entry(effect));
+        self.entries = with_one_more(self.entries, is_entry(effect));
         add_file_blocks(&mut self.blocks, effect)
     }
 
@@ -69,7 +69,7 @@ impl Weight {
 }
 
 // One more, if it is one.
-fn counted(entries: usize, is_one: bool) -> usize
+fn with_one_more(entries: usize, is_one: bool) -> usize
     ensures { result ≡ (if is_one && nat_lt entries CHUNK_IMAGES then entries + 1 else entries) }
 {
     if is_one && entries < CHUNK_IMAGES {
