@@ -17,7 +17,7 @@ use Rattle.file_graph.specs.declared.effect.Kind.{Kind}
 use Rattle.layout.specs.declared.directory.DirEntry.{DirEntry}
 use Rattle.layout.specs.Places.{is_inode}
 use Rattle.layout.specs.Bytes.{u32, zeros, filled, with_text, within, all_pairs}
-use Rattle.layout.specs.Directory.{EntryList, kind_byte, entry_text, entries_text, entries_spelling, fits_entry, fits_entries, differ, are_distinct, head_at, entries_at, listed, AreEntries, IsListed, no_entry, entry_of, with_entry, with_last, with_target, without_entry, without_last}
+use Rattle.layout.specs.Directory.{EntryList, kind_byte, entry_text, entries_text, entries_spelling, fits_entry, fits_entries, differ, are_distinct, head_at, entries_at, listed, AreEntries, IsListed, no_entry, entry_of, with_entry_at, with_last, with_target, without_entry, without_last}
 use Rattle.layout.proofs.Limits.{and_parts}
 use Rattle.layout.proofs.Fields.{u32_long}
 use Rattle.layout.proofs.Blocks.{zeros_long, zeros_more, filled_long, written_on, overwritten_then}
@@ -202,7 +202,7 @@ entry_bytes block i e lt =
     ap (take 72) (whole_at block (64 + 72 * i) x s) ∙ take_at (entry_text x) s.rest 72 size
 
 pub entry_copied : (v : EntryList) (i j : ℕ) → fits_entries v ≡ true → i < length v.entries → j < length v.entries
-    → with_text (64 + 72 * i) (entry_text (entry_of v j)) (entries_spelling v) ≡ entries_spelling (with_entry v i (entry_of v j))
+    → with_text (64 + 72 * i) (entry_text (entry_of v j)) (entries_spelling v) ≡ entries_spelling (with_entry_at v i (entry_of v j))
 entry_copied v i j fit li lj =
     let f = fit_parts v fit in
     let x : DirEntry = entry_of v j in
@@ -215,11 +215,11 @@ all_set p (y ∷ ys) (suc i) x h is =
     let a = and_parts (p y) (list_all p ys) h in
     and_from _ _ a.0 (all_set p ys i x a.1 is)
 
-pub copied_fit : (v : EntryList) (i j : ℕ) → Fit v → j < length v.entries → list_all fits_entry (with_entry v i (entry_of v j)).entries ≡ true
+pub copied_fit : (v : EntryList) (i j : ℕ) → Fit v → j < length v.entries → list_all fits_entry (with_entry_at v i (entry_of v j)).entries ≡ true
 copied_fit v i j f lj = all_set fits_entry v.entries i (entry_of v j) f.each (all_at fits_entry v.entries j no_entry f.each lj)
 
 -- the last one goes from the end once it stands at the place
-pub taken_is : (v : EntryList) (i n : ℕ) → length v.entries ≡ n → without_last (with_entry v i (entry_of v (n - 1))) ≡ without_entry v i
+pub taken_is : (v : EntryList) (i n : ℕ) → length v.entries ≡ n → without_last (with_entry_at v i (entry_of v (n - 1))) ≡ without_entry v i
 taken_is v i n count =
     let es : List DirEntry = v.entries in
     let long : length (slice_set es i (get_or es (n - 1) no_entry)) - 1 ≡ length es - 1 = omega (arith, length-set es i (get_or es (n - 1) no_entry)) in
@@ -266,8 +266,8 @@ names_kept (x ∷ xs) (suc i) e same lt =
     ap (λ b. b && are_distinct (slice_set xs i e)) (names_all x.name xs i e same (omega (arith, lt)))
     ∙ ap (λ b. list_all (differ x) xs && b) (names_kept xs i e same (omega (arith, lt)))
 
-pub fit_set : (v : EntryList) (i : ℕ) (e : DirEntry) → Fit v → fits_entry e ≡ true → are_distinct (with_entry v i e).entries ≡ true → fits_entries (with_entry v i e) ≡ true
-fit_set v i e f fit distinct = fit_from (with_entry v i e) (record {
+pub fit_set : (v : EntryList) (i : ℕ) (e : DirEntry) → Fit v → fits_entry e ≡ true → are_distinct (with_entry_at v i e).entries ≡ true → fits_entries (with_entry_at v i e) ≡ true
+fit_set v i e f fit distinct = fit_from (with_entry_at v i e) (record {
   owner = f.owner;
   few = omega (arith, length-set v.entries i e, f.few);
   each = all_set fits_entry v.entries i e f.each fit;

@@ -15,7 +15,7 @@ use Rattle.file_graph.specs.declared.effect.Kind.TheVariants as kind
 use Rattle.layout.specs.declared.directory.DirEntry.{DirEntry}
 use Rattle.layout.specs.Places.{is_inode}
 use Rattle.layout.specs.Bytes.{◌>>=◌, AreBytes, Field, u32, zeros, filled, with_text, number_at, text_at, items_at, are_zero, within}
-use Rattle.layout.specs.Directory.{EntryList, kind_byte, entry_text, entries_text, entries_spelling, fits_entry, fits_entries, head_at, entry_at, fields_at, entries_at, entries_of, listed, IsListed, are_distinct, with_entry}
+use Rattle.layout.specs.Directory.{EntryList, kind_byte, entry_text, entries_text, entries_spelling, fits_entry, fits_entries, head_at, entry_at, fields_at, entries_at, entries_of, listed, IsListed, are_distinct, with_entry_at}
 use Rattle.layout.proofs.Limits.{and_parts}
 use Rattle.layout.proofs.Fields.{bind_some, test_some, some_is, u32_long}
 use Rattle.layout.proofs.Pairs.{all_at}
@@ -175,7 +175,7 @@ set_parts es i e lt =
     ∙ ap (λ (t : List DirEntry). take i es ++ t) (drop_more new i e room ∙ ap (λ (x : DirEntry). x ∷ drop (i + 1) new) (get_or-set_same es i e e lt) ∙ ap (λ (t : List DirEntry). e ∷ t) (drop-set-lt (i + 1) es i e (omega arith)))
 
 -- the text of entries with another one at a place
-pub text_set : (v : EntryList) (i : ℕ) (e : DirEntry) → i < length v.entries → front_text v i ++ (entry_text e ++ flat_map entry_text (drop (i + 1) v.entries)) ≡ entries_text (with_entry v i e)
+pub text_set : (v : EntryList) (i : ℕ) (e : DirEntry) → i < length v.entries → front_text v i ++ (entry_text e ++ flat_map entry_text (drop (i + 1) v.entries)) ≡ entries_text (with_entry_at v i e)
 text_set v i e lt =
     let behind : List ℕ = flat_map entry_text (drop (i + 1) v.entries) in
     let n : ℕ = length v.entries in
@@ -186,7 +186,7 @@ text_set v i e lt =
     ∙ ap (λ (t : List ℕ). head_text v.owner n ++ t) (sym texts)
     ∙ ap (λ (k : ℕ). head_text v.owner k ++ flat_map entry_text (slice_set v.entries i e)) (sym count)
 
-pub entry_set : (v : EntryList) (i : ℕ) (e : DirEntry) → fits_entries v ≡ true → i < length v.entries → length e.name ≤ 64 → with_text (64 + 72 * i) (entry_text e) (entries_spelling v) ≡ entries_spelling (with_entry v i e)
+pub entry_set : (v : EntryList) (i : ℕ) (e : DirEntry) → fits_entries v ≡ true → i < length v.entries → length e.name ≤ 64 → with_text (64 + 72 * i) (entry_text e) (entries_spelling v) ≡ entries_spelling (with_entry_at v i e)
 entry_set v i e fit lt short =
     let p = and_parts (fits_list v) (are_distinct v.entries) fit in
     let f = list_fits v p.0 in

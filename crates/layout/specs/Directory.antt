@@ -141,9 +141,9 @@ abbrev pub without_entry : EntryList → ℕ → EntryList
 without_entry v index = record { owner = v.owner; entries = swap_remove v.entries index no_entry }
 
 -- the entries with another one at a place
-abbrev pub with_entry : EntryList → ℕ → DirEntry → EntryList
-with_entry v index e = record { owner = v.owner; entries = slice_set v.entries index e }
+abbrev pub with_entry_at : EntryList → ℕ → DirEntry → EntryList
+with_entry_at v index e = record { owner = v.owner; entries = slice_set v.entries index e }
 
 -- the entries, of which the one at a place leads to another node
 abbrev pub with_target : EntryList → ℕ → ℕ → Kind → EntryList
-with_target v index inode kind = with_entry v index (record { inode = inode; kind = kind; name = (entry_of v index).name })
+with_target v index inode kind = with_entry_at v index (record { inode = inode; kind = kind; name = (entry_of v index).name })

@@ -4,7 +4,7 @@ ghost use Rattle.std.specs.List.{list_all, position};
 ghost use Rattle.std.specs.Str.{bytes_eq};
 ghost use Rattle.posix_calls.specs.declared.limits.TheConstants.{MAX_NAME};
 ghost use Rattle.layout.specs.Bytes.{u32 as bytes_4, zeros, with_text};
-ghost use Rattle.layout.specs.Directory.{EntryList, AreEntries, listed, are_distinct, kind_byte, entry_text, entries_spelling, fits_entry, fits_entries, entry_of, with_entry, with_last, with_target, without_entry, without_last};
+ghost use Rattle.layout.specs.Directory.{EntryList, AreEntries, listed, are_distinct, kind_byte, entry_text, entries_spelling, fits_entry, fits_entries, entry_of, with_entry_at, with_last, with_target, without_entry, without_last};
 ghost use Rattle.layout.specs.Lent.{owned};
 
 use crate::dir_entries::{head_of, place_of};
@@ -72,9 +72,9 @@ pub fn set_entry(block: &mut [u8], index: usize, entry: EntryRef<'_>)
     requires inside { index < MAX_IN_BLOCK }
     requires short { length entry.name.now ≤ MAX_NAME }
     ensures text { block.new ≡ with_text (64 + 72 * index) (entry_text (owned entry.entry)) block.old }
-    ensures spelling { (v : EntryList) → fits_entries v ≡ true → block.old ≡ entries_spelling v → index < length v.entries → block.new ≡ entries_spelling (with_entry v index (owned entry.entry)) }
-    ensures entries { AreEntries block.old → index < length (listed block.old).entries → fits_entry (owned entry.entry) ≡ true → are_distinct (with_entry (listed block.old) index (owned entry.entry)).entries ≡ true
-        → AreEntries block.new × (listed block.new ≡ with_entry (listed block.old) index (owned entry.entry)) }
+    ensures spelling { (v : EntryList) → fits_entries v ≡ true → block.old ≡ entries_spelling v → index < length v.entries → block.new ≡ entries_spelling (with_entry_at v index (owned entry.entry)) }
+    ensures entries { AreEntries block.old → index < length (listed block.old).entries → fits_entry (owned entry.entry) ≡ true → are_distinct (with_entry_at (listed block.old) index (owned entry.entry)).entries ≡ true
+        → AreEntries block.new × (listed block.new ≡ with_entry_at (listed block.old) index (owned entry.entry)) }
 {
     put_entry(block, FIRST_ENTRY_AT + ENTRY_SIZE * index, entry);
 }
@@ -112,7 +112,7 @@ fn copy_last(block: &mut [u8], count: usize, index: usize)
     requires inside { index < count }
     requires few { count ≤ MAX_IN_BLOCK }
     requires long { length block.old ≡ BLOCK }
-    ensures { block.new ≡ entries_spelling (with_entry (listed block.old) index (entry_of (listed block.old) (count - 1))) }
+    ensures { block.new ≡ entries_spelling (with_entry_at (listed block.old) index (entry_of (listed block.old) (count - 1))) }
 {
     let at = FIRST_ENTRY_AT + ENTRY_SIZE * (count - 1);
     let mut text = [0; ENTRY_SIZE];

@@ -3,7 +3,7 @@ use Rattle.std.proofs.Common.{◌≡◌, ◌≢◌, inl, inr, ℕ, ◌+◌, ◌-
 use Rattle.std.proofs.lemmas.Bool.{cases_eq}
 use Rattle.std.proofs.lemmas.List.{get_or-set_same, get_or-set_other, length-set, length-append, get_or-take, get_or_append_left, get_or_push}
 use Rattle.layout.specs.declared.directory.DirEntry.{DirEntry}
-use Rattle.layout.specs.Directory.{EntryList, AreEntries, listed, no_entry, entry_of, with_entry, with_last, without_entry, without_last}
+use Rattle.layout.specs.Directory.{EntryList, AreEntries, listed, no_entry, entry_of, with_entry_at, with_last, without_entry, without_last}
 use Rattle.tree_blocks.specs.Inode.{Blocks, plain, entry_at, entries_in, blocks_for, IsAbsent, IsDirectoryBlock, IsDirectory}
 use Rattle.tree_blocks.specs.After.{IsEntered}
 
@@ -35,20 +35,20 @@ module _ (b c : Blocks) (place : ℕ) (v : EntryList) (others : (k : ℕ) → k 
 
 -- ---- one entry for another
 
-pub set_same : (v : EntryList) (i : ℕ) (x : DirEntry) → i < length v.entries → entry_of (with_entry v i x) i ≡ x
+pub set_same : (v : EntryList) (i : ℕ) (x : DirEntry) → i < length v.entries → entry_of (with_entry_at v i x) i ≡ x
 set_same v i x lt = get_or-set_same v.entries i x no_entry lt
 
-pub set_other : (v : EntryList) (i j : ℕ) (x : DirEntry) → j ≢ i → entry_of (with_entry v i x) j ≡ entry_of v j
+pub set_other : (v : EntryList) (i j : ℕ) (x : DirEntry) → j ≢ i → entry_of (with_entry_at v i x) j ≡ entry_of v j
 set_other v i j x off = get_or-set_other v.entries i j x no_entry off
 
-module _ (b c : Blocks) (place : ℕ) (x : DirEntry) (others : (k : ℕ) → k ≢ place / 56 → c k ≡ b k) (is : listed (c (place / 56)) ≡ with_entry (listed (b (place / 56))) (place % 56) x)
+module _ (b c : Blocks) (place : ℕ) (x : DirEntry) (others : (k : ℕ) → k ≢ place / 56 → c k ≡ b k) (is : listed (c (place / 56)) ≡ with_entry_at (listed (b (place / 56))) (place % 56) x)
     (inside : place % 56 < length (listed (b (place / 56))).entries) where
   pub set_there : entry_at c place ≡ plain x
-  set_there = entry_there b c place (with_entry (listed (b (place / 56))) (place % 56) x) others is ∙ ap plain (set_same (listed (b (place / 56))) (place % 56) x inside)
+  set_there = entry_there b c place (with_entry_at (listed (b (place / 56))) (place % 56) x) others is ∙ ap plain (set_same (listed (b (place / 56))) (place % 56) x inside)
 
   pub set_beside : (e : ℕ) → e ≢ place → entry_at c e ≡ entry_at b e
   set_beside e off =
-      entry_beside b c place (with_entry (listed (b (place / 56))) (place % 56) x) others is e (λ at. set_other (listed (b (place / 56))) (place % 56) (e % 56) x (λ same. off (omega (arith, at, same))))
+      entry_beside b c place (with_entry_at (listed (b (place / 56))) (place % 56) x) others is e (λ at. set_other (listed (b (place / 56))) (place % 56) (e % 56) x (λ same. off (omega (arith, at, same))))
 
 -- ---- one entry more, behind the last
 
@@ -91,7 +91,7 @@ module _ (owner n : ℕ) (b : Blocks) (is : IsDirectory owner n b) where
   -- ---- an entry leads elsewhere
 
   module _ (c : Blocks) (place : ℕ) (lt : place < n) (x : DirEntry) (others : (k : ℕ) → k ≢ place / 56 → c k ≡ b k) (entries : AreEntries (c (place / 56)))
-      (now : listed (c (place / 56)) ≡ with_entry (listed (b (place / 56))) (place % 56) x) where
+      (now : listed (c (place / 56)) ≡ with_entry_at (listed (b (place / 56))) (place % 56) x) where
     pub is_set : (name : List ℕ) → (entry_at b place).0 ≡ name → x.name ≡ name → IsEntered place (name, (x.inode, x.kind)) n (entry_at b) n (entry_at c)
     is_set name old new = record {
       at_name = inl (lt, old, refl);

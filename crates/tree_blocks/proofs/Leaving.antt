@@ -3,7 +3,7 @@ use Rattle.std.proofs.Common.{◌≡◌, ◌≢◌, ◌⊎◌, inl, inr, ℕ, �
 use Rattle.std.proofs.lemmas.Bool.{cases_eq}
 use Rattle.std.proofs.lemmas.List.{length-set, length-take}
 use Rattle.layout.specs.declared.directory.DirEntry.{DirEntry}
-use Rattle.layout.specs.Directory.{EntryList, AreEntries, listed, entry_of, are_distinct, with_entry, without_entry, without_last}
+use Rattle.layout.specs.Directory.{EntryList, AreEntries, listed, entry_of, are_distinct, with_entry_at, without_entry, without_last}
 use Rattle.tree_blocks.specs.Inode.{Blocks, plain, entry_at, entries_in, blocks_for, IsDirectoryBlock, IsDirectory}
 use Rattle.tree_blocks.specs.After.{IsTakenOut}
 use Rattle.tree_blocks.specs.Directory.{HaveOneLess}
@@ -16,7 +16,7 @@ length_less : (v : EntryList) → length (without_last v).entries ≡ length v.e
 length_less v = omega (arith, length-take (length v.entries - 1) v.entries)
 
 length_taken : (v : EntryList) (i : ℕ) → length (without_entry v i).entries ≡ length v.entries - 1
-length_taken v i = omega (arith, length-take (length v.entries - 1) (with_entry v i (entry_of v (length v.entries - 1))).entries, length-set v.entries i (entry_of v (length v.entries - 1)))
+length_taken v i = omega (arith, length-take (length v.entries - 1) (with_entry_at v i (entry_of v (length v.entries - 1))).entries, length-set v.entries i (entry_of v (length v.entries - 1)))
 
 module _ (owner last : ℕ) (b : Blocks) (is : IsDirectory owner (last + 1) b) where
   -- what stands in the block of the last entry
@@ -97,7 +97,7 @@ module _ (owner last : ℕ) (b : Blocks) (is : IsDirectory owner (last + 1) b) w
     record Source (i : ℕ) : Type 0 where
       was : ℕ
       below : was < last + 1
-      name : (entry_of (with_entry target (place % 56) moved) i).name ≡ (entry_at b was).0
+      name : (entry_of (with_entry_at target (place % 56) moved) i).name ≡ (entry_at b was).0
       at : ((i ≡ place % 56) × (was ≡ last)) ⊎ ((i ≢ place % 56) × (was ≡ 56 * (place / 56) + i))
 
     source : (i : ℕ) → i < 56 → Source i
@@ -105,7 +105,7 @@ module _ (owner last : ℕ) (b : Blocks) (is : IsDirectory owner (last + 1) b) w
       | inl here ↦ record {
         was = last;
         below = omega arith;
-        name = ap (λ j. (entry_of (with_entry target (place % 56) moved) j).name) here ∙ ap (λ e. e.name) (set_same target (place % 56) moved (omega (arith, target_long))) ∙ ap (λ e. e.0) (sym moved_is);
+        name = ap (λ j. (entry_of (with_entry_at target (place % 56) moved) j).name) here ∙ ap (λ e. e.name) (set_same target (place % 56) moved (omega (arith, target_long))) ∙ ap (λ e. e.0) (sym moved_is);
         at = inl (here, refl);
       }
       | inr off ↦
@@ -121,11 +121,11 @@ module _ (owner last : ℕ) (b : Blocks) (is : IsDirectory owner (last + 1) b) w
           }
     ]
 
-    pub distinct_target : are_distinct (with_entry target (place % 56) moved).entries ≡ true
-    distinct_target = distinct_names (with_entry target (place % 56) moved).entries (λ i j li lj same.
+    pub distinct_target : are_distinct (with_entry_at target (place % 56) moved).entries ≡ true
+    distinct_target = distinct_names (with_entry_at target (place % 56) moved).entries (λ i j li lj same.
         let long = length-set target.entries (place % 56) moved in
         by i j (source i (omega (arith, li, long, target_long))) (source j (omega (arith, lj, long, target_long))) (omega (arith, li, long, target_long)) (omega (arith, lj, long, target_long)) same) where
-          by : (i j : ℕ) → Source i → Source j → i < 56 → j < 56 → (entry_of (with_entry target (place % 56) moved) i).name ≡ (entry_of (with_entry target (place % 56) moved) j).name → i ≡ j
+          by : (i j : ℕ) → Source i → Source j → i < 56 → j < 56 → (entry_of (with_entry_at target (place % 56) moved) i).name ≡ (entry_of (with_entry_at target (place % 56) moved) j).name → i ≡ j
           by i j s t li lj same =
               let one : s.was ≡ t.was = is.distinct s.was t.was s.below t.below (sym s.name ∙ same ∙ t.name) in
               elim (s.at) [
@@ -134,14 +134,14 @@ module _ (owner last : ℕ) (b : Blocks) (is : IsDirectory owner (last + 1) b) w
               ]
 
     module _ (c : Blocks) (others : (k : ℕ) → k ≢ place / 56 → k ≢ last / 56 → c k ≡ b k) (entries : AreEntries (c (place / 56))) (left : AreEntries (c (last / 56)))
-        (now : listed (c (place / 56)) ≡ with_entry target (place % 56) moved) (less : listed (c (last / 56)) ≡ without_last own) where
+        (now : listed (c (place / 56)) ≡ with_entry_at target (place % 56) moved) (less : listed (c (last / 56)) ≡ without_last own) where
       taken_across : IsTakenOut place (last + 1) (entry_at b) last (entry_at c)
       taken_across = record {
         inside = omega (arith, before);
         count = omega arith;
         moved = λ low.
             let final : last ≡ last + 1 - 1 = omega arith in
-            entry_is c place (with_entry target (place % 56) moved) now ∙ ap plain (set_same target (place % 56) moved (omega (arith, target_long))) ∙ sym moved_is ∙ ap (entry_at b) final;
+            entry_is c place (with_entry_at target (place % 56) moved) now ∙ ap plain (set_same target (place % 56) moved (omega (arith, target_long))) ∙ sym moved_is ∙ ap (entry_at b) final;
         others = λ e low off. beside e (omega (arith, low)) off (cases_eq (e / 56) (last / 56)) (cases_eq (e / 56) (place / 56));
       } where
         beside : (e : ℕ) → e < last → e ≢ place → (e / 56 ≡ last / 56) ⊎ (e / 56 ≢ last / 56) → (e / 56 ≡ place / 56) ⊎ (e / 56 ≢ place / 56) → entry_at c e ≡ entry_at b e
@@ -150,7 +150,7 @@ module _ (owner last : ℕ) (b : Blocks) (is : IsDirectory owner (last + 1) b) w
             ∙ ap plain (less_same own (e % 56) (omega (arith, last_long, at, low)))
             ∙ sym (entry_is b e own (ap (λ k. listed (b k)) at))
         beside e low off (inr away) (inl at) =
-            entry_is c e (with_entry target (place % 56) moved) (ap (λ k. listed (c k)) at ∙ now)
+            entry_is c e (with_entry_at target (place % 56) moved) (ap (λ k. listed (c k)) at ∙ now)
             ∙ ap plain (set_other target (place % 56) (e % 56) moved (λ same. off (omega (arith, same, at))))
             ∙ sym (entry_is b e target (ap (λ k. listed (b k)) at))
         beside e low off (inr away) (inr apart) = same_block b c e (others (e / 56) apart away)

@@ -3,7 +3,7 @@
 ghost use Rattle.std.specs.Prelude.{◌≡◌, ◌≢◌, ◌≤◌, ◌<◌, ◌/◌, ◌%◌, ◌+◌, ◌*◌, ◌-◌, ◌^◌, ℕ, [], ◌∷◌, length, get_or, true, IfNone, IfSome, OnOk, OnErr, vec_capacity};
 ghost use Rattle.layout.specs.Places.{is_inode};
 ghost use Rattle.layout.specs.Lent.{owned};
-ghost use Rattle.layout.specs.Directory.{AreEntries, listed, fits_entry, are_distinct, with_entry, without_last, entry_of};
+ghost use Rattle.layout.specs.Directory.{AreEntries, listed, fits_entry, are_distinct, with_entry_at, without_last, entry_of};
 ghost use Rattle.layout.specs.declared.directory.TheConstants.{MAX_IN_BLOCK};
 ghost use Rattle.tree_blocks.specs.Inode.{plain, entry_at, blocks_for, IsAbsent, IsDirectory};
 ghost use Rattle.tree_blocks.specs.Directory.{numbered, HaveOneMore, HaveOneLess};
@@ -59,10 +59,10 @@ pub fn move_last(blocks: &mut [[u8; BLOCK]], to: usize, index: usize, from: usiz
     requires source { AreEntries (numbered blocks.old from) }
     requires inside { index < length (listed (numbered blocks.old to)).entries }
     requires some { 0 < length (listed (numbered blocks.old from)).entries }
-    requires distinct { are_distinct (with_entry (listed (numbered blocks.old to)) index (entry_of (listed (numbered blocks.old from)) (length (listed (numbered blocks.old from)).entries - 1))).entries ≡ true }
+    requires distinct { are_distinct (with_entry_at (listed (numbered blocks.old to)) index (entry_of (listed (numbered blocks.old from)) (length (listed (numbered blocks.old from)).entries - 1))).entries ≡ true }
     ensures target { AreEntries (numbered blocks.new to) }
     ensures source { AreEntries (numbered blocks.new from) }
-    ensures moved { listed (numbered blocks.new to) ≡ with_entry (listed (numbered blocks.old to)) index (entry_of (listed (numbered blocks.old from)) (length (listed (numbered blocks.old from)).entries - 1)) }
+    ensures moved { listed (numbered blocks.new to) ≡ with_entry_at (listed (numbered blocks.old to)) index (entry_of (listed (numbered blocks.old from)) (length (listed (numbered blocks.old from)).entries - 1)) }
     ensures left { listed (numbered blocks.new from) ≡ without_last (listed (numbered blocks.old from)) }
     ensures others { (k : ℕ) → k ≢ to → k ≢ from → numbered blocks.new k ≡ numbered blocks.old k }
     ensures long { length blocks.new ≡ length blocks.old }

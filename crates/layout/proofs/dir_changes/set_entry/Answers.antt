@@ -1,6 +1,6 @@
 use Rattle.std.proofs.Common.{◌+◌, ◌*◌, ap, ◌∙◌}
 use Rattle.layout.specs.Bytes.{with_text}
-use Rattle.layout.specs.Directory.{listed, entry_text, with_entry}
+use Rattle.layout.specs.Directory.{listed, entry_text, with_entry_at}
 use Rattle.layout.specs.Lent.{owned}
 use Rattle.layout.proofs.DirPlaces.{entry_set}
 use Rattle.layout.proofs.DirChanges.{entries_now, fit_parts, fit_set}
@@ -17,5 +17,5 @@ returns-clause-entries c are lt fit distinct =
     let e = owned c.args.entry in
     let s = are in
     let f = fit_parts v s.fit in
-    entries_now c.put_entry.new.block (with_entry v i e) (fit_set v i e f fit distinct)
+    entries_now c.put_entry.new.block (with_entry_at v i e) (fit_set v i e f fit distinct)
     (c.put_entry.ensures ∙ ap (with_text (64 + 72 * i) (entry_text e)) s.spelled ∙ entry_set v i e s.fit lt c.requires.short)
