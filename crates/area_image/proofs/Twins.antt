@@ -13,7 +13,7 @@ use Rattle.layout.proofs.Pairs.{all_at}
 use Rattle.layout.proofs.DirChanges.{fit_parts, listed_now}
 use Rattle.layout.proofs.DirPlaces.{names_differ}
 use Rattle.layout.specs.Bytes.{all_pairs}
-use Rattle.layout.specs.Directory.{EntryList, AreEntries, listed, entries_of, entry_of, no_entry, differ, are_distinct}
+use Rattle.layout.specs.Directory.{EntryList, AreEntries, listed, entry_list_of, entry_of, no_entry, differ, are_distinct}
 use Rattle.layout.specs.declared.directory.DirEntry.{DirEntry}
 use Rattle.layout.specs.Answers.{answer}
 use Rattle.layout.specs.declared.error.LayoutError.{LayoutError}
@@ -29,14 +29,14 @@ use Rattle.area_image.specs.Checks.{IsEntries, IsSlotDamageOf, IsEntryDamageOf, 
 use Rattle.area_image.specs.Names.{IsAmong, name_at, SharesName, AddsNames}
 
 -- what is entries is read as such
-pub entries_read : (block : List ℕ) → AreEntries block → entries_of block ≡ Some (listed block)
+pub entries_read : (block : List ℕ) → AreEntries block → entry_list_of block ≡ Some (listed block)
 entries_read block are = names_differ block (listed_now block are) (fit_parts (listed block) are.fit).distinct
 
 err_ok : (r : Result EntryList LayoutError) (e : LayoutError) (v : EntryList) → r ≡ Err e → r ≡ Ok v → ⊥
 err_ok r e v err ok = cc
 
-pub not_read : (w : What) (at : ℕ) (block : List ℕ) (e : LayoutError) → AreEntries block → Err e ≡ answer w at (entries_of block) → ⊥
-not_read w at block e are is = err_ok (answer w at (entries_of block)) e (listed block) (sym is) (ap (answer w at) (entries_read block are))
+pub not_read : (w : What) (at : ℕ) (block : List ℕ) (e : LayoutError) → AreEntries block → Err e ≡ answer w at (entry_list_of block) → ⊥
+not_read w at block e are is = err_ok (answer w at (entry_list_of block)) e (listed block) (sym is) (ap (answer w at) (entries_read block are))
 
 same_names : (a b : DirEntry) → differ a b ≡ true → a.name ≡ b.name → ⊥
 same_names a b apart same = true≢false (sym ((bytes_eq-Decides a.name b.name).1 same) ∙ flip (bytes_eq a.name b.name) apart) where

@@ -15,7 +15,7 @@ use Rattle.file_graph.specs.declared.effect.Kind.TheVariants as kind
 use Rattle.layout.specs.declared.directory.DirEntry.{DirEntry}
 use Rattle.layout.specs.Places.{is_inode}
 use Rattle.layout.specs.Bytes.{◌>>=◌, AreBytes, Field, u32, zeros, filled, with_text, number_at, text_at, items_at, are_zero, within}
-use Rattle.layout.specs.Directory.{EntryList, kind_byte, entry_text, entries_text, entries_spelling, fits_entry, fits_entries, head_at, entry_at, fields_at, entries_at, entries_of, listed, IsListed, are_distinct, with_entry_at}
+use Rattle.layout.specs.Directory.{EntryList, kind_byte, entry_text, entries_text, entries_spelling, fits_entry, fits_entries, head_at, entry_at, fields_at, entries_at, entry_list_of, listed, IsListed, are_distinct, with_entry_at}
 use Rattle.layout.proofs.Limits.{and_parts}
 use Rattle.layout.proofs.Fields.{bind_some, test_some, some_is, u32_long}
 use Rattle.layout.proofs.Pairs.{all_at}
@@ -272,8 +272,8 @@ list_there block owner count rest after long h e z =
       count_is = sym n ∙ ap (λ (w : EntryList). length w.entries) (sym is);
     }
 
-pub no_list : (block : List ℕ) → within 4096 entries_at block ≡ None → entries_of block ≡ None
-unfolding entries_of
+pub no_list : (block : List ℕ) → within 4096 entries_at block ≡ None → entry_list_of block ≡ None
+unfolding entry_list_of
 no_list block e = rw e refl
 
 abbrev pub some_pair : ℕ → ℕ → Option (ℕ × ℕ)
@@ -289,10 +289,10 @@ counts_none o e = rw e refl
 pub counts_some : (block : List ℕ) (owner count : ℕ) → IsList block owner count → some_pair owner count ≡ option_map counts (within 4096 entries_at block)
 counts_some block owner count l = rw (l.list.spelled, l.owner_is, l.count_is) refl
 
-pub counts_more : (block : List ℕ) (owner count : ℕ) → IsList block owner count → entries_of block ≡ Some (listed block) → some_pair owner count ≡ option_map counts (entries_of block)
+pub counts_more : (block : List ℕ) (owner count : ℕ) → IsList block owner count → entry_list_of block ≡ Some (listed block) → some_pair owner count ≡ option_map counts (entry_list_of block)
 counts_more block owner count l e = rw (e, l.owner_is, l.count_is) refl
 
-pub no_counts : (block : List ℕ) → None ≡ option_map counts (within 4096 entries_at block) → entries_of block ≡ None
+pub no_counts : (block : List ℕ) → None ≡ option_map counts (within 4096 entries_at block) → entry_list_of block ≡ None
 no_counts block e = no_list block (none_from counts (within 4096 entries_at block) (sym e))
 
 pub list_counted : (block : List ℕ) (owner count : ℕ) → some_pair owner count ≡ option_map counts (within 4096 entries_at block) → IsListed block → IsList block owner count
@@ -302,12 +302,12 @@ list_counted block owner count e l =
 
 -- ---- the test of names
 
-pub names_meet : (block : List ℕ) → IsListed block → are_distinct (listed block).entries ≡ false → entries_of block ≡ None
-unfolding entries_of
+pub names_meet : (block : List ℕ) → IsListed block → are_distinct (listed block).entries ≡ false → entry_list_of block ≡ None
+unfolding entry_list_of
 names_meet block l e = rw (l.spelled, e) refl
 
-pub names_differ : (block : List ℕ) → IsListed block → are_distinct (listed block).entries ≡ true → entries_of block ≡ Some (listed block)
-unfolding entries_of
+pub names_differ : (block : List ℕ) → IsListed block → are_distinct (listed block).entries ≡ true → entry_list_of block ≡ Some (listed block)
+unfolding entry_list_of
 names_differ block l e = rw (l.spelled, e) refl
 
 -- ---- loops over names

@@ -8,7 +8,7 @@ use Rattle.posix_calls.specs.Name.{is_name}
 use Rattle.layout.specs.declared.directory.DirEntry.{DirEntry}
 use Rattle.layout.specs.Places.{is_inode}
 use Rattle.layout.specs.Bytes.{AreBytes, u32, zeros, filled, byte_at, run_at, number_at, text_at, items_at, are_zero, within}
-use Rattle.layout.specs.Directory.{EntryList, kind_byte, entry_text, entries_text, entries_spelling, fits_entry, are_distinct, fits_entries, kind_at, front_of, fields_at, entry_at, head_at, entries_at, entries_of}
+use Rattle.layout.specs.Directory.{EntryList, kind_byte, entry_text, entries_text, entries_spelling, fits_entry, are_distinct, fits_entries, kind_at, front_of, fields_at, entry_at, head_at, entries_at, entry_list_of}
 use Rattle.layout.proofs.Limits.{and_parts}
 use Rattle.layout.proofs.Fields.{Takes, Takes-then, bind_some, test_some, some_is, text_takes, text_again, u32_takes, u32_again, u32_long, byte_takes, run_takes, run_again, kind_takes, kind_again}
 use Rattle.layout.proofs.Blocks.{zeros_are_zero, are_zero_zeros, within_parts, within_again, filled_from, filled_long}
@@ -214,16 +214,16 @@ list_again v fit =
     let long : length (entries_text v) ≤ 4096 = omega (arith, length-append (head_text v.owner (length v.entries)) texts, head_text_long v.owner (length v.entries), entry_texts_long v.entries h.each, few) in
     within_again 4096 entries_at (entries_text v) v long (entries_again v _ h)
 
-pub entries_of_takes : (block : List ℕ) (v : EntryList) → AreBytes block → entries_of block ≡ Some v → (fits_entries v ≡ true) × (block ≡ entries_spelling v)
-unfolding entries_of
+pub entries_of_takes : (block : List ℕ) (v : EntryList) → AreBytes block → entry_list_of block ≡ Some v → (fits_entries v ≡ true) × (block ≡ entries_spelling v)
+unfolding entry_list_of
 entries_of_takes block v are e =
     let f = bind_some (within 4096 entries_at block) _ v e in
     let t = test_some (are_distinct f.0.entries) f.0 v f.2 in
     let p = list_takes block f.0 are f.1 in
     subst (λ (y : EntryList). (fits_entries y ≡ true) × (block ≡ entries_spelling y)) t.1 (and_from _ _ p.0 t.0, p.1)
 
-pub entries_of_again : (v : EntryList) → fits_entries v ≡ true → entries_of (entries_spelling v) ≡ Some v
-unfolding entries_of
+pub entries_of_again : (v : EntryList) → fits_entries v ≡ true → entry_list_of (entries_spelling v) ≡ Some v
+unfolding entry_list_of
 entries_of_again v fit =
     let p = and_parts (fits_list v) (are_distinct v.entries) fit in
     rw (list_again v p.0, p.1) refl

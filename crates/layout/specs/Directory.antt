@@ -93,8 +93,8 @@ entries_at bytes = do
   Some (record { owner = head.0.0; entries = entries.0 }, entries.1)
 
 -- the entries that a block spells, if no two have one name
-unfoldable pub entries_of : List ℕ → Option EntryList
-entries_of bytes = do
+unfoldable pub entry_list_of : List ℕ → Option EntryList
+entry_list_of bytes = do
   v ← within BLOCK entries_at bytes
   if are_distinct v.entries then Some v else None
 

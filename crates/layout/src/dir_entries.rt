@@ -4,7 +4,7 @@ ghost use Rattle.std.specs.List.{list_all, position};
 ghost use Rattle.std.specs.Str.{bytes_eq};
 ghost use Rattle.layout.specs.Answers.{answer};
 ghost use Rattle.layout.specs.Bytes.{items_at, text_at, zeros, within};
-ghost use Rattle.layout.specs.Directory.{head_at, entry_at, entries_at, entries_of, listed, AreEntries, IsListed, IsRead, are_distinct, fits_entry};
+ghost use Rattle.layout.specs.Directory.{head_at, entry_at, entries_at, entry_list_of, listed, AreEntries, IsListed, IsRead, are_distinct, fits_entry};
 ghost use Rattle.layout.specs.Lent.{owned};
 ghost use Rattle.layout.specs.declared.directory.DirEntry.{DirEntry};
 ghost use Rattle.layout.specs.declared.error.What.TheVariants as what;
@@ -38,7 +38,7 @@ impl<'a> Model for DirEntries<'a> {
 impl<'a> DirEntries<'a> {
     /// The entries that a block spells. `Damaged`, with the number of the block, where it spells none.
     pub fn read(number: u32, block: &'a [u8]) -> Result<Self, LayoutError>
-        ensures read { result ≡ answer what.DirBlock number (entries_of block.now) }
+        ensures read { result ≡ answer what.DirBlock number (entry_list_of block.now) }
         ensures listed { IfOk result (λ b. b ≡ listed block.now) }
         ensures entries { OnOk result (AreEntries block.now) }
     {
@@ -105,7 +105,7 @@ impl<'a> DirEntries<'a> {
 // The directory and how many entries it has, where the block spells entries of it.
 fn head_of_entries(block: &[u8]) -> Option<(u32, usize)>
     ensures read { IfSome result (λ x. IsRead x.0 x.1 block.now) }
-    ensures head { result ≡ option_map (λ v. (v.owner, length v.entries)) (entries_of block.now) }
+    ensures head { result ≡ option_map (λ v. (v.owner, length v.entries)) (entry_list_of block.now) }
 {
     let (owner, count) = head_of_list(block)?;
     if !are_distinct(block, count) {

@@ -1,7 +1,7 @@
 ghost use Rattle.std.specs.Prelude.{◌≡◌, ◌≤◌, length, IfOk, true};
 ghost use Rattle.layout.specs.Answers.{Reads};
 ghost use Rattle.layout.specs.Bytes.{are_zero};
-ghost use Rattle.layout.specs.Directory.{entries_spelling, entries_of};
+ghost use Rattle.layout.specs.Directory.{entries_spelling, entry_list_of};
 ghost use Rattle.layout.specs.declared.error.What.TheVariants as what;
 
 use crate::dir_entries::DirEntries;
@@ -86,7 +86,7 @@ impl DirBlock {
     /// The entries that a block spells, each with a name of its own. `Damaged`, with the number of the block, where it spells
     /// none; that takes no memory. `Memory` where there was none for what it spells.
     pub fn decode(alloc: Global, number: u32, block: &[u8]) -> Result<Self, LayoutError>
-        ensures { Reads what.DirBlock number result (entries_of block.now) }
+        ensures { Reads what.DirBlock number result (entry_list_of block.now) }
     {
         let found = DirEntries::read(number, block)?;
         let entries = copy_of(alloc, &found)?;

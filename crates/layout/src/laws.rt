@@ -10,7 +10,7 @@ ghost use Rattle.layout.specs.Places.{Sizes, IsAllowed};
 ghost use Rattle.layout.specs.Slot.{fits_slot, slot_spelling, slot_of};
 ghost use Rattle.layout.specs.declared.geometry.Space.{Space};
 ghost use Rattle.layout.specs.Extents.{ExtentList, fits_extents, extents_spelling, extents_of};
-ghost use Rattle.layout.specs.Directory.{EntryList, fits_entries, entries_spelling, entries_of};
+ghost use Rattle.layout.specs.Directory.{EntryList, fits_entries, entries_spelling, entry_list_of};
 ghost use Rattle.layout.specs.Super.{fits_super, super_spelling, super_of};
 
 /// A superblock that is written is read again.
@@ -55,10 +55,10 @@ pub fn extents_are_spelled()
 
 /// Entries that are written are read again.
 pub fn entries_are_read()
-    ensures { (v : EntryList) → fits_entries v ≡ true → entries_of (entries_spelling v) ≡ Some v }
+    ensures { (v : EntryList) → fits_entries v ≡ true → entry_list_of (entries_spelling v) ≡ Some v }
 {}
 
 /// Entries that are read are spelled so.
 pub fn entries_are_spelled()
-    ensures { (block : List ℕ) (v : EntryList) → AreBytes block → entries_of block ≡ Some v → (fits_entries v ≡ true) × (block ≡ entries_spelling v) }
+    ensures { (block : List ℕ) (v : EntryList) → AreBytes block → entry_list_of block ≡ Some v → (fits_entries v ≡ true) × (block ≡ entries_spelling v) }
 {}

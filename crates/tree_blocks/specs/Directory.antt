@@ -18,8 +18,8 @@ abbrev pub numbered : List (List ℕ) → Blocks
 numbered blocks k = get_or blocks k []
 
 -- its entries by their numbers
-abbrev pub entries_of : EntryBlocks → ℕ → Entry
-entries_of d = entry_at (numbered d.blocks)
+abbrev pub numbered_entries : EntryBlocks → ℕ → Entry
+numbered_entries d = entry_at (numbered d.blocks)
 
 -- it is a directory, in as many blocks as its entries want
 pub record IsHeld (d : EntryBlocks) : Type 0 where

@@ -8,7 +8,7 @@ ghost use Rattle.tree_blocks.specs.Inode.{plain, named, blocks_for, IsAbsent};
 ghost use Rattle.std.specs.FinMap as fin;
 ghost use Rattle.graph_change.specs.Net.{entries_after};
 ghost use Rattle.tree_blocks.specs.After.{IsEntered, IsTakenOut, IsDirectoryAfter};
-ghost use Rattle.tree_blocks.specs.Directory.{EntryBlocks, IsHeld, LeadToInodes, coming, numbered, entries_of};
+ghost use Rattle.tree_blocks.specs.Directory.{EntryBlocks, IsHeld, LeadToInodes, coming, numbered, numbered_entries};
 ghost use Rattle.tree_blocks.specs.Written.{TellsWritten};
 
 use crate::changing::{are_too_many, change_names, coming};
@@ -103,8 +103,8 @@ impl Directory {
     /// The number of the entry of a name.
     pub fn find(&self, name: &[u8]) -> Option<usize>
         ensures inside { IfSome result (λ e. e < self.now.count) }
-        ensures found { IfSome result (λ e. (entries_of self.now e).0 ≡ name.now) }
-        ensures absent { IfNone result (IsAbsent name.now (entries_of self.now) self.now.count) }
+        ensures found { IfSome result (λ e. (numbered_entries self.now e).0 ≡ name.now) }
+        ensures absent { IfNone result (IsAbsent name.now (numbered_entries self.now) self.now.count) }
     {
         find_in(&self.blocks, name)
     }
@@ -112,7 +112,7 @@ impl Directory {
     /// The entry of a number.
     pub fn entry(&self, number: usize) -> EntryRef<'_>
         requires { number < self.now.count }
-        ensures entry { plain (owned result) ≡ entries_of self.now number }
+        ensures entry { plain (owned result) ≡ numbered_entries self.now number }
         ensures fits { fits_entry (owned result) ≡ true }
     {
         DirEntries::known(&self.blocks[number / MAX_IN_BLOCK]).entry(number % MAX_IN_BLOCK)
@@ -121,8 +121,8 @@ impl Directory {
     /// Lets the entry of a number lead to another node, under its name.
     pub fn set_target(&mut self, number: usize, inode: u32, kind: Kind)
         requires inside { number < self.old.count }
-        requires fits { fits_entry (record { inode = inode; kind = kind; name = (entries_of self.old number).0 }) ≡ true }
-        ensures set { IsEntered number ((entries_of self.old number).0, (inode, kind)) self.old.count (entries_of self.old) self.new.count (entries_of self.new) }
+        requires fits { fits_entry (record { inode = inode; kind = kind; name = (numbered_entries self.old number).0 }) ≡ true }
+        ensures set { IsEntered number ((numbered_entries self.old number).0, (inode, kind)) self.old.count (numbered_entries self.old) self.new.count (numbered_entries self.new) }
         ensures owner { self.new.owner ≡ self.old.owner }
         ensures others { (k : ℕ) → k ≢ number / MAX_IN_BLOCK → numbered self.new.blocks k ≡ numbered self.old.blocks k }
     {
@@ -139,11 +139,11 @@ impl Directory {
     /// The directory stays as it was then.
     pub fn enter(&mut self, entry: EntryRef<'_>) -> Result<usize, EnterError>
         requires { fits_entry (owned entry) ≡ true }
-        ensures entered { IfOk result (λ number. IsEntered number (plain (owned entry.entry)) self.old.count (entries_of self.old) self.new.count (entries_of self.new)) }
+        ensures entered { IfOk result (λ number. IsEntered number (plain (owned entry.entry)) self.old.count (numbered_entries self.old) self.new.count (numbered_entries self.new)) }
         ensures owner { self.new.owner ≡ self.old.owner }
         ensures others { IfOk result (λ number. (k : ℕ) → k ≢ number / MAX_IN_BLOCK → numbered self.new.blocks k ≡ numbered self.old.blocks k) }
-        ensures full { result ≡ Err EnterError.Full ↔ (IsAbsent entry.entry.name.now (entries_of self.old) self.old.count × (self.old.count ≡ MAX_ENTRIES)) }
-        ensures memory { result ≡ Err EnterError.Memory → IsAbsent entry.entry.name.now (entries_of self.old) self.old.count × (self.old.count % MAX_IN_BLOCK ≡ 0) }
+        ensures full { result ≡ Err EnterError.Full ↔ (IsAbsent entry.entry.name.now (numbered_entries self.old) self.old.count × (self.old.count ≡ MAX_ENTRIES)) }
+        ensures memory { result ≡ Err EnterError.Memory → IsAbsent entry.entry.name.now (numbered_entries self.old) self.old.count × (self.old.count % MAX_IN_BLOCK ≡ 0) }
         ensures refused { OnErr result (self.new ≡ self.old) }
     {
         if let Some(number) = self.find(entry.name) {
@@ -160,9 +160,9 @@ impl Directory {
     // Puts an entry behind the last one.
     fn add(&mut self, entry: EntryRef<'_>) -> Result<(), AllocError>
         requires fits { fits_entry (owned entry) ≡ true }
-        requires new { IsAbsent entry.name.now (entries_of self.old) self.old.count }
+        requires new { IsAbsent entry.name.now (numbered_entries self.old) self.old.count }
         requires room { self.old.count < MAX_ENTRIES }
-        ensures added { OnOk result (IsEntered self.old.count (plain (owned entry.entry)) self.old.count (entries_of self.old) self.new.count (entries_of self.new)) }
+        ensures added { OnOk result (IsEntered self.old.count (plain (owned entry.entry)) self.old.count (numbered_entries self.old) self.new.count (numbered_entries self.new)) }
         ensures count { OnOk result (self.new.count ≡ self.old.count + 1) }
         ensures owner { self.new.owner ≡ self.old.owner }
         ensures others { (k : ℕ) → k ≢ self.old.count / MAX_IN_BLOCK → numbered self.new.blocks k ≡ numbered self.old.blocks k }
@@ -177,11 +177,11 @@ impl Directory {
     /// Takes the entry of a name out; the last entry stands in its place then, and a block that has none any more goes. It answers the number that the entry had,
     /// or `None` where no entry has the name, and nothing has changed then. No block changes but the one where it stood and the last one.
     pub fn take_out(&mut self, name: &[u8]) -> Option<usize>
-        ensures taken { IfSome result (λ number. IsTakenOut number self.old.count (entries_of self.old) self.new.count (entries_of self.new)) }
-        ensures named { IfSome result (λ number. (entries_of self.old number).0 ≡ name.now) }
+        ensures taken { IfSome result (λ number. IsTakenOut number self.old.count (numbered_entries self.old) self.new.count (numbered_entries self.new)) }
+        ensures named { IfSome result (λ number. (numbered_entries self.old number).0 ≡ name.now) }
         ensures owner { self.new.owner ≡ self.old.owner }
         ensures others { IfSome result (λ number. (k : ℕ) → k ≢ number / MAX_IN_BLOCK → k ≢ (self.old.count - 1) / MAX_IN_BLOCK → numbered self.new.blocks k ≡ numbered self.old.blocks k) }
-        ensures absent { IfNone result (IsAbsent name.now (entries_of self.old) self.old.count) }
+        ensures absent { IfNone result (IsAbsent name.now (numbered_entries self.old) self.old.count) }
         ensures stays { IfNone result (self.new ≡ self.old) }
     {
         let number = self.find(name)?;
@@ -192,7 +192,7 @@ impl Directory {
     // Takes the entry of a number out.
     fn remove(&mut self, number: usize)
         requires { number < self.old.count }
-        ensures taken { IsTakenOut number self.old.count (entries_of self.old) self.new.count (entries_of self.new) }
+        ensures taken { IsTakenOut number self.old.count (numbered_entries self.old) self.new.count (numbered_entries self.new) }
         ensures owner { self.new.owner ≡ self.old.owner }
         ensures others { (k : ℕ) → k ≢ number / MAX_IN_BLOCK → k ≢ (self.old.count - 1) / MAX_IN_BLOCK → numbered self.new.blocks k ≡ numbered self.old.blocks k }
     {
@@ -215,7 +215,7 @@ impl Directory {
         ensures long { OnOk result (length self.new.blocks ≡ blocks_for self.new.count) }
         ensures owner { self.new.owner ≡ self.old.owner }
         ensures memory { result ≡ Err EnterError.Memory → blocks_for self.old.count < blocks_for (self.old.count + coming (fin.entries changes.now)) }
-        ensures full { result ≡ Err EnterError.Full ↔ MAX_ENTRIES < fin.len (entries_after changes.now (named (entries_of self.old) self.old.count)) }
+        ensures full { result ≡ Err EnterError.Full ↔ MAX_ENTRIES < fin.len (entries_after changes.now (named (numbered_entries self.old) self.old.count)) }
         ensures refused { OnErr result (self.new ≡ self.old) }
     {
         let names = changes.as_slice();

@@ -3,7 +3,7 @@ use Rattle.std.specs.Prelude.{slice_get}
 use Rattle.layout.specs.Directory.{EntryList, listed}
 use Rattle.layout.specs.Lent.{owned}
 use Rattle.tree_blocks.specs.Inode.{plain}
-use Rattle.tree_blocks.specs.Directory.{EntryBlocks, numbered, entries_of}
+use Rattle.tree_blocks.specs.Directory.{EntryBlocks, numbered, numbered_entries}
 use Rattle.tree_blocks.proofs.Held.{entry_is, within_part}
 use Rattle.tree_blocks.proofs.Lists.{read_there, got}
 use Rattle.tree_blocks.proofs.directory.Directory.entry.Goals as goal
@@ -16,6 +16,6 @@ returns-clause-entry c =
     let block : c.index.result.now ≡ numbered bs (i / 56) = read_there bs (i / 56) c.index.result.now (omega (arith, c.self.invariant.long, lt)) c.index.ensures in
     let is : c.known.result ≡ listed (numbered bs (i / 56)) = c.known.ensures ∙ ap listed block in
     let read : slice_get (listed (numbered bs (i / 56))).entries (i % 56) ≡ Some (owned c.entry.result) = ap (λ (v : EntryList). slice_get v.entries (i % 56)) (sym is) ∙ c.entry.ensures.entry in
-    subst (λ (d : EntryBlocks). plain (owned c.entry.result) ≡ entries_of d i) c.self.view_is
+    subst (λ (d : EntryBlocks). plain (owned c.entry.result) ≡ numbered_entries d i) c.self.view_is
     (ap plain (got (listed (numbered bs (i / 56))).entries (i % 56) (owned c.entry.result) (within_part c.self.inside.owner c.self.inside.count (numbered bs) c.self.invariant.directory i lt) read)
     ∙ sym (entry_is (numbered bs) i (listed (numbered bs (i / 56))) refl))

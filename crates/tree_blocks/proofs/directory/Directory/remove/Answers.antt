@@ -1,7 +1,7 @@
 use Rattle.std.proofs.Common.{◌≡◌, ◌+◌, ◌-◌, ◌<◌, ℕ, ap, arith, subst, sym}
 use Rattle.tree_blocks.specs.Inode.{entry_at, IsDirectory}
 use Rattle.tree_blocks.specs.After.{IsTakenOut}
-use Rattle.tree_blocks.specs.Directory.{EntryBlocks, numbered, entries_of}
+use Rattle.tree_blocks.specs.Directory.{EntryBlocks, numbered, numbered_entries}
 use Rattle.tree_blocks.proofs.directory.Directory.remove.Goals as goal
 
 pub invariant_of-self : goal.invariant_of-self
@@ -25,4 +25,4 @@ returns-clause-taken c =
     let old : IsDirectory c.self.inside.owner (n - 1 + 1) (numbered c.self.inside.blocks.items) = subst (λ (k : ℕ). IsDirectory c.self.inside.owner k (numbered c.self.inside.blocks.items)) more c.self.invariant.directory in
     let taken : IsTakenOut c.args.number n (entry_at (numbered c.self.inside.blocks.items)) (n - 1) (entry_at (numbered c.take_from.new.blocks.items)) =
     subst (λ (k : ℕ). IsTakenOut c.args.number k (entry_at (numbered c.self.inside.blocks.items)) (n - 1) (entry_at (numbered c.take_from.new.blocks.items))) (sym more) (c.take_from.ensures.less c.self.inside.owner old).taken in
-    subst (λ (d : EntryBlocks). IsTakenOut c.args.number d.count (entries_of d) (n - 1) (entry_at (numbered c.take_from.new.blocks.items))) c.self.view_is taken
+    subst (λ (d : EntryBlocks). IsTakenOut c.args.number d.count (numbered_entries d) (n - 1) (entry_at (numbered c.take_from.new.blocks.items))) c.self.view_is taken

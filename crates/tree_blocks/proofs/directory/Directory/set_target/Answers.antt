@@ -3,7 +3,7 @@ use Rattle.std.proofs.lemmas.List.{length-set}
 use Rattle.layout.specs.Directory.{AreEntries, listed, entry_of, fits_entry, with_target}
 use Rattle.tree_blocks.specs.Inode.{entry_at}
 use Rattle.tree_blocks.specs.After.{IsEntered}
-use Rattle.tree_blocks.specs.Directory.{EntryBlocks, numbered, entries_of}
+use Rattle.tree_blocks.specs.Directory.{EntryBlocks, numbered, numbered_entries}
 use Rattle.tree_blocks.proofs.Held.{entry_is, part_of}
 use Rattle.tree_blocks.proofs.Lists.{read_there, set_entered, set_directory}
 use Rattle.tree_blocks.proofs.directory.Directory.set_target.Goals as goal
@@ -22,8 +22,8 @@ set_target-requires-clause-fits c =
     let i : ℕ = c.args.number in
     let lt : i < c.self.inside.count = omega (arith, c.requires.inside, ap (λ (d : EntryBlocks). d.count) c.self.view_is) in
     let block : c.index_mut.result.now ≡ numbered bs (i / 56) = read_there bs (i / 56) c.index_mut.result.now (omega (arith, c.self.invariant.long, lt)) c.index_mut.ensures.value in
-    let name : (entries_of c.args.self.now i).0 ≡ (entry_of (listed c.index_mut.result.now) (i % 56)).name =
-    ap (λ (d : EntryBlocks). (entries_of d i).0) (sym c.self.view_is) ∙ ap (λ x. x.0) (entry_is (numbered bs) i (listed (numbered bs (i / 56))) refl) ∙ ap (λ (l : List ℕ). (entry_of (listed l) (i % 56)).name) (sym block) in
+    let name : (numbered_entries c.args.self.now i).0 ≡ (entry_of (listed c.index_mut.result.now) (i % 56)).name =
+    ap (λ (d : EntryBlocks). (numbered_entries d i).0) (sym c.self.view_is) ∙ ap (λ x. x.0) (entry_is (numbered bs) i (listed (numbered bs (i / 56))) refl) ∙ ap (λ (l : List ℕ). (entry_of (listed l) (i % 56)).name) (sym block) in
     subst (λ (n : List ℕ). fits_entry (record { inode = c.args.inode; kind = c.args.kind; name = n }) ≡ true) name c.requires.fits
 
 pub invariant_of-self : goal.invariant_of-self
@@ -48,6 +48,6 @@ returns-clause-set c =
     let lt : i < c.self.inside.count = omega (arith, c.requires.inside, ap (λ (d : EntryBlocks). d.count) c.self.view_is) in
     let room : i / 56 < length bs = omega (arith, c.self.invariant.long, lt) in
     let block : c.index_mut.result.now ≡ numbered bs (i / 56) = read_there bs (i / 56) c.index_mut.result.now room c.index_mut.ensures.value in
-    subst (λ (d : EntryBlocks). IsEntered i ((entries_of d i).0, (c.args.inode, c.args.kind)) d.count (entries_of d) c.self.inside.count (entry_at (numbered (set bs (i / 56) c.set_target.new.block)))) c.self.view_is
+    subst (λ (d : EntryBlocks). IsEntered i ((numbered_entries d i).0, (c.args.inode, c.args.kind)) d.count (numbered_entries d) c.self.inside.count (entry_at (numbered (set bs (i / 56) c.set_target.new.block)))) c.self.view_is
     (set_entered c.self.inside.owner c.self.inside.count bs c.self.invariant.directory c.set_target.new.block c.set_target.ensures.entries i lt room c.args.inode c.args.kind
     (c.set_target.ensures.set ∙ ap (λ (l : List ℕ). with_target (listed l) (i % 56) c.args.inode c.args.kind) block))
