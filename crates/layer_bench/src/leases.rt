@@ -1,7 +1,7 @@
 // How long it takes to take a lease and to give it back.
 ghost use Rattle.std.specs.Prelude.{◌≡◌, ◌+◌, ◌≤◌};
 ghost use Rattle.lease_manager.specs.declared.view.LeaseMode.TheVariants.{Free};
-ghost use Rattle.lease_manager.specs.Words.{IsInode};
+ghost use Rattle.lease_manager.specs.Words.{HasWord};
 ghost use Rattle.lease_manager.specs.Passes.{lease_of, records_of};
 
 use crate::desk::Desk;
@@ -30,7 +30,7 @@ enum Kind {
 // Takes and gives one inode a number of times.
 fn turns(leases: &Leases, pass: &mut Pass, ino: u32, kind: Kind)
     requires table { pass.old.table ≡ leases.now }
-    requires inode { IsInode ino }
+    requires inode { HasWord ino }
     ensures { pass.new.table ≡ pass.old.table }
 {
     if pass.lease(ino) != LeaseMode::Free || pass.records(ino) != 0 {
@@ -44,7 +44,7 @@ fn turns(leases: &Leases, pass: &mut Pass, ino: u32, kind: Kind)
 // Takes and gives one inode.
 fn turn(leases: &Leases, pass: &mut Pass, ino: u32, kind: Kind)
     requires table { pass.old.table ≡ leases.now }
-    requires inode { IsInode ino }
+    requires inode { HasWord ino }
     requires free { lease_of pass.old ino ≡ Free }
     requires digested { records_of pass.old ino ≡ 0 }
     ensures table { pass.new.table ≡ pass.old.table }

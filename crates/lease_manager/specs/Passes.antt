@@ -6,7 +6,7 @@ use Rattle.lease_manager.specs.declared.view.LeaseMode.TheVariants.{Free, Writin
 use Rattle.lease_manager.specs.declared.view.Event.{Event}
 use Rattle.lease_manager.specs.declared.view.Event.TheVariants.{Refused, Gave}
 use Rattle.lease_manager.specs.declared.view.Part.{Part}
-use Rattle.lease_manager.specs.Words.{IsInode, lease_place}
+use Rattle.lease_manager.specs.Words.{HasWord, lease_place}
 use Rattle.lease_manager.specs.Parts.{mode_at, put_lease, put_free, put_event, blank}
 
 -- which table it belongs to, what its client's part is, and how many records it counts by the place of each inode
@@ -61,7 +61,7 @@ AreHeld modes records = (i : ℕ) → 0 < slice_index records i → slice_index_
 
 -- the pass counts records only on inodes that it holds for writing
 abbrev pub CountsHeld : PassView → Type 0
-CountsHeld p = (ino : ℕ) → IsInode ino → 0 < records_of p ino → lease_of p ino ≡ Writing
+CountsHeld p = (ino : ℕ) → HasWord ino → 0 < records_of p ino → lease_of p ino ≡ Writing
 
 -- a pass of the client at place k of that table, which holds nothing
 abbrev pub fresh : TableId → ℕ → PassView

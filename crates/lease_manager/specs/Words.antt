@@ -1,9 +1,9 @@
 -- Where inodes and clients stand in the words.
 use Rattle.std.specs.Prelude.{ℕ, ◌+◌, ◌-◌, ◌*◌, ◌%◌, ◌^◌, ◌≤◌, bit_or}
 
--- inodes are numbered from 1 to 1,024
-abbrev pub IsInode : ℕ → Type 0
-IsInode ino = (1 ≤ ino) × (ino ≤ 1024)
+-- an inode has a lease word: they are numbered from 1 to 1,024
+abbrev pub HasWord : ℕ → Type 0
+HasWord ino = (1 ≤ ino) × (ino ≤ 1024)
 
 -- clients are numbered from 1 to 8
 abbrev pub IsClient : ℕ → Type 0

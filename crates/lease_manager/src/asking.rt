@@ -1,7 +1,7 @@
 // A client asks another to give an inode back.
 ghost use Rattle.std.specs.Prelude.{◌≡◌, ◌+◌, ◌-◌, ◌/◌, ◌<◌};
 ghost use Rattle.lease_manager.specs.declared.view.Event.TheVariants.{Asked, Heard};
-ghost use Rattle.lease_manager.specs.Words.{IsInode, IsClient, asked_word, asked_bit};
+ghost use Rattle.lease_manager.specs.Words.{HasWord, IsClient, asked_word, asked_bit};
 ghost use Rattle.lease_manager.specs.Parts.{Continues};
 ghost use Rattle.lease_manager.specs.Passes.{steps_of, with_event, client_of};
 
@@ -15,7 +15,7 @@ impl Leases {
     /// that client hears it. It is a hint: nothing is promised of what that client does.
     pub fn ask_back(&self, pass: &mut Pass, ino: u32, client: u32)
         requires table { pass.old.table ≡ self.now }
-        requires inode { IsInode ino }
+        requires inode { HasWord ino }
         requires client { IsClient client }
         ensures asked { pass.new ≡ with_event pass.old (Asked (asked_word client ((ino - 1) / 64)) (asked_bit ino)) }
         ensures history { Continues pass.old.part (Asked (asked_word client ((ino - 1) / 64)) (asked_bit ino)) }

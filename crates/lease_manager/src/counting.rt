@@ -1,7 +1,7 @@
 // Records on an inode are counted, so that a write lease is not given while one is undigested.
 ghost use Rattle.std.specs.Prelude.{◌≡◌, ◌+◌, ◌-◌, ◌^◌, ◌<◌, ◌≤◌};
 ghost use Rattle.lease_manager.specs.declared.view.LeaseMode.TheVariants.{Writing};
-ghost use Rattle.lease_manager.specs.Words.{IsInode};
+ghost use Rattle.lease_manager.specs.Words.{HasWord};
 ghost use Rattle.lease_manager.specs.Passes.{lease_of, records_of, with_records};
 
 use crate::layout::lease_word;
@@ -11,7 +11,7 @@ use crate::table::Leases;
 impl Leases {
     /// Counts one more record on an inode, which the client holds for writing. It makes no step on the table.
     pub fn note(&self, pass: &mut Pass, ino: u32)
-        requires inode { IsInode ino }
+        requires inode { HasWord ino }
         requires held { lease_of pass.old ino ≡ Writing }
         requires room { records_of pass.old ino + 1 < 2 ^ 64 }
         ensures noted { pass.new ≡ with_records pass.old ino (records_of pass.old ino + 1) }
@@ -22,7 +22,7 @@ impl Leases {
 
     /// Takes records on an inode out of the count, once they are digested. It makes no step on the table.
     pub fn clean(&self, pass: &mut Pass, ino: u32, count: u64)
-        requires inode { IsInode ino }
+        requires inode { HasWord ino }
         requires there { count ≤ records_of pass.old ino }
         ensures cleaned { pass.new ≡ with_records pass.old ino (records_of pass.old ino - count) }
         ensures count { records_of pass.new ino + count ≡ records_of pass.old ino }

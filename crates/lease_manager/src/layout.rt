@@ -1,6 +1,6 @@
 // Where each client and inode stands in the words.
 ghost use Rattle.std.specs.Prelude.{◌≡◌, ◌+◌, ◌-◌, ◌*◌, ◌/◌, ◌^◌, ◌<◌};
-ghost use Rattle.lease_manager.specs.Words.{IsInode, IsClient, asked_word, asked_bit, both_marks};
+ghost use Rattle.lease_manager.specs.Words.{HasWord, IsClient, asked_word, asked_bit, both_marks};
 
 /// Inodes are numbered from 1 to this.
 pub const INODES: u32 = 1024;
@@ -35,7 +35,7 @@ pub(crate) fn marks(place: u32) -> u64
 
 // The place of an inode's lease word.
 pub(crate) fn lease_word(ino: u32) -> usize
-    requires { IsInode ino }
+    requires { HasWord ino }
     ensures { result ≡ ino - 1 }
 {
     (ino - 1) as usize
@@ -44,7 +44,7 @@ pub(crate) fn lease_word(ino: u32) -> usize
 // The place of the word in which a client is asked for an inode.
 pub(crate) fn word_of_asking(client: u32, ino: u32) -> usize
     requires client { IsClient client }
-    requires inode { IsInode ino }
+    requires inode { HasWord ino }
     ensures { result ≡ asked_word client ((ino - 1) / 64) }
 {
     (INODES + ROWS * (client - 1) + (ino - 1) / 64) as usize
@@ -52,7 +52,7 @@ pub(crate) fn word_of_asking(client: u32, ino: u32) -> usize
 
 // The bit of an inode in that word.
 pub(crate) fn bit_of_asking(ino: u32) -> u64
-    requires { IsInode ino }
+    requires { HasWord ino }
     ensures { result ≡ asked_bit ino }
 {
     bit((ino - 1) % 64)

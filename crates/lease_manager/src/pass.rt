@@ -1,7 +1,7 @@
 // What one client knows and holds.
 ghost use Rattle.std.specs.Prelude.{◌≡◌, ◌≢◌, ◌+◌, ◌<◌, ◌≤◌, [], ◌∷◌, length, IfOk};
 ghost use Rattle.lease_manager.specs.declared.view.LeaseMode.TheVariants.{Writing, Trying};
-ghost use Rattle.lease_manager.specs.Words.{IsInode, IsClient};
+ghost use Rattle.lease_manager.specs.Words.{HasWord, IsClient};
 ghost use Rattle.lease_manager.specs.Parts.{blank, own_part, other_parts, IsSettled};
 ghost use Rattle.lease_manager.specs.Passes.{PassView, fresh, client_of, lease_of, records_of, AreHeld, CountsHeld};
 
@@ -68,7 +68,7 @@ impl Pass {
 
     /// How the client stands to an inode. Between calls it is never `Trying`.
     pub fn lease(&self, ino: u32) -> LeaseMode
-        requires { IsInode ino }
+        requires { HasWord ino }
         ensures mode { result ≡ lease_of self.now ino }
         ensures settled { result ≢ Trying }
     {
@@ -84,7 +84,7 @@ impl Pass {
 
     /// How many undigested records the pass counts on an inode.
     pub fn records(&self, ino: u32) -> u64
-        requires { IsInode ino }
+        requires { HasWord ino }
         ensures count { result ≡ records_of self.now ino }
         ensures held { 0 < result → lease_of self.now ino ≡ Writing }
     {

@@ -2,7 +2,7 @@
 ghost use Rattle.std.specs.Prelude.{◌≡◌, ◌+◌, ◌<◌, map, replicate, [], IfOk};
 ghost use Rattle.std.specs.Arc.{arc_value};
 ghost use Rattle.lease_manager.specs.declared.view.Event.TheVariants.{Looked};
-ghost use Rattle.lease_manager.specs.Words.{IsInode, lease_place};
+ghost use Rattle.lease_manager.specs.Words.{HasWord, lease_place};
 ghost use Rattle.lease_manager.specs.Marks.{ShowsOwn};
 ghost use Rattle.lease_manager.specs.Parts.{blanks};
 ghost use Rattle.lease_manager.specs.Passes.{lease_of, steps_of, with_event, fresh, places, BelongTo};
@@ -115,7 +115,7 @@ impl Leases {
     /// word shows no other client's write mark.
     pub fn look(&self, pass: &mut Pass, ino: u32) -> u64
         requires table { pass.old.table ≡ self.now }
-        requires inode { IsInode ino }
+        requires inode { HasWord ino }
         ensures found { pass.new ≡ with_event pass.old (Looked (lease_place ino) result) }
         ensures step { steps_of pass.new ≡ steps_of pass.old + 1 }
         ensures own { ShowsOwn (lease_of pass.old ino) pass.old.part.place result }

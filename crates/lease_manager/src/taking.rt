@@ -1,7 +1,7 @@
 // Leases are taken and given back.
 ghost use Rattle.std.specs.Prelude.{◌≡◌, ◌≢◌, ◌+◌, IfErr, OnOk, OnErr};
 ghost use Rattle.lease_manager.specs.declared.view.LeaseMode.TheVariants.{Free, Reading, Writing};
-ghost use Rattle.lease_manager.specs.Words.{IsInode};
+ghost use Rattle.lease_manager.specs.Words.{HasWord};
 ghost use Rattle.lease_manager.specs.Marks.{ShowsOther, ShowsWriter};
 ghost use Rattle.lease_manager.specs.Passes.{lease_of, records_of, steps_of, with_lease, without_lease, refused_at, tried_at};
 
@@ -17,7 +17,7 @@ impl Leases {
     /// by a second step, and the leases are as they were.
     pub fn take_read(&self, pass: &mut Pass, ino: u32) -> Result<(), Busy>
         requires table { pass.old.table ≡ self.now }
-        requires inode { IsInode ino }
+        requires inode { HasWord ino }
         requires free { lease_of pass.old ino ≡ Free }
         ensures taken { OnOk result (pass.new ≡ with_lease pass.old ino Reading) }
         ensures lease { OnOk result (lease_of pass.new ino ≡ Reading) }
@@ -43,7 +43,7 @@ impl Leases {
     /// `Busy` has the number found in the word, which showed another client's mark. The leases are then as they were.
     pub fn take_write(&self, pass: &mut Pass, ino: u32) -> Result<(), Busy>
         requires table { pass.old.table ≡ self.now }
-        requires inode { IsInode ino }
+        requires inode { HasWord ino }
         requires free { lease_of pass.old ino ≡ Free }
         ensures taken { OnOk result (pass.new ≡ with_lease pass.old ino Writing) }
         ensures lease { OnOk result (lease_of pass.new ino ≡ Writing) }
@@ -66,7 +66,7 @@ impl Leases {
     /// `Busy` has the number found in the word, which showed another client's mark. The read lease is then still held.
     pub fn raise(&self, pass: &mut Pass, ino: u32) -> Result<(), Busy>
         requires table { pass.old.table ≡ self.now }
-        requires inode { IsInode ino }
+        requires inode { HasWord ino }
         requires held { lease_of pass.old ino ≡ Reading }
         ensures raised { OnOk result (pass.new ≡ with_lease pass.old ino Writing) }
         ensures lease { OnOk result (lease_of pass.new ino ≡ Writing) }
@@ -89,7 +89,7 @@ impl Leases {
     /// Gives a lease back. A write lease may go only once the pass counts no record on the inode.
     pub fn give(&self, pass: &mut Pass, ino: u32)
         requires table { pass.old.table ≡ self.now }
-        requires inode { IsInode ino }
+        requires inode { HasWord ino }
         requires held { lease_of pass.old ino ≢ Free }
         requires digested { lease_of pass.old ino ≡ Writing → records_of pass.old ino ≡ 0 }
         ensures given { pass.new ≡ without_lease pass.old ino }

@@ -1,6 +1,6 @@
 ghost use Rattle.std.specs.Prelude.{◌≡◌, ◌<◌, length, All, map, IfOk};
 ghost use Rattle.atomic_table.specs.Seated.{TableId};
-ghost use Rattle.lease_manager.specs.Words.{IsInode, IsClient};
+ghost use Rattle.lease_manager.specs.Words.{HasWord, IsClient};
 ghost use Rattle.lease_manager.specs.Passes.{BelongTo};
 
 use crate::{Busy, CLIENTS, INODES, LeaseMode, Leases, Opened, Pass};
@@ -26,7 +26,7 @@ fn three(alloc: Global) -> Result<(Leases, Pass, Pass, Pass), AllocError>
 // A read lease, for a client that holds none: else None.
 fn read(leases: &Leases, pass: &mut Pass, ino: u32) -> Option<Result<(), Busy>>
     requires table { pass.old.table ≡ leases.now }
-    requires inode { IsInode ino }
+    requires inode { HasWord ino }
     ensures { pass.new.table ≡ pass.old.table }
 {
     if pass.lease(ino) != LeaseMode::Free {
@@ -37,7 +37,7 @@ fn read(leases: &Leases, pass: &mut Pass, ino: u32) -> Option<Result<(), Busy>>
 
 fn write(leases: &Leases, pass: &mut Pass, ino: u32) -> Option<Result<(), Busy>>
     requires table { pass.old.table ≡ leases.now }
-    requires inode { IsInode ino }
+    requires inode { HasWord ino }
     ensures { pass.new.table ≡ pass.old.table }
 {
     if pass.lease(ino) != LeaseMode::Free {
@@ -48,7 +48,7 @@ fn write(leases: &Leases, pass: &mut Pass, ino: u32) -> Option<Result<(), Busy>>
 
 fn raise(leases: &Leases, pass: &mut Pass, ino: u32) -> Option<Result<(), Busy>>
     requires table { pass.old.table ≡ leases.now }
-    requires inode { IsInode ino }
+    requires inode { HasWord ino }
     ensures { pass.new.table ≡ pass.old.table }
 {
     if pass.lease(ino) != LeaseMode::Reading {
@@ -59,7 +59,7 @@ fn raise(leases: &Leases, pass: &mut Pass, ino: u32) -> Option<Result<(), Busy>>
 
 fn give(leases: &Leases, pass: &mut Pass, ino: u32) -> Option<()>
     requires table { pass.old.table ≡ leases.now }
-    requires inode { IsInode ino }
+    requires inode { HasWord ino }
     ensures { pass.new.table ≡ pass.old.table }
 {
     if pass.lease(ino) == LeaseMode::Free || pass.records(ino) != 0 {

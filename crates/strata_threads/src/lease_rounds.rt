@@ -1,7 +1,7 @@
 // Eight clients, each in a thread of its own, take, raise, ask for and give back the leases of all inodes.
 ghost use Rattle.std.specs.Prelude.{◌≡◌, ◌≢◌};
 ghost use Rattle.lease_manager.specs.declared.view.LeaseMode.TheVariants.{Free, Reading};
-ghost use Rattle.lease_manager.specs.Words.{IsInode};
+ghost use Rattle.lease_manager.specs.Words.{HasWord};
 ghost use Rattle.lease_manager.specs.Passes.{lease_of, records_of};
 
 use crate::client::{Client, clients};
@@ -15,7 +15,7 @@ const ROUNDS: u32 = 20;
 // Asks each client whose mark the word shows.
 fn ask_holders(leases: &Leases, pass: &mut Pass, ino: u32, word: u64)
     requires table { pass.old.table ≡ leases.now }
-    requires inode { IsInode ino }
+    requires inode { HasWord ino }
     ensures table { pass.new.table ≡ pass.old.table }
     ensures lease { lease_of pass.new ino ≡ lease_of pass.old ino }
     ensures records { records_of pass.new ino ≡ records_of pass.old ino }
@@ -30,7 +30,7 @@ fn ask_holders(leases: &Leases, pass: &mut Pass, ino: u32, word: u64)
 // Raises a read lease where that can be, and writes one record under it.
 fn raise(leases: &Leases, witness: &Witness, pass: &mut Pass, ino: u32)
     requires table { pass.old.table ≡ leases.now }
-    requires inode { IsInode ino }
+    requires inode { HasWord ino }
     requires held { lease_of pass.old ino ≡ Reading }
     requires digested { records_of pass.old ino ≡ 0 }
     ensures table { pass.new.table ≡ pass.old.table }
@@ -54,7 +54,7 @@ fn raise(leases: &Leases, witness: &Witness, pass: &mut Pass, ino: u32)
 // Takes a lease of the inode where that can be, and gives it back.
 fn visit(leases: &Leases, witness: &Witness, pass: &mut Pass, ino: u32, to_write: bool)
     requires table { pass.old.table ≡ leases.now }
-    requires inode { IsInode ino }
+    requires inode { HasWord ino }
     ensures { pass.new.table ≡ pass.old.table }
 {
     if pass.lease(ino) != LeaseMode::Free || pass.records(ino) != 0 {
