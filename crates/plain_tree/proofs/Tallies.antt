@@ -7,7 +7,7 @@ use Rattle.std.proofs.lemmas.List.{get_or_past}
 use Rattle.std.specs.FinMap as fin
 use Rattle.posix_calls.specs.Tree.{Node, Tree, Dir, set_node, entries_of, names_in, names_of, IsBare}
 use Rattle.posix_calls.specs.Operations.{entered, left}
-use Rattle.plain_tree.specs.Plain.{stored_tree, count_at, one_for, at_location, IsBareReplaced, IsInode, AreNameCounts, Replaces}
+use Rattle.plain_tree.specs.Plain.{stored_tree, count_at, one_for, at_location, IsBareReplaced, HasPlace, AreNameCounts, Replaces}
 use Rattle.posix_calls.specs.declared.operation.Replaced.{Replaced}
 use Rattle.posix_calls.specs.declared.operation.Replaced.TheVariants.{Nothing, OldFile, OldDir}
 use Rattle.posix_calls.specs.Content.{Entries}
@@ -23,7 +23,7 @@ use Rattle.std.proofs.lemmas.Bool.Decides.{eqb_tells}
 
 -- ---- how many there are
 
-less_none : (t : Tree) (at : Location) → IsInode at.parent → at_location t at ≡ None → (k : ℕ) → names_of (left t at) k + 0 ≡ names_of t k
+less_none : (t : Tree) (at : Location) → HasPlace at.parent → at_location t at ≡ None → (k : ℕ) → names_of (left t at) k + 0 ≡ names_of t k
 less_none t at place none k =
     let change : names_of (left t at) k + names_in k (t at.parent) ≡ names_of t k + counted k (fin.remove (entries_of (t at.parent)) at.name)
     = names_of-set_node t at.parent k (Some (Dir (fin.remove (entries_of (t at.parent)) at.name))) place.0 place.1 ∙ ap (λ n. names_of t k + n) (counted_is k (fin.remove (entries_of (t at.parent)) at.name)) in
@@ -32,18 +32,18 @@ less_none t at place none k =
     omega (arith, change, before, same)
 
 -- the inode under a name that goes has one fewer
-pub names_left : (t : Tree) (at : Location) → IsInode at.parent → (k : ℕ) → names_of (left t at) k + one_for (at_location t at) k ≡ names_of t k
+pub names_left : (t : Tree) (at : Location) → HasPlace at.parent → (k : ℕ) → names_of (left t at) k + one_for (at_location t at) k ≡ names_of t k
 names_left t at place k =
     elim (at_location t at) as (λ (o : Option ℕ). at_location t at ≡ o → names_of (left t at) k + one_for o k ≡ names_of t k) [
       | None ↦ λ none. less_none t at place none k
       | Some i ↦ λ is. left_names t at i is place.0 place.1 k
     ] refl
 
-pub named_most : (t : Tree) (at : Location) → IsInode at.parent → (k : ℕ) → one_for (at_location t at) k ≤ names_of t k
+pub named_most : (t : Tree) (at : Location) → HasPlace at.parent → (k : ℕ) → one_for (at_location t at) k ≤ names_of t k
 named_most t at place k = let e = names_left t at place k in omega (arith, e)
 
 -- a name that comes is one more, once what is there went
-pub names_entered : (t : Tree) (at : Location) (i : ℕ) → IsInode at.parent → (k : ℕ) → names_of (entered t at i) k ≡ names_of (left t at) k + one_for (Some i) k
+pub names_entered : (t : Tree) (at : Location) (i : ℕ) → HasPlace at.parent → (k : ℕ) → names_of (entered t at i) k ≡ names_of (left t at) k + one_for (Some i) k
 names_entered t at i place k = ap (λ (u : Tree). names_of u k) (sym (renewed t at i)) ∙ entered_names (left t at) at i (left_here t at) place.0 place.1 k
 
 -- ---- what has no entries still has none
@@ -94,7 +94,7 @@ counted_if (Ok a) counts old new i x was before after ok err = counted_set count
 counted_if (Err e) counts old new i x was before after ok err = counted_same counts counts old new was refl err
 
 -- what was stored, and the inode under a name
-module _ (counts made : List ℕ) (old : Nodes) (at : Location) (o : Option ℕ) (was : AreNameCounts counts old) (same : count_at made ≡ count_at counts) (place : IsInode at.parent) (is : o ≡ at_location (stored_tree old) at) where
+module _ (counts made : List ℕ) (old : Nodes) (at : Location) (o : Option ℕ) (was : AreNameCounts counts old) (same : count_at made ≡ count_at counts) (place : HasPlace at.parent) (is : o ≡ at_location (stored_tree old) at) where
   -- it has a name that can go
   pub can_go : (k : ℕ) → one_for o k ≤ count_at made k
   can_go k =

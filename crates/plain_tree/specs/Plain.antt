@@ -52,9 +52,9 @@ AreNameCounts counts nodes = (i : ℕ) → count_at counts i ≡ names_of (store
 abbrev pub IsConsistent : State → Type 0
 IsConsistent s = IsWellFormed s × IsWithinLimits s.tree
 
--- a number that a node can have
-abbrev pub IsInode : ℕ → Type 0
-IsInode i = (ROOT ≤ i) × (i ≤ MAX_INODE)
+-- the table has a place for a node of this number
+abbrev pub HasPlace : ℕ → Type 0
+HasPlace i = (ROOT ≤ i) × (i ≤ MAX_INODE)
 
 -- what is put out of its place has no entries
 abbrev pub IsBareReplaced : Tree → Replaced → Type 0
@@ -109,7 +109,7 @@ HasNumber (Some (number, what)) = number < MAX_DESCRIPTORS
 
 -- a name's directory is there, under a number that a node can have
 abbrev pub IsHeld : Tree → Location → Type 0
-IsHeld t at = IsInode at.parent × (t at.parent ≢ None)
+IsHeld t at = HasPlace at.parent × (t at.parent ≢ None)
 
 -- names come and go in directories that are there, what is written or goes has no entries, and what moves can move
 abbrev pub IsPlaced : Tree → Operation → Type 0

@@ -4,7 +4,7 @@ ghost use Rattle.posix_calls.specs.Tree.{File, bytes_of, set_node, has_open, nam
 ghost use Rattle.posix_calls.specs.Operations.{entered, left, less_unused};
 ghost use Rattle.posix_calls.specs.Own.{own_of};
 ghost use Rattle.posix_calls.specs.Exact.{IsLowest, IsTaken};
-ghost use Rattle.plain_tree.specs.Plain.{stored_tree, held_of, at_location, IsInode};
+ghost use Rattle.plain_tree.specs.Plain.{stored_tree, held_of, at_location, HasPlace};
 ghost use Rattle.posix_calls.specs.declared.limits.TheConstants.{MAX_NAMES};
 
 use crate::name_counts::{make_counts, name_came, name_count, name_went};
@@ -93,7 +93,7 @@ impl PlainNodes {
 
     /// Puts an inode under a name, in place of what is there. Where there is no memory for it, the tree stays as it was.
     pub fn enter(&mut self, alloc: Global, at: Location, inode: u32) -> Result<(), AllocError>
-        requires place { IsInode at.parent }
+        requires place { HasPlace at.parent }
         requires few { names_of (stored_tree self.old) inode ≤ MAX_NAMES }
         ensures ok { OnOk result (stored_tree self.new ≡ entered (stored_tree self.old) at inode) }
         ensures err { OnErr result (stored_tree self.new ≡ stored_tree self.old) }
@@ -110,7 +110,7 @@ impl PlainNodes {
     /// Takes a name out.
     pub fn leave(&mut self, alloc: Global, at: &Location)
         requires room { at.now.parent < length self.old }
-        requires place { IsInode at.now.parent }
+        requires place { HasPlace at.now.parent }
         ensures tree { stored_tree self.new ≡ left (stored_tree self.old) at.now }
         ensures kept { length self.new ≡ length self.old }
     {

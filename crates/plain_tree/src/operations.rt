@@ -1,7 +1,7 @@
 ghost use Rattle.std.specs.Prelude.{◌≡◌, ◌≢◌, ◌≤◌, ◌<◌, ℕ, [], None, Some, length, OnOk, OnErr, if◌then◌else◌};
 ghost use Rattle.posix_calls.specs.Tree.{File, set_node, set_descriptor, names_of, IsBare};
 ghost use Rattle.posix_calls.specs.Operations.{entered, left, less_unused, less_replaced};
-ghost use Rattle.plain_tree.specs.Plain.{stored_tree, held_of, less_put_out, IsInode, IsBareReplaced, IsMovable, HasNumber, with_opened};
+ghost use Rattle.plain_tree.specs.Plain.{stored_tree, held_of, less_put_out, HasPlace, IsBareReplaced, IsMovable, HasNumber, with_opened};
 ghost use Rattle.posix_calls.specs.declared.limits.TheConstants.{MAX_NAMES};
 
 use crate::node::PlainNode;
@@ -19,7 +19,7 @@ pub fn make(
     node: PlainNode,
 ) -> Result<(), AllocError>
     requires apart { at.parent ≢ inode }
-    requires place { IsInode at.parent }
+    requires place { HasPlace at.parent }
     requires free { IsBare (stored_tree nodes.old inode) }
     requires bare { IsBare node }
     requires few { names_of (stored_tree nodes.old) inode ≤ MAX_NAMES }
@@ -58,7 +58,7 @@ pub fn remove_dir(
     at: &Location,
     inode: u32,
 ) -> Result<(), AllocError>
-    requires place { IsInode at.now.parent }
+    requires place { HasPlace at.now.parent }
     requires bare { IsBare (stored_tree nodes.old inode) }
     ensures ok { OnOk result (stored_tree nodes.new ≡ set_node (left (stored_tree nodes.old) at.now) inode None) }
     ensures err { OnErr result (stored_tree nodes.new ≡ stored_tree nodes.old) }
@@ -77,7 +77,7 @@ pub fn drop_name(
     at: &Location,
     inode: u32,
 ) -> Result<(), AllocError>
-    requires place { IsInode at.now.parent }
+    requires place { HasPlace at.now.parent }
     requires bare { IsBare (stored_tree nodes.old inode) }
     ensures ok { OnOk result (stored_tree nodes.new ≡ less_unused (held_of rows.now) (left (stored_tree nodes.old) at.now) inode) }
     ensures err { OnErr result (stored_tree nodes.new ≡ stored_tree nodes.old) }
@@ -98,8 +98,8 @@ pub fn move_name(
     inode: u32,
     replaced: Replaced,
 ) -> Result<(), AllocError>
-    requires from_place { IsInode from.now.parent }
-    requires to_place { IsInode to.parent }
+    requires from_place { HasPlace from.now.parent }
+    requires to_place { HasPlace to.parent }
     requires few { names_of (stored_tree nodes.old) inode ≤ MAX_NAMES }
     requires movable { IsMovable (stored_tree nodes.old) from.now to inode replaced }
     ensures ok { OnOk result (stored_tree nodes.new ≡ entered (left (less_replaced (held_of rows.now) (stored_tree nodes.old) to replaced) from.now) to inode) }
