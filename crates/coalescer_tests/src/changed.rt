@@ -3,11 +3,11 @@
 use crate::made::{enter, leave};
 use file_graph::{Effect, Kind, PlainGraph};
 use graph_change::{BlockChange, GraphChange, NodeBase, NodeChange, NodeLength};
-use posix_calls::Bytes;
+use posix_calls::{Bytes, UNIT_BYTES};
 use std::alloc::{AllocError, Global};
 use std::io::{self, Write};
 
-const BLOCK: usize = 4_096;
+const BLOCK: usize = UNIT_BYTES as usize;
 
 /// Does the change.
 pub fn put_change(

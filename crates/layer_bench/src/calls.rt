@@ -5,6 +5,7 @@ use crate::regions::{Over, Work, append, fill_all};
 use call_effects::{growth_of, record_of};
 use file_graph::{Effect, Kind, PlainGraph};
 use graph_answers::GraphAnswers;
+use layout::BLOCK;
 use log_record::Record;
 use posix_calls::{Bytes, Call, Descriptor, Name, Operation, OwnDescriptors, ROOT, decide};
 use std::alloc::{AllocError, Global};
@@ -16,9 +17,6 @@ const FILE: u32 = 2;
 
 /// The inode that the directory `/a` gets.
 const NEW: u32 = 3;
-
-/// The bytes of a write.
-const BLOCK: usize = 4_096;
 
 /// How often a region has room for the calls of one turn: their records and frames have less than 4,300 bytes.
 const TURNS: u64 = 60;

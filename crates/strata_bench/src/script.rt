@@ -1,7 +1,7 @@
 // How many calls a second a file tree in memory answers.
 use layer_bench::{Desk, Failure, Sum, bytes_of, keep_room};
 use plain_tree::PlainTree;
-use posix_calls::{Bytes, Call, Flags, Reply};
+use posix_calls::{Bytes, Call, Flags, Reply, UNIT_BYTES};
 use std::alloc::{AllocError, Global};
 
 const DIRECTORIES: u32 = 20;
@@ -10,7 +10,7 @@ const DIRECTORIES: u32 = 20;
 const FILES: u32 = 50;
 
 /// The bytes of each file.
-const BLOCK: usize = 4_096;
+const BLOCK: usize = UNIT_BYTES as usize;
 
 /// More than all files take, so that a write is timed and no page is asked of the system.
 const ROOM: usize = 16_000_000;
