@@ -1,0 +1,23 @@
+use Rattle.std.proofs.Common.{◌+◌, ◌-◌, ◌++◌, ◌∙◌, sym, ap, arith}
+use Rattle.block_alloc.specs.Runs.{blocks_of}
+use Rattle.block_map.specs.Map.{places_of}
+use Rattle.block_map.proofs.GivenUp.{step_some, step_none}
+use Rattle.block_map.proofs.given_up.push_places.Goals.{in-Some+in_ok-push_block, in_default}
+use Rattle.block_map.proofs.given_up.push_places.Goals as goal
+
+pub each-preserved : goal.each-preserved
+each-preserved c =
+    let es = c.args.tree.now.runs in
+    let block = c.each.block in
+    let stop = c.args.blocks.first + c.args.blocks.count in
+    let before = blocks_of c.each.out.items in
+    elim c.match-at.branch [
+      | in-Some+in_ok-push_block w ↦ record {
+        sum = step_some es block stop w.in-Some.place before (blocks_of c.match-at.out.items) _ c.each-test.true (sym c.at.ensures ∙ w.in-Some.is) (ap (λ v. blocks_of v.items) w.out-is ∙ w.in_ok-push_block.ensures) c.each.invariant.sum;
+        within = omega (arith, c.each-test.true);
+      }
+      | in_default w ↦ record {
+        sum = ap (λ v. blocks_of v.items ++ places_of es (block + 1) (stop - (block + 1))) w.out-is ∙ step_none es block stop before _ c.each-test.true (sym c.at.ensures ∙ w.in_default.is) c.each.invariant.sum;
+        within = omega (arith, c.each-test.true);
+      }
+    ]
