@@ -224,7 +224,7 @@ made_whole : whole made ≡ entered
 unfolding after_clients
 made_whole = refl
 
-entered_within : AreWithin entered
+pub entered_within : AreWithin entered
 entered_within = subst AreWithin made_whole (whole_within made made_holds)
 
 pub entered_sound : IsSound entered nobody

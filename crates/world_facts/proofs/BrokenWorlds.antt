@@ -1,5 +1,5 @@
 -- What goes wrong in small worlds that break one part of the invariant each: a step of such a world.
-use Rattle.std.proofs.Common.{◌≡◌, ◌≢◌, inl, inr, ℕ, ◌+◌, ◌≤◌, ◌==◌, ◌||◌, cond, Bool, true, false, [], ◌∷◌, refl, Some, None, Option, ap, sym, ◌∙◌, arith}
+use Rattle.std.proofs.Common.{◌≡◌, ◌≢◌, inl, inr, ℕ, ◌+◌, ◌≤◌, ◌==◌, ◌||◌, Bool, true, false, [], ◌∷◌, refl, Some, None, Option, ap, sym, ◌∙◌, arith}
 use Rattle.std.specs.Prelude.{is_some}
 use Rattle.std.specs.FinMap as fin
 use Rattle.std.proofs.lemmas.Bool.{false≢true}
@@ -14,14 +14,13 @@ use Rattle.call_effects.specs.Known.{Agrees}
 use Rattle.call_effects.specs.NodeView.{NodeView, FileView, DirView, view_at}
 use Rattle.call_effects.specs.Wholes.{IsSound}
 use Rattle.world_facts.specs.Logs.{after_clients, ArePaid}
-use Rattle.world_facts.specs.World.{Kernel, all_of, records_of, whole, held, has_lease, world_state}
-use Rattle.world_facts.specs.Standing.{IsLeased, IsBooked, IsBeside, Stands}
+use Rattle.world_facts.specs.World.{Kernel, all_of, records_of, whole, held, world_state}
+use Rattle.world_facts.specs.Standing.{IsBooked}
 use Rattle.world_facts.specs.ClientSteps.{IsBegun, replied}
 use Rattle.world_facts.specs.RegionSteps.{CanSeal, region_sealed}
 use Rattle.world_facts.specs.KernelSteps.{CanDigest, records_digested}
 use Rattle.world_facts.specs.Walk.{mkdir_a, made}
-use Rattle.world_facts.specs.Broken.{making, marked_past, granted_twice, watching, root_alone, half, misbegun, unpaid, overdrawn}
-use Rattle.world_facts.proofs.Idle.{none_some, idle_stands}
+use Rattle.world_facts.specs.Broken.{making, marked_past, granted_twice, watching, half, misbegun, unpaid, overdrawn}
 use Rattle.world_facts.proofs.Moved.{each_client}
 
 -- ---- a mark past its records
@@ -41,21 +40,6 @@ past_lost e = false≢true (ap (λ (s : State). is_some (s.tree 2)) e)
 pub twice_begun : IsBegun granted_twice 1 mkdir_a
 twice_begun = record { client = refl; there = refl; known = λ e. absurd (cc) }
 
-pub twice_known : Agrees (granted_twice.clients 2).knows (whole granted_twice) (held granted_twice)
-unfolding after_clients
-twice_known = record {
-  client = refl;
-  own = λ n. refl;
-  back = whole granted_twice;
-  put_back = λ i. inl refl;
-  copies = λ i copy e. none_some copy e;
-  blocks = λ i b bytes e. none_some bytes e;
-  granted = λ i e. elim (eqb_tells i 2) [
-    | inl same ↦ let two = same.1 in record { low = omega (arith, two); high = omega (arith, two); none = ap (whole granted_twice) same.1 }
-    | inr off ↦ absurd (false≢true (sym (ap (λ b. b || false) off.0) ∙ e))
-  ];
-}
-
 pub twice_taken : Agrees ((replied granted_twice 1 mkdir_a).clients 2).knows (whole (replied granted_twice 1 mkdir_a)) (held (replied granted_twice 1 mkdir_a)) → ⊥
 unfolding after_clients
 twice_taken agrees = let free = agrees.granted 2 refl in false≢true (sym (ap is_some free.none))
@@ -64,24 +48,6 @@ twice_taken agrees = let free = agrees.granted 2 refl in false≢true (sym (ap i
 
 pub watching_begun : (reads : ℕ → Bool) → IsBegun (watching reads) 1 mkdir_a
 watching_begun reads = record { client = refl; there = refl; known = λ e. absurd (cc) }
-
-pub watching_known : (reads : ℕ → Bool) → Agrees ((watching reads).clients 2).knows (whole (watching reads)) (held (watching reads))
-unfolding after_clients
-watching_known reads = record {
-  client = refl;
-  own = λ n. refl;
-  back = whole (watching reads);
-  put_back = λ i. inl refl;
-  copies = λ i copy e. elim (eqb_tells i 1) [
-    | inl same ↦
-        let there : Some (view_at fresh 1) ≡ Some copy = sym (ap (λ b. cond b (Some (view_at fresh 1)) None) same.0) ∙ e in
-        let one : view_at fresh 1 ≡ copy = cc in
-        ap (view_at (whole (watching reads))) same.1 ∙ one
-    | inr off ↦ none_some copy (sym (ap (λ b. cond b (Some (view_at fresh 1)) None) off.0) ∙ e)
-  ];
-  blocks = λ i b bytes e. none_some bytes e;
-  granted = λ i e. absurd (false≢true e);
-}
 
 -- whether a directory has the entry `a`
 pub has_a : Option NodeView → Bool
@@ -114,26 +80,7 @@ watching_stale reads agrees = elim (agrees.put_back 1) [
     replied_graph : (ℕ → Bool) → Graph
     replied_graph reads = whole (replied (watching reads) 1 mkdir_a)
 
-pub unleased : IsLeased (has_lease ((watching (λ i. false)).clients 2)) ((watching (λ i. false)).clients 2).knows → ⊥
-unleased is = false≢true (is.copies 1 (view_at fresh 1) refl)
-
-pub beside_broken : IsBeside ((watching root_alone).clients 1) ((watching root_alone).clients 2) → ⊥
-beside_broken apart = false≢true (sym (apart 1 refl))
-
-pub root_leased : IsLeased (has_lease ((watching root_alone).clients 2)) ((watching root_alone).clients 2).knows
-root_leased = record {
-  copies = λ i copy e. elim (eqb_tells i 1) [
-    | inl same ↦ ap (λ b. b || false) same.0
-    | inr off ↦ none_some copy (sym (ap (λ b. cond b (Some (view_at fresh 1)) None) off.0) ∙ e)
-  ];
-  blocks = λ i b bytes e. none_some bytes e;
-}
-
 -- all else holds of it
-pub watching_stands : Stands (watching root_alone).kernel.shared ((watching root_alone).kernel.accounts 2) 2 ((watching root_alone).clients 2)
-watching_stands =
-    let idle = idle_stands fresh 2 0 in
-    record { number = refl; left = record { closed = λ e. absurd (false≢true e); idle = λ e. absurd (false≢true e) }; marked = idle.marked; starts = idle.starts; logged = idle.logged; units = idle.units; numbered = idle.numbered; leased = root_leased; pinned = idle.pinned; pending = λ b e. none_some b e }
 
 -- ---- a record of no call
 

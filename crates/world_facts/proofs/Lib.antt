@@ -50,3 +50,5 @@ pub mod AloneStores
 pub mod AloneCalls
 pub mod PairWalks
 pub mod FiveWalks
+pub mod AloneCopies
+pub mod AloneReading

@@ -191,7 +191,7 @@ made_if false false = refl
 
 -- ---- a digest beside the begun call
 
-written_holds : IsCoherent walked.written
+pub written_holds : IsCoherent walked.written
 written_holds = replied_holds walked.two 1 walked.write_7 two_hold (record { client = refl; there = refl; known = λ e. absurd (cc) })
 
 pub written_step : Step (world_state walked.two) 1 walked.write_7.call (Wrote 1) (world_state (replied walked.two 1 walked.write_7))

@@ -1,5 +1,5 @@
 -- Small worlds that break one part of the invariant each.
-use Rattle.std.specs.Prelude.{ℕ, ◌+◌, List, [], ◌∷◌, Bool, false, ◌==◌, ◌||◌, Some, None, if◌then◌else◌}
+use Rattle.std.specs.Prelude.{ℕ, ◌+◌, List, [], ◌∷◌, Bool, false, ◌==◌, ◌&&◌, ◌||◌, Some, None, Option, if◌then◌else◌}
 use Rattle.posix_calls.specs.declared.call.Call.{Call}
 use Rattle.posix_calls.specs.declared.call.Call.TheVariants as call
 use Rattle.posix_calls.specs.declared.call.Reply.TheVariants as reply
@@ -15,13 +15,15 @@ use Rattle.call_effects.specs.Known.{with_copy}
 use Rattle.world_facts.specs.World.{Begun, Away, Back, Settled, World, moved}
 use Rattle.world_facts.specs.Opening.{knows_nothing, idle_client, idle_account, idle_world}
 use Rattle.world_facts.specs.ClientSteps.{with_client, call_begun, replied}
-use Rattle.world_facts.specs.LeaseSteps.{fetched}
+use Rattle.world_facts.specs.LeaseSteps.{fetched, blocks_fetched}
 use Rattle.world_facts.specs.KernelSteps.{records_digested}
 use Rattle.world_facts.specs.BookSteps.{number_granted}
 use Rattle.world_facts.specs.Halves.{number_booked}
 use Rattle.world_facts.specs.RegionSteps.{region_sealed, taken_back}
 use Rattle.world_facts.specs.Walk as walked
 use Rattle.world_facts.specs.UnlinkWalk as unlink_walked
+use Rattle.world_facts.specs.PairWalk as pair_walked
+use Rattle.call_effects.specs.Blocks.{block_of}
 
 -- ---- two clients whose records count the names of one file
 
@@ -227,3 +229,22 @@ past_limit = moved (idle_world (charge entered) entered) 1 entered (idle_account
 
 abbrev pub unleased : World
 unleased = with_client walked.made 1 (record (walked.made.clients 1) { reads = λ i. false; writes = root_alone })
+
+-- ---- another client has a block of a file that it doesn't hold, while a call writes the file
+
+abbrev pub first_block : ℕ → ℕ → Option (List ℕ)
+first_block i b = if i == 2 && (b == 0) then Some (block_of 0 []) else None
+
+abbrev pub block_watching : World
+block_watching = with_client pair_walked.two 2 (record (pair_walked.two.clients 2) { knows = record (pair_walked.two.clients 2).knows { blocks = first_block } })
+
+-- ---- a call that has begun its record reads a byte, and changes nothing
+
+abbrev pub read_ready : World
+read_ready = blocks_fetched pair_walked.written 1 2 0 1 (7 ∷ [])
+
+abbrev pub reading : Begun
+reading = record { call = call.Pread 0 0 1; new = 0; operation = Tell (reply.Read (7 ∷ [])); change = record { units = 0; effects = [] } }
+
+abbrev pub begun_reading : World
+begun_reading = call_begun read_ready 1 reading

@@ -1,19 +1,17 @@
 //! What goes wrong in small worlds that break one part of the invariant each.
 
-ghost use Rattle.std.specs.Prelude.{◌≡◌, ◌≢◌, ℕ, ◌+◌, ◌<◌, ◌≤◌, List, [], ◌∷◌, length, Bool, false, None, IsSome};
+ghost use Rattle.std.specs.Prelude.{◌≡◌, ◌≢◌, ℕ, ◌<◌, List, [], ◌∷◌, length, false, None};
 ghost use Rattle.posix_calls.specs.Operations.{Step, reply_of};
 ghost use Rattle.posix_calls.specs.declared.limits.TheConstants.{MAX_FILE};
-ghost use Rattle.file_graph.specs.Graph.{Graph, fresh, set_node};
 ghost use Rattle.call_effects.specs.Known.{Agrees};
-ghost use Rattle.call_effects.specs.Wholes.{IsSound, state_of};
-ghost use Rattle.world_facts.specs.Limits.{AreWithin};
-ghost use Rattle.world_facts.specs.Logs.{after_records, after_each, units_in, LogsAreApart, IsMadeOnce, ArePaid, NameNone, KeepLimits};
-ghost use Rattle.world_facts.specs.World.{log_of, all_of, records_of, whole, held, has_lease, world_state};
-ghost use Rattle.world_facts.specs.Standing.{HasLeft, IsMarked, StartsWiped, IsNumbered, IsLeased, IsPinned, IsPending, IsBooked, IsBeside, Stands};
-ghost use Rattle.world_facts.specs.Parts.{Book, Each, NumbersFree, NumbersInRange, RecordsLeased, RecordsPaid, RecordsNameNone, RecordsKeepLimits, UnitsBooked, MadeOnce, GrantedUnused, WholeSound, NumbersInOneHand, NodesWithin, UnitsFit, OwnNumber, MadeBooked, GrantedBooked, OpenPinned, PinsBooked, BegunPlanned, BegunPinned, SettledClosed, SettledIdle, MarkNotPast, MarkNotBefore, AwayHasRecords, BackHasNone, UnwipedHasNone, UnwipedIsIdle, BreaksAlone};
+ghost use Rattle.call_effects.specs.Wholes.{IsSound};
+ghost use Rattle.world_facts.specs.Logs.{after_each, LogsAreApart};
+ghost use Rattle.world_facts.specs.World.{log_of, all_of, whole, held, world_state};
+ghost use Rattle.world_facts.specs.Standing.{HasLeft, StartsWiped, IsNumbered, IsBooked};
+ghost use Rattle.world_facts.specs.Parts.{Book, Each, LeasesLegal, WholeKnown, CopiesLeased, BlocksLeased, BegunHasEffects, Holds, NumbersFree, NumbersInRange, RecordsLeased, RecordsPaid, RecordsNameNone, RecordsKeepLimits, UnitsBooked, MadeOnce, GrantedUnused, WholeSound, NumbersInOneHand, NodesWithin, UnitsFit, OwnNumber, MadeBooked, GrantedBooked, OpenPinned, PinsBooked, BegunPlanned, BegunPinned, SettledClosed, SettledIdle, MarkNotPast, MarkNotBefore, AwayHasRecords, BackHasNone, UnwipedHasNone, UnwipedIsIdle, BreaksAlone};
 ghost use Rattle.world_facts.specs.Machine.{CanAccept, sealed_of};
 ghost use Rattle.world_facts.specs.ClientSteps.{CanAnswer, answered, CanBegin, IsBegun, replied};
-ghost use Rattle.world_facts.specs.LeaseSteps.{IsUnheld, CanFetch, write_taken, fetched};
+ghost use Rattle.world_facts.specs.LeaseSteps.{IsUnheld, CanFetch, CanForgetBlocks, write_taken, fetched, blocks_forgotten};
 ghost use Rattle.world_facts.specs.RegionSteps.{CanSeal, region_sealed, CanWipeOther, other_wiped, CanWipeCurrent, current_wiped};
 ghost use Rattle.world_facts.specs.KernelSteps.{CanDigest, records_digested, CanReclaim, reclaimed};
 ghost use Rattle.world_facts.specs.BookSteps.{IsUnbooked, number_granted};
@@ -21,8 +19,9 @@ ghost use Rattle.world_facts.specs.Burial.{CanBury, client_buried};
 ghost use Rattle.world_facts.specs.Halves.{IsOnItsWay, number_received};
 ghost use Rattle.world_facts.specs.Walk.{mkdir_a, made, handed};
 ghost use Rattle.world_facts.specs.UnlinkWalk.{open_a, unlink_a};
+ghost use Rattle.world_facts.specs.PairWalk.{write_7};
 ghost use Rattle.world_facts.specs.Stop.{Leaves, Stores};
-ghost use Rattle.world_facts.specs.Broken.{unleased, counting, taken_number, far_number, unbooked_number, used_number, unpinned_file, unbooked_node, still_open, both_counting, one_file, making, making_directory, dropping, made_twice, to_be_named, past_limit, marked_past, granted_twice, watching, root_alone, half, misbegun, unpaid, overdrawn, unwiped, left_behind, marked_before, unpinned_open, rootless, large_file, overfull, stale, stat_root, no_entries, begun_unwiped, settled_opening, away_empty, misnumbered, unpinned_client, unpinned_known, unpinned_unlinked, unpinned_kept};
+ghost use Rattle.world_facts.specs.Broken.{unleased, block_watching, begun_reading, counting, taken_number, far_number, unbooked_number, used_number, unpinned_file, unbooked_node, still_open, both_counting, one_file, making, making_directory, dropping, made_twice, to_be_named, past_limit, marked_past, granted_twice, watching, root_alone, half, misbegun, unpaid, overdrawn, unwiped, left_behind, marked_before, unpinned_open, rootless, large_file, overfull, stale, stat_root, no_entries, begun_unwiped, settled_opening, away_empty, misnumbered, unpinned_client, unpinned_known, unpinned_unlinked, unpinned_kept};
 
 /// Where two clients write one inode, which takes a lease that one of them doesn't hold, the order of their digests is seen.
 pub fn writing_without_a_lease_is_seen()
@@ -66,24 +65,20 @@ pub fn mark_past_its_records_loses_a_call()
 pub fn number_in_two_hands_is_taken()
     ensures alone { BreaksAlone (Book NumbersInOneHand) granted_twice }
     ensures begun { IsBegun granted_twice 1 mkdir_a }
-    ensures known { Agrees (granted_twice.clients 2).knows (whole granted_twice) (held granted_twice) }
     ensures taken { Agrees ((replied granted_twice 1 mkdir_a).clients 2).knows (whole (replied granted_twice 1 mkdir_a)) (held (replied granted_twice 1 mkdir_a)) → ⊥ }
 {}
 
 /// A copy that a client keeps without a lease is right for now, and stale after another client's answer.
 pub fn copy_without_a_lease_goes_stale()
-    ensures broken { IsLeased (has_lease ((watching (λ i. false)).clients 2)) ((watching (λ i. false)).clients 2).knows → ⊥ }
+    ensures alone { BreaksAlone (Each CopiesLeased) (watching (λ i. false)) }
     ensures begun { IsBegun (watching (λ i. false)) 1 mkdir_a }
-    ensures known { Agrees ((watching (λ i. false)).clients 2).knows (whole (watching (λ i. false))) (held (watching (λ i. false))) }
     ensures stale { Agrees ((replied (watching (λ i. false)) 1 mkdir_a).clients 2).knows (whole (replied (watching (λ i. false)) 1 mkdir_a)) (held (replied (watching (λ i. false)) 1 mkdir_a)) → ⊥ }
 {}
 
 /// So is one under a lease for reading, where another client holds the inode for writing beside it.
 pub fn copy_beside_a_writer_goes_stale()
-    ensures broken { IsBeside ((watching root_alone).clients 1) ((watching root_alone).clients 2) → ⊥ }
-    ensures stands { Stands (watching root_alone).kernel.shared ((watching root_alone).kernel.accounts 2) 2 ((watching root_alone).clients 2) }
+    ensures alone { BreaksAlone LeasesLegal (watching root_alone) }
     ensures begun { IsBegun (watching root_alone) 1 mkdir_a }
-    ensures known { Agrees ((watching root_alone).clients 2).knows (whole (watching root_alone)) (held (watching root_alone)) }
     ensures stale { Agrees ((replied (watching root_alone) 1 mkdir_a).clients 2).knows (whole (replied (watching root_alone) 1 mkdir_a)) (held (replied (watching root_alone) 1 mkdir_a)) → ⊥ }
 {}
 
@@ -226,7 +221,7 @@ pub fn stop_past_the_capacity_is_not_recoverable()
 
 /// Where a client has a copy that is not as the whole is, what it answers by that copy is no step of the tree.
 pub fn answer_by_a_stale_copy_is_no_step()
-    ensures broken { Agrees (stale.clients 2).knows (whole stale) (held stale) → ⊥ }
+    ensures alone { BreaksAlone WholeKnown stale }
     ensures can { CanAnswer stale 2 stat_root 0 no_entries }
     ensures wrong { Step (world_state stale) 2 stat_root (reply_of no_entries) (world_state (answered stale 2 0 no_entries)) → ⊥ }
 {}
@@ -265,4 +260,18 @@ pub fn record_without_a_lease_is_not_fetched()
     ensures can { IsUnheld unleased 2 2 }
     ensures fetches { CanFetch (write_taken unleased 2 2) 2 2 }
     ensures stale { Agrees ((fetched (write_taken unleased 2 2) 2 2).clients 2).knows (whole (fetched (write_taken unleased 2 2) 2 2)) (held (fetched (write_taken unleased 2 2) 2 2)) → ⊥ }
+{}
+
+/// A block of a file that a client has without a lease is right for now, and stale after another client's answer.
+pub fn block_without_a_lease_goes_stale()
+    ensures alone { BreaksAlone (Each BlocksLeased) block_watching }
+    ensures begun { IsBegun block_watching 1 write_7 }
+    ensures stale { Agrees ((replied block_watching 1 write_7).clients 2).knows (whole (replied block_watching 1 write_7)) (held (replied block_watching 1 write_7)) → ⊥ }
+{}
+
+/// Where a call has begun a record without an effect, as one that reads would, its client may forget the blocks by which it was planned.
+pub fn call_without_an_effect_loses_its_plan()
+    ensures alone { BreaksAlone (Each BegunHasEffects) begun_reading }
+    ensures can { CanForgetBlocks begun_reading 1 (λ i b. None) }
+    ensures lost { Holds (Each BegunPlanned) (blocks_forgotten begun_reading 1 (λ i b. None)) → ⊥ }
 {}

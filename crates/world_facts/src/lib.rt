@@ -26,10 +26,11 @@ pub use book_laws::{
     units_may_be_granted_and_returned,
 };
 pub use broken_laws::{
-    answer_by_a_stale_copy_is_no_step, booked_number_of_a_node_is_taken,
-    booked_number_past_all_inodes_is_received, burial_of_a_client_with_an_open_file_is_seen,
-    call_begun_in_a_stale_region_is_written_there, call_of_a_settled_client_opens_a_file,
-    call_that_pinned_nothing_opens_a_file, call_under_another_number_opens_nothing,
+    answer_by_a_stale_copy_is_no_step, block_without_a_lease_goes_stale,
+    booked_number_of_a_node_is_taken, booked_number_past_all_inodes_is_received,
+    burial_of_a_client_with_an_open_file_is_seen, call_begun_in_a_stale_region_is_written_there,
+    call_of_a_settled_client_opens_a_file, call_that_pinned_nothing_opens_a_file,
+    call_under_another_number_opens_nothing, call_without_an_effect_loses_its_plan,
     copy_beside_a_writer_goes_stale, copy_without_a_lease_goes_stale,
     mark_before_its_records_loses_a_number, mark_past_its_records_loses_a_call,
     number_in_two_hands_is_taken, number_of_a_new_node_is_granted_again,

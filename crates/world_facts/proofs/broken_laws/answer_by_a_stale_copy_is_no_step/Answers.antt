@@ -1,8 +1,9 @@
-use Rattle.world_facts.proofs.BrokenCopies.{stale_broken, stale_can, stale_wrong}
+use Rattle.world_facts.proofs.BrokenCopies.{stale_can, stale_wrong}
+use Rattle.world_facts.proofs.AloneCopies.{stale_alone}
 use Rattle.world_facts.proofs.broken_laws.answer_by_a_stale_copy_is_no_step.Goals as goal
 
-pub returns-clause-broken : goal.returns-clause-broken
-returns-clause-broken c = stale_broken
+pub returns-clause-alone : goal.returns-clause-alone
+returns-clause-alone c = stale_alone
 
 pub returns-clause-can : goal.returns-clause-can
 returns-clause-can c = stale_can

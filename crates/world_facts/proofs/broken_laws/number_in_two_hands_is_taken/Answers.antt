@@ -1,4 +1,4 @@
-use Rattle.world_facts.proofs.BrokenWorlds.{twice_begun, twice_known, twice_taken}
+use Rattle.world_facts.proofs.BrokenWorlds.{twice_begun, twice_taken}
 use Rattle.world_facts.proofs.AloneBooks.{twice_alone}
 use Rattle.world_facts.proofs.broken_laws.number_in_two_hands_is_taken.Goals as goal
 
@@ -7,9 +7,6 @@ returns-clause-alone c = twice_alone
 
 pub returns-clause-begun : goal.returns-clause-begun
 returns-clause-begun c = twice_begun
-
-pub returns-clause-known : goal.returns-clause-known
-returns-clause-known c = twice_known
 
 pub returns-clause-taken : goal.returns-clause-taken
 returns-clause-taken c = twice_taken
