@@ -22,8 +22,8 @@ abbrev pub IsMediumDamage : (Tier → List ℕ) → What → ℕ → Type 0
 IsMediumDamage seen w block = Names seen w block ⊎ ((g : Sizes) × IsVolume g seen × IsDamaged g (store_of seen) w block)
 
 -- Memory is wanted: for a replay, or behind sound marks for what the blocks spell.
-abbrev pub WantsMemory : (Tier → List ℕ) → Type 0
-WantsMemory seen = AwaitsReplay seen ⊎ (((g : Sizes) × IsVolume g seen) × IsSome (marks (store_of seen)))
+abbrev pub TakesMemory : (Tier → List ℕ) → Type 0
+TakesMemory seen = AwaitsReplay seen ⊎ (((g : Sizes) × IsVolume g seen) × IsSome (marks (store_of seen)))
 
 -- The area tells what the journal was refused for; it commits no batch.
 abbrev pub IsTold : JournalError → AreaError → Type 0

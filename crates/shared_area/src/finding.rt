@@ -3,8 +3,9 @@ ghost use Rattle.std.specs.Prelude.{◌≡◌, ◌≤◌, None, IsSome, false, I
 ghost use Rattle.tier_device.specs.declared.media.Tier.{Tier};
 ghost use Rattle.area_image.specs.Store.{store_of};
 ghost use Rattle.area_image.specs.Spelled.{IsOpenable};
-ghost use Rattle.area_image.specs.Map.{place_by};
+ghost use Rattle.area_image.specs.Map.{place_by, WantsMemory};
 ghost use Rattle.area_image.specs.Looks.{Looks};
+ghost use Rattle.area_image.specs.declared.error.AreaError.TheVariants.{Memory};
 ghost use Rattle.shared_area.specs.Parts.{IsNoDamage, IsTierOf, HasParts, FindsParts};
 
 use area_image::{AreaError, InodeParts, first_place, read_parts};
@@ -25,6 +26,7 @@ fn sound_parts<M: Media>(
     requires opens { journal.old.failed ≡ false → IsOpenable journal.old.geometry (store_of (M.seen journal.old.media)) }
     ensures parts { IfOk result (HasParts journal.old.geometry (store_of (M.seen journal.old.media)) inode) }
     ensures only { IfErr result IsNoDamage }
+    ensures memory { IfErr result (λ e. e ≡ Memory → WantsMemory journal.old.geometry (store_of (M.seen journal.old.media)) inode) }
     ensures looks { Looks M.moment M.seen M.left M.faults journal.old journal.new result }
 {
     match read_parts(alloc, journal, inode) {
@@ -42,6 +44,7 @@ pub fn find_parts<M: Media>(
     requires { journal.old.failed ≡ false → IsOpenable journal.old.geometry (store_of (M.seen journal.old.media)) }
     ensures parts { IfOk result (FindsParts journal.old.geometry (store_of (M.seen journal.old.media)) inode) }
     ensures only { IfErr result IsNoDamage }
+    ensures memory { IfErr result (λ e. e ≡ Memory → WantsMemory journal.old.geometry (store_of (M.seen journal.old.media)) inode) }
     ensures looks { Looks M.moment M.seen M.left M.faults journal.old journal.new result }
 {
     if journal.has_failed() {
@@ -77,6 +80,7 @@ pub fn find_tier<M: Media>(
     requires { journal.old.failed ≡ false → IsOpenable journal.old.geometry (store_of (M.seen journal.old.media)) }
     ensures tier { IfOk result (IsTierOf journal.old.geometry (store_of (M.seen journal.old.media)) inode block) }
     ensures only { IfErr result IsNoDamage }
+    ensures memory { IfErr result (λ e. e ≡ Memory → WantsMemory journal.old.geometry (store_of (M.seen journal.old.media)) inode) }
     ensures looks { Looks M.moment M.seen M.left M.faults journal.old journal.new result }
 {
     match find_parts(alloc, journal, inode) {

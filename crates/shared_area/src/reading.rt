@@ -8,7 +8,8 @@ ghost use Rattle.area_image.specs.Reads.{IsRoom};
 ghost use Rattle.area_image.specs.Spelled.{IsOpenable};
 ghost use Rattle.area_image.specs.Checks.{HasFound, IsOnce};
 ghost use Rattle.area_image.specs.Looks.{Looks};
-ghost use Rattle.area_image.specs.declared.error.AreaError.TheVariants.{DeviceFault};
+ghost use Rattle.area_image.specs.Map.{WantsMemory};
+ghost use Rattle.area_image.specs.declared.error.AreaError.TheVariants.{DeviceFault, Memory};
 ghost use Rattle.shared_area.specs.Parts.{IsNoDamage, HasParts};
 ghost use Rattle.shared_area.specs.Reading.{ShowsBytes, IsReadUpTo, IsReadFrom, bytes_at};
 
@@ -192,6 +193,7 @@ pub fn read_file<M: Media>(
     ensures bytes { IfOk result (λ n. IsReadFrom (bytes_at (graph journal.old.geometry (store_of (M.seen journal.old.media))) inode) at n out.old out.new) }
     ensures refused { OnErr result ((n : ℕ) × IsReadFrom (bytes_at (graph journal.old.geometry (store_of (M.seen journal.old.media))) inode) at n out.old out.new) }
     ensures only { IfErr result IsNoDamage }
+    ensures memory { IfErr result (λ e. e ≡ Memory → WantsMemory journal.old.geometry (store_of (M.seen journal.old.media)) inode) }
     ensures looks { Looks M.moment M.seen M.left M.faults journal.old journal.new result }
 {
     match find_parts(alloc, journal, inode) {

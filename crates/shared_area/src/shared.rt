@@ -1,4 +1,4 @@
-ghost use Rattle.std.specs.Prelude.{◌≡◌, ◌≢◌, ◌≤◌, ◌<◌, ◌+◌, ◌-◌, ℕ, List, min, length, false, Some, OnErr, IfOk, IfErr};
+ghost use Rattle.std.specs.Prelude.{◌≡◌, ◌≢◌, ◌⊎◌, ◌≤◌, ◌<◌, ◌+◌, ◌-◌, ℕ, List, min, length, false, Some, OnErr, IfOk, IfErr};
 ghost use Rattle.tier_device.specs.declared.media.Tier.{Tier};
 ghost use Rattle.tier_device.specs.declared.media.Tier.TheVariants.{Fast};
 ghost use Rattle.tier_device.specs.Media.{AtRest, Left, Rose};
@@ -14,9 +14,11 @@ ghost use Rattle.area_image.specs.Store.{store_of, graph, slot, touch_of, marks 
 ghost use Rattle.area_image.specs.Reads.{Free, Loose};
 ghost use Rattle.area_image.specs.Spelled.{IsOpenable};
 ghost use Rattle.area_image.specs.Looks.{Looks};
+ghost use Rattle.area_image.specs.Map.{WantsMemory};
+ghost use Rattle.area_image.specs.Checks.{HasPart};
 ghost use Rattle.area_image.specs.declared.error.AreaError.TheVariants.{DeviceFault, Memory};
 ghost use Rattle.area_image.specs.Damage.{OnDamage};
-ghost use Rattle.shared_area.specs.Opening.{SpellsNone, IsMediumDamage, WantsMemory};
+ghost use Rattle.shared_area.specs.Opening.{SpellsNone, IsMediumDamage, TakesMemory};
 ghost use Rattle.shared_area.specs.Ready.{OpensAs, HasCount};
 ghost use Rattle.shared_area.specs.Reading.{bytes_at, IsReadFrom};
 ghost use Rattle.shared_area.specs.Parts.{IsNoDamage, IsTierOf};
@@ -88,7 +90,7 @@ impl<M: Media> Shared<M> {
 
         ensures damaged { IfErr result (λ e. OnDamage e.0 (λ _ _. SpellsNone (M.seen medium))) }
         ensures named { IfErr result (λ e. OnDamage e.0 (IsMediumDamage (M.seen medium))) }
-        ensures memory { IfErr result (λ e. e.0 ≡ Memory → WantsMemory (M.seen medium)) }
+        ensures memory { IfErr result (λ e. e.0 ≡ Memory → TakesMemory (M.seen medium)) }
         ensures untouched { IfErr result (λ e. e.0 ≢ DeviceFault → (AwaitsReplay (M.seen medium) → ⊥) → Unmoved (M.moment medium) (M.moment e.1) (M.seen medium) (M.seen e.1) (M.left medium) (M.left e.1)) }
         ensures blocks_refused { IfErr result (λ e. e.0 ≢ DeviceFault → store_of (M.seen e.1) ≡ store_of (M.seen medium)) }
         ensures rests_refused { IfErr result (λ e. e.0 ≢ DeviceFault → (t : Tier) → AtRest (M.seen e.1) (M.left e.1 (M.moment e.1)) t) }
@@ -119,6 +121,7 @@ impl<M: Media> Shared<M> {
     pub fn node(&mut self, inode: u32) -> Result<Option<NodeSummary>, AreaError>
         ensures node { IfOk result (λ x. x ≡ view_at (graph self.old.geometry (store_of (M.seen self.old.media))) inode) }
         ensures only { IfErr result IsNoDamage }
+        ensures memory { IfErr result (λ e. e ≡ Memory → (WantsMemory self.old.geometry (store_of (M.seen self.old.media)) inode) ⊎ ((n : ℕ) × HasPart self.old.geometry (store_of (M.seen self.old.media)) inode n)) }
         ensures looks { Looks M.moment M.seen M.left M.faults self.old self.new result }
     {
         let alloc = self.alloc;
@@ -134,6 +137,7 @@ impl<M: Media> Shared<M> {
         ensures bytes { IfOk result (λ n. IsReadFrom (bytes_at (graph self.old.geometry (store_of (M.seen self.old.media))) inode) at n out.old out.new) }
         ensures refused { OnErr result ((n : ℕ) × IsReadFrom (bytes_at (graph self.old.geometry (store_of (M.seen self.old.media))) inode) at n out.old out.new) }
         ensures only { IfErr result IsNoDamage }
+        ensures memory { IfErr result (λ e. e ≡ Memory → WantsMemory self.old.geometry (store_of (M.seen self.old.media)) inode) }
         ensures looks { Looks M.moment M.seen M.left M.faults self.old self.new result }
     {
         let alloc = self.alloc;
@@ -145,6 +149,7 @@ impl<M: Media> Shared<M> {
     pub fn tier_of(&mut self, inode: u32, block: u64) -> Result<Option<Tier>, AreaError>
         ensures tier { IfOk result (IsTierOf self.old.geometry (store_of (M.seen self.old.media)) inode block) }
         ensures only { IfErr result IsNoDamage }
+        ensures memory { IfErr result (λ e. e ≡ Memory → WantsMemory self.old.geometry (store_of (M.seen self.old.media)) inode) }
         ensures looks { Looks M.moment M.seen M.left M.faults self.old self.new result }
     {
         let alloc = self.alloc;
