@@ -4,7 +4,7 @@ ghost use Rattle.workload_cli.specs.Options.{fill_in, IsFill};
 ghost use Rattle.clap.specs.Matches.{found_of};
 
 use crate::usage::WordsError;
-use clap::{Arg, ArgAction, ArgMatches, Command, value_parser};
+use clap::{Arg, ArgAction, ArgMatches, Command, Error, value_parser};
 use script_lines::hex_byte;
 use std::alloc::{AllocError, Global};
 
@@ -24,9 +24,8 @@ pub fn first_options<'a>(alloc: Global, words: &'a [&'a str]) -> Result<Option<S
     stop_of(&matches)
 }
 
-fn first_matches<'a>(alloc: Global, words: &'a [&'a str]) -> Result<ArgMatches<'a>, WordsError> {
-    let command = first_command(alloc)?;
-    Ok(command.try_get_matches_from(words)?)
+fn first_matches<'a>(alloc: Global, words: &'a [&'a str]) -> Result<ArgMatches<'a>, Error> {
+    first_command(alloc)?.try_get_matches_from(words)
 }
 
 fn first_command<'a>(alloc: Global) -> Result<Command<'a>, AllocError> {
@@ -42,24 +41,33 @@ fn stop_command<'a>(alloc: Global) -> Result<Command<'a>, AllocError> {
 }
 
 fn stop_arg<'a>(alloc: Global) -> Result<Arg<'a>, AllocError> {
-    Arg::new(alloc, "stop")
-        .long("stop")
-        .value_name("K")
-        .help("Stop each region within its K-th write or fence, K from 1 on")
-        .action(ArgAction::Set)
-        .value_parser(value_parser!(u64).range(1..))
-        .requires_arg("fill")
+    option(
+        alloc,
+        "stop",
+        "K",
+        "Stop each region within its K-th write or fence, K from 1 on",
+    )
+    .value_parser(value_parser!(u64).range(1..))
+    .requires_arg("fill")
 }
 
 fn fill_arg<'a>(alloc: Global) -> Result<Arg<'a>, AllocError> {
-    Arg::new(alloc, "fill")
-        .long("fill")
-        .value_name("HH")
-        .help(
-            "What each byte that was written and not fenced then holds: two digits of 0 to 9 and a to f",
-        )
+    option(
+        alloc,
+        "fill",
+        "HH",
+        "What each byte that was written and not fenced then holds: two digits of 0 to 9 and a to f",
+    )
+    .requires_arg("stop")
+}
+
+// An option with a value.
+fn option<'a>(alloc: Global, name: &'a str, value: &'a str, help: &'a str) -> Arg<'a> {
+    Arg::new(alloc, name)
+        .long(name)
+        .value_name(value)
+        .help(help)
         .action(ArgAction::Set)
-        .requires_arg("stop")
 }
 
 // The stop that is asked for, whose fill is the byte that the option's value spells.

@@ -28,20 +28,18 @@ pub fn run_program<R: Env + AllocGlobal, E: Write, F: FnOnce(&[&str]) -> io::Res
 }
 
 fn words_of<R: Env + AllocGlobal>(rt: &R) -> Result<Vec<String>, WordsError> {
-    let args = match env::args(rt) {
-        Ok(args) => args,
-        Err(error) if error.kind() == ErrorKind::InvalidData => {
-            return Err(WordsError::Value("a word of the command line is no text"));
-        }
-        Err(_) => return Err(WordsError::Memory),
-    };
-    let mut words = Vec::new(rt.alloc());
-    for arg in args {
-        if words.push(arg).is_err() {
-            return Err(WordsError::Memory);
-        }
+    match env::args(rt) {
+        Ok(args) => Ok(args.collect(rt.alloc())?),
+        Err(error) => Err(unread(error)),
     }
-    Ok(words)
+}
+
+// Why there are no words.
+fn unread(error: io::Error) -> WordsError {
+    match error.kind() {
+        ErrorKind::InvalidData => WordsError::Value("a word of the command line is no text"),
+        _ => WordsError::Memory,
+    }
 }
 
 fn run_over<F: FnOnce(&[&str]) -> io::Result<u8>>(

@@ -1,24 +1,31 @@
 use posix_calls::DecideError;
 use std::alloc::{AllocError, AllocFailed};
 use std::io::{self, ErrorKind};
-use thiserror::Error;
 use update_log::RegionError;
 
 /// What ends a run before its end.
-#[derive(Clone, Copy, Debug, PartialEq, Eq, Error)]
+#[derive(Clone, Copy)]
 pub enum RunError {
     /// A device, a file, the input or the output failed.
-    #[error("fault 2")]
     Device,
     /// What was read is no content of a region.
-    #[error("fault 3")]
     Damaged,
     /// A record does not fit its region.
-    #[error("fault 7")]
     RegionFull,
     /// There was no memory.
-    #[error("fault 15")]
     Memory,
+}
+
+impl RunError {
+    /// How it is told.
+    pub fn text(self) -> &'static str {
+        match self {
+            RunError::Device => "fault 2",
+            RunError::Damaged => "fault 3",
+            RunError::RegionFull => "fault 7",
+            RunError::Memory => "fault 15",
+        }
+    }
 }
 
 impl From<AllocError> for RunError {

@@ -65,6 +65,6 @@ fn print_help<O: Write>(help: Error, out: &mut O) -> Result<(), RunError> {
 
 /// Tells what ended a run before its end, and answers the exit status 3.
 pub fn tell_fault<E: Write>(fault: RunError, err: &mut E) -> u8 {
-    let _ = writeln!(err, "{fault}");
+    let _ = writeln!(err, "{}", fault.text());
     3
 }
