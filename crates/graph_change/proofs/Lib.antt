@@ -1,4 +1,5 @@
 pub mod Blocks
+pub mod Bounding
 pub mod Bytes
 pub mod Ends
 pub mod Entries

@@ -18,7 +18,7 @@ use Rattle.graph_change.proofs.Law.{change_put, empty_at, empty_of, stands}
 use Rattle.graph_change.proofs.Nodes.{tidy_after}
 use Rattle.graph_change.proofs.Touched.{or_cases, put_has, last_has, nothing_written}
 
-both_true : (a b : Bool) → (a && b) ≡ true → (a ≡ true) × (b ≡ true)
+pub both_true : (a b : Bool) → (a && b) ≡ true → (a ≡ true) × (b ≡ true)
 both_true true b h = (refl, h)
 both_true false b h = absurd (false≢true h)
 
@@ -73,7 +73,7 @@ grown_end : (n : ℕ) (len : Length) → (end len ≤ end (grown_to n len)) × (
 grown_end n (Grown to) = (omega arith, omega arith)
 grown_end n (Cut least to) = (omega arith, omega arith)
 
-sized_end : (n : ℕ) (len : Length) → end (sized_to n len) ≡ n
+pub sized_end : (n : ℕ) (len : Length) → end (sized_to n len) ≡ n
 sized_end n (Grown to) = refl
 sized_end n (Cut least to) = refl
 

@@ -38,7 +38,7 @@ has_put m i a j h =
     ]
 
 -- the keys of a map after one was put
-key_put : {A : Type 0} (m : fin.FinMap nat_cmp A) (i : ℕ) (a : A) (j : ℕ) → fin.contains_key (fin.insert m i a) j ≡ ((j == i) || fin.contains_key m j)
+pub key_put : {A : Type 0} (m : fin.FinMap nat_cmp A) (i : ℕ) (a : A) (j : ℕ) → fin.contains_key (fin.insert m i a) j ≡ ((j == i) || fin.contains_key m j)
 key_put m i a j = ap is_some (get_put m i a j) ∙ some_either (j == i) a (fin.get m j)
   where
     some_either : {A : Type 0} (t : Bool) (a : A) (o : Option A) → is_some (cond t (Some a) o) ≡ (t || is_some o)

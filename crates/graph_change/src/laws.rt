@@ -1,12 +1,14 @@
 //! What holds of every change.
 
-ghost use Rattle.std.specs.Prelude.{◌≡◌, List, ℕ, Bool, Option, None, length, option_map};
+ghost use Rattle.std.specs.Prelude.{◌≡◌, List, ℕ, Bool, Option, None, true, length, option_map};
+ghost use Rattle.std.specs.List.{AllByRecursion};
 ghost use Rattle.std.specs.Ordering.{nat_cmp};
 ghost use Rattle.std.specs.BTreeMap.{BTreeMap, get};
 ghost use Rattle.std.specs.FinMap as fin;
 ghost use Rattle.file_graph.specs.declared.effect.Effect.{Effect};
 ghost use Rattle.file_graph.specs.Graph.{Node};
-ghost use Rattle.graph_change.specs.Change.{Change, Coalesces, Patch, change_after, coalesced, net_of, new_change, patched, IsWhole};
+ghost use Rattle.graph_change.specs.Bounds.{is_bounded, AreBounded};
+ghost use Rattle.graph_change.specs.Change.{Change, Changes, Coalesces, Patch, change_after, coalesced, net_of, new_change, patched, with_effect, IsWhole};
 ghost use Rattle.graph_change.specs.Net.{Base, Gone, node_after};
 ghost use Rattle.graph_change.specs.Tidy.{IsTidyChange, AreTidyChanges};
 ghost use Rattle.graph_change.specs.View.{change_of, nodes_of, patch_of, patches_of};
@@ -26,6 +28,12 @@ pub fn changes_are_tidy()
     ensures kept { (e : Effect) (c : Change) → IsTidyChange c → IsTidyChange (change_after e c) }
     ensures coalesced { (es : List Effect) → AreTidyChanges (coalesced es) }
     ensures gone { (c : Change) (old : Option Node) → c.base ≡ Gone → node_after (net_of c) old ≡ None }
+{}
+
+/// Effects on inodes that tell no number past its limit come to a change of inodes that tells none: of names, of the bytes of a file, and of the inodes that entries lead to.
+pub fn changes_keep_to_the_limits()
+    ensures kept { (e : Effect) (cs : Changes) → is_bounded e ≡ true → AreBounded cs → AreBounded (with_effect e cs) }
+    ensures coalesced { (es : List Effect) → AllByRecursion (λ e. is_bounded e ≡ true) es → AreBounded (coalesced es) }
 {}
 
 /// The change of an inode, and what is put into a block of its file, is what is kept under its number; each number is there once at most, and they rise.

@@ -20,7 +20,7 @@ pub use block_change::BlockChange;
 pub use graph_change::GraphChange;
 pub use laws::{
     changes_are_read_by_number, changes_are_the_effects, changes_are_tidy,
-    whole_block_needs_no_old_bytes,
+    changes_keep_to_the_limits, whole_block_needs_no_old_bytes,
 };
 pub use node_change::NodeChange;
 pub use parts::{NodeBase, NodeLength};

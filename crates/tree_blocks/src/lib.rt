@@ -22,5 +22,5 @@ pub use file_blocks::{
     changed_blocks_read_as_after,
 };
 pub use reading::{alike_inodes_are_one_node, nodes_are_read_by_place};
-pub use rewritten::rewritten_inode_is_inode_after;
+pub use rewritten::{bounded_entries_lead_to_inodes, rewritten_inode_is_inode_after};
 pub use written::WrittenBlocks;
