@@ -49,7 +49,7 @@ put_front low end run (x ∷ xs) new some above rising (suc n, is) =
 
 -- ---- runs in normal form
 
-normal_each : (low end i : ℕ) (runs : List Run) (d : Run) → IsNormal low end runs → i < length runs → (low ≤ (get_or runs i d).first) × (0 < (get_or runs i d).count) × ((get_or runs i d).first + (get_or runs i d).count ≤ end)
+pub normal_each : (low end i : ℕ) (runs : List Run) (d : Run) → IsNormal low end runs → i < length runs → (low ≤ (get_or runs i d).first) × (0 < (get_or runs i d).count) × ((get_or runs i d).first + (get_or runs i d).count ≤ end)
 normal_each low end i [] d is below = absurd (omega (arith, below))
 normal_each low end zero (r ∷ rs) d is below = (is.0, is.1, is.2)
 normal_each low end (suc i) (r ∷ rs) d is below =

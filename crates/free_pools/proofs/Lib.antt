@@ -1,3 +1,6 @@
 mod Fronts
 mod Splits
 mod Members
+mod Courses
+mod Held
+mod Stored

@@ -3,6 +3,8 @@
 
 mod pools;
 mod taking;
+mod writing;
 
 pub use pools::Pools;
 pub use taking::Taken;
+pub use writing::write_data;

@@ -1,0 +1,41 @@
+use Rattle.std.proofs.Common.{◌≡◌, ◌*◌, ℕ, List, true, length, sym, ap, subst, ◌∙◌}
+use Rattle.tier_device.specs.declared.media.Tier.{Tier}
+use Rattle.tier_device.specs.declared.media.Tier.TheVariants.{Fast}
+use Rattle.layout.specs.Places.{Sizes, tier_blocks}
+use Rattle.batch_journal.specs.Blocks.{home, block_of, is_home}
+use Rattle.batch_journal.proofs.Courses.{tiers_same}
+use Rattle.free_pools.specs.Writing.{HoldParts}
+use Rattle.free_pools.proofs.Courses.{loose_next}
+use Rattle.free_pools.proofs.Stored.{hold_data}
+use Rattle.free_pools.proofs.writing.write_and_fence.Goals as goal
+
+pub returns-in_err-fence_all-clause-loose : goal.returns-in_err-fence_all-clause-loose
+returns-in_err-fence_all-clause-loose g c s fast block slow =
+    let m = g.M.Media in
+    let old = c.args.journal.now in
+    let one = c.write_all.new.journal in
+    let new = c.fence_all.new.journal in
+    loose_next one.geometry old.geometry s (m.moment old.media) (m.moment one.media) (m.moment new.media) (m.left old.media) (m.left one.media) (m.left new.media) c.write_all.ensures.went.geometry
+    (c.write_all.ensures.loose s fast block slow) (c.fence_all.ensures.loose s)
+
+pub returns-clause-loose : goal.returns-clause-loose
+returns-clause-loose g c s fast block slow =
+    let m = g.M.Media in
+    let old = c.args.journal.now in
+    let one = c.write_all.new.journal in
+    let new = c.fence_all.new.journal in
+    loose_next one.geometry old.geometry s (m.moment old.media) (m.moment one.media) (m.moment new.media) (m.left old.media) (m.left one.media) (m.left new.media) c.write_all.ensures.went.geometry
+    (c.write_all.ensures.loose s fast block slow) (c.fence_all.ensures.loose s)
+
+pub returns-clause-written : goal.returns-clause-written
+returns-clause-written g c =
+    let m = g.M.Media in
+    let old = c.args.journal.now in
+    let one = c.write_all.new.journal in
+    let new = c.fence_all.new.journal in
+    let geometry = c.fence_all.ensures.went.geometry ∙ c.write_all.ensures.went.geometry in
+    let going = c.in_ok-fence_all.ensures.went.going in
+    let sizes : (t : Tier) → length (m.seen new.media t) ≡ 4096 * tier_blocks old.geometry t = λ t. c.left_now.ensures.sizes going t ∙ ap (λ (x : Sizes). 4096 * tier_blocks x t) geometry in
+    let in_place : (k : ℕ) → is_home k ≡ true → home (m.seen new.media Fast) k ≡ block_of (m.seen new.media Fast) k = λ k is. c.left_now.ensures.in_place going (m.seen new.media Fast) k (g.met.M.Media.seen_now new.media Fast) is in
+    let parts = subst (λ (f : Tier → List ℕ). HoldParts f c.args.fast.now c.args.block.now c.args.slow.now c.args.«data».now) (sym (tiers_same (m.seen one.media) (m.seen new.media) c.in_ok-fence_all.ensures.seen)) c.in_ok-write_all.ensures.written in
+    hold_data old.geometry (m.seen new.media) sizes in_place c.args.fast.now c.args.block.now c.args.slow.now c.requires.fast c.requires.block c.requires.slow c.args.«data».now parts

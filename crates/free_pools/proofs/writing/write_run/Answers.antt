@@ -1,0 +1,46 @@
+use Rattle.std.proofs.Common.{◌≤◌, ◌<◌, ◌+◌, ◌*◌, ◌⊎◌, ℕ, [], length, ap, ◌∙◌, arith}
+use Rattle.std.specs.List.{flat_map}
+use Rattle.std.proofs.lemmas.List.Elements.{Contains-append_left}
+use Rattle.tier_device.specs.Media.{overwritten, Puts}
+use Rattle.block_alloc.specs.Runs.{run_blocks}
+use Rattle.batch_journal.specs.Blocks.{block_of}
+use Rattle.batch_journal.proofs.Courses.{on_ok}
+use Rattle.area_image.specs.Reads.{IsFreeRun}
+use Rattle.free_pools.proofs.Courses.{loose_write}
+use Rattle.free_pools.proofs.Held.{in_range, put_holds, put_keeps}
+use Rattle.free_pools.proofs.writing.write_run.Goals as goal
+
+pub returns-clause-loose : goal.returns-clause-loose
+returns-clause-loose g c s free =
+    let m = g.M.Media in
+    let old = c.args.journal.now in
+    let new = c.write.new.self in
+    let tier = c.args.tier in
+    let run = c.args.run in
+    let n = length c.args.bytes.now in
+    let clear : IsFreeRun old.geometry s tier run.first n = λ k low high. free k (Contains-append_left (run_blocks run) [] k (in_range run.first run.count k low (omega (arith, high, c.requires.size)))) in
+    loose_write old.geometry s old.geometry tier run.first n (m.moment old.media) (m.moment new.media) (m.left old.media) (m.left new.media) (c.write.ensures.any_moment c.requires.going) (c.write.ensures.blocks_stay c.requires.going) clear
+
+pub returns-clause-written : goal.returns-clause-written
+returns-clause-written g c =
+    let m = g.M.Media in
+    let old = c.args.journal.now in
+    let new = c.write.new.self in
+    let tier = c.args.tier in
+    let run = c.args.run in
+    let bytes = c.args.bytes.now in
+    let place : 4096 * run.first ≤ length (m.seen old.media tier) = omega (arith, c.requires.last, c.left_now.ensures.sizes c.requires.going tier) in
+    on_ok c.write.result (λ (put : Puts tier (overwritten (m.seen old.media tier) (4096 * run.first) bytes) (m.seen old.media) (m.seen new.media)).
+    ap (λ x. flat_map (block_of x) (run_blocks run)) put.here ∙ put_holds (m.seen old.media tier) bytes run.first run.count c.requires.size place) c.write.ensures.written
+
+pub returns-clause-kept : goal.returns-clause-kept
+returns-clause-kept g c =
+    let m = g.M.Media in
+    let old = c.args.journal.now in
+    let new = c.write.new.self in
+    let tier = c.args.tier in
+    let run = c.args.run in
+    let bytes = c.args.bytes.now in
+    let place : 4096 * run.first + length bytes ≤ length (m.seen old.media tier) = omega (arith, c.requires.last, c.requires.size, c.left_now.ensures.sizes c.requires.going tier) in
+    on_ok c.write.result (λ (put : Puts tier (overwritten (m.seen old.media tier) (4096 * run.first) bytes) (m.seen old.media) (m.seen new.media)).
+    λ (k : ℕ) (apart : (k < run.first) ⊎ (run.first + run.count ≤ k)). ap (λ x. block_of x k) put.here ∙ put_keeps (m.seen old.media tier) bytes run.first run.count c.requires.size place k apart) c.write.ensures.written

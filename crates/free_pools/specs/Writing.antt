@@ -1,0 +1,78 @@
+-- What a journal is while data is written to free blocks.
+use Rattle.std.specs.Prelude.{◌≡◌, ◌≤◌, ◌<◌, ◌+◌, ◌*◌, ℕ, List, [], ◌∷◌, take, drop, get_or, length, true, false, Result, OnOk, IfErr}
+use Rattle.std.specs.List.{Contains, flat_map}
+use Rattle.tier_device.specs.declared.media.Tier.{Tier}
+use Rattle.tier_device.specs.declared.media.Tier.TheVariants.{Fast, Block, Slow}
+use Rattle.tier_device.specs.Media.{AtRest, Rose}
+use Rattle.layout.specs.Places.{Sizes, data_first, tier_blocks}
+use Rattle.block_alloc.specs.declared.runs.Run.{Run}
+use Rattle.block_alloc.specs.Runs.{blocks_of, IsNormal}
+use Rattle.batch_journal.specs.Images.{slice}
+use Rattle.batch_journal.specs.Blocks.{block_of}
+use Rattle.batch_journal.specs.View.{JournalView}
+use Rattle.batch_journal.specs.declared.error.JournalError.{JournalError}
+use Rattle.batch_journal.specs.declared.error.JournalError.TheVariants.{DeviceFault}
+use Rattle.area_image.specs.Store.{Store, content_blocks}
+use Rattle.area_image.specs.Reads.{Free, LooseIn}
+use Rattle.free_pools.specs.declared.taking.Taken.{Taken}
+use Rattle.free_pools.specs.Taking.{runs_of}
+
+-- All blocks of the runs are free.
+abbrev pub AreFreeIn : Sizes → Store → Tier → List Run → Type 0
+AreFreeIn g s t runs = (k : ℕ) → Contains (blocks_of runs) k → Free g s t k
+
+-- The runs of three tiers hold the data, one tier after the other.
+pub record HoldParts (content : Tier → List ℕ) (fast block slow : List Run) (bytes : List ℕ) : Type 0 where
+  pub fast_part : flat_map (block_of (content Fast)) (blocks_of fast) ≡ take (4096 * length (blocks_of fast)) bytes
+  pub block_part : flat_map (block_of (content Block)) (blocks_of block) ≡ take (4096 * length (blocks_of block)) (drop (4096 * length (blocks_of fast)) bytes)
+  pub slow_part : flat_map (block_of (content Slow)) (blocks_of slow) ≡ drop (4096 * length (blocks_of block)) (drop (4096 * length (blocks_of fast)) bytes)
+
+-- the block at a place
+abbrev pub block_at : Store → Tier × ℕ → List ℕ
+block_at s place = s place.0 place.1
+
+-- The block at each place holds its part of the data, in order.
+abbrev pub HoldData : Store → List (Tier × ℕ) → List ℕ → Type 0
+HoldData s places bytes = (n : ℕ) → n < length places → block_at s (get_or places n (Fast, 0)) ≡ slice (4096 * n) 4096 bytes
+
+-- the fences of a tier in which these runs are written
+abbrev pub fences_of : List Run → ℕ
+fences_of [] = 0
+fences_of (run ∷ runs) = 1
+
+-- how many device calls it takes to write runs of a tier and to fence it
+abbrev pub calls_of : List Run → ℕ
+calls_of runs = length runs + fences_of runs
+
+-- how many it takes for all that was taken
+abbrev pub calls_for : Taken → ℕ
+calls_for taken = calls_of taken.fast.items + calls_of taken.block.items + calls_of taken.slow.items
+
+-- The runs rise among the data blocks of their tiers, and none touches the next.
+abbrev pub AreApart : Sizes → Taken → Type 0
+AreApart g taken = (t : Tier) → IsNormal (data_first g t) (tier_blocks g t) (runs_of taken t)
+
+-- Whatever may be left of a tier differs from that store in blocks alone that are free in it.
+abbrev pub IsLooseLeft : Sizes → Store → (Tier → List ℕ → Type 0) → Type 0
+IsLooseLeft g s left = (t : Tier) (c : List ℕ) → left t c → LooseIn g s t (content_blocks t c)
+
+-- The past stays. Where what may be left differs from that store in its free blocks alone, so it does at each moment from the old one to the new one.
+pub record StaysLoose (g : Sizes) (s : Store) (before now : ℕ) (old new : ℕ → Tier → List ℕ → Type 0) : Type 0 where
+  pub later : before ≤ now
+  pub past : (m : ℕ) (t : Tier) (c : List ℕ) → m ≤ before → new m t c → old m t c
+  pub kept : (m : ℕ) (t : Tier) (c : List ℕ) → m ≤ before → old m t c → new m t c
+  pub any_moment : IsLooseLeft g s (old before) → (m : ℕ) → before ≤ m → m ≤ now → IsLooseLeft g s (new m)
+
+-- A tier that was at rest is so still.
+abbrev pub KeepsRest : (seen seen' : Tier → List ℕ) → (left left' : Tier → List ℕ → Type 0) → Type 0
+KeepsRest seen seen' left left' = (t : Tier) → AtRest seen left t → AtRest seen' left' t
+
+-- The journal goes on, or a device has failed.
+pub record Went {M T : Type 0} (faults : M → ℕ) (old new : JournalView M) (result : Result T JournalError) : Type 0 where
+  pub geometry : new.geometry ≡ old.geometry
+  pub only : IfErr result (λ e. e ≡ DeviceFault)
+  pub fault : IfErr result (λ e. (new.failed ≡ true) × Rose (faults old.media) (faults new.media))
+  pub going : OnOk result (new.failed ≡ false)
+  pub quiet : OnOk result (faults new.media ≡ faults old.media)
+  pub more_faults : faults old.media ≤ faults new.media
+  pub one_fault : faults new.media ≤ faults old.media + 1
