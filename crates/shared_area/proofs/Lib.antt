@@ -4,3 +4,4 @@ pub mod Replays
 pub mod Files
 pub mod Counts
 pub mod Entries
+pub mod Wants

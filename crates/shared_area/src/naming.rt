@@ -7,7 +7,7 @@ ghost use Rattle.layout.specs.Directory.{AreEntries, listed, fits_entry};
 ghost use Rattle.layout.specs.Lent.{owned};
 ghost use Rattle.tree_blocks.specs.Inode.{Entry, IsDirectory, entry_at, named, blocks_for};
 ghost use Rattle.area_image.specs.Store.{store_of, logical};
-ghost use Rattle.area_image.specs.Checks.{HasFound, HasPart, IsOnce};
+ghost use Rattle.area_image.specs.Checks.{HasFound, IsOnce};
 ghost use Rattle.area_image.specs.Looks.{Looks};
 ghost use Rattle.area_image.specs.declared.error.AreaError.TheVariants.{DeviceFault, Memory};
 ghost use Rattle.shared_area.specs.Naming.{AreNext};
@@ -89,7 +89,6 @@ fn add_part<M: Media>(
     requires going { journal.old.failed ≡ false }
     ensures after { OnOk result (map.new ≡ named (entry_at (logical journal.old.geometry (store_of (M.seen journal.old.media)) inode)) (min entries (MAX_IN_BLOCK * (number + 1)))) }
     ensures only { IfErr result IsNoDamage }
-    ensures memory { IfErr result (λ e. e ≡ Memory → HasPart journal.old.geometry (store_of (M.seen journal.old.media)) inode entries) }
     ensures looks { Looks M.moment M.seen M.left M.faults journal.old journal.new result }
 {
     match read_entry_block(journal, inode, found, number) {
@@ -118,7 +117,7 @@ pub fn read_entries<M: Media>(
     requires going { journal.old.failed ≡ false }
     ensures entries { IfOk result (λ m. m ≡ named (entry_at (logical journal.old.geometry (store_of (M.seen journal.old.media)) inode)) entries) }
     ensures only { IfErr result IsNoDamage }
-    ensures memory { IfErr result (λ e. e ≡ Memory → HasPart journal.old.geometry (store_of (M.seen journal.old.media)) inode entries) }
+    ensures memory { IfErr result (λ e. e ≡ Memory → 0 < blocks) }
     ensures looks { Looks M.moment M.seen M.left M.faults journal.old journal.new result }
 {
     let mut map = NameMap::new(alloc);

@@ -1,11 +1,10 @@
 // What stands at an inode.
-ghost use Rattle.std.specs.Prelude.{◌≡◌, ◌⊎◌, ℕ, false, IfOk, IfErr};
+ghost use Rattle.std.specs.Prelude.{◌≡◌, false, IfOk, IfErr};
 ghost use Rattle.call_effects.specs.NodeView.{view_at};
 ghost use Rattle.area_image.specs.Store.{store_of, graph};
 ghost use Rattle.area_image.specs.Spelled.{IsOpenable};
 ghost use Rattle.area_image.specs.Looks.{Looks};
 ghost use Rattle.area_image.specs.Map.{WantsMemory};
-ghost use Rattle.area_image.specs.Checks.{HasPart};
 ghost use Rattle.area_image.specs.declared.error.AreaError.TheVariants.{Memory};
 ghost use Rattle.shared_area.specs.Parts.{IsNoDamage, HasParts};
 
@@ -30,7 +29,7 @@ fn node_of<M: Media>(
     requires going { journal.old.failed ≡ false }
     ensures node { IfOk result (λ x. x ≡ view_at (graph journal.old.geometry (store_of (M.seen journal.old.media))) inode) }
     ensures only { IfErr result IsNoDamage }
-    ensures memory { IfErr result (λ e. e ≡ Memory → (n : ℕ) × HasPart journal.old.geometry (store_of (M.seen journal.old.media)) inode n) }
+    ensures memory { IfErr result (λ e. e ≡ Memory → WantsMemory journal.old.geometry (store_of (M.seen journal.old.media)) inode) }
     ensures looks { Looks M.moment M.seen M.left M.faults journal.old journal.new result }
 {
     match parts.slot {
@@ -55,7 +54,7 @@ pub fn find_node<M: Media>(
     requires { journal.old.failed ≡ false → IsOpenable journal.old.geometry (store_of (M.seen journal.old.media)) }
     ensures node { IfOk result (λ x. x ≡ view_at (graph journal.old.geometry (store_of (M.seen journal.old.media))) inode) }
     ensures only { IfErr result IsNoDamage }
-    ensures memory { IfErr result (λ e. e ≡ Memory → (WantsMemory journal.old.geometry (store_of (M.seen journal.old.media)) inode) ⊎ ((n : ℕ) × HasPart journal.old.geometry (store_of (M.seen journal.old.media)) inode n)) }
+    ensures memory { IfErr result (λ e. e ≡ Memory → WantsMemory journal.old.geometry (store_of (M.seen journal.old.media)) inode) }
     ensures looks { Looks M.moment M.seen M.left M.faults journal.old journal.new result }
 {
     match find_parts(alloc, journal, inode) {

@@ -1,4 +1,4 @@
-ghost use Rattle.std.specs.Prelude.{◌≡◌, ◌≢◌, ◌⊎◌, ◌≤◌, ◌<◌, ◌+◌, ◌-◌, ℕ, List, min, length, false, Some, OnErr, IfOk, IfErr};
+ghost use Rattle.std.specs.Prelude.{◌≡◌, ◌≢◌, ◌≤◌, ◌<◌, ◌+◌, ◌-◌, ℕ, List, min, length, false, Some, OnErr, IfOk, IfErr};
 ghost use Rattle.tier_device.specs.declared.media.Tier.{Tier};
 ghost use Rattle.tier_device.specs.declared.media.Tier.TheVariants.{Fast};
 ghost use Rattle.tier_device.specs.Media.{AtRest, Left, Rose};
@@ -15,7 +15,6 @@ ghost use Rattle.area_image.specs.Reads.{Free, Loose};
 ghost use Rattle.area_image.specs.Spelled.{IsOpenable};
 ghost use Rattle.area_image.specs.Looks.{Looks};
 ghost use Rattle.area_image.specs.Map.{WantsMemory};
-ghost use Rattle.area_image.specs.Checks.{HasPart};
 ghost use Rattle.area_image.specs.declared.error.AreaError.TheVariants.{DeviceFault, Memory};
 ghost use Rattle.area_image.specs.Damage.{OnDamage};
 ghost use Rattle.shared_area.specs.Opening.{SpellsNone, IsMediumDamage, TakesMemory};
@@ -121,7 +120,7 @@ impl<M: Media> Shared<M> {
     pub fn node(&mut self, inode: u32) -> Result<Option<NodeSummary>, AreaError>
         ensures node { IfOk result (λ x. x ≡ view_at (graph self.old.geometry (store_of (M.seen self.old.media))) inode) }
         ensures only { IfErr result IsNoDamage }
-        ensures memory { IfErr result (λ e. e ≡ Memory → (WantsMemory self.old.geometry (store_of (M.seen self.old.media)) inode) ⊎ ((n : ℕ) × HasPart self.old.geometry (store_of (M.seen self.old.media)) inode n)) }
+        ensures memory { IfErr result (λ e. e ≡ Memory → WantsMemory self.old.geometry (store_of (M.seen self.old.media)) inode) }
         ensures looks { Looks M.moment M.seen M.left M.faults self.old self.new result }
     {
         let alloc = self.alloc;

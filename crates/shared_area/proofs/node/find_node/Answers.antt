@@ -1,8 +1,7 @@
-use Rattle.std.proofs.Common.{Ok, inr}
+use Rattle.std.proofs.Common.{Ok}
 use Rattle.area_image.specs.Store.{store_of}
 use Rattle.area_image.specs.Spelled.{IsOpenable}
-use Rattle.area_image.proofs.Looked.{carried, carried_back}
-use Rattle.area_image.specs.Checks.{HasPart}
+use Rattle.area_image.proofs.Looked.{carried}
 use Rattle.shared_area.proofs.Sound.{parts_none}
 use Rattle.shared_area.proofs.Entries.{no_view}
 use Rattle.shared_area.proofs.node.find_node.Goals as goal
@@ -18,9 +17,3 @@ returns-in-Ok-None-clause-node g c =
     let old = c.args.journal.now in
     let s = store_of (g.M.Media.seen old.media) in
     no_view old.geometry s c.args.inode (parts_none old.geometry s c.args.inode c.in-Ok-None.field-0 c.in-Ok-None.field-0-is c.in-Ok-None.ensures.parts)
-
-pub returns-in-Ok-Some-clause-memory : goal.returns-in-Ok-Some-clause-memory
-returns-in-Ok-Some-clause-memory g c memory =
-    let m = g.M.Media in
-    let part = c.in-Err-node_of.ensures.memory memory in
-    inr (part.0, carried_back m.moment m.seen m.left m.faults (λ x s. HasPart x s c.args.inode part.0) c.args.journal.now c.find_parts.new.journal (Ok c.in-Ok-Some.field-0) c.in-Ok-Some.ensures.looks part.1)

@@ -1,6 +1,7 @@
-use Rattle.std.proofs.Common.{◌∙◌, Some, ap}
-use Rattle.area_image.specs.Store.{store_of}
+use Rattle.std.proofs.Common.{◌<◌, ◌∙◌, ℕ, Some, ap, subst}
+use Rattle.area_image.specs.Store.{store_of, length_of}
 use Rattle.shared_area.proofs.Entries.{file_view}
+use Rattle.shared_area.proofs.Wants.{directory_wants}
 use Rattle.shared_area.proofs.node.node_of.Goals as goal
 
 pub returns-in-File-clause-node : goal.returns-in-File-clause-node
@@ -8,3 +9,12 @@ returns-in-File-clause-node g c =
     let old = c.args.journal.now in
     let x = c.in-File in
     ap Some c.file.ensures ∙ file_view old.geometry (store_of (g.M.Media.seen old.media)) c.args.inode x.names x.size x.touch x.fast x.block x.slow (c.requires.parts.slot ∙ ap Some x.is)
+
+pub returns-in-Err-clause-memory : goal.returns-in-Err-clause-memory
+returns-in-Err-clause-memory g c memory =
+    let old = c.args.journal.now in
+    let s = store_of (g.M.Media.seen old.media) in
+    let x = c.in-Directory in
+    let is = c.requires.parts.slot ∙ ap Some x.is in
+    directory_wants old.geometry s c.args.inode x.names x.entries x.touch x.root c.requires.parts.number is (c.requires.opens.spelled.inodes c.args.inode c.requires.parts.number)
+    (subst (λ (n : ℕ). 0 < n) (c.length_of-blocks.ensures ∙ ap length_of x.is) (c.in-Err.ensures.memory memory))
