@@ -10,7 +10,7 @@ ghost use Rattle.shared_area.specs.Parts.{IsNoDamage, IsTierOf, HasParts, FindsP
 
 use area_image::{AreaError, InodeParts, first_place, read_parts};
 use batch_journal::Journal;
-use layout::is_inode;
+use file_graph::is_inode;
 use posix_calls::MAX_INODE;
 use std::alloc::Global;
 use tier_device::{Media, Tier};

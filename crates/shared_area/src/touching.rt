@@ -7,7 +7,8 @@ ghost use Rattle.area_image.specs.declared.error.AreaError.TheVariants.{DeviceFa
 
 use area_image::{AreaError, read_slot};
 use batch_journal::Journal;
-use layout::{Slot, is_inode};
+use file_graph::is_inode;
+use layout::Slot;
 use tier_device::Media;
 
 // The touch number that a slot tells.
