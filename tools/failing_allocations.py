@@ -2,13 +2,13 @@
 """Runs the programs with each of their allocations failing in turn, and tells which runs did not end as they should:
 tools/failing_allocations.py [--quick] [PROGRAM..].
 
-They are those that read scripts, records, blocks and media: `strata_sh` over its tour, `strata_first` with and without stops, `file_log`
-over files with and without records, and torn and damaged ones, `media_rows` and `format_rows` row by row over their tables, where
-damaged images are read. A run ends as it should where it tells the want of memory by its name, or says what it says with all memory
-there. It does not where it answers anything else: damage, no such entry, or fewer bytes. Nor does a row that tells a want of memory
-while no allocation failed. How each program tells it stands at its function below.
+They are those that read scripts, records, blocks and media: `strata_sh` over its tour and the scripts of `script_rows`, `strata_first`
+with and without stops, `file_log` over files with and without records, and torn and damaged ones, `media_rows` and `format_rows` row by
+row over their tables, where damaged images are read. A run ends as it should where it tells the want of memory by its name, or says
+what it says with all memory there. It does not where it answers anything else: damage, no such entry, or fewer bytes. Nor does a row
+that tells a want of memory while no allocation failed. How each program tells it stands at its function below.
 
-The programs are built by `rt run`; `tools/failing_allocations.c` makes their allocations fail. It takes three minutes, and those that a
+The programs are built by `rt run`; `tools/failing_allocations.c` makes their allocations fail. It takes four minutes, and those that a
 build takes; the gate does not run it. With --quick only each seventh allocation of a run fails. Exit status: 0 where all runs ended as
 they should, else 1.
 """
@@ -45,7 +45,7 @@ class Run(typing.NamedTuple):
 def build(name):
     """Proves the program where it changed, and links it."""
     ran = subprocess.run(["rt", "run", "--jobs", "1"], cwd=f"{CRATES}/{name}", stdin=subprocess.DEVNULL, capture_output=True, text=True, check=False)
-    if not os.path.exists(f"{CRATES}/{name}/out/{name}"):
+    if f"rt: running out/{name}" not in ran.stderr:
         sys.exit(f"{name} was not built: {ran.stderr[-2000:]}")
 
 
@@ -57,7 +57,7 @@ def sweep(name, text="", words=(), folder=None, clear=None, numbers=None):
     if clear:
         env["ALLOC_CLEAR"] = clear
     with tempfile.TemporaryFile() as file:
-        file.write(text.encode("utf-8"))
+        file.write(text if isinstance(text, bytes) else text.encode("utf-8"))
         file.seek(0)
         with subprocess.Popen([f"{CRATES}/{name}/out/{name}", *words], stdin=file, env=env, cwd=folder or ROOM.name, pass_fds=[to]) as child:
             os.close(to)
@@ -107,34 +107,81 @@ def tally(what, whole, runs, ends_well):
     return Tally(len(runs), told, bad)
 
 
-# Before the script is read, want of memory ends strata_sh with `fault 15` and status 3. Within it, the line that meets it is answered
-# ENOMEM, and all others as if that line were not there.
+# Before the script is read, or where a line of it can't be read for want of memory, strata_sh ends with `fault 15` and status 3. A call
+# that meets it is answered ENOMEM, and all others as if its line were not there.
 
 
-def tour():
-    with open(f"{CRATES}/strata_sh/stdin", encoding="ascii") as file:
-        lines = file.read().splitlines()
-    calls = [at for at, line in enumerate(lines) if line and not line.startswith("#")]
+def script(lines, words, what):
+    """Runs a script, given as its lines in bytes."""
+    calls = [at for at, line in enumerate(lines) if line.strip() and not line.startswith(b"#")]
     without = {}
 
-    def answers_without(at):
+    def run_without(at):
+        """What it says without its call of this number."""
         if at not in without:
-            silent = lines[: calls[at]] + ["#"] + lines[calls[at] + 1 :]
-            [run] = sweep("strata_sh", "\n".join(silent) + "\n", numbers=(0, 0, 1))
-            without[at] = run.out.splitlines()
+            silent = lines[: calls[at]] + [b"#\n"] + lines[calls[at] + 1 :]
+            [without[at]] = sweep("strata_sh", b"".join(silent), words, numbers=(0, 0, 1))
         return without[at]
 
     def ends_well(run):
-        answers = run.out.splitlines()
         if run.status == 3:
-            return not answers and run.err == "fault 15\n"
+            return whole.out.startswith(run.out) and run.err == "fault 15\n"
+        answers = run.out.splitlines()
         met = [at for at, line in enumerate(answers) if line == "ENOMEM"]
-        return run.status == 0 and not run.err and len(met) == 1 and answers[: met[0]] + answers[met[0] + 1 :] == answers_without(met[0])
+        if len(met) != 1:
+            return False
+        other = run_without(met[0])
+        return answers[: met[0]] + answers[met[0] + 1 :] == other.out.splitlines() and (run.status, run.err) == (other.status, other.err)
 
-    whole, runs = all_of("strata_sh", "\n".join(lines) + "\n")
-    if whole.status or "ENOMEM" in whole.out:
-        return Tally(0, 0, [f"the tour itself: status {whole.status}"])
-    return tally("the tour", whole, runs, ends_well)
+    whole, runs = all_of("strata_sh", b"".join(lines), words)
+    if "ENOMEM" in whole.out:
+        return Tally(0, 0, [f"{what} itself: ENOMEM"])
+    return tally(what, whole, runs, ends_well)
+
+
+def tour():
+    with open(f"{CRATES}/strata_sh/stdin", "rb") as file:
+        return script(file.readlines(), (), "the tour")
+
+
+def spelled(text, number):
+    """The bytes that a text of a row of script_rows spells: the head of its table tells how."""
+
+    def escaped(found):
+        word = found[0].decode("utf-8")
+        if word.startswith("\\{"):
+            again, _, count = word[2:-1].rpartition("*")
+            return again.encode("utf-8") * int(count)
+        return {"\\i": str(number).encode("utf-8"), "\\e": b""}.get(word) or (bytes.fromhex(word[2:]) if word[1] == "x" else b"")
+
+    front, cut, _ = text.partition("\\c")
+    return re.sub(rb"\\\{[^}]*\}|\\x..|\\[ie]", escaped, front.encode("utf-8")) + (b"" if cut else b"\n")
+
+
+def script_row(row):
+    """A row's script, as the lines of its file, and the words of its command line."""
+    lines, words = [], ["strata_sh"]
+    for line in row.splitlines()[1:]:
+        mark, _, rest = line.partition(" ")
+        numbers = [0]
+        if mark == "$":
+            words = rest.split(" ")
+        elif mark == "@":
+            numbers, _, line = rest.partition(" ")
+            numbers = range(*map(int, numbers.split("..")))
+        if line and mark not in ("$", "!", "=>"):
+            lines += [spelled(line.partition(" => ")[0], number) for number in numbers]
+    return b"".join(lines).splitlines(keepends=True), words
+
+
+def script_rows():
+    """The runs of the rows that are of strata_sh, as jobs."""
+    with open(f"{CRATES}/script_rows/stdin", encoding="utf-8") as file:
+        rows = file.read().split("\n== ")[1:]
+    for row in rows:
+        lines, words = script_row(row)
+        if words[0] == "strata_sh":
+            yield script, (lines, words[1:], row.partition("\n")[0])
 
 
 # strata_first prints line by line, and ends with `fault 15` and status 3. Or a client's medium can't note a call: that client has then
@@ -310,7 +357,7 @@ def media_row(text):
 def jobs_of(program):
     """What is run of a program: functions and what they take."""
     if program == "strata_sh":
-        return [(tour, ())]
+        return [(tour, ()), *script_rows()]
     if program == "strata_first":
         stops = [("--stop", str(call), "--fill", fill) for call in range(1, 9) for fill in ("00", "a5", "ff")]
         return [(first, (words,)) for words in [(), *stops]]
