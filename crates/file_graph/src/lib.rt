@@ -10,6 +10,7 @@ mod laws;
 mod node;
 mod numbers;
 mod plain;
+mod reading;
 
 pub use effect::{Child, Effect, Effects, Kind};
 pub use laws::{
@@ -18,3 +19,4 @@ pub use laws::{
 pub use node::PlainEntry;
 pub use numbers::is_inode;
 pub use plain::PlainGraph;
+pub use reading::{byte_of, run_of, u32_of, u64_of};

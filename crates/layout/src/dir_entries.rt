@@ -13,8 +13,8 @@ use crate::directory::{ENTRY_SIZE, FIRST_ENTRY_AT, HEAD_GAP, MAX_IN_BLOCK};
 use crate::entry::{EntryRef, behind_entry, fields_of};
 use crate::error::{LayoutError, What};
 use crate::places::BLOCK;
-use crate::reading::{are_zero, text_of, u32_of};
-use file_graph::is_inode;
+use crate::reading::{are_zero, text_of};
+use file_graph::{is_inode, u32_of};
 use std::marker::Model;
 
 /// The entries that a block spells, read in place: at most 56, no two of one name. Nothing is copied.

@@ -1,15 +1,15 @@
 // Entries of a directory, at the front of bytes.
 ghost use Rattle.std.specs.Prelude.{◌≡◌, ◌≤◌, ◌+◌, ◌∷◌, [], length, option_map, IfOk, true};
-ghost use Rattle.layout.specs.Bytes.{byte_at, run_at, zeros, filled, with_text};
+ghost use Rattle.layout.specs.Bytes.{zeros, filled, with_text};
 ghost use Rattle.layout.specs.Directory.{kind_byte, kind_at, front_of, fields_at, entry_at, entry_text};
 ghost use Rattle.layout.specs.Lent.{owned};
 ghost use Rattle.posix_calls.specs.Name.{is_name};
 
 use crate::directory::DirEntry;
 use crate::kinds::{DIRECTORY, FILE};
-use crate::reading::{are_zero, text_of, u32_of};
+use crate::reading::{are_zero, text_of};
 use crate::writing::{put, put_u32};
-use file_graph::{Kind, is_inode};
+use file_graph::{Kind, byte_of, is_inode, run_of, u32_of};
 use posix_calls::{MAX_NAME, Name};
 use std::alloc::{AllocError, Global};
 
@@ -85,24 +85,6 @@ pub fn kind_byte(kind: Kind) -> u8
         Kind::File => FILE,
         Kind::Directory => DIRECTORY,
     }
-}
-
-fn byte_of(bytes: &[u8]) -> Option<(u8, &[u8])>
-    ensures { option_map (λ x. (x.0, x.1.now)) result ≡ byte_at bytes.now }
-{
-    match bytes {
-        [] => None,
-        [byte, rest @ ..] => Some((*byte, rest)),
-    }
-}
-
-fn run_of(count: usize, bytes: &[u8]) -> Option<(&[u8], &[u8])>
-    ensures { option_map (λ x. (x.0.now, x.1.now)) result ≡ run_at count bytes.now }
-{
-    if bytes.len() < count {
-        return None;
-    }
-    Some(bytes.split_at(count))
 }
 
 fn kind_of(bytes: &[u8]) -> Option<(Kind, &[u8])>

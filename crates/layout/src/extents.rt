@@ -9,9 +9,9 @@ use crate::error::{LayoutError, What};
 use crate::geometry::{Geometry, Space};
 use crate::image::Image;
 use crate::places::BLOCK;
-use crate::reading::{are_zero, u32_of};
+use crate::reading::are_zero;
 use crate::writing::{clear, put_u32};
-use file_graph::is_inode;
+use file_graph::{is_inode, u32_of};
 use std::alloc::Global;
 use std::marker::Model;
 

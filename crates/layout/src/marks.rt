@@ -7,8 +7,9 @@ ghost use Rattle.layout.specs.declared.error.What.TheVariants as what;
 use crate::error::{LayoutError, What};
 use crate::image::Image;
 use crate::places::{BLOCK, MARKS_BLOCK};
-use crate::reading::{are_zero, u32_of, u64_of};
+use crate::reading::are_zero;
 use crate::writing::{clear, put_u32, put_u64};
+use file_graph::{u32_of, u64_of};
 
 /// How many clients have a mark.
 pub const CLIENTS: usize = 8;

@@ -4,8 +4,9 @@ ghost use Rattle.layout.specs.Bytes.{filled, within};
 ghost use Rattle.layout.specs.Slot.{slot_text, slot_at, is_blank};
 
 use crate::places::SLOT_SIZE;
-use crate::reading::{are_zero, u32_of, u64_of};
+use crate::reading::are_zero;
 use crate::writing::{clear, put_u32, put_u64};
+use file_graph::{u32_of, u64_of};
 
 #[derive(Clone, Copy)]
 pub struct SlotFields {

@@ -7,8 +7,9 @@ use crate::error::{LayoutError, What};
 use crate::geometry::Geometry;
 use crate::image::Image;
 use crate::places::{BLOCK, SUPER_BLOCK};
-use crate::reading::{are_zero, text_of, u32_of};
+use crate::reading::{are_zero, text_of};
 use crate::writing::{clear, put, put_u32};
+use file_graph::u32_of;
 use tier_device::Tier;
 
 /// The version of the format.

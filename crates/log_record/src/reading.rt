@@ -1,57 +1,18 @@
 ghost use Rattle.std.specs.Prelude.{◌≡◌, IfOk, drop, option_map, is_some};
 ghost use Rattle.log_record.specs.Outcome.{Gives, owned};
-ghost use Rattle.log_record.specs.Grammar.{Begins, NoneBegins, IsRecord, spelling, number_at, run_at, byte_at, kind_at, make_at, enter_at, leave_at, names_at, size_at, bytes_at, dropped_at, fields_at, effect_at, effects_at, header_at, record_at, record_of};
+ghost use Rattle.log_record.specs.Grammar.{Begins, NoneBegins, IsRecord, spelling, kind_at, make_at, enter_at, leave_at, names_at, size_at, bytes_at, dropped_at, fields_at, effect_at, effects_at, header_at, record_at, record_of};
 
 use crate::effect_ref::EffectRef;
 use crate::format::{
     BYTES, DIRECTORY, DROP, ENTER, FILE, LEAVE, MAKE, MAX_EFFECTS, NAMES, Record, RecordError, SIZE,
 };
-use byteorder::{ByteOrder, LittleEndian};
-use file_graph::{Effect, Effects, Kind};
+use file_graph::{Effect, Effects, Kind, byte_of, run_of, u32_of, u64_of};
 use std::alloc::Global;
-
-fn u8_at(bytes: &[u8]) -> Option<(u8, &[u8])>
-    ensures { option_map (λ x. (x.0, x.1.now)) result ≡ byte_at bytes.now }
-{
-    match bytes {
-        [] => None,
-        [byte, rest @ ..] => Some((*byte, rest)),
-    }
-}
-
-fn u32_at(bytes: &[u8]) -> Option<(u32, &[u8])>
-    ensures { option_map (λ x. (x.0, x.1.now)) result ≡ number_at 4 bytes.now }
-{
-    if bytes.len() < 4 {
-        return None;
-    }
-    let (front, rest) = bytes.split_at(4);
-    Some((LittleEndian::read_u32(front), rest))
-}
-
-fn u64_at(bytes: &[u8]) -> Option<(u64, &[u8])>
-    ensures { option_map (λ x. (x.0, x.1.now)) result ≡ number_at 8 bytes.now }
-{
-    if bytes.len() < 8 {
-        return None;
-    }
-    let (front, rest) = bytes.split_at(8);
-    Some((LittleEndian::read_u64(front), rest))
-}
-
-fn bytes_of(count: usize, bytes: &[u8]) -> Option<(&[u8], &[u8])>
-    ensures { option_map (λ x. (x.0.now, x.1.now)) result ≡ run_at count bytes.now }
-{
-    if bytes.len() < count {
-        return None;
-    }
-    Some(bytes.split_at(count))
-}
 
 fn kind_of(bytes: &[u8]) -> Option<(Kind, &[u8])>
     ensures { option_map (λ x. (x.0, x.1.now)) result ≡ kind_at bytes.now }
 {
-    let (byte, rest) = u8_at(bytes)?;
+    let (byte, rest) = byte_of(bytes)?;
     match byte {
         FILE => Some((Kind::File, rest)),
         DIRECTORY => Some((Kind::Directory, rest)),
@@ -63,7 +24,7 @@ fn kind_of(bytes: &[u8]) -> Option<(Kind, &[u8])>
 fn make_of(bytes: &[u8]) -> Option<(EffectRef<'_>, &[u8])>
     ensures { option_map (λ x. (owned x.0, x.1.now)) result ≡ make_at bytes.now }
 {
-    let (inode, rest) = u32_at(bytes)?;
+    let (inode, rest) = u32_of(bytes)?;
     let (kind, rest) = kind_of(rest)?;
     Some((EffectRef::Make { inode, kind }, rest))
 }
@@ -72,11 +33,11 @@ fn make_of(bytes: &[u8]) -> Option<(EffectRef<'_>, &[u8])>
 fn enter_of(bytes: &[u8]) -> Option<(EffectRef<'_>, &[u8])>
     ensures { option_map (λ x. (owned x.0, x.1.now)) result ≡ enter_at bytes.now }
 {
-    let (directory, rest) = u32_at(bytes)?;
-    let (inode, rest) = u32_at(rest)?;
+    let (directory, rest) = u32_of(bytes)?;
+    let (inode, rest) = u32_of(rest)?;
     let (kind, rest) = kind_of(rest)?;
-    let (count, rest) = u8_at(rest)?;
-    let (name, rest) = bytes_of(count as usize, rest)?;
+    let (count, rest) = byte_of(rest)?;
+    let (name, rest) = run_of(count as usize, rest)?;
     Some((
         EffectRef::Enter {
             directory,
@@ -92,9 +53,9 @@ fn enter_of(bytes: &[u8]) -> Option<(EffectRef<'_>, &[u8])>
 fn leave_of(bytes: &[u8]) -> Option<(EffectRef<'_>, &[u8])>
     ensures { option_map (λ x. (owned x.0, x.1.now)) result ≡ leave_at bytes.now }
 {
-    let (directory, rest) = u32_at(bytes)?;
-    let (count, rest) = u8_at(rest)?;
-    let (name, rest) = bytes_of(count as usize, rest)?;
+    let (directory, rest) = u32_of(bytes)?;
+    let (count, rest) = byte_of(rest)?;
+    let (name, rest) = run_of(count as usize, rest)?;
     Some((EffectRef::Leave { directory, name }, rest))
 }
 
@@ -102,8 +63,8 @@ fn leave_of(bytes: &[u8]) -> Option<(EffectRef<'_>, &[u8])>
 fn names_of(bytes: &[u8]) -> Option<(EffectRef<'_>, &[u8])>
     ensures { option_map (λ x. (owned x.0, x.1.now)) result ≡ names_at bytes.now }
 {
-    let (inode, rest) = u32_at(bytes)?;
-    let (names, rest) = u32_at(rest)?;
+    let (inode, rest) = u32_of(bytes)?;
+    let (names, rest) = u32_of(rest)?;
     Some((EffectRef::Names { inode, names }, rest))
 }
 
@@ -111,8 +72,8 @@ fn names_of(bytes: &[u8]) -> Option<(EffectRef<'_>, &[u8])>
 fn resize_of(bytes: &[u8]) -> Option<(EffectRef<'_>, &[u8])>
     ensures { option_map (λ x. (owned x.0, x.1.now)) result ≡ size_at bytes.now }
 {
-    let (inode, rest) = u32_at(bytes)?;
-    let (size, rest) = u64_at(rest)?;
+    let (inode, rest) = u32_of(bytes)?;
+    let (size, rest) = u64_of(rest)?;
     Some((EffectRef::Size { inode, size }, rest))
 }
 
@@ -120,10 +81,10 @@ fn resize_of(bytes: &[u8]) -> Option<(EffectRef<'_>, &[u8])>
 fn write_of(bytes: &[u8]) -> Option<(EffectRef<'_>, &[u8])>
     ensures { option_map (λ x. (owned x.0, x.1.now)) result ≡ bytes_at bytes.now }
 {
-    let (inode, rest) = u32_at(bytes)?;
-    let (at, rest) = u64_at(rest)?;
-    let (count, rest) = u32_at(rest)?;
-    let (bytes, rest) = bytes_of(count as usize, rest)?;
+    let (inode, rest) = u32_of(bytes)?;
+    let (at, rest) = u64_of(rest)?;
+    let (count, rest) = u32_of(rest)?;
+    let (bytes, rest) = run_of(count as usize, rest)?;
     Some((EffectRef::Bytes { inode, at, bytes }, rest))
 }
 
@@ -131,7 +92,7 @@ fn write_of(bytes: &[u8]) -> Option<(EffectRef<'_>, &[u8])>
 fn drop_of(bytes: &[u8]) -> Option<(EffectRef<'_>, &[u8])>
     ensures { option_map (λ x. (owned x.0, x.1.now)) result ≡ dropped_at bytes.now }
 {
-    let (inode, rest) = u32_at(bytes)?;
+    let (inode, rest) = u32_of(bytes)?;
     Some((EffectRef::Drop { inode }, rest))
 }
 
@@ -140,7 +101,7 @@ fn drop_of(bytes: &[u8]) -> Option<(EffectRef<'_>, &[u8])>
 fn fields_of(bytes: &[u8]) -> Option<(EffectRef<'_>, &[u8])>
     ensures { option_map (λ x. (owned x.0, x.1.now)) result ≡ fields_at bytes.now }
 {
-    let (tag, rest) = u8_at(bytes)?;
+    let (tag, rest) = byte_of(bytes)?;
     match tag {
         MAKE => make_of(rest),
         ENTER => enter_of(rest),
@@ -202,8 +163,8 @@ fn skip_effects(count: u8, bytes: &[u8]) -> Option<&[u8]>
 fn header_of(bytes: &[u8]) -> Option<((u32, u8), &[u8])>
     ensures { option_map (λ x. (x.0, x.1.now)) result ≡ header_at bytes.now }
 {
-    let (units, rest) = u32_at(bytes)?;
-    let (count, rest) = u8_at(rest)?;
+    let (units, rest) = u32_of(bytes)?;
+    let (count, rest) = byte_of(rest)?;
     if count < 1 || MAX_EFFECTS < count {
         return None;
     }
