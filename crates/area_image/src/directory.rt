@@ -19,7 +19,8 @@ use std::alloc::Global;
 use tier_device::Media;
 
 /// Whether a directory's blocks are its entries, each in its place and of a name of its own; each block is read once. `Damaged` names the slot where a block is
-/// missing, or the block that does not hold its part of the entries or has a name of a block before it. `Memory` where there was none to hold the names; each is looked for by bisection.
+/// missing, or the block that does not hold its part of the entries or has a name of a block before it. Each name is looked for in a sorted set of those before it;
+/// `Memory` where there was none for that.
 pub fn check_directory<M: Media>(
     alloc: Global,
     journal: &mut Journal<M>,

@@ -20,7 +20,7 @@ use std::alloc::Global;
 use tier_device::Media;
 
 /// What opened media tell beside their nodes: the blocks in use, the marks of the clients with the number of digests, and the units that the graph costs.
-#[derive(Debug, Drop)]
+#[derive(Drop)]
 pub struct OpenArea {
     pub used: UsedBlocks,
     pub marks: Marks,
