@@ -21,8 +21,8 @@ pub fn changes_are_the_effects()
     ensures { (es : List Effect) → Coalesces es (coalesced es) }
 {}
 
-/// What effects come to is tidy: no byte is put, and no block of a file begins, at the end that the file is left with or behind it. It makes no difference what else is said
-/// of a node that goes.
+/// What effects come to is tidy: at the end that a file is left with, or behind it, no byte is put and no block begins that is written. It makes no difference what else is
+/// said of a node that goes.
 pub fn changes_are_tidy()
     ensures new { (base : Base) → IsTidyChange (new_change base) }
     ensures kept { (e : Effect) (c : Change) → IsTidyChange c → IsTidyChange (change_after e c) }
