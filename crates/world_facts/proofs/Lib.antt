@@ -52,3 +52,4 @@ pub mod PairWalks
 pub mod FiveWalks
 pub mod AloneCopies
 pub mod AloneReading
+pub mod AllAlone

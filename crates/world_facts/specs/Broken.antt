@@ -1,5 +1,5 @@
 -- Small worlds that break one part of the invariant each.
-use Rattle.std.specs.Prelude.{ℕ, ◌+◌, List, [], ◌∷◌, Bool, false, ◌==◌, ◌&&◌, ◌||◌, Some, None, Option, if◌then◌else◌}
+use Rattle.std.specs.Prelude.{ℕ, replicate, ◌+◌, List, [], ◌∷◌, Bool, false, ◌==◌, ◌&&◌, ◌||◌, Some, None, Option, if◌then◌else◌}
 use Rattle.posix_calls.specs.declared.call.Call.{Call}
 use Rattle.posix_calls.specs.declared.call.Call.TheVariants as call
 use Rattle.posix_calls.specs.declared.call.Reply.TheVariants as reply
@@ -164,6 +164,10 @@ rootless = idle_world (charge one_file) one_file
 
 abbrev pub with_bytes : List ℕ → Graph
 with_bytes bytes = set_node fresh 2 (Some (record { names = 0; body = FileBody bytes }))
+
+-- so many zeros
+unfoldable pub zeros : ℕ → List ℕ
+zeros n = replicate n 0
 
 abbrev pub large_file : List ℕ → World
 large_file bytes = idle_world (charge (with_bytes bytes)) (with_bytes bytes)

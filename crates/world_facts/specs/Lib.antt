@@ -1,5 +1,6 @@
 pub mod BookSteps
 pub mod Broken
+pub mod BrokenParts
 pub mod Burial
 pub mod ClientSteps
 pub mod FiveWalk

@@ -8,7 +8,7 @@ ghost use Rattle.call_effects.specs.Wholes.{IsSound};
 ghost use Rattle.world_facts.specs.Logs.{after_each, LogsAreApart};
 ghost use Rattle.world_facts.specs.World.{log_of, all_of, whole, held, world_state};
 ghost use Rattle.world_facts.specs.Standing.{HasLeft, StartsWiped, IsNumbered, IsBooked};
-ghost use Rattle.world_facts.specs.Parts.{Book, Each, LeasesLegal, WholeKnown, CopiesLeased, BlocksLeased, BegunHasEffects, Holds, NumbersFree, NumbersInRange, RecordsLeased, RecordsPaid, RecordsNameNone, RecordsKeepLimits, UnitsBooked, MadeOnce, GrantedUnused, WholeSound, NumbersInOneHand, NodesWithin, UnitsFit, OwnNumber, MadeBooked, GrantedBooked, OpenPinned, PinsBooked, BegunPlanned, BegunPinned, SettledClosed, SettledIdle, MarkNotPast, MarkNotBefore, AwayHasRecords, BackHasNone, UnwipedHasNone, UnwipedIsIdle, BreaksAlone};
+ghost use Rattle.world_facts.specs.Parts.{Part, Book, Each, LeasesLegal, WholeKnown, CopiesLeased, BlocksLeased, BegunHasEffects, Holds, NumbersFree, NumbersInRange, RecordsLeased, RecordsPaid, RecordsNameNone, RecordsKeepLimits, UnitsBooked, MadeOnce, GrantedUnused, WholeSound, NumbersInOneHand, NodesWithin, UnitsFit, OwnNumber, MadeBooked, GrantedBooked, OpenPinned, PinsBooked, BegunPlanned, BegunPinned, SettledClosed, SettledIdle, MarkNotPast, MarkNotBefore, AwayHasRecords, BackHasNone, UnwipedHasNone, UnwipedIsIdle, BreaksAlone};
 ghost use Rattle.world_facts.specs.Machine.{CanAccept, sealed_of};
 ghost use Rattle.world_facts.specs.ClientSteps.{CanAnswer, answered, CanBegin, IsBegun, replied};
 ghost use Rattle.world_facts.specs.LeaseSteps.{IsUnheld, CanFetch, CanForgetBlocks, write_taken, fetched, blocks_forgotten};
@@ -21,7 +21,13 @@ ghost use Rattle.world_facts.specs.Walk.{mkdir_a, made, handed};
 ghost use Rattle.world_facts.specs.UnlinkWalk.{open_a, unlink_a};
 ghost use Rattle.world_facts.specs.PairWalk.{write_7};
 ghost use Rattle.world_facts.specs.Stop.{Leaves, Stores};
+ghost use Rattle.world_facts.specs.BrokenParts.{broken_world};
 ghost use Rattle.world_facts.specs.Broken.{unleased, block_watching, begun_reading, counting, taken_number, far_number, unbooked_number, used_number, unpinned_file, unbooked_node, still_open, both_counting, one_file, making, making_directory, dropping, made_twice, to_be_named, past_limit, marked_past, granted_twice, watching, root_alone, half, misbegun, unpaid, overdrawn, unwiped, left_behind, marked_before, unpinned_open, rootless, large_file, overfull, stale, stat_root, no_entries, begun_unwiped, settled_opening, away_empty, misnumbered, unpinned_client, unpinned_known, unpinned_unlinked, unpinned_kept};
+
+/// No part of the invariant follows from the others: for each there is a small world that lacks this part and has all others.
+pub fn each_part_breaks_alone()
+    ensures { (part : Part) → BreaksAlone part (broken_world part) }
+{}
 
 /// Where two clients write one inode, which takes a lease that one of them doesn't hold, the order of their digests is seen.
 pub fn writing_without_a_lease_is_seen()

@@ -3,6 +3,48 @@
 //! `specs/World.antt` says what there is: the kernel's part, and for each of eight clients its own. `specs/Standing.antt` and
 //! `specs/Invariant.antt` say what holds of it at any time; each law below is that a kind of step keeps it, and what becomes of the
 //! one file tree that the world stands for.
+//!
+//! # What each part of the invariant is for
+//!
+//! The invariant is all of its parts (`invariant_is_all_its_parts`, and `specs/Parts.antt` names them), and none follows from the others:
+//! for each there is a small world that lacks it and has all others (`each_part_breaks_alone`, and `specs/BrokenParts.antt` lists the
+//! worlds). In each of these worlds something goes wrong, at once or after steps that may be taken there; a law says what.
+//!
+//! | part | what it says | world that lacks it alone | what goes wrong there |
+//! |---|---|---|---|
+//! | `Book NumbersFree` | a number in the book is that of no shared node | `taken_number` | `booked_number_of_a_node_is_taken` |
+//! | `Book NumbersInRange` | it is past the root and within the inode numbers | `far_number` | `booked_number_past_all_inodes_is_received` |
+//! | `Book NumbersInOneHand` | it is in one account | `granted_twice` | `number_in_two_hands_is_taken` |
+//! | `Book NodesWithin` | every shared node is within the limits | `large_file (zeros (MAX_FILE + 1))` | `stop_with_a_node_past_a_limit_is_not_recoverable` |
+//! | `Book UnitsFit` | what is charged and what is out fit | `overfull` | `stop_past_the_capacity_is_not_recoverable` |
+//! | `Each OwnNumber` | a client knows its number | `misnumbered` | `call_under_another_number_opens_nothing` |
+//! | `Each MarkNotBefore` | its mark is not before its sealed records | `marked_before` | `mark_before_its_records_loses_a_number` |
+//! | `Each MarkNotPast` | nor past them | `marked_past` | `mark_past_its_records_loses_a_call` |
+//! | `Each AwayHasRecords` | a region that is away has a record | `away_empty` | `region_without_a_record_is_not_accepted` |
+//! | `Each BackHasNone` | one that is not away has none | `left_behind` | `wipe_of_a_region_that_is_back_loses_a_call` |
+//! | `Each UnwipedHasNone` | a region to be wiped has no record | `unwiped` | `wipe_of_a_written_region_loses_a_call` |
+//! | `Each UnwipedIsIdle` | and none is begun in it | `begun_unwiped` | `call_begun_in_a_stale_region_is_written_there` |
+//! | `Each RecordsLeased` | records touch what their client holds for writing | `unleased` | `record_without_a_lease_is_not_fetched` |
+//! | `Each RecordsPaid` | they have the units for what they raise | `overdrawn unpaid` | `unpaid_record_passes_the_capacity` |
+//! | `Each RecordsNameNone` | they name no file that has no name | `to_be_named` | `reclaim_of_a_file_to_be_named_is_seen` |
+//! | `Each RecordsKeepLimits` | each keeps every node within the limits | `past_limit` | `record_past_a_limit_is_digested` |
+//! | `Each UnitsBooked` | their units, and the spare ones, are in the book | `overdrawn making` | `unbooked_units_pass_the_capacity` |
+//! | `Each MadeBooked` | the number of a node that they make is | `unbooked_node` | `number_of_a_new_node_is_granted_again` |
+//! | `Each MadeOnce` | they make one node of a number | `made_twice` | `number_used_twice_is_free_between` |
+//! | `Each GrantedBooked` | a granted number is in the book | `unbooked_number` | `number_without_an_account_is_granted_again` |
+//! | `Each GrantedUnused` | and no record has used it | `used_number` | `used_number_loses_its_account` |
+//! | `Each CopiesLeased` | what is copied is held | `watching (λ i. false)` | `copy_without_a_lease_goes_stale` |
+//! | `Each BlocksLeased` | so is what a block is known of | `block_watching` | `block_without_a_lease_goes_stale` |
+//! | `Each OpenPinned` | what is open is pinned | `unpinned_client` | `reclaim_of_an_open_file_is_seen` |
+//! | `Each PinsBooked` | what is pinned is in the book | `unpinned_file` | `pin_without_the_book_is_no_pin` |
+//! | `Each BegunPlanned` | a begun record is that of its call | `misbegun` | `record_of_no_call_breaks_the_whole` |
+//! | `Each BegunHasEffects` | it has an effect | `begun_reading` | `call_without_an_effect_loses_its_plan` |
+//! | `Each BegunPinned` | what its call opens is pinned | `unpinned_open` | `call_that_pinned_nothing_opens_a_file` |
+//! | `Each SettledClosed` | a settled client has nothing open | `still_open` | `burial_of_a_client_with_an_open_file_is_seen` |
+//! | `Each SettledIdle` | and no call begun | `settled_opening` | `call_of_a_settled_client_opens_a_file` |
+//! | `LeasesLegal` | what one holds for writing no other holds | `watching root_alone` | `copy_beside_a_writer_goes_stale` |
+//! | `WholeSound` | the whole is sound | `rootless` | `stop_of_an_unsound_whole_is_not_recoverable` |
+//! | `WholeKnown` | each client knows it as it is | `stale` | `answer_by_a_stale_copy_is_no_step` |
 #![tactic(auto)]
 
 mod book_laws;
@@ -31,7 +73,7 @@ pub use broken_laws::{
     burial_of_a_client_with_an_open_file_is_seen, call_begun_in_a_stale_region_is_written_there,
     call_of_a_settled_client_opens_a_file, call_that_pinned_nothing_opens_a_file,
     call_under_another_number_opens_nothing, call_without_an_effect_loses_its_plan,
-    copy_beside_a_writer_goes_stale, copy_without_a_lease_goes_stale,
+    copy_beside_a_writer_goes_stale, copy_without_a_lease_goes_stale, each_part_breaks_alone,
     mark_before_its_records_loses_a_number, mark_past_its_records_loses_a_call,
     number_in_two_hands_is_taken, number_of_a_new_node_is_granted_again,
     number_used_twice_is_free_between, number_without_an_account_is_granted_again,
