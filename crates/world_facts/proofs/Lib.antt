@@ -31,6 +31,7 @@ pub mod Parts
 pub mod Alone
 pub mod AloneRegions
 pub mod NewNodes
+pub mod KnownParts
 pub mod Breaks
 pub mod Fresh
 pub mod Walks

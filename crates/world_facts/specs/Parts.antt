@@ -6,9 +6,10 @@ use Rattle.posix_calls.specs.declared.descriptor.Descriptor.{Descriptor}
 use Rattle.posix_calls.specs.declared.limits.TheConstants.{ROOT, MAX_INODE, MAX_CLIENTS}
 use Rattle.file_graph.specs.Graph.{Graph}
 use Rattle.file_graph.specs.Units.{charge}
-use Rattle.call_effects.specs.NodeView.{NodeView}
+use Rattle.call_effects.specs.NodeView.{NodeView, view_at}
+use Rattle.call_effects.specs.Blocks.{block_at}
 use Rattle.call_effects.specs.Wholes.{IsSound}
-use Rattle.call_effects.specs.Known.{IsPlanned, Agrees}
+use Rattle.call_effects.specs.Known.{Knowledge, IsPlanned, IsPutBack, Agrees}
 use Rattle.world_facts.specs.Limits.{AreWithin}
 use Rattle.world_facts.specs.Logs.{is_written, is_made_in, IsMadeOnce, units_in, ArePaid, NameNone, KeepLimits}
 use Rattle.world_facts.specs.World.{Begun, Away, Failed, Account, Client, Kernel, World, undigested, records_of, has_lease, whole, held}
@@ -111,3 +112,10 @@ Holds WholeKnown w = (c : ℕ) → is_client c ≡ true → Agrees (w.clients c)
 pub record BreaksAlone (part : Part) (w : World) : Type 0 where
   pub broken : Holds part w → ⊥
   pub others : (q : Part) → q ≢ part → Holds q w
+
+-- the copies and blocks that a client has are as the whole is, but for files that are gone
+pub record HasTrueCopies (k : Knowledge) (g : Graph) : Type 0 where
+  pub back : Graph
+  pub put_back : IsPutBack g back
+  pub copies : (i : ℕ) (copy : Option NodeView) → k.copies i ≡ Some copy → view_at back i ≡ copy
+  pub blocks : (i b : ℕ) (bytes : List ℕ) → k.blocks i b ≡ Some bytes → block_at back i b ≡ Some bytes

@@ -108,7 +108,10 @@ pub use machine_laws::{
 };
 pub use opening_laws::{idle_world_holds, opening_world_holds};
 pub use order_laws::clients_records_commute;
-pub use part_laws::{invariant_is_all_its_parts, one_part_may_move, quiet_part_may_move};
+pub use part_laws::{
+    invariant_is_all_its_parts, knowledge_is_of_copies_and_blocks, one_part_may_move,
+    quiet_part_may_move,
+};
 pub use recovery_laws::{
     limits_are_those_of_the_nodes, nameless_file_may_be_dropped, recovered_graph_is_sound,
     recovery_may_digest_records,
