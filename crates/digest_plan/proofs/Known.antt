@@ -34,14 +34,14 @@ none_unknown m (d ∷ is) all =
 
 -- ---- one inode more
 
-among_joined : (i : ℕ) (is js : List ℕ) → is_among i (is ++ js) ≡ (is_among i is || is_among i js)
+pub among_joined : (i : ℕ) (is js : List ℕ) → is_among i (is ++ js) ≡ (is_among i is || is_among i js)
 among_joined i [] js = refl
 among_joined i (d ∷ is) js = elim (d == i) as (λ b. (b || is_among i (is ++ js)) ≡ ((b || is_among i is) || is_among i js)) [
   | true ↦ refl
   | false ↦ among_joined i is js
 ]
 
-touches_joined : (es fs : List Effect) → touches (es ++ fs) ≡ touches es ++ touches fs
+pub touches_joined : (es fs : List Effect) → touches (es ++ fs) ≡ touches es ++ touches fs
 touches_joined es fs = flat_map-append subjects es fs
 
 last_one : (i d : ℕ) → is_among i (d ∷ []) ≡ (d == i)

@@ -1,13 +1,16 @@
 //! What holds of every plan.
 
-ghost use Rattle.std.specs.Prelude.{◌≡◌, ◌<◌, ℕ, List, length, take, get_or};
-ghost use Rattle.file_graph.specs.Graph.{Graph, after_effects};
+ghost use Rattle.std.specs.Prelude.{◌≡◌, ◌<◌, ◌≤◌, ◌+◌, ℕ, List, length, take, get_or};
+ghost use Rattle.file_graph.specs.Graph.{Graph, after_effects, touches};
+ghost use Rattle.file_graph.specs.Units.{charge};
 ghost use Rattle.log_record.specs.declared.format.Record.{Record};
 ghost use Rattle.layout.specs.declared.places.TheConstants.{MAX_IMAGES, SPARE_BLOCKS};
 ghost use Rattle.coalescer.specs.declared.weight.TheConstants.{CHUNK_IMAGES, CHUNK_BLOCKS};
 ghost use Rattle.coalescer.specs.Records.{effects_of};
 ghost use Rattle.record_check.specs.Good.{IsGood};
-ghost use Rattle.digest_plan.specs.Plan.{AreGood, IsFirstBad};
+ghost use Rattle.digest_plan.specs.Covered.{AreCovered, AreSameAt, units_of};
+ghost use Rattle.digest_plan.specs.Plan.{AreGood, IsFirstBad, Tells};
+ghost use Rattle.digest_plan.specs.declared.planning.Plan.TheVariants as plan;
 
 /// What is counted for a chunk is there on the shared media: as many images as a batch takes, and as many data blocks as are spare.
 pub fn a_chunk_is_a_batch()
@@ -23,4 +26,12 @@ pub fn a_first_bad_record_is_the_only_one()
     ensures bad { (held : List ℕ) (capacity : ℕ) (g : Graph) (rs : List Record) (k : ℕ) (d : Record) → IsFirstBad held capacity g rs k → IsGood held capacity (after_effects g (effects_of (take k rs))) (get_or rs k d) → ⊥ }
     ensures alone { (held : List ℕ) (capacity : ℕ) (g : Graph) (rs : List Record) (k l : ℕ) → IsFirstBad held capacity g rs k → IsFirstBad held capacity g rs l → k ≡ l }
     ensures never { (held : List ℕ) (capacity : ℕ) (g : Graph) (rs : List Record) (k : ℕ) → IsFirstBad held capacity g rs k → AreGood held capacity g rs → ⊥ }
+{}
+
+/// Records that their client's leases cover and their units pay for are never bad, whatever was digested before them: that they are covered
+/// depends on what they touch alone, and where the graph's charge and their units are within what there is, each of them is good.
+pub fn covered_records_are_never_bad()
+    ensures local { (held : List ℕ) (g h : Graph) (rs : List Record) → AreCovered held g rs → AreSameAt (touches (effects_of rs)) g h → AreCovered held h rs }
+    ensures good { (held : List ℕ) (capacity : ℕ) (g : Graph) (rs : List Record) → AreCovered held g rs → charge g + units_of rs ≤ capacity → AreGood held capacity g rs }
+    ensures never { (held : List ℕ) (capacity : ℕ) (g h : Graph) (rs : List Record) (place : ℕ) → AreCovered held g rs → AreSameAt (touches (effects_of rs)) g h → charge h + units_of rs ≤ capacity → Tells held capacity h rs (plan.Bad place) → ⊥ }
 {}

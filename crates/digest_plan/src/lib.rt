@@ -14,6 +14,8 @@ mod planning;
 mod testing;
 
 pub use error::PlanError;
-pub use laws::{a_chunk_is_a_batch, a_first_bad_record_is_the_only_one};
+pub use laws::{
+    a_chunk_is_a_batch, a_first_bad_record_is_the_only_one, covered_records_are_never_bad,
+};
 pub use nodes::Nodes;
 pub use planning::{Chunk, Plan, prepare};

@@ -1,0 +1,85 @@
+-- Records that are covered in one graph are so in each that has the same at what they touch, and are good where there are the units.
+use Rattle.std.proofs.Common.{◌≡◌, ℕ, zero, suc, ◌+◌, ◌≤◌, ◌||◌, Bool, true, false, List, [], ◌∷◌, take, refl, ap, sym, ◌∙◌, subst, arith}
+use Rattle.std.proofs.Math.Seq.{take-nil}
+use Rattle.file_graph.specs.declared.effect.Effect.{Effect}
+use Rattle.file_graph.specs.Graph.{Graph, after_effects, touches, is_among}
+use Rattle.file_graph.specs.Units.{charge, growth}
+use Rattle.file_graph.proofs.Touches.{charge_rises}
+use Rattle.log_record.specs.declared.format.Record.{Record}
+use Rattle.call_effects.specs.NodeView.{view_at}
+use Rattle.call_effects.proofs.NodeViews.{viewed_after}
+use Rattle.coalescer.specs.Records.{effects_of}
+use Rattle.record_check.specs.Good.{KeepsLimits}
+use Rattle.record_check.proofs.Rises.{growth_told}
+use Rattle.digest_plan.specs.Covered.{IsCovered, AreCovered, AreSameAt, units_of}
+use Rattle.digest_plan.specs.Plan.{AreGood, Tells}
+use Rattle.digest_plan.specs.declared.planning.Plan.TheVariants as plan
+use Rattle.digest_plan.proofs.Known.{among_joined, touches_joined}
+use Rattle.digest_plan.proofs.Runs.{never}
+
+-- ---- another graph
+
+left_of : (b c : Bool) → b ≡ true → (b || c) ≡ true
+left_of b c e = ap (λ x. x || c) e
+
+right_of : (b c : Bool) → c ≡ true → (b || c) ≡ true
+right_of true c e = refl
+right_of false c e = e
+
+touched_first : (r : Record) (rs : List Record) (i : ℕ) → is_among i (touches r.effects) ≡ true → is_among i (touches (effects_of (r ∷ rs))) ≡ true
+touched_first r rs i among =
+    ap (is_among i) (touches_joined r.effects (effects_of rs)) ∙ among_joined i (touches r.effects) (touches (effects_of rs))
+    ∙ left_of (is_among i (touches r.effects)) (is_among i (touches (effects_of rs))) among
+
+touched_later : (r : Record) (rs : List Record) (i : ℕ) → is_among i (touches (effects_of rs)) ≡ true → is_among i (touches (effects_of (r ∷ rs))) ≡ true
+touched_later r rs i among =
+    ap (is_among i) (touches_joined r.effects (effects_of rs)) ∙ among_joined i (touches r.effects) (touches (effects_of rs))
+    ∙ right_of (is_among i (touches r.effects)) (is_among i (touches (effects_of rs))) among
+
+same_after : (g h : Graph) (es : List Effect) (i : ℕ) → view_at g i ≡ view_at h i → view_at (after_effects g es) i ≡ view_at (after_effects h es) i
+same_after g h es i same = viewed_after g es i (view_at h i) same ∙ sym (viewed_after h es i (view_at h i) refl)
+
+one_local : (held : List ℕ) (g h : Graph) (r : Record) → IsCovered held g r → AreSameAt (touches r.effects) g h → IsCovered held h r
+one_local held g h r is same = record {
+  spelled = is.spelled;
+  holds = is.holds;
+  paid = subst (λ n. n ≤ r.units) (growth_told g r.effects (view_at g) is.spelled.fit (λ i among. refl) ∙ sym (growth_told h r.effects (view_at g) is.spelled.fit (λ i among. sym (same i among)))) is.paid;
+  limits = λ i among. subst KeepsLimits (same_after g h r.effects i (same i among)) (is.limits i among);
+}
+
+pub local : (held : List ℕ) (g h : Graph) (rs : List Record) → AreCovered held g rs → AreSameAt (touches (effects_of rs)) g h → AreCovered held h rs
+local held g h [] all same = tt
+local held g h (r ∷ rs) all same = (
+  one_local held g h r all.0 (λ i among. same i (touched_first r rs i among)),
+  local held (after_effects g r.effects) (after_effects h r.effects) rs all.1 (λ i among. same_after g h r.effects i (same i (touched_later r rs i among))),
+)
+
+-- ---- units
+
+pub good : (held : List ℕ) (capacity : ℕ) (g : Graph) (rs : List Record) → AreCovered held g rs → charge g + units_of rs ≤ capacity → AreGood held capacity g rs
+good held capacity g [] all few = tt
+good held capacity g (r ∷ rs) all few =
+    let risen : charge (after_effects g r.effects) ≤ charge g + growth g r.effects = charge_rises g r.effects in
+    let is = all.0 in
+    let paid = is.paid in (
+      record {
+        spelled = is.spelled;
+        holds = is.holds;
+        paid = is.paid;
+        limits = is.limits;
+        charge = omega (arith, risen, paid, few);
+      },
+      good held capacity (after_effects g r.effects) rs all.1 (omega (arith, risen, paid, few)),
+    )
+
+-- ---- what is planned
+
+good_front : (held : List ℕ) (capacity : ℕ) (g : Graph) (rs : List Record) (n : ℕ) → AreGood held capacity g rs → AreGood held capacity g (take n rs)
+good_front held capacity g [] n all = subst (AreGood held capacity g) (sym (take-nil n)) tt
+good_front held capacity g (r ∷ rs) zero all = tt
+good_front held capacity g (r ∷ rs) (suc n) all = (all.0, good_front held capacity (after_effects g r.effects) rs n all.1)
+
+pub never_bad : (held : List ℕ) (capacity : ℕ) (g h : Graph) (rs : List Record) (place : ℕ) → AreCovered held g rs → AreSameAt (touches (effects_of rs)) g h → charge h + units_of rs ≤ capacity → Tells held capacity h rs (plan.Bad place) → ⊥
+never_bad held capacity g h rs place all same few told =
+    let n = told.0 in
+    never held capacity h (take n rs) place told.2 (good_front held capacity h rs n (good held capacity h rs (local held g h rs all same) few))
