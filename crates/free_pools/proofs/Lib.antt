@@ -4,3 +4,4 @@ mod Members
 mod Courses
 mod Held
 mod Stored
+mod Departed

@@ -9,7 +9,7 @@ ghost use Rattle.block_alloc.specs.Value.{InOrder, IsUsed};
 ghost use Rattle.block_alloc.specs.Runs.{blocks_of};
 ghost use Rattle.block_alloc.specs.declared.error.AllocatorError.TheVariants.{NoBlock, Memory};
 ghost use Rattle.free_pools.specs.Value.{data_pool, free_data, AreInOrder, HasRanges, AreFree, GivesRun, HasUnmarked, MarksAll};
-ghost use Rattle.free_pools.specs.Taking.{taken_data, WereTaken, CanUndo, WasUndone, IsNone, SameFree, KeepsRoom};
+ghost use Rattle.free_pools.specs.Taking.{taken_data, runs_of, WereTaken, CanUndo, WasUndone, IsNone, SameFree, KeepsRoom};
 
 use crate::taking::{Taken, give_run, give_runs, take_runs};
 use area_image::UsedBlocks;
@@ -236,6 +236,30 @@ impl Pools {
             return Err(AllocatorError::NoBlock);
         }
         self.take_parts(nodes, fast, block, slow)
+    }
+
+    /// Takes the lowest free data blocks of one tier. `NoBlock` exactly where fewer are free, `Memory` where the answer found no room. After a refusal the pools have the
+    /// same free blocks.
+    pub fn take_in(&mut self, tier: Tier, blocks: u32) -> Result<Taken, AllocatorError>
+        ensures taken { IfOk result (λ taken. blocks_of (runs_of taken tier) ≡ take blocks (data_pool self.old tier).free) }
+        ensures left { OnOk result ((data_pool self.new tier).free ≡ drop blocks (data_pool self.old tier).free) }
+        ensures others { IfOk result (λ taken. (t : Tier) → t ≢ tier → blocks_of (runs_of taken t) ≡ []) }
+        ensures nodes { IfOk result (λ taken. blocks_of taken.nodes.items ≡ []) }
+        ensures fronts { IfOk result (WereTaken self.old self.new) }
+        ensures room { OnOk result (KeepsRoom self.old self.new) }
+        // What was taken can be given back without memory.
+        ensures undone { IfOk result (CanUndo self.new) }
+        ensures few { IsErrOf result NoBlock ↔ (length (data_pool self.old tier).free < blocks) }
+        ensures err { OnErr result (SameFree self.old self.new) }
+    {
+        if self.free(tier) < blocks {
+            return Err(AllocatorError::NoBlock);
+        }
+        match tier {
+            Tier::Fast => self.take_parts(0, blocks, 0, 0),
+            Tier::Block => self.take_parts(0, 0, blocks, 0),
+            Tier::Slow => self.take_parts(0, 0, 0, blocks),
+        }
     }
 
     /// Gives back what was taken, without memory.
