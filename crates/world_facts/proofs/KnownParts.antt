@@ -1,5 +1,5 @@
 -- What a client knows agrees with the whole wherever its copies and blocks do: all else follows from the other parts of the invariant.
-use Rattle.std.proofs.Common.{◌≡◌, ◌≢◌, inl, inr, ℕ, ◌≤◌, cond, true, false, None, ap, sym, ◌∙◌, subst}
+use Rattle.std.proofs.Common.{◌≡◌, ◌≢◌, inl, inr, ℕ, cond, true, false, None, ap, sym, ◌∙◌, subst}
 use Rattle.std.proofs.lemmas.Bool.Decides.{eqb_tells}
 use Rattle.posix_calls.specs.Operations.{is_client}
 use Rattle.call_effects.specs.Fits.{IsNew}

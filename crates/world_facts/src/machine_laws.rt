@@ -8,7 +8,7 @@ ghost use Rattle.world_facts.specs.Logs.{after_records, is_written, is_made_in};
 ghost use Rattle.world_facts.specs.World.{Account, Away, Client, World, records_of};
 ghost use Rattle.world_facts.specs.Standing.{Stands};
 ghost use Rattle.world_facts.specs.BookSteps.{HasRoom, IsUnbooked};
-ghost use Rattle.world_facts.specs.KernelSteps.{CanReclaim, records_digested, reclaimed};
+ghost use Rattle.world_facts.specs.KernelSteps.{CanDigest, CanReclaim, records_digested, reclaimed};
 ghost use Rattle.world_facts.specs.Halves.{units_booked, units_unbooked, number_booked, number_unbooked, pin_booked, pin_unbooked};
 ghost use Rattle.world_facts.specs.Burial.{client_buried};
 ghost use Rattle.world_facts.specs.Machine.{Machine, IsRunning, Sealed, sealed_of, left_of, StandsSealed, CanAccept, accept, CanDigestNext, account_after, digest, book_units, unbook_units, book_number, unbook_number, book_pin, unbook_pin, bury, reclaim};
@@ -61,4 +61,10 @@ pub fn kernel_entries_are_steps_of_the_world()
 /// A region that is away may be accepted, if all before it are digested and none of it is accepted yet.
 pub fn region_that_is_away_may_be_accepted()
     ensures { (m : Machine) (c : ℕ) (p : Client) → is_client c ≡ true → Stands m.kernel.shared (m.kernel.accounts c) c p → p.other ≡ Away → (m.kernel.accounts c).mark ≡ p.past → m.accepted c ≡ p.past → CanAccept m c (sealed_of p) }
+{}
+
+/// What the kernel may digest of a client's sealed region the world may, and what it has to know of the region holds in every world.
+pub fn kernel_entries_may_be_taken_in_the_world()
+    ensures digest { (w : World) (accepted : ℕ → ℕ) (c : ℕ) (first rest : List Record) → CanDigestNext (record { kernel = w.kernel; accepted = accepted }) c (sealed_of (w.clients c)) first rest → CanDigest w c first rest }
+    ensures sealed { (w : World) (c : ℕ) → IsCoherent w → is_client c ≡ true → StandsSealed w.kernel.shared (w.kernel.accounts c) (sealed_of (w.clients c)) }
 {}
