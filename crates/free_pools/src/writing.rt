@@ -189,7 +189,7 @@ fn write_and_fence<M: Media>(
 /// written, fastest first. The blocks have to be free, so nothing that is read changes; after it nothing is pending on the tiers that were written, and a batch may
 /// name the blocks. It takes no memory.
 ///
-/// `DeviceFault` where a device fails, and from then on; of the blocks alone it is not known then what they hold.
+/// `DeviceFault` where a device fails, and from then on: what these blocks hold is not known then, and no block that is in use has changed.
 pub fn write_data<M: Media>(
     journal: &mut Journal<M>,
     taken: &Taken,
