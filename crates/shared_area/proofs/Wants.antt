@@ -35,13 +35,16 @@ module _ (g : Sizes) (s : Store) (i : ℕ) (x : Slot) (read : slot_read g s i �
       record {
         inode = x;
         slot_is = read;
-        some = (t, record {
-          some = some;
-          list = elim (option_cases (extents_of g (space_of x t) (s Fast (root_of x t)))) [
-            | inl (v, there) ↦ is_some_at (extents_of g (space_of x t) (s Fast (root_of x t))) v there
-            | inr none ↦ absurd (not_both p (place g s i t k) is (ap (λ o. place_of (unwrap_or o []) k) (no_extents t some none)))
-          ];
-        });
+        some = (
+          t,
+          record {
+            some = some;
+            list = elim (option_cases (extents_of g (space_of x t) (s Fast (root_of x t)))) [
+              | inl (v, there) ↦ is_some_at (extents_of g (space_of x t) (s Fast (root_of x t))) v there
+              | inr none ↦ absurd (not_both p (place g s i t k) is (ap (λ o. place_of (unwrap_or o []) k) (no_extents t some none)))
+            ];
+          },
+        );
       }
 
 -- a directory that has entries
