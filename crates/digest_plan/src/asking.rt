@@ -22,7 +22,9 @@ pub fn learn_touched<N: Nodes>(
     ensures stays { N.graph nodes.new ≡ N.graph nodes.old }
     ensures come { OnOk result ((h : Graph) → HasCome check.old (N.graph nodes.old) h → HasCome check.new (N.graph nodes.old) h) }
     ensures known { OnOk result (first_unknown check.new.known effects.now ≡ None) }
-    ensures failed { IfErr result (λ e. (x : N.Error) → e ≡ why.Nodes x → N.has_failed nodes.new x) }
+    ensures told { OnOk result ((first : N) → N.has_told first nodes.old → N.has_told first nodes.new) }
+    ensures memory { IfErr result (λ e. e ≡ why.Memory → (first : N) → N.has_told first nodes.old → N.has_told first nodes.new) }
+    ensures failed { IfErr result (λ e. (x : N.Error) → e ≡ why.Nodes x → (first : N) → N.has_told first nodes.old → N.has_failed first nodes.new x) }
 {
     for effect in effects {
         learn(alloc, nodes, check, effect.subject())?;
@@ -41,7 +43,9 @@ fn learn<N: Nodes>(
     ensures come { OnOk result ((h : Graph) → HasCome check.old (N.graph nodes.old) h → HasCome check.new (N.graph nodes.old) h) }
     ensures known { OnOk result (is_unknown check.new.known inode ≡ false) }
     ensures others { OnOk result ((i : ℕ) → is_unknown check.old.known i ≡ false → is_unknown check.new.known i ≡ false) }
-    ensures failed { IfErr result (λ e. (x : N.Error) → e ≡ why.Nodes x → N.has_failed nodes.new x) }
+    ensures told { OnOk result ((first : N) → N.has_told first nodes.old → N.has_told first nodes.new) }
+    ensures memory { IfErr result (λ e. e ≡ why.Memory → (first : N) → N.has_told first nodes.old → N.has_told first nodes.new) }
+    ensures failed { IfErr result (λ e. (x : N.Error) → e ≡ why.Nodes x → (first : N) → N.has_told first nodes.old → N.has_failed first nodes.new x) }
 {
     if !is_unknown(&check.known, inode) {
         return Ok(());

@@ -1,4 +1,4 @@
-ghost use Rattle.std.specs.Prelude.{◌≡◌, ◌<◌, IfErr, IfOk, length};
+ghost use Rattle.std.specs.Prelude.{◌≡◌, ◌<◌, IfErr, IfOk, OnOk, length};
 ghost use Rattle.std.specs.List.{AllByRecursion};
 ghost use Rattle.log_record.specs.Grammar.{IsRecord};
 ghost use Rattle.digest_plan.specs.Plan.{Tells};
@@ -44,8 +44,10 @@ pub fn prepare<N: Nodes>(
 ) -> Result<Plan, PlanError<N::Error>>
     requires spelled { AllByRecursion IsRecord records.now }
     ensures stays { N.graph nodes.new ≡ N.graph nodes.old }
-    ensures tells { IfOk result (λ plan. Tells held.now capacity (N.graph nodes.old) records.now plan) }
-    ensures failed { IfErr result (λ e. (x : N.Error) → e ≡ why.Nodes x → N.has_failed nodes.new x) }
+    ensures tells { IfOk result (λ plan. (first : N) → N.has_told first nodes.old → Tells held.now capacity (N.graph nodes.old) records.now plan) }
+    ensures told { OnOk result ((first : N) → N.has_told first nodes.old → N.has_told first nodes.new) }
+    ensures memory { IfErr result (λ e. e ≡ why.Memory → (first : N) → N.has_told first nodes.old → N.has_told first nodes.new) }
+    ensures failed { IfErr result (λ e. (x : N.Error) → e ≡ why.Nodes x → (first : N) → N.has_told first nodes.old → N.has_failed first nodes.new x) }
     ensures some { IfErr result (λ e. 0 < length records.now) }
 {
     let count = match longest_run(alloc, records) {

@@ -1,6 +1,6 @@
 //! Records are tested one after the other, until one is bad.
 
-ghost use Rattle.std.specs.Prelude.{◌≡◌, ◌<◌, true, false, IfErr, IfOk, length};
+ghost use Rattle.std.specs.Prelude.{◌≡◌, ◌<◌, true, false, IfErr, IfOk, OnOk, length};
 ghost use Rattle.std.specs.List.{AllByRecursion};
 ghost use Rattle.file_graph.specs.Graph.{Graph, after_effects};
 ghost use Rattle.log_record.specs.Grammar.{IsRecord};
@@ -35,8 +35,10 @@ pub fn test_records<N: Nodes>(
 ) -> Result<Found, PlanError<N::Error>>
     requires spelled { AllByRecursion IsRecord records.now }
     ensures stays { N.graph nodes.new ≡ N.graph nodes.old }
-    ensures tells { IfOk result (λ found. Finds held.now capacity (N.graph nodes.old) records.now found) }
-    ensures failed { IfErr result (λ e. (x : N.Error) → e ≡ why.Nodes x → N.has_failed nodes.new x) }
+    ensures tells { IfOk result (λ found. (first : N) → N.has_told first nodes.old → Finds held.now capacity (N.graph nodes.old) records.now found) }
+    ensures told { OnOk result ((first : N) → N.has_told first nodes.old → N.has_told first nodes.new) }
+    ensures memory { IfErr result (λ e. e ≡ why.Memory → (first : N) → N.has_told first nodes.old → N.has_told first nodes.new) }
+    ensures failed { IfErr result (λ e. (x : N.Error) → e ≡ why.Nodes x → (first : N) → N.has_told first nodes.old → N.has_failed first nodes.new x) }
     ensures some { IfErr result (λ e. 0 < length records.now) }
 {
     let mut check = RecordCheck::new(alloc, nodes.charge());
@@ -63,7 +65,9 @@ fn test_next<N: Nodes>(
     ensures stays { N.graph nodes.new ≡ N.graph nodes.old }
     ensures good { IfOk result (λ is_good. is_good ≡ true → (h : Graph) → HasCome check.old (N.graph nodes.old) h → IsGood held.now capacity h next.now × HasCome check.new (N.graph nodes.old) (after_effects h next.now.effects)) }
     ensures bad { IfOk result (λ is_good. is_good ≡ false → (h : Graph) → HasCome check.old (N.graph nodes.old) h → IsGood held.now capacity h next.now → ⊥) }
-    ensures failed { IfErr result (λ e. (x : N.Error) → e ≡ why.Nodes x → N.has_failed nodes.new x) }
+    ensures told { OnOk result ((first : N) → N.has_told first nodes.old → N.has_told first nodes.new) }
+    ensures memory { IfErr result (λ e. e ≡ why.Memory → (first : N) → N.has_told first nodes.old → N.has_told first nodes.new) }
+    ensures failed { IfErr result (λ e. (x : N.Error) → e ≡ why.Nodes x → (first : N) → N.has_told first nodes.old → N.has_failed first nodes.new x) }
 {
     learn_touched(alloc, nodes, check, next.effects.as_slice())?;
     match check.next(alloc, capacity, held, next) {

@@ -66,7 +66,9 @@ impl Nodes for Replayed {
 
     ghost graph = { λ r. graph_of r };
 
-    ghost has_failed = { λ r e. Unit {0} };
+    ghost has_told = { λ first now. Unit {0} };
+
+    ghost has_failed = { λ first now e. Unit {0} };
 
     fn charge(&self) -> u64 {
         self.graph.charge()

@@ -17,16 +17,17 @@ loop-place-preserved g c =
     let next = c.index-records-place.result in
     let same = c.loop-place.invariant.stays in
     let left = after_effects first (effects_of (take place records)) in
-    let come = subst (λ (G : Graph). HasCome c.loop-place.check G left) (sym same) c.loop-place.invariant.come in
-    let told = c.in_ok-test_next.ensures.good c.if-not-branch.false left come in
+    let here = λ (x : g.row.N.Denot) (h : g.N.Nodes.has_told x c.args.nodes.now). subst (λ (G : Graph). HasCome c.loop-place.check G left) (sym same) (c.loop-place.invariant.come x h) in
+    let told = λ (x : g.row.N.Denot) (h : g.N.Nodes.has_told x c.args.nodes.now). c.in_ok-test_next.ensures.good c.if-not-branch.false left (here x h) in
     record {
       stays = c.in_ok-test_next.ensures.stays ∙ same;
-      good = next_good held capacity first records place next c.loop-place-test.true c.index-records-place.is c.loop-place.invariant.good told.0;
-      come = subst (λ (h : Graph). HasCome c.test_next.new.check first h) (next_graph first records place next c.loop-place-test.true c.index-records-place.is) (subst (λ (G : Graph). HasCome c.test_next.new.check G (after_effects left next.effects)) same told.1);
+      told = λ x h. c.in_ok-test_next.ensures.told x (c.loop-place.invariant.told x h);
+      good = λ x h. next_good held capacity first records place next c.loop-place-test.true c.index-records-place.is (c.loop-place.invariant.good x h) (told x h).0;
+      come = λ x h. subst (λ (h : Graph). HasCome c.test_next.new.check first h) (next_graph first records place next c.loop-place-test.true c.index-records-place.is) (subst (λ (G : Graph). HasCome c.test_next.new.check G (after_effects left next.effects)) same (told x h).1);
     }
 
 pub returns-then-not-branch-clause-tells : goal.returns-then-not-branch-clause-tells
-returns-then-not-branch-clause-tells g c =
+returns-then-not-branch-clause-tells g c = λ x h.
     let first = g.N.Nodes.graph c.args.nodes.now in
     let held = c.args.held.now in
     let capacity = c.args.capacity in
@@ -34,6 +35,6 @@ returns-then-not-branch-clause-tells g c =
     let place = c.loop-place.place in
     let next = c.index-records-place.result in
     let left = after_effects first (effects_of (take place records)) in
-    let come = subst (λ (G : Graph). HasCome c.loop-place.check G left) (sym c.loop-place.invariant.stays) c.loop-place.invariant.come in
-    bad_behind held capacity first records place next c.loop-place-test.true c.loop-place.invariant.good
+    let come = subst (λ (G : Graph). HasCome c.loop-place.check G left) (sym c.loop-place.invariant.stays) (c.loop-place.invariant.come x h) in
+    bad_behind held capacity first records place next c.loop-place-test.true (c.loop-place.invariant.good x h)
     (λ good. c.in_ok-test_next.ensures.bad c.if-not-branch.true left come (subst (λ (r : Record). IsGood held capacity left r) (sym c.index-records-place.is) good))
