@@ -1,0 +1,64 @@
+ghost use Rattle.std.specs.Prelude.{◌≡◌, ◌≢◌, ◌<◌, false, IfErr, IfOk, length};
+ghost use Rattle.std.specs.List.{AllByRecursion};
+ghost use Rattle.log_record.specs.Grammar.{IsRecord};
+ghost use Rattle.area_image.specs.declared.error.AreaError.TheVariants.{DeviceFault};
+ghost use Rattle.area_image.specs.Store.{store_of, graph};
+ghost use Rattle.area_image.specs.Looks.{Looks};
+ghost use Rattle.shared_area.specs.Parts.{IsNoDamage};
+ghost use Rattle.digest_plan.specs.Plan.{Tells};
+
+use crate::asking::Asked;
+use area_image::AreaError;
+use digest_plan::{Plan, PlanError, prepare};
+use log_record::Record;
+use shared_area::Shared;
+use std::alloc::Global;
+use tier_device::Media;
+
+/// What is to be done with the records of a client that are not digested yet, where it holds the inodes `held` for writing: over the graph
+/// of the shared area, and within its units. It takes no lock and changes no device.
+///
+/// `DeviceFault` at once where a device has failed, and where one fails while the area is read. `Memory` where there was none; then nothing
+/// has changed.
+pub fn plan<M: Media>(
+    alloc: Global,
+    area: &mut Shared<M>,
+    held: &[u32],
+    records: &[Record],
+) -> Result<Plan, AreaError>
+    requires spelled { AllByRecursion IsRecord records.now }
+    ensures tells { IfOk result (λ plan. Tells held.now area.old.geometry.units (graph area.old.geometry (store_of (M.seen area.old.media))) records.now plan) }
+    ensures only { IfErr result IsNoDamage }
+    ensures some { IfErr result (λ e. e ≢ DeviceFault → 0 < length records.now) }
+    ensures looks { Looks M.moment M.seen M.left M.faults area.old area.new result }
+{
+    if area.has_failed() {
+        return Err(AreaError::DeviceFault);
+    }
+    let capacity = area.geometry().units() as u64;
+    let mut asked = Asked { area };
+    plan_over(alloc, &mut asked, capacity, held, records)
+}
+
+// The same over an area that is asked.
+fn plan_over<M: Media>(
+    alloc: Global,
+    asked: &mut Asked<'_, M>,
+    capacity: u64,
+    held: &[u32],
+    records: &[Record],
+) -> Result<Plan, AreaError>
+    requires spelled { AllByRecursion IsRecord records.now }
+    requires going { asked.old.area.now.failed ≡ false }
+    ensures same_area { asked.new.area.ghost_name ≡ asked.old.area.ghost_name }
+    ensures tells { IfOk result (λ plan. Tells held.now capacity (graph asked.old.area.now.geometry (store_of (M.seen asked.old.area.now.media))) records.now plan) }
+    ensures only { IfErr result IsNoDamage }
+    ensures some { IfErr result (λ e. 0 < length records.now) }
+    ensures looks { Looks M.moment M.seen M.left M.faults asked.old.area.now asked.new.area.now result }
+{
+    match prepare(alloc, asked, capacity, held, records) {
+        Ok(plan) => Ok(plan),
+        Err(PlanError::Memory) => Err(AreaError::Memory),
+        Err(PlanError::Nodes(error)) => Err(error),
+    }
+}
