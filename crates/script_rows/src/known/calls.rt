@@ -1,7 +1,7 @@
 // The lines of a script, by what their clients know.
 use crate::known::beside::Beside;
-use crate::known::draws::{Draws, PATHS};
-use file_graph::{Kind, PlainEntry, PlainGraph};
+use crate::known::draws::{DESCRIPTORS, Draws, PATHS};
+use file_graph::{Kind, PlainGraph};
 use posix_calls::{MAX_INODE, ROOT, Reply};
 use script_lines::{CallText, Line, read_line};
 use std::alloc::Global;
@@ -36,13 +36,17 @@ fn answer_all(beside: &mut Beside, script: &str, out: &mut Vec<u8>) {
 }
 
 fn answer(beside: &mut Beside, line: &str, out: &mut Vec<u8>) {
-    if let Some(reply) = ask(beside, line) {
-        print(beside, &reply, out);
+    ask(beside, line);
+    if print(beside, out) {
         look_at_all(beside);
     }
 }
 
-fn print(beside: &Beside, reply: &Reply, out: &mut Vec<u8>) {
+// Prints what the last line was answered; whether it was.
+fn print(beside: &Beside, out: &mut Vec<u8>) -> bool {
+    let Some(reply) = &beside.reply else {
+        return false;
+    };
     let known = beside.part.known();
     let decided = known.get(..beside.decided).unwrap_or(&[]);
     let growth = beside.growth;
@@ -54,21 +58,23 @@ fn print(beside: &Beside, reply: &Reply, out: &mut Vec<u8>) {
         let _ = write!(out, "; asks for {blocks:?}");
     }
     let _ = writeln!(out, "");
+    true
 }
 
-// What a line is answered, if it is a call.
-fn ask(beside: &mut Beside, line: &str) -> Option<Reply> {
+// Answers a line, if it asks a call.
+fn ask(beside: &mut Beside, line: &str) {
+    beside.reply = None;
     match read_line(line.as_bytes()) {
-        Some(Line::Silent) => None,
+        Some(Line::Silent) => (),
         Some(Line::Asks { client, call }) => ask_call(beside, client, &call),
-        None => beside.fail(),
+        None => beside.is_wrong = true,
     }
 }
 
-fn ask_call(beside: &mut Beside, client: u32, call: &CallText<'_>) -> Option<Reply> {
+fn ask_call(beside: &mut Beside, client: u32, call: &CallText<'_>) {
     match call.to_call(beside.alloc) {
         Ok(call) => beside.ask(client, &call),
-        Err(_) => beside.fail(),
+        Err(_) => beside.is_wrong = true,
     }
 }
 
@@ -78,7 +84,8 @@ fn draw_calls(beside: &mut Beside, count: u64, out: &mut Vec<u8>) {
     let mut done = 0u64;
     for _ in 0..count {
         draws.line(&mut line);
-        if is_done(&ask(beside, &line)) {
+        ask(beside, &line);
+        if is_done(beside) {
             done = done.saturating_add(1);
         }
         look_at_all(beside);
@@ -86,8 +93,8 @@ fn draw_calls(beside: &mut Beside, count: u64, out: &mut Vec<u8>) {
     let _ = writeln!(out, "{done} of {count} were done");
 }
 
-fn is_done(reply: &Option<Reply>) -> bool {
-    match reply {
+fn is_done(beside: &Beside) -> bool {
+    match &beside.reply {
         None => false,
         Some(Reply::Failed { .. }) => false,
         Some(_) => true,
@@ -96,16 +103,16 @@ fn is_done(reply: &Option<Reply>) -> bool {
 
 // The graph and the tree tell the same of each path and of each file that is open, and each entry tells what its node is.
 fn look_at_all(beside: &mut Beside) {
-    for path in PATHS {
+    for path in &PATHS {
         look(beside, "1 stat ", path, "");
         look(beside, "1 list ", path, "");
     }
-    for number in ["0", "1", "2", "3"] {
+    for number in &DESCRIPTORS {
         look(beside, "1 pread ", number, " 0 8192");
         look(beside, "2 pread ", number, " 0 8192");
     }
     for inode in ROOT..MAX_INODE + 1 {
-        if !has_kinds(&beside.part.graph, inode) {
+        if !are_kinds(&beside.part.graph, inode) {
             beside.is_wrong = true;
         }
     }
@@ -113,24 +120,15 @@ fn look_at_all(beside: &mut Beside) {
 
 fn look(beside: &mut Beside, call: &str, what: &str, behind: &str) {
     match format!(in beside.alloc; "{call}{what}{behind}") {
-        Ok(line) => {
-            ask(beside, &line);
-        }
+        Ok(line) => ask(beside, &line),
         Err(_) => beside.is_wrong = true,
     }
 }
 
 // Whether each entry of a directory tells what its node is.
-fn has_kinds(graph: &PlainGraph, inode: u32) -> bool {
-    match graph.entries(inode) {
-        Some(entries) => are_kinds(graph, entries),
-        None => true,
-    }
-}
-
-fn are_kinds(graph: &PlainGraph, entries: &[PlainEntry]) -> bool {
+fn are_kinds(graph: &PlainGraph, inode: u32) -> bool {
     let mut are = true;
-    for entry in entries {
+    for entry in graph.entries(inode).unwrap_or(&[]) {
         let is_directory = graph.entries(entry.value.inode()).is_some();
         are = are && is_directory == (entry.value.kind() == Kind::Directory);
     }
