@@ -54,3 +54,4 @@ pub mod FiveWalks
 pub mod AloneCopies
 pub mod AloneReading
 pub mod AllAlone
+pub mod Accepting

@@ -1,10 +1,10 @@
 -- The kernel as a part of its own: what it has, and one step for each of its entries. It sees a client's records only as a sealed region.
-use Rattle.std.specs.Prelude.{◌≡◌, ◌≢◌, ℕ, ◌+◌, ◌-◌, ◌≤◌, List, [], ◌++◌, length, drop, Bool, true, ◌&&◌, not, None}
+use Rattle.std.specs.Prelude.{◌≡◌, ◌≢◌, ◌⊎◌, ℕ, ◌+◌, ◌-◌, ◌≤◌, List, [], ◌++◌, length, drop, Bool, true, ◌&&◌, not, None}
 use Rattle.posix_calls.specs.Operations.{is_client}
 use Rattle.file_graph.specs.Graph.{Graph, set_node}
 use Rattle.log_record.specs.declared.format.Record.{Record}
 use Rattle.world_facts.specs.Logs.{after_records, is_made_in, IsMadeOnce, units_in}
-use Rattle.world_facts.specs.World.{Account, Client, Kernel, at}
+use Rattle.world_facts.specs.World.{Account, Away, Client, Kernel, at}
 use Rattle.world_facts.specs.Standing.{IsLogged, IsBooked}
 use Rattle.world_facts.specs.Opening.{idle_account}
 use Rattle.world_facts.specs.LeaseSteps.{also, without}
@@ -44,6 +44,14 @@ pub record IsRunning (m : Machine) : Type 0 where
   pub booked : IsBooked m.kernel
   -- what is digested was accepted
   pub accepted : (c : ℕ) → is_client c ≡ true → (m.kernel.accounts c).mark ≤ m.accepted c
+
+-- so many accepted records suit a client's regions: those that came before the sealed one, or also those of it, while it is away
+abbrev pub IsAcceptedOf : ℕ → Client → Type 0
+IsAcceptedOf n p = (n ≡ p.past) ⊎ ((p.other ≡ Away) × (n ≡ p.past + length p.sealed))
+
+-- so they do for each client
+abbrev pub AreAccepted : (ℕ → ℕ) → (ℕ → Client) → Type 0
+AreAccepted accepted clients = (c : ℕ) → is_client c ≡ true → IsAcceptedOf (accepted c) (clients c)
 
 -- ---- its entries
 

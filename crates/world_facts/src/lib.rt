@@ -103,9 +103,9 @@ pub use lease_laws::{
     view_of_a_held_inode_is_the_wholes, write_lease_may_be_taken,
 };
 pub use machine_laws::{
-    digest_keeps_what_is_sealed, kernel_entries_are_steps_of_the_world,
-    kernel_entries_may_be_taken_in_the_world, kernel_keeps_its_book, parts_stand_where_they_write,
-    region_that_is_away_may_be_accepted,
+    accepted_regions_are_those_away, digest_keeps_what_is_sealed,
+    kernel_entries_are_steps_of_the_world, kernel_entries_may_be_taken_in_the_world,
+    kernel_keeps_its_book, parts_stand_where_they_write, region_that_is_away_may_be_accepted,
 };
 pub use opening_laws::{idle_world_holds, opening_world_holds};
 pub use order_laws::clients_records_commute;

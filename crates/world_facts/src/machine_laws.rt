@@ -1,17 +1,19 @@
 //! The kernel as a part of its own: each of its entries keeps its book, what is sealed, and what is said of the clients' parts.
 
-ghost use Rattle.std.specs.Prelude.{◌≡◌, ◌≢◌, ℕ, List, true, false, None};
+ghost use Rattle.std.specs.Prelude.{◌≡◌, ◌≢◌, ◌⊎◌, ℕ, ◌+◌, ◌≤◌, List, length, true, false, None};
 ghost use Rattle.posix_calls.specs.Operations.{is_client};
 ghost use Rattle.file_graph.specs.Graph.{Graph};
 ghost use Rattle.log_record.specs.declared.format.Record.{Record};
 ghost use Rattle.world_facts.specs.Logs.{after_records, is_written, is_made_in};
-ghost use Rattle.world_facts.specs.World.{Account, Away, Client, World, records_of};
+ghost use Rattle.world_facts.specs.World.{Account, Away, Client, World, at, records_of};
 ghost use Rattle.world_facts.specs.Standing.{Stands};
 ghost use Rattle.world_facts.specs.BookSteps.{HasRoom, IsUnbooked};
 ghost use Rattle.world_facts.specs.KernelSteps.{CanDigest, CanReclaim, records_digested, reclaimed};
 ghost use Rattle.world_facts.specs.Halves.{units_booked, units_unbooked, number_booked, number_unbooked, pin_booked, pin_unbooked};
-ghost use Rattle.world_facts.specs.Burial.{client_buried};
-ghost use Rattle.world_facts.specs.Machine.{Machine, IsRunning, Sealed, sealed_of, left_of, StandsSealed, CanAccept, accept, CanDigestNext, account_after, digest, book_units, unbook_units, book_number, unbook_number, book_pin, unbook_pin, bury, reclaim};
+ghost use Rattle.world_facts.specs.Burial.{CanBury, client_buried};
+ghost use Rattle.world_facts.specs.Opening.{idle_world};
+ghost use Rattle.world_facts.specs.RegionSteps.{CanSeal, region_sealed, CanTakeBack, taken_back, CanWipeOther, other_wiped};
+ghost use Rattle.world_facts.specs.Machine.{Machine, IsRunning, AreAccepted, Sealed, sealed_of, left_of, StandsSealed, CanAccept, accept, CanDigestNext, account_after, digest, book_units, unbook_units, book_number, unbook_number, book_pin, unbook_pin, bury, reclaim};
 ghost use Rattle.world_facts.specs.Invariant.{IsCoherent};
 
 /// Each entry keeps what holds of the kernel alone.
@@ -67,4 +69,18 @@ pub fn region_that_is_away_may_be_accepted()
 pub fn kernel_entries_may_be_taken_in_the_world()
     ensures digest { (w : World) (accepted : ℕ → ℕ) (c : ℕ) (first rest : List Record) → CanDigestNext (record { kernel = w.kernel; accepted = accepted }) c (sealed_of (w.clients c)) first rest → CanDigest w c first rest }
     ensures sealed { (w : World) (c : ℕ) → IsCoherent w → is_client c ≡ true → StandsSealed w.kernel.shared (w.kernel.accounts c) (sealed_of (w.clients c)) }
+{}
+
+/// The regions that the kernel accepted are the clients' regions that are away: each step of a region, each acceptance and each burial
+/// keeps it. So a region that is away was accepted or may be, and what the world may digest of an accepted one the kernel may.
+pub fn accepted_regions_are_those_away()
+    ensures opening { (capacity : ℕ) (g : Graph) → AreAccepted (λ c. 0) (idle_world capacity g).clients }
+    ensures still { (accepted : ℕ → ℕ) (w : World) (c : ℕ) (p : Client) → AreAccepted accepted w.clients → p.past ≡ (w.clients c).past → p.sealed ≡ (w.clients c).sealed → p.other ≡ (w.clients c).other → AreAccepted accepted (at w.clients c p) }
+    ensures sealed { (accepted : ℕ → ℕ) (w : World) (c : ℕ) → AreAccepted accepted w.clients → CanSeal w c → AreAccepted accepted (region_sealed w c).clients }
+    ensures accept { (accepted : ℕ → ℕ) (w : World) (c : ℕ) → IsCoherent w → AreAccepted accepted w.clients → CanAccept (record { kernel = w.kernel; accepted = accepted }) c (sealed_of (w.clients c)) → AreAccepted (accept (record { kernel = w.kernel; accepted = accepted }) c (sealed_of (w.clients c))).accepted w.clients }
+    ensures back { (accepted : ℕ → ℕ) (w : World) (c : ℕ) → IsCoherent w → AreAccepted accepted w.clients → (w.kernel.accounts c).mark ≤ accepted c → CanTakeBack w c → AreAccepted accepted (taken_back w c).clients }
+    ensures wiped { (accepted : ℕ → ℕ) (w : World) (c : ℕ) → AreAccepted accepted w.clients → CanWipeOther w c → AreAccepted accepted (other_wiped w c).clients }
+    ensures buried { (accepted : ℕ → ℕ) (w : World) (c : ℕ) → IsCoherent w → AreAccepted accepted w.clients → CanBury w c → AreAccepted accepted (client_buried w c).clients }
+    ensures next { (accepted : ℕ → ℕ) (w : World) (c : ℕ) → IsCoherent w → AreAccepted accepted w.clients → is_client c ≡ true → (w.clients c).other ≡ Away → (w.kernel.accounts c).mark ≤ accepted c → CanAccept (record { kernel = w.kernel; accepted = accepted }) c (sealed_of (w.clients c)) ⊎ (accepted c ≡ (w.clients c).past + length (w.clients c).sealed) }
+    ensures digest { (accepted : ℕ → ℕ) (w : World) (c : ℕ) (first rest : List Record) → IsCoherent w → accepted c ≡ (w.clients c).past + length (w.clients c).sealed → CanDigest w c first rest → CanDigestNext (record { kernel = w.kernel; accepted = accepted }) c (sealed_of (w.clients c)) first rest }
 {}
