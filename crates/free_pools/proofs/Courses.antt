@@ -10,7 +10,7 @@ use Rattle.batch_journal.proofs.Views.{which}
 use Rattle.area_image.specs.Store.{Store, store_of, content_blocks}
 use Rattle.area_image.specs.Reads.{Loose, LooseIn, IsFreeRun}
 use Rattle.area_image.proofs.Torn.{torn_data, torn_fast, loose_left}
-use Rattle.free_pools.specs.Writing.{IsLooseLeft, StaysLoose}
+use Rattle.free_pools.specs.Writing.{IsLooseLeft, IsJournalLeft, StaysLoose}
 
 module _ (g : Sizes) (s : Store) where
   -- no call at all
@@ -20,6 +20,7 @@ module _ (g : Sizes) (s : Store) where
     past = λ m t c le l. l;
     kept = λ m t c le l. l;
     any_moment = λ loose m lo hi. (let same : a ≡ m = omega (arith, lo, hi) in subst (λ n. IsLooseLeft g s (L n)) same loose);
+    journal = λ is m lo hi. (let same : a ≡ m = omega (arith, lo, hi) in subst (λ n. IsJournalLeft g (L n)) same is);
   }
 
   -- one course after another
@@ -31,6 +32,10 @@ module _ (g : Sizes) (s : Store) where
     any_moment = λ loose m lo hi. elim (cases_lt m b) [
       | inl early ↦ λ t x l. one.any_moment loose m lo (omega (arith, early)) t x (two.past m t x (omega (arith, early)) l)
       | inr late ↦ two.any_moment (one.any_moment loose b one.later (omega arith)) m late hi
+    ];
+    journal = λ is m lo hi. elim (cases_lt m b) [
+      | inl early ↦ λ x l. one.journal is m lo (omega (arith, early)) x (two.past m Fast x (omega (arith, early)) l)
+      | inr late ↦ two.journal (one.journal is b one.later (omega arith)) m late hi
     ];
   }
 
@@ -67,13 +72,14 @@ module _ (g : Sizes) (s : Store) where
       ]
     ]
 
-  pub loose_write : (h : Sizes) (tier : Tier) (first n a b : ℕ) (L M : ℕ → Tier → List ℕ → Type 0) → Since tier (TornFrom (L a tier) (4096 * first) n) a b L M
-      → ((c : List ℕ) → LeftSince M b a Fast c → OutsideRunFrom h (L a Fast) first n c) → IsFreeRun g s tier first n → StaysLoose g s a b L M
-  loose_write h tier first n a b L M since stay run = record {
+  pub loose_write : (tier : Tier) (first n a b : ℕ) (L M : ℕ → Tier → List ℕ → Type 0) → Since tier (TornFrom (L a tier) (4096 * first) n) a b L M
+      → ((c : List ℕ) → LeftSince M b a Fast c → OutsideRunFrom g (L a Fast) first n c) → IsFreeRun g s tier first n → StaysLoose g s a b L M
+  loose_write tier first n a b L M since stay run = record {
     later = since.later;
     past = since.past;
     kept = since.kept;
-    any_moment = λ loose m lo hi. while_written h tier first n a b L M since stay run loose m lo hi;
+    any_moment = λ loose m lo hi. while_written g tier first n a b L M since stay run loose m lo hi;
+    journal = λ is m lo hi x l. (stay x (m, lo, hi, l)).journal;
   }
 
 -- a course after another, of the same geometry

@@ -10,6 +10,7 @@ use Rattle.block_alloc.specs.Runs.{blocks_of, IsNormal}
 use Rattle.batch_journal.specs.Images.{slice}
 use Rattle.batch_journal.specs.Blocks.{block_of}
 use Rattle.batch_journal.specs.View.{JournalView}
+use Rattle.batch_journal.specs.Volume.{IsJournal}
 use Rattle.batch_journal.specs.declared.error.JournalError.{JournalError}
 use Rattle.batch_journal.specs.declared.error.JournalError.TheVariants.{DeviceFault}
 use Rattle.area_image.specs.Store.{Store, content_blocks}
@@ -56,12 +57,18 @@ AreApart g taken = (t : Tier) → IsNormal (data_first g t) (tier_blocks g t) (r
 abbrev pub IsLooseLeft : Sizes → Store → (Tier → List ℕ → Type 0) → Type 0
 IsLooseLeft g s left = (t : Tier) (c : List ℕ) → left t c → LooseIn g s t (content_blocks t c)
 
--- The past stays. Where what may be left differs from that store in its free blocks alone, so it does at each moment from the old one to the new one.
+-- Whatever may be left of the fast tier holds a journal of that geometry.
+abbrev pub IsJournalLeft : Sizes → (Tier → List ℕ → Type 0) → Type 0
+IsJournalLeft g left = (c : List ℕ) → left Fast c → IsJournal g c
+
+-- The past stays. Where what may be left differs from that store in its free blocks alone, so it does at each moment from the old one to the new one; and where it holds a
+-- journal, so it does.
 pub record StaysLoose (g : Sizes) (s : Store) (before now : ℕ) (old new : ℕ → Tier → List ℕ → Type 0) : Type 0 where
   pub later : before ≤ now
   pub past : (m : ℕ) (t : Tier) (c : List ℕ) → m ≤ before → new m t c → old m t c
   pub kept : (m : ℕ) (t : Tier) (c : List ℕ) → m ≤ before → old m t c → new m t c
   pub any_moment : IsLooseLeft g s (old before) → (m : ℕ) → before ≤ m → m ≤ now → IsLooseLeft g s (new m)
+  pub journal : IsJournalLeft g (old before) → (m : ℕ) → before ≤ m → m ≤ now → IsJournalLeft g (new m)
 
 -- A tier that was at rest is so still.
 abbrev pub KeepsRest : (seen seen' : Tier → List ℕ) → (left left' : Tier → List ℕ → Type 0) → Type 0

@@ -199,7 +199,7 @@ pub fn write_data<M: Media>(
     requires free { (t : Tier) → AreFreeIn journal.old.geometry (store_of (M.seen journal.old.media)) t (runs_of taken.now t) }
     requires size { length «data».now ≡ 4096 * length (taken_data taken.now) }
 
-    // At each moment a stop leaves what differs from the store before in blocks alone that are free in it, where it did so before.
+    // At each moment a stop leaves what differs from the store before in blocks alone that are free in it, where it did so before; and what holds a journal, where it did.
     ensures any_moment { StaysLoose journal.old.geometry (store_of (M.seen journal.old.media)) (M.moment journal.old.media) (M.moment journal.new.media) (M.left journal.old.media) (M.left journal.new.media) }
     // So does the store that is seen in the end, also after a refusal; and from this store differs what may be left then, as it did from that before.
     ensures seen { IsLooseLeft journal.old.geometry (store_of (M.seen journal.old.media)) (M.left journal.old.media (M.moment journal.old.media)) → Loose journal.old.geometry (store_of (M.seen journal.old.media)) (store_of (M.seen journal.new.media)) }

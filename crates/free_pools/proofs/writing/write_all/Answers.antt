@@ -5,6 +5,9 @@ use Rattle.free_pools.specs.Writing.{AreFreeIn}
 use Rattle.free_pools.proofs.Courses.{loose_next}
 use Rattle.free_pools.proofs.writing.write_all.Goals as goal
 
+pub returns-in_err-write_runs-clause-loose : goal.returns-in_err-write_runs-clause-loose
+returns-in_err-write_runs-clause-loose g c s fast block slow = c.write_runs.ensures.loose s fast
+
 pub returns-in_err-write_runs-2-clause-loose : goal.returns-in_err-write_runs-2-clause-loose
 returns-in_err-write_runs-2-clause-loose g c s fast block slow =
     let m = g.M.Media in

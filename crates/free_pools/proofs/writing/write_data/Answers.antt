@@ -5,7 +5,7 @@ use Rattle.block_alloc.specs.declared.runs.Run.{Run}
 use Rattle.block_alloc.specs.Runs.{IsNormal}
 use Rattle.area_image.specs.Store.{store_of}
 use Rattle.free_pools.specs.Writing.{AreFreeIn, StaysLoose}
-use Rattle.free_pools.proofs.Courses.{loose_seen, loose_after}
+use Rattle.free_pools.proofs.Courses.{loose_start, loose_seen, loose_after}
 use Rattle.free_pools.proofs.writing.write_data.Given.{Over}
 use Rattle.free_pools.proofs.writing.write_data.Goals as goal
 
@@ -17,6 +17,12 @@ write_and_fence-requires-clause-block g c = let h = c.args.journal.now.geometry 
 
 pub write_and_fence-requires-clause-slow : goal.write_and_fence-requires-clause-slow
 write_and_fence-requires-clause-slow g c = let h = c.args.journal.now.geometry in subst (λ (runs : List Run). IsNormal (data_first h Slow) (tier_blocks h Slow) runs) (sym c.deref-3.ensures.value) (c.requires.apart Slow)
+
+pub returns-then-has_failed-clause-any_moment : goal.returns-then-has_failed-clause-any_moment
+returns-then-has_failed-clause-any_moment g c =
+    let m = g.M.Media in
+    let old = c.args.journal.now in
+    loose_start old.geometry (store_of (m.seen old.media)) (m.moment old.media) (m.left old.media)
 
 module _ (g : Over) (c : goal.After-write_and_fence g) where
   course : StaysLoose c.args.journal.now.geometry (store_of (g.M.Media.seen c.args.journal.now.media)) (g.M.Media.moment c.args.journal.now.media) (g.M.Media.moment c.write_and_fence.new.journal.media) (g.M.Media.left c.args.journal.now.media) (g.M.Media.left c.write_and_fence.new.journal.media)

@@ -19,7 +19,7 @@ returns-clause-loose g c s free =
     let run = c.args.run in
     let n = length c.args.bytes.now in
     let clear : IsFreeRun old.geometry s tier run.first n = λ k low high. free k (Contains-append_left (run_blocks run) [] k (in_range run.first run.count k low (omega (arith, high, c.requires.size)))) in
-    loose_write old.geometry s old.geometry tier run.first n (m.moment old.media) (m.moment new.media) (m.left old.media) (m.left new.media) (c.write.ensures.any_moment c.requires.going) (c.write.ensures.blocks_stay c.requires.going) clear
+    loose_write old.geometry s tier run.first n (m.moment old.media) (m.moment new.media) (m.left old.media) (m.left new.media) (c.write.ensures.any_moment c.requires.going) (c.write.ensures.blocks_stay c.requires.going) clear
 
 pub returns-clause-written : goal.returns-clause-written
 returns-clause-written g c =

@@ -1,4 +1,4 @@
-use Rattle.std.proofs.Common.{◌≡◌, ◌≤◌, ◌+◌, ◌-◌, ◌*◌, ℕ, List, length, take, drop, get_or, ap, sym, subst, ◌∙◌, ◌∷◌, [], arith, inl}
+use Rattle.std.proofs.Common.{◌≡◌, ◌≤◌, ◌+◌, ◌-◌, ◌*◌, ℕ, List, length, take, drop, get_or, ap, sym, subst, refl, ◌∙◌, ◌∷◌, [], arith, inl}
 use Rattle.std.specs.List.{flat_map}
 use Rattle.std.proofs.lemmas.List.{length-take-le, length-drop}
 use Rattle.layout.specs.Places.{Sizes, data_first, tier_blocks}
@@ -7,7 +7,7 @@ use Rattle.block_alloc.specs.Runs.{run_blocks}
 use Rattle.batch_journal.specs.Blocks.{block_of}
 use Rattle.area_image.specs.Reads.{Free}
 use Rattle.free_pools.specs.Writing.{AreFreeIn, StaysLoose}
-use Rattle.free_pools.proofs.Courses.{loose_then}
+use Rattle.free_pools.proofs.Courses.{loose_start, loose_then}
 use Rattle.free_pools.proofs.Held.{this_within, this_more, this_fits, holds_more, one_run}
 use Rattle.free_pools.proofs.writing.write_runs.Goals as goal
 
@@ -38,6 +38,22 @@ write_run-requires g c =
       first = subst (λ (x : Sizes). data_first x c.args.tier ≤ (get_or runs i none).first) (sym c.runs.invariant.geometry) within.0;
       last = subst (λ (x : Sizes). (get_or runs i none).first + (get_or runs i none).count ≤ tier_blocks x c.args.tier) (sym c.runs.invariant.geometry) within.2;
       size = part c.args.«data».now c.runs.at (4096 * (get_or runs i none).count) (omega (arith, fits, c.runs.invariant.at_is, c.requires.size));
+    }
+
+pub runs-init : goal.runs-init
+runs-init g c =
+    let m = g.M.Media in
+    let old = c.args.journal.now in
+    record {
+      loose = λ s free. loose_start old.geometry s (m.moment old.media) (m.left old.media);
+      at_is = refl;
+      written = refl;
+      others = λ t other. refl;
+      calls = omega arith;
+      geometry = refl;
+      going = c.requires.going;
+      quiet = refl;
+      lengths = λ t. refl;
     }
 
 pub returns-in_err-write_run-clause-loose : goal.returns-in_err-write_run-clause-loose
