@@ -1,6 +1,6 @@
 -- What is in memory stays true of media that are only read.
 use Rattle.std.proofs.Common.{◌≡◌, ◌≤◌, ◌*◌, ◌∙◌, ℕ, List, length, false, sym, ap, subst, inl, inr}
-use Rattle.std.specs.Prelude.{Result}
+use Rattle.std.specs.Prelude.{Result, Some}
 use Rattle.std.proofs.lemmas.Bool.{cases_Bool, true≢false}
 use Rattle.tier_device.specs.declared.media.Tier.{Tier}
 use Rattle.tier_device.specs.declared.media.Tier.TheVariants.{Fast}
@@ -12,14 +12,14 @@ use Rattle.batch_journal.specs.View.{JournalView}
 use Rattle.batch_journal.specs.Volume.{IsJournal}
 use Rattle.batch_journal.proofs.Courses.{left_before}
 use Rattle.area_image.specs.declared.error.AreaError.{AreaError}
-use Rattle.area_image.specs.Store.{Store, store_of}
+use Rattle.area_image.specs.Store.{Store, store_of, content_blocks, graph, marks}
 use Rattle.area_image.specs.Spelled.{IsOpenable}
 use Rattle.area_image.specs.Looks.{Looks}
 use Rattle.area_image.specs.Reads.{Loose}
 use Rattle.area_image.proofs.Looked.{carried}
 use Rattle.area_image.proofs.Frames.{loose_graph, loose_marks, loose_spelled}
 use Rattle.area_image.proofs.Torn.{loose_whole}
-use Rattle.free_pools.specs.Value.{PoolsView}
+use Rattle.free_pools.specs.Value.{PoolsView, HasRanges, AreFree}
 use Rattle.shared_area.specs.Ready.{IsReady, OpensAs}
 
 module _ {M : Type 0} (moment : M → ℕ) (seen : M → Tier → List ℕ) (left : M → ℕ → Tier → List ℕ → Type 0) (faults : M → ℕ) where
@@ -31,18 +31,19 @@ module _ {M : Type 0} (moment : M → ℕ) (seen : M → Tier → List ℕ) (lef
   ]
 
   pub still_ready : {T : Type 0} (old new : JournalView M) (r : Result T AreaError) → Looks moment seen left faults old new r → (pools : PoolsView) (told : Marks) (units : ℕ)
-      → (old.failed ≡ false → IsReady old.geometry (store_of (seen old.media)) (left old.media (moment old.media)) pools told units)
-      → new.failed ≡ false → IsReady new.geometry (store_of (seen new.media)) (left new.media (moment new.media)) pools told units
+      → (old.failed ≡ false → IsReady old.geometry (seen old.media) (left old.media (moment old.media)) pools told units)
+      → new.failed ≡ false → IsReady new.geometry (seen new.media) (left new.media (moment new.media)) pools told units
   still_ready old new r looks pools told units before going =
       let ready = before (was_going old new r looks going) in
-      carried moment seen left faults (λ g s. IsReady g s (left new.media (moment new.media)) pools told units) old new r looks (record {
-        opens = ready.opens;
-        left = λ t x l. ready.left t x (left_before looks.unmoved t x l);
-        ranges = ready.ranges;
-        free = ready.free;
-        marked = ready.marked;
-        charged = ready.charged;
-      })
+      let on : (P : Sizes → Store → Type 0) → P old.geometry (store_of (seen old.media)) → P new.geometry (store_of (seen new.media)) = λ P p. carried moment seen left faults P old new r looks p in
+      record {
+        opens = on IsOpenable ready.opens;
+        rests = λ t x l. ready.rests t x (left_before looks.unmoved t x l) ∙ sym (looks.unmoved.reads t);
+        ranges = on (λ g s. HasRanges g pools) ready.ranges;
+        free = on (λ g s. AreFree g s pools) ready.free;
+        marked = on (λ g s. marks s ≡ Some told) ready.marked;
+        charged = on (λ g s. units ≡ charge (graph g s)) ready.charged;
+      }
 
 -- a store that differs in free blocks alone keeps the units
 keeps_opens : (g : Sizes) (s x : Store) → IsOpenable g s → Loose g s x → IsOpenable g x
@@ -52,16 +53,16 @@ keeps_opens g s x opens loose = record {
 }
 
 -- what a stop may leave now
-pub left_loose : (g : Sizes) (s : Store) (may_leave : Tier → List ℕ → Type 0) (pools : PoolsView) (told : Marks) (units : ℕ) → IsReady g s may_leave pools told units → (content : Tier → List ℕ) → ((t : Tier) → may_leave t (content t)) → Loose g s (store_of content)
-left_loose g s may_leave pools told units ready content l = loose_whole g s content (λ t. ready.left t (content t) (l t))
+pub left_loose : (g : Sizes) (seen : Tier → List ℕ) (may_leave : Tier → List ℕ → Type 0) (pools : PoolsView) (told : Marks) (units : ℕ) → IsReady g seen may_leave pools told units → (content : Tier → List ℕ) → ((t : Tier) → may_leave t (content t)) → Loose g (store_of seen) (store_of content)
+left_loose g seen may_leave pools told units ready content l = loose_whole g (store_of seen) content (λ t k used. ap (λ d. content_blocks t d k) (ready.rests t (content t) (l t)))
 
-pub left_opens : (g : Sizes) (s : Store) (may_leave : Tier → List ℕ → Type 0) (pools : PoolsView) (told : Marks) (units : ℕ) → IsReady g s may_leave pools told units → (content : Tier → List ℕ) → ((t : Tier) → may_leave t (content t))
-    → ((t : Tier) → length (content t) ≡ 4096 * tier_blocks g t) → IsJournal g (content Fast) → OpensAs g s content
-left_opens g s may_leave pools told units ready content l sizes journal =
-    let loose = left_loose g s may_leave pools told units ready content l in
+pub left_opens : (g : Sizes) (seen : Tier → List ℕ) (may_leave : Tier → List ℕ → Type 0) (pools : PoolsView) (told : Marks) (units : ℕ) → IsReady g seen may_leave pools told units → (content : Tier → List ℕ) → ((t : Tier) → may_leave t (content t))
+    → ((t : Tier) → length (content t) ≡ 4096 * tier_blocks g t) → IsJournal g (content Fast) → OpensAs g (store_of seen) content
+left_opens g seen may_leave pools told units ready content l sizes journal =
+    let loose = left_loose g seen may_leave pools told units ready content l in
     record {
       volume = record { sizes = sizes; journal = journal };
-      opens = keeps_opens g s (store_of content) ready.opens loose;
-      same_graph = loose_graph g s (store_of content) loose;
-      same_marks = loose_marks g s (store_of content) loose;
+      opens = keeps_opens g (store_of seen) (store_of content) ready.opens loose;
+      same_graph = loose_graph g (store_of seen) (store_of content) loose;
+      same_marks = loose_marks g (store_of seen) (store_of content) loose;
     }

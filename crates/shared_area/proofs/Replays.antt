@@ -1,11 +1,9 @@
 -- What is opened, or handed back, is as it was.
 use Rattle.std.proofs.Common.{◌≡◌, ◌≢◌, ◌+◌, ◌∙◌, ℕ, List, refl, sym, ap, subst, arith, inl, inr, cond}
-use Rattle.std.specs.Prelude.{Some}
 use Rattle.std.proofs.lemmas.Bool.{cases_Bool}
 use Rattle.tier_device.specs.declared.media.Tier.{Tier}
 use Rattle.tier_device.specs.declared.media.Tier.TheVariants.{Fast, Block, Slow}
 use Rattle.tier_device.specs.Media.{AtRest}
-use Rattle.file_graph.specs.Units.{charge}
 use Rattle.layout.specs.declared.error.What.{What}
 use Rattle.layout.specs.Places.{Sizes}
 use Rattle.batch_journal.specs.declared.error.JournalError.{JournalError}
@@ -19,14 +17,11 @@ use Rattle.batch_journal.proofs.Courses.{and_then, still, left_before, tiers_sam
 use Rattle.batch_journal.proofs.Openings.{spells_one}
 use Rattle.area_image.specs.declared.error.AreaError.{AreaError}
 use Rattle.area_image.specs.declared.error.AreaError.TheVariants as errors
-use Rattle.area_image.specs.Store.{Store, store_of, content_blocks, graph, marks}
+use Rattle.area_image.specs.Store.{Store, store_of, content_blocks}
 use Rattle.area_image.specs.Spelled.{IsOpenable}
-use Rattle.free_pools.specs.Value.{PoolsView, HasRanges, AreFree}
-use Rattle.layout.specs.declared.marks.Marks.{Marks}
 use Rattle.area_image.specs.Damage.{OnDamage}
 use Rattle.area_image.proofs.Parts.{on_damage}
 use Rattle.shared_area.specs.Opening.{SpellsNone, IsTold}
-use Rattle.shared_area.specs.Ready.{IsReady}
 
 -- The medium is as it was at rest, but for the replay of an open journal.
 pub record IsReplayed (s s' : Tier → List ℕ) (a b : ℕ) (L M : ℕ → Tier → List ℕ → Type 0) : Type 0 where
@@ -81,18 +76,6 @@ module _ (s s' : Tier → List ℕ) (a b : ℕ) (L M : ℕ → Tier → List ℕ
 
     pub store_read : store_of s'' ≡ store_of s
     store_read = ap store_of (tiers_same s' s'' un.reads) ∙ same_store
-
--- what is in memory of a medium at rest
-pub ready_at_rest : (g : Sizes) (s : Tier → List ℕ) (may_leave : Tier → List ℕ → Type 0) (pools : PoolsView) (told : Marks) (units : ℕ) → IsOpenable g (store_of s) → ((t : Tier) → AtRest s may_leave t) → HasRanges g pools → AreFree g (store_of s) pools
-    → marks (store_of s) ≡ Some told → units ≡ charge (graph g (store_of s)) → IsReady g (store_of s) may_leave pools told units
-ready_at_rest g s may_leave pools told units opens rests ranges free marked charged = record {
-  opens = opens;
-  left = λ t x l k used. ap (λ d. content_blocks t d k) (rests t x l);
-  ranges = ranges;
-  free = free;
-  marked = marked;
-  charged = charged;
-}
 
 -- media of one geometry that spell no graph by it
 pub spells_none : (g : Sizes) (s : Tier → List ℕ) (x : Store) (e : AreaError) → IsVolume g s → x ≡ store_of s → OnDamage e (λ _ _. IsOpenable g x → ⊥) → OnDamage e (λ _ _. SpellsNone s)

@@ -2,25 +2,24 @@
 use Rattle.std.specs.Prelude.{◌≡◌, ◌↔◌, ℕ, List, length, Some}
 use Rattle.std.specs.List.{Contains}
 use Rattle.tier_device.specs.declared.media.Tier.{Tier}
+use Rattle.tier_device.specs.Media.{AtRest}
 use Rattle.file_graph.specs.Units.{charge}
 use Rattle.layout.specs.declared.marks.Marks.{Marks}
 use Rattle.layout.specs.Places.{Sizes}
 use Rattle.block_alloc.specs.Runs.{Rising}
 use Rattle.batch_journal.specs.Volume.{IsVolume}
-use Rattle.area_image.specs.Store.{Store, store_of, content_blocks, graph, marks}
-use Rattle.area_image.specs.Reads.{LooseIn}
+use Rattle.area_image.specs.Store.{Store, store_of, graph, marks}
 use Rattle.area_image.specs.Spelled.{IsOpenable}
 use Rattle.free_pools.specs.Value.{PoolsView, HasRanges, AreFree}
 
--- The media spell a graph, whatever a stop may leave differs from what is read in free blocks alone, the pools have the free blocks, the marks are those that are
--- spelled, and the units are what the graph costs.
-pub record IsReady (g : Sizes) (s : Store) (may_leave : Tier → List ℕ → Type 0) (pools : PoolsView) (told : Marks) (units : ℕ) : Type 0 where
-  pub opens : IsOpenable g s
-  pub left : (t : Tier) (c : List ℕ) → may_leave t c → LooseIn g s t (content_blocks t c)
+-- The media spell a graph, and nothing is pending on them; the pools have the free blocks, the marks are those that are spelled, and the units are what the graph costs.
+pub record IsReady (g : Sizes) (seen : Tier → List ℕ) (may_leave : Tier → List ℕ → Type 0) (pools : PoolsView) (told : Marks) (units : ℕ) : Type 0 where
+  pub opens : IsOpenable g (store_of seen)
+  pub rests : (t : Tier) → AtRest seen may_leave t
   pub ranges : HasRanges g pools
-  pub free : AreFree g s pools
-  pub marked : marks s ≡ Some told
-  pub charged : units ≡ charge (graph g s)
+  pub free : AreFree g (store_of seen) pools
+  pub marked : marks (store_of seen) ≡ Some told
+  pub charged : units ≡ charge (graph g (store_of seen))
 
 -- So many blocks from the first one on and before the end are such: they rise strictly in a list.
 pub record HasCount (first end : ℕ) (P : ℕ → Type 0) (count : ℕ) : Type 0 where

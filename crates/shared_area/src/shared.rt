@@ -54,7 +54,6 @@ impl<M: Media> Model for Shared<M> {
     ghost use Rattle.std.specs.Prelude.{◌≡◌, false, ℕ, List};
     ghost use Rattle.tier_device.specs.declared.media.Tier.{Tier};
     ghost use Rattle.batch_journal.specs.View.{JournalView};
-    ghost use Rattle.area_image.specs.Store.{store_of};
     ghost use Rattle.shared_area.specs.Ready.{IsReady};
 
     ghost Value = { JournalView M };
@@ -62,7 +61,7 @@ impl<M: Media> Model for Shared<M> {
     ghost view = { λ a. a.journal };
 
     // until a device has failed
-    ghost invariant = { λ a. a.journal.failed ≡ false → IsReady a.journal.geometry (store_of (M.seen a.journal.media)) (M.left a.journal.media (M.moment a.journal.media)) a.pools a.marks a.units };
+    ghost invariant = { λ a. a.journal.failed ≡ false → IsReady a.journal.geometry (M.seen a.journal.media) (M.left a.journal.media (M.moment a.journal.media)) a.pools a.marks a.units };
 }
 
 impl<M: Media> Shared<M> {
@@ -209,8 +208,9 @@ impl<M: Media> Shared<M> {
         self.journal.has_failed()
     }
 
-    /// What may be left of the medium by a stop now, between two calls: contents that can be opened, and spell the graph and the marks that are read.
+    /// Between two calls nothing is pending: a stop leaves what is read, which can be opened. So the medium beneath may be opened again.
     pub fn left_now(&self)
+        ensures rests { self.now.failed ≡ false → (t : Tier) → AtRest (M.seen self.now.media) (M.left self.now.media (M.moment self.now.media)) t }
         ensures opens { self.now.failed ≡ false → IsOpenable self.now.geometry (store_of (M.seen self.now.media)) }
         ensures loose { self.now.failed ≡ false → (content : Tier → List ℕ) → Left (M.left self.now.media) (M.moment self.now.media) content → Loose self.now.geometry (store_of (M.seen self.now.media)) (store_of content) }
         ensures same { self.now.failed ≡ false → (content : Tier → List ℕ) → Left (M.left self.now.media) (M.moment self.now.media) content → OpensAs self.now.geometry (store_of (M.seen self.now.media)) content }

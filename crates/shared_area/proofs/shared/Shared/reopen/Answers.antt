@@ -12,9 +12,10 @@ use Rattle.area_image.specs.Damage.{IsDamaged}
 use Rattle.area_image.specs.Looks.{Looks}
 use Rattle.area_image.proofs.Parts.{on_damage}
 use Rattle.area_image.proofs.Looked.{looks_err}
+use Rattle.shared_area.specs.Ready.{IsReady}
 use Rattle.shared_area.proofs.Ready.{still_ready}
 use Rattle.std.specs.Prelude.{IsSome}
-use Rattle.shared_area.proofs.Replays.{IsReplayed, rest_read, same_store, rest_after, untouched, course_read, store_read, ready_at_rest, spells_none, told_damage, told_fault, told_other, told_memory}
+use Rattle.shared_area.proofs.Replays.{IsReplayed, rest_read, same_store, rest_after, untouched, course_read, store_read, spells_none, told_damage, told_fault, told_other, told_memory}
 use Rattle.shared_area.proofs.shared.Shared.reopen.Goals as goal
 
 pub returns-in-Err : goal.returns-in-Err
@@ -58,7 +59,7 @@ invariant_of-result g c going =
     let looks = found.ensures.looks in
     let is : IsReplayed (m.seen old) (m.seen j.media) (m.moment old) (m.moment j.media) (m.left old) (m.left j.media) = record { course = opened.any_moment; rest = c.requires; rests = opened.rests; others = opened.others; blocks = opened.blocks } in
     let rest = rest_after (m.seen old) (m.seen j.media) (m.moment old) (m.moment j.media) (m.left old) (m.left j.media) is in
-    let before = ready_at_rest j.geometry (m.seen j.media) (m.left j.media (m.moment j.media)) found.found.pools found.found.marks found.found.units found.ensures.opens rest found.ensures.ranges found.ensures.free found.ensures.marks found.ensures.units in
+    let before : IsReady j.geometry (m.seen j.media) (m.left j.media (m.moment j.media)) found.found.pools found.found.marks found.found.units = record { opens = found.ensures.opens; rests = rest; ranges = found.ensures.ranges; free = found.ensures.free; marked = found.ensures.marks; charged = found.ensures.units } in
     still_ready m.moment m.seen m.left m.faults j new (Ok found.found) looks found.found.pools found.found.marks found.found.units (λ _. before) going
 
 pub returns-in-Ok-read_contents : goal.returns-in-Ok-read_contents
