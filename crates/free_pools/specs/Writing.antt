@@ -70,6 +70,16 @@ pub record StaysLoose (g : Sizes) (s : Store) (before now : ℕ) (old new : ℕ 
   pub any_moment : IsLooseLeft g s (old before) → (m : ℕ) → before ≤ m → m ≤ now → IsLooseLeft g s (new m)
   pub journal : IsJournalLeft g (old before) → (m : ℕ) → before ≤ m → m ≤ now → IsJournalLeft g (new m)
 
+-- Each such tier that was at rest is so still.
+abbrev pub RestsBut : (Tier → Type 0) → (seen seen' : Tier → List ℕ) → (left left' : Tier → List ℕ → Type 0) → Type 0
+RestsBut these seen seen' left left' = (t : Tier) → these t → AtRest seen left t → AtRest seen' left' t
+
+-- one of three, by its tier
+abbrev pub part_in : List Run → List Run → List Run → Tier → List Run
+part_in fast block slow Fast = fast
+part_in fast block slow Block = block
+part_in fast block slow Slow = slow
+
 -- A tier that was at rest is so still.
 abbrev pub KeepsRest : (seen seen' : Tier → List ℕ) → (left left' : Tier → List ℕ → Type 0) → Type 0
 KeepsRest seen seen' left left' = (t : Tier) → AtRest seen left t → AtRest seen' left' t

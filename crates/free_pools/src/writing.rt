@@ -12,7 +12,7 @@ ghost use Rattle.batch_journal.specs.declared.error.JournalError.TheVariants.{De
 ghost use Rattle.area_image.specs.Reads.{Loose};
 ghost use Rattle.area_image.specs.Store.{Store, store_of};
 ghost use Rattle.free_pools.specs.Taking.{places_of, runs_of, taken_data};
-ghost use Rattle.free_pools.specs.Writing.{AreFreeIn, StaysLoose, Went, KeepsRest, HoldParts, HoldData, IsLooseLeft, AreApart, fences_of, calls_of, calls_for};
+ghost use Rattle.free_pools.specs.Writing.{AreFreeIn, StaysLoose, Went, KeepsRest, RestsBut, part_in, HoldParts, HoldData, IsLooseLeft, AreApart, fences_of, calls_of, calls_for};
 
 use crate::taking::Taken;
 use batch_journal::{Journal, JournalError};
@@ -34,6 +34,7 @@ fn write_run<M: Media>(
     ensures written { OnOk result (flat_map (block_of (M.seen journal.new.media tier)) (run_blocks run) ≡ bytes.now) }
     ensures kept { OnOk result ((k : ℕ) → (k < run.first) ⊎ (run.first + run.count ≤ k) → block_of (M.seen journal.new.media tier) k ≡ block_of (M.seen journal.old.media tier) k) }
     ensures others { OnOk result ((t : Tier) → t ≢ tier → M.seen journal.new.media t ≡ M.seen journal.old.media t) }
+    ensures keeps_rest { OnOk result (RestsBut (λ t. t ≢ tier) (M.seen journal.old.media) (M.seen journal.new.media) (M.left journal.old.media (M.moment journal.old.media)) (M.left journal.new.media (M.moment journal.new.media))) }
     ensures calls { OnOk result (M.moment journal.new.media ≡ M.moment journal.old.media + 1) }
     ensures at_most { M.moment journal.new.media ≤ M.moment journal.old.media + 1 }
     ensures went { Went M.faults journal.old journal.new result }
@@ -56,6 +57,7 @@ fn write_runs<M: Media>(
     ensures loose { (s : Store) → AreFreeIn journal.old.geometry s tier runs.now → StaysLoose journal.old.geometry s (M.moment journal.old.media) (M.moment journal.new.media) (M.left journal.old.media) (M.left journal.new.media) }
     ensures written { OnOk result (flat_map (block_of (M.seen journal.new.media tier)) (blocks_of runs.now) ≡ «data».now) }
     ensures others { OnOk result ((t : Tier) → t ≢ tier → M.seen journal.new.media t ≡ M.seen journal.old.media t) }
+    ensures keeps_rest { OnOk result (RestsBut (λ t. t ≡ tier → length runs.now ≡ 0) (M.seen journal.old.media) (M.seen journal.new.media) (M.left journal.old.media (M.moment journal.old.media)) (M.left journal.new.media (M.moment journal.new.media))) }
     ensures calls { OnOk result (M.moment journal.new.media ≡ M.moment journal.old.media + length runs.now) }
     ensures at_most { M.moment journal.new.media ≤ M.moment journal.old.media + length runs.now }
     ensures went { Went M.faults journal.old journal.new result }
@@ -120,6 +122,7 @@ fn write_all<M: Media>(
     requires size { length «data».now ≡ 4096 * length (blocks_of fast.now) + 4096 * length (blocks_of block.now) + 4096 * length (blocks_of slow.now) }
     ensures loose { (s : Store) → AreFreeIn journal.old.geometry s Fast fast.now → AreFreeIn journal.old.geometry s Block block.now → AreFreeIn journal.old.geometry s Slow slow.now → StaysLoose journal.old.geometry s (M.moment journal.old.media) (M.moment journal.new.media) (M.left journal.old.media) (M.left journal.new.media) }
     ensures written { OnOk result (HoldParts (M.seen journal.new.media) fast.now block.now slow.now «data».now) }
+    ensures keeps_rest { OnOk result (RestsBut (λ t. length (part_in fast.now block.now slow.now t) ≡ 0) (M.seen journal.old.media) (M.seen journal.new.media) (M.left journal.old.media (M.moment journal.old.media)) (M.left journal.new.media (M.moment journal.new.media))) }
     ensures calls { OnOk result (M.moment journal.new.media ≡ M.moment journal.old.media + length fast.now + length block.now + length slow.now) }
     ensures at_most { M.moment journal.new.media ≤ M.moment journal.old.media + length fast.now + length block.now + length slow.now }
     ensures went { Went M.faults journal.old journal.new result }
@@ -174,6 +177,7 @@ fn write_and_fence<M: Media>(
     ensures fast { OnOk result (0 < length fast.now → AtRest (M.seen journal.new.media) (M.left journal.new.media (M.moment journal.new.media)) Fast) }
     ensures block { OnOk result (0 < length block.now → AtRest (M.seen journal.new.media) (M.left journal.new.media (M.moment journal.new.media)) Block) }
     ensures slow { OnOk result (0 < length slow.now → AtRest (M.seen journal.new.media) (M.left journal.new.media (M.moment journal.new.media)) Slow) }
+    ensures keeps_rest { OnOk result (KeepsRest (M.seen journal.old.media) (M.seen journal.new.media) (M.left journal.old.media (M.moment journal.old.media)) (M.left journal.new.media (M.moment journal.new.media))) }
     ensures calls { OnOk result (M.moment journal.new.media ≡ M.moment journal.old.media + calls_of fast.now + calls_of block.now + calls_of slow.now) }
     ensures at_most { M.moment journal.new.media ≤ M.moment journal.old.media + calls_of fast.now + calls_of block.now + calls_of slow.now }
     ensures went { Went M.faults journal.old journal.new result }
@@ -206,6 +210,8 @@ pub fn write_data<M: Media>(
     ensures left_after { IsLooseLeft journal.old.geometry (store_of (M.seen journal.old.media)) (M.left journal.old.media (M.moment journal.old.media)) → IsLooseLeft journal.old.geometry (store_of (M.seen journal.new.media)) (M.left journal.new.media (M.moment journal.new.media)) }
     ensures written { OnOk result (HoldData (store_of (M.seen journal.new.media)) (taken_data taken.now) «data».now) }
     ensures rests { OnOk result ((t : Tier) → 0 < length (runs_of taken.now t) → AtRest (M.seen journal.new.media) (M.left journal.new.media (M.moment journal.new.media)) t) }
+    // A tier to which nothing is written is at rest where it was before.
+    ensures keeps_rest { OnOk result (KeepsRest (M.seen journal.old.media) (M.seen journal.new.media) (M.left journal.old.media (M.moment journal.old.media)) (M.left journal.new.media (M.moment journal.new.media))) }
     ensures calls { OnOk result (M.moment journal.new.media ≡ M.moment journal.old.media + calls_for taken.now) }
     ensures at_most { M.moment journal.new.media ≤ M.moment journal.old.media + calls_for taken.now }
 

@@ -1,7 +1,10 @@
-use Rattle.std.proofs.Common.{sym, subst, ◌∙◌}
-use Rattle.tier_device.specs.declared.media.Tier.TheVariants.{Block, Slow}
+use Rattle.std.proofs.Common.{◌≡◌, length, sym, subst, ◌∙◌}
+use Rattle.tier_device.specs.declared.media.Tier.{Tier}
+use Rattle.tier_device.specs.declared.media.Tier.TheVariants.{Fast, Block, Slow}
+use Rattle.tier_device.specs.Media.{AtRest}
 use Rattle.layout.specs.Places.{Sizes}
-use Rattle.free_pools.specs.Writing.{AreFreeIn}
+use Rattle.batch_journal.proofs.Courses.{on_ok}
+use Rattle.free_pools.specs.Writing.{AreFreeIn, RestsBut, part_in}
 use Rattle.free_pools.proofs.Courses.{loose_next}
 use Rattle.free_pools.proofs.writing.write_all.Goals as goal
 
@@ -31,3 +34,14 @@ returns-clause-loose g c s fast block slow =
     (c.write_runs.ensures.loose s fast) (c.write_runs-2.ensures.loose s (subst (λ (x : Sizes). AreFreeIn x s Block c.args.block.now) (sym same) block)) in
     loose_next two.geometry old.geometry s (m.moment old.media) (m.moment two.media) (m.moment new.media) (m.left old.media) (m.left two.media) (m.left new.media) same_two
     so_far (c.write_runs-3.ensures.loose s (subst (λ (x : Sizes). AreFreeIn x s Slow c.args.slow.now) (sym same_two) slow))
+
+pub returns-clause-keeps_rest : goal.returns-clause-keeps_rest
+returns-clause-keeps_rest g c =
+    let m = g.M.Media in
+    let old = c.args.journal.now in
+    let two = c.write_runs-2.new.journal in
+    let new = c.write_runs-3.new.journal in
+    let runs = part_in c.args.fast.now c.args.block.now c.args.slow.now in
+    let at : (u : Tier) → (t : Tier) → length (runs t) ≡ 0 → t ≡ u → length (runs u) ≡ 0 = λ u t none same. subst (λ (v : Tier). length (runs v) ≡ 0) same none in
+    on_ok c.write_runs-3.result (λ (last : RestsBut (λ t. t ≡ Slow → length c.args.slow.now ≡ 0) (m.seen two.media) (m.seen new.media) (m.left two.media (m.moment two.media)) (m.left new.media (m.moment new.media))) (t : Tier) (none : length (runs t) ≡ 0) (rest : AtRest (m.seen old.media) (m.left old.media (m.moment old.media)) t).
+    last t (at Slow t none) (c.in_ok-write_runs-2.ensures.keeps_rest t (at Block t none) (c.in_ok-write_runs.ensures.keeps_rest t (at Fast t none) rest))) c.write_runs-3.ensures.keeps_rest

@@ -1,10 +1,12 @@
-use Rattle.std.proofs.Common.{◌≡◌, ◌*◌, ℕ, List, true, length, sym, ap, subst, ◌∙◌}
+use Rattle.std.proofs.Common.{◌≡◌, ◌<◌, ◌*◌, ℕ, List, true, length, sym, ap, subst, ◌∙◌, arith, inl, inr}
+use Rattle.std.proofs.lemmas.Bool.{cases_lt}
 use Rattle.tier_device.specs.declared.media.Tier.{Tier}
-use Rattle.tier_device.specs.declared.media.Tier.TheVariants.{Fast}
+use Rattle.tier_device.specs.declared.media.Tier.TheVariants.{Fast, Block, Slow}
+use Rattle.tier_device.specs.Media.{AtRest}
 use Rattle.layout.specs.Places.{Sizes, tier_blocks}
 use Rattle.batch_journal.specs.Blocks.{home, block_of, is_home}
 use Rattle.batch_journal.proofs.Courses.{tiers_same}
-use Rattle.free_pools.specs.Writing.{HoldParts}
+use Rattle.free_pools.specs.Writing.{HoldParts, part_in}
 use Rattle.free_pools.proofs.Courses.{loose_next}
 use Rattle.free_pools.proofs.Stored.{hold_data}
 use Rattle.free_pools.proofs.writing.write_and_fence.Goals as goal
@@ -39,3 +41,17 @@ returns-clause-written g c =
     let in_place : (k : ℕ) → is_home k ≡ true → home (m.seen new.media Fast) k ≡ block_of (m.seen new.media Fast) k = λ k is. c.left_now.ensures.in_place going (m.seen new.media Fast) k (g.met.M.Media.seen_now new.media Fast) is in
     let parts = subst (λ (f : Tier → List ℕ). HoldParts f c.args.fast.now c.args.block.now c.args.slow.now c.args.«data».now) (sym (tiers_same (m.seen one.media) (m.seen new.media) c.in_ok-fence_all.ensures.seen)) c.in_ok-write_all.ensures.written in
     hold_data old.geometry (m.seen new.media) sizes in_place c.args.fast.now c.args.block.now c.args.slow.now c.requires.fast c.requires.block c.requires.slow c.args.«data».now parts
+
+pub returns-clause-keeps_rest : goal.returns-clause-keeps_rest
+returns-clause-keeps_rest g c t rest =
+    let m = g.M.Media in
+    let runs = part_in c.args.fast.now c.args.block.now c.args.slow.now in
+    elim (cases_lt 0 (length (runs t))) [
+      | inl some ↦ written t some
+      | inr none ↦ c.in_ok-fence_all.ensures.keeps_rest t (c.in_ok-write_all.ensures.keeps_rest t (omega (arith, none)) rest)
+    ]
+  where
+    written : (u : Tier) → 0 < length (part_in c.args.fast.now c.args.block.now c.args.slow.now u) → AtRest (g.M.Media.seen c.fence_all.new.journal.media) (g.M.Media.left c.fence_all.new.journal.media (g.M.Media.moment c.fence_all.new.journal.media)) u
+    written Fast some = c.in_ok-fence_all.ensures.fast some
+    written Block some = c.in_ok-fence_all.ensures.block some
+    written Slow some = c.in_ok-fence_all.ensures.slow some

@@ -1,7 +1,8 @@
-use Rattle.std.proofs.Common.{◌≤◌, ◌<◌, ◌+◌, ◌*◌, ◌⊎◌, ℕ, [], length, ap, ◌∙◌, arith}
+use Rattle.std.proofs.Common.{◌≢◌, ◌≤◌, ◌<◌, ◌+◌, ◌*◌, ◌⊎◌, ℕ, List, [], length, ap, sym, ◌∙◌, arith}
 use Rattle.std.specs.List.{flat_map}
 use Rattle.std.proofs.lemmas.List.Elements.{Contains-append_left}
-use Rattle.tier_device.specs.Media.{overwritten, Puts}
+use Rattle.tier_device.specs.declared.media.Tier.{Tier}
+use Rattle.tier_device.specs.Media.{AtRest, overwritten, Puts}
 use Rattle.block_alloc.specs.Runs.{run_blocks}
 use Rattle.batch_journal.specs.Blocks.{block_of}
 use Rattle.batch_journal.proofs.Courses.{on_ok}
@@ -44,3 +45,13 @@ returns-clause-kept g c =
     let place : 4096 * run.first + length bytes ≤ length (m.seen old.media tier) = omega (arith, c.requires.last, c.requires.size, c.left_now.ensures.sizes c.requires.going tier) in
     on_ok c.write.result (λ (put : Puts tier (overwritten (m.seen old.media tier) (4096 * run.first) bytes) (m.seen old.media) (m.seen new.media)).
     λ (k : ℕ) (apart : (k < run.first) ⊎ (run.first + run.count ≤ k)). ap (λ x. block_of x k) put.here ∙ put_keeps (m.seen old.media tier) bytes run.first run.count c.requires.size place k apart) c.write.ensures.written
+
+pub returns-clause-keeps_rest : goal.returns-clause-keeps_rest
+returns-clause-keeps_rest g c =
+    let m = g.M.Media in
+    let old = c.args.journal.now in
+    let new = c.write.new.self in
+    let tier = c.args.tier in
+    let since = c.write.ensures.any_moment c.requires.going in
+    on_ok c.write.result (λ (put : Puts tier (overwritten (m.seen old.media tier) (4096 * c.args.run.first) c.args.bytes.now) (m.seen old.media) (m.seen new.media)) (t : Tier) (other : t ≢ tier) (rest : AtRest (m.seen old.media) (m.left old.media (m.moment old.media)) t) (x : List ℕ) (l : m.left new.media (m.moment new.media) t x).
+    rest x (since.others (m.moment new.media) t x other since.later (omega arith) l) ∙ sym (put.others t other)) c.write.ensures.written

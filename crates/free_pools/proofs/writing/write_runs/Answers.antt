@@ -49,6 +49,7 @@ runs-init g c =
       at_is = refl;
       written = refl;
       others = λ t other. refl;
+      keeps_rest = λ t none rest. rest;
       calls = omega arith;
       geometry = refl;
       going = c.requires.going;
@@ -90,6 +91,7 @@ runs-preserved g c =
       at_is = omega (arith, this_more low end runs i none c.runs-test.true c.requires.place, c.runs.invariant.at_is);
       written = holds_more low end runs i none c.runs-test.true c.requires.place (block_of (m.seen mid.media tier)) (block_of (m.seen new.media tier)) c.args.«data».now c.runs.at size c.runs.invariant.written (λ k below. c.in_ok-write_run.ensures.kept k (inl below)) written;
       others = λ t other. c.in_ok-write_run.ensures.others t other ∙ c.runs.invariant.others t other;
+      keeps_rest = λ t none rest. c.in_ok-write_run.ensures.keeps_rest t (λ same. (let no : i + 1 ≡ 0 = none same in omega (arith, no))) (c.runs.invariant.keeps_rest t (λ same. (let no : i + 1 ≡ 0 = none same in omega (arith, no))) rest);
       calls = omega (arith, c.in_ok-write_run.ensures.calls, c.runs.invariant.calls);
       geometry = c.write_run.ensures.went.geometry ∙ c.runs.invariant.geometry;
       going = c.in_ok-write_run.ensures.went.going;

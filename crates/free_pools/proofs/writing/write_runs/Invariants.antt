@@ -5,7 +5,7 @@ use Rattle.block_alloc.specs.Runs.{blocks_of}
 use Rattle.batch_journal.specs.Blocks.{block_of}
 use Rattle.batch_journal.specs.Course.{SameLengths}
 use Rattle.area_image.specs.Store.{Store}
-use Rattle.free_pools.specs.Writing.{AreFreeIn, StaysLoose}
+use Rattle.free_pools.specs.Writing.{AreFreeIn, StaysLoose, RestsBut}
 use Rattle.free_pools.proofs.writing.write_runs.Given as goal
 
 -- the first runs are written
@@ -19,6 +19,7 @@ invariant-runs g l =
       at_is : l.at ≡ 4096 * length (blocks_of (take l.place l.runs));
       written : flat_map (block_of (m.seen new.media l.tier)) (blocks_of (take l.place l.runs)) ≡ take l.at l.«data»;
       others : (t : Tier) → t ≢ l.tier → m.seen new.media t ≡ m.seen old.media t;
+      keeps_rest : RestsBut (λ t. t ≡ l.tier → l.place ≡ 0) (m.seen old.media) (m.seen new.media) (m.left old.media (m.moment old.media)) (m.left new.media (m.moment new.media));
       calls : m.moment new.media ≡ m.moment old.media + l.place;
       geometry : new.geometry ≡ old.geometry;
       going : new.failed ≡ false;
