@@ -1,7 +1,7 @@
 // The lines of a script, by what their clients know.
 use crate::known::beside::Beside;
-use crate::known::draws::{DESCRIPTORS, Draws, PATHS};
-use file_graph::{Kind, PlainGraph};
+use crate::known::draws::{Draws, PATHS};
+use file_graph::{Kind, PlainEntry, PlainGraph};
 use posix_calls::{MAX_INODE, ROOT, Reply};
 use script_lines::{CallText, Line, read_line};
 use std::alloc::Global;
@@ -36,17 +36,13 @@ fn answer_all(beside: &mut Beside, script: &str, out: &mut Vec<u8>) {
 }
 
 fn answer(beside: &mut Beside, line: &str, out: &mut Vec<u8>) {
-    ask(beside, line);
-    if print(beside, out) {
+    if let Some(reply) = ask(beside, line) {
+        print(beside, &reply, out);
         look_at_all(beside);
     }
 }
 
-// Prints what the last line was answered; whether it was.
-fn print(beside: &Beside, out: &mut Vec<u8>) -> bool {
-    let Some(reply) = &beside.reply else {
-        return false;
-    };
+fn print(beside: &Beside, reply: &Reply, out: &mut Vec<u8>) {
     let known = beside.part.known();
     let decided = known.get(..beside.decided).unwrap_or(&[]);
     let growth = beside.growth;
@@ -58,23 +54,21 @@ fn print(beside: &Beside, out: &mut Vec<u8>) -> bool {
         let _ = write!(out, "; asks for {blocks:?}");
     }
     let _ = writeln!(out, "");
-    true
 }
 
-// Answers a line, if it asks a call.
-fn ask(beside: &mut Beside, line: &str) {
-    beside.reply = None;
+// What a line is answered, if it is a call.
+fn ask(beside: &mut Beside, line: &str) -> Option<Reply> {
     match read_line(line.as_bytes()) {
-        Some(Line::Silent) => (),
+        Some(Line::Silent) => None,
         Some(Line::Asks { client, call }) => ask_call(beside, client, &call),
-        None => beside.is_wrong = true,
+        None => beside.fail(),
     }
 }
 
-fn ask_call(beside: &mut Beside, client: u32, call: &CallText<'_>) {
+fn ask_call(beside: &mut Beside, client: u32, call: &CallText<'_>) -> Option<Reply> {
     match call.to_call(beside.alloc) {
         Ok(call) => beside.ask(client, &call),
-        Err(_) => beside.is_wrong = true,
+        Err(_) => beside.fail(),
     }
 }
 
@@ -84,8 +78,7 @@ fn draw_calls(beside: &mut Beside, count: u64, out: &mut Vec<u8>) {
     let mut done = 0u64;
     for _ in 0..count {
         draws.line(&mut line);
-        ask(beside, &line);
-        if is_done(beside) {
+        if is_done(&ask(beside, &line)) {
             done = done.saturating_add(1);
         }
         look_at_all(beside);
@@ -93,8 +86,8 @@ fn draw_calls(beside: &mut Beside, count: u64, out: &mut Vec<u8>) {
     let _ = writeln!(out, "{done} of {count} were done");
 }
 
-fn is_done(beside: &Beside) -> bool {
-    match &beside.reply {
+fn is_done(reply: &Option<Reply>) -> bool {
+    match reply {
         None => false,
         Some(Reply::Failed { .. }) => false,
         Some(_) => true,
@@ -103,16 +96,16 @@ fn is_done(beside: &Beside) -> bool {
 
 // The graph and the tree tell the same of each path and of each file that is open, and each entry tells what its node is.
 fn look_at_all(beside: &mut Beside) {
-    for path in &PATHS {
+    for path in PATHS {
         look(beside, "1 stat ", path, "");
         look(beside, "1 list ", path, "");
     }
-    for number in &DESCRIPTORS {
+    for number in ["0", "1", "2", "3"] {
         look(beside, "1 pread ", number, " 0 8192");
         look(beside, "2 pread ", number, " 0 8192");
     }
     for inode in ROOT..MAX_INODE + 1 {
-        if !are_kinds(&beside.part.graph, inode) {
+        if !has_kinds(&beside.part.graph, inode) {
             beside.is_wrong = true;
         }
     }
@@ -120,15 +113,24 @@ fn look_at_all(beside: &mut Beside) {
 
 fn look(beside: &mut Beside, call: &str, what: &str, behind: &str) {
     match format!(in beside.alloc; "{call}{what}{behind}") {
-        Ok(line) => ask(beside, &line),
+        Ok(line) => {
+            ask(beside, &line);
+        }
         Err(_) => beside.is_wrong = true,
     }
 }
 
 // Whether each entry of a directory tells what its node is.
-fn are_kinds(graph: &PlainGraph, inode: u32) -> bool {
+fn has_kinds(graph: &PlainGraph, inode: u32) -> bool {
+    match graph.entries(inode) {
+        Some(entries) => are_kinds(graph, entries),
+        None => true,
+    }
+}
+
+fn are_kinds(graph: &PlainGraph, entries: &[PlainEntry]) -> bool {
     let mut are = true;
-    for entry in graph.entries(inode).unwrap_or(&[]) {
+    for entry in entries {
         let is_directory = graph.entries(entry.value.inode()).is_some();
         are = are && is_directory == (entry.value.kind() == Kind::Directory);
     }

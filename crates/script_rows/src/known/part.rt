@@ -69,7 +69,7 @@ impl KnownPart {
 fn is_among(inode: u32, known: &[u32]) -> bool
     ensures { result ≡ is_among inode known.now }
 {
-    known.contains(&inode)
+    known.iter().any(|other| *other == inode)
 }
 
 impl TreeAnswers for KnownPart {
