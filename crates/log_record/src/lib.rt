@@ -8,6 +8,7 @@
 mod effect_ref;
 mod format;
 mod laws;
+mod numbers;
 mod reading;
 mod writing;
 
@@ -16,5 +17,6 @@ pub use laws::{
     apart_records_commute, no_spelling_begins_another, read_is_as_long, read_is_spelled,
     written_is_read,
 };
+pub use numbers::record_has_its_numbers;
 pub use reading::{is_payload, read_payload, read_record};
 pub use writing::{write_behind, write_record};
