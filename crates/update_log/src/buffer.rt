@@ -58,6 +58,7 @@ impl Buffer {
         ensures fault { OnErr result (Rose (M.faults media.old) (M.faults media.new)) }
         ensures quiet { OnOk result (M.faults media.new ≡ M.faults media.old) }
         ensures faults { M.faults media.old ≤ M.faults media.new }
+        ensures one_fault { M.faults media.new ≤ M.faults media.old + 1 }
     {
         let size = media.size(Tier::Fast);
         match self.bytes.resize(size, 0) {

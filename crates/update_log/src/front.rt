@@ -26,6 +26,7 @@ pub fn read_front<M: Media>(
     ensures fault { IsErrOf result DeviceFault → Rose (M.faults media.old) (M.faults media.new) }
     ensures quiet { IsErrOf result DeviceFault ⊎ (M.faults media.new ≡ M.faults media.old) }
     ensures faults { M.faults media.old ≤ M.faults media.new }
+    ensures one_fault { M.faults media.new ≤ M.faults media.old + 1 }
 {
     match vec![in alloc; 0u8; len] {
         Ok(mut front) => match media.read(Tier::Fast, 0, &mut front) {
@@ -51,6 +52,7 @@ pub fn read_before_gate<M: Media>(
     ensures fault { IsErrOf result DeviceFault → Rose (M.faults media.old) (M.faults media.new) }
     ensures quiet { IsErrOf result DeviceFault ⊎ (M.faults media.new ≡ M.faults media.old) }
     ensures faults { M.faults media.old ≤ M.faults media.new }
+    ensures one_fault { M.faults media.new ≤ M.faults media.old + 1 }
 {
     let mut front = read_front(alloc, media, end)?;
     match front.push(CLOSED) {

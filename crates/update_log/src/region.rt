@@ -83,6 +83,7 @@ impl<M: Media> Region<M> {
         ensures fault { IfErr result (λ e. e.0 ≡ DeviceFault → Rose (M.faults media) (M.faults e.1)) }
         ensures quiet_refused { IfErr result (λ e. e.0 ≢ DeviceFault → M.faults e.1 ≡ M.faults media) }
         ensures faults { IfErr result (λ e. M.faults media ≤ M.faults e.1) }
+        ensures one_fault { IfErr result (λ e. M.faults e.1 ≤ M.faults media + 1) }
         ensures only { IfErr result (λ e. e.0 ≢ RegionFull) }
         ensures back { IfErr result (λ e. (t : Tier) → M.seen e.1 t ≡ M.seen media t) }
         ensures back_rests { IfErr result (λ e. AtRest (M.seen e.1) (M.left e.1 (M.moment e.1)) Fast) }
@@ -118,6 +119,7 @@ impl<M: Media> Region<M> {
         ensures only { IfErr result (λ e. e.0 ≡ DeviceFault) }
         ensures fault { IfErr result (λ e. Rose (M.faults media) (M.faults e.1)) }
         ensures faults { IfErr result (λ e. M.faults media ≤ M.faults e.1) }
+        ensures one_fault { IfErr result (λ e. M.faults e.1 ≤ M.faults media + 1) }
         ensures back { IfErr result (λ e. (t : Tier) → M.seen e.1 t ≡ M.seen media t) }
         ensures back_rests { IfErr result (λ e. AtRest (M.seen e.1) (M.left e.1 (M.moment e.1)) Fast) }
         ensures back_clock { IfErr result (λ e. M.moment e.1 ≡ M.moment media) }
@@ -285,6 +287,7 @@ impl<M: Media> Region<M> {
         ensures fault { IsErrOf result DeviceFault → Rose (M.faults self.old.media) (M.faults self.new.media) }
         ensures quiet { IsErrOf result DeviceFault ⊎ (M.faults self.new.media ≡ M.faults self.old.media) }
         ensures faults { M.faults self.old.media ≤ M.faults self.new.media }
+        ensures one_fault { M.faults self.new.media ≤ M.faults self.old.media + 1 }
     {
         match read_before_gate(self.alloc, &mut self.media, self.end) {
             Ok(front) => match records_in(self.alloc, &front) {
