@@ -1,12 +1,12 @@
 -- Runs of blocks to which one is added.
 use Rattle.std.proofs.Common.{◌≡◌, ◌≤◌, ◌<◌, ℕ, zero, suc, ◌+◌, ◌-◌, List, [], ◌∷◌, ◌++◌, length, get_or, set, Some, None, sym, ap, ◌∙◌, arith}
-use Rattle.std.specs.List.{range_with_len}
+use Rattle.std.specs.List.{range_with_len, AllByRecursion}
 use Rattle.std.proofs.lemmas.List.{append_assoc, append-nil}
 use Rattle.block_alloc.specs.declared.runs.Run.{Run}
 use Rattle.block_alloc.specs.Runs.{run_blocks, blocks_of}
 use Rattle.layout.specs.declared.extents.Extent.{Extent}
 use Rattle.extent_nodes.specs.Places.{place_of}
-use Rattle.block_map.specs.Map.{stop_of, listed, places_of}
+use Rattle.block_map.specs.Map.{stop_of, listed, places_of, HasBlock}
 
 range_more : (a n : ℕ) → range_with_len a (n + 1) ≡ range_with_len a n ++ (a + n) ∷ []
 range_more a zero = let e : a ≡ a + 0 = omega arith in ap (λ x. x ∷ []) e
@@ -28,6 +28,17 @@ lengthened (r ∷ s ∷ rs) zero d is = absurd (omega (arith, is))
 lengthened (r ∷ rs) (suc k) d is =
     ap (λ xs. run_blocks r ++ xs) (lengthened rs k d (omega (arith, is)))
     ∙ sym (append_assoc (run_blocks r) (blocks_of rs) (stop_of (get_or rs k d) ∷ []))
+
+-- no run is empty, with one more of one block ..
+pub pushed_some : (rs : List Run) (block : ℕ) → AllByRecursion HasBlock rs → AllByRecursion HasBlock (rs ++ record { first = block; count = 1 } ∷ [])
+pushed_some [] block all = (omega arith, tt)
+pushed_some (r ∷ rs) block all = (all.0, pushed_some rs block all.1)
+
+-- .. or with one that is longer
+pub longer_some : (rs : List Run) (k : ℕ) (d : Run) → AllByRecursion HasBlock rs → AllByRecursion HasBlock (set rs k (longer (get_or rs k d)))
+longer_some [] k d all = tt
+longer_some (r ∷ rs) zero d all = (omega arith, all.1)
+longer_some (r ∷ rs) (suc k) d all = (all.0, longer_some rs k d all.1)
 
 -- the places of some blocks: that of the first, and those of the rest
 places_from : (es : List Extent) (b stop : ℕ) → b < stop → places_of es b (stop - b) ≡ listed (place_of es b) ++ places_of es (b + 1) (stop - (b + 1))

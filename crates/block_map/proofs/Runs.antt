@@ -2,9 +2,10 @@
 use Rattle.std.proofs.Common.{◌≡◌, ◌≤◌, ◌<◌, inl, inr, ℕ, ◌+◌, ◌-◌, List, [], ◌∷◌, length, true, false, sym, ap, ◌∙◌, refl, arith, Some, None}
 use Rattle.std.specs.Option.{option_map}
 use Rattle.std.specs.Prelude.{nat_le, nat_lt, if◌then◌else◌}
+use Rattle.std.specs.List.{list_all}
 use Rattle.std.proofs.lemmas.Bool.{cases_lt, and_from, and_left, and_right, le-leb, lt-ltb, lt-leb, le-ltb, cond-true, cond-false, cases_Bool}
 use Rattle.layout.specs.declared.extents.Extent.{Extent}
-use Rattle.extent_nodes.specs.Places.{in_run, has, place_in, extent_at, place_of}
+use Rattle.extent_nodes.specs.Places.{in_run, has, place_in, extent_at, place_of, end_of}
 use Rattle.extent_nodes.specs.Normal.{IsRising, IsNormal}
 use Rattle.extent_nodes.specs.Changes.{after}
 
@@ -42,6 +43,18 @@ few_below n low end (e ∷ es) is below le =
     let last = below (e.logical + e.length - 1) _ (here e es (e.logical + e.length - 1) (inside e (e.logical + e.length - 1) (omega (arith, is.1)) (omega (arith, is.1)))) in
     let rest = few_below n (e.logical + e.length) end es is.3 (below_rest n e es below) (omega (arith, last, is.1)) in
     omega (arith, rest, is.0, is.1)
+
+-- the last block of an extent is one that is mapped
+last_below : (n : ℕ) (e : Extent) (es : List Extent) → 0 < e.length → Below n (e ∷ es) → e.logical + e.length ≤ n
+last_below n e es some below =
+    let last = below (e.logical + e.length - 1) _ (here e es (e.logical + e.length - 1) (inside e (e.logical + e.length - 1) (omega (arith, some)) (omega (arith, some)))) in
+    omega (arith, last, some)
+
+-- so each extent ends by that number
+pub ends_below : (n low end : ℕ) (es : List Extent) → IsRising low end es → Below n es → list_all (λ e. nat_le (end_of e) n) es ≡ true
+ends_below n low end [] is below = refl
+ends_below n low end (e ∷ es) is below =
+    and_from (nat_le (end_of e) n) (list_all (λ f. nat_le (end_of f) n) es) (le-leb (end_of e) n (last_below n e es is.1 below)) (ends_below n (e.logical + e.length) end es is.3 (below_rest n e es below))
 
 -- Where nothing lies in all blocks from one on that a normal form may have, none of them lies anywhere.
 pub cut_is : (from : ℕ) (old new : List Extent) → from ≤ 4294967295 → IsNormal new → ((k : ℕ) → place_of new k ≡ after from (4294967295 - from) None old k) → (k : ℕ) → place_of new k ≡ (if nat_le from k then None else place_of old k)

@@ -49,6 +49,10 @@ listed (Some p) = p ∷ []
 abbrev pub places_of : List Extent → ℕ → ℕ → List ℕ
 places_of es first count = flat_map (λ k. listed (place_of es k)) (range_with_len first count)
 
+-- it has a block or more
+abbrev pub HasBlock : Run → Type 0
+HasBlock r = 0 < r.count
+
 -- the block behind a run
 abbrev pub stop_of : Run → ℕ
 stop_of r = r.first + r.count

@@ -1,8 +1,9 @@
 // The places of blocks that are given up, as runs.
 ghost use Rattle.std.specs.Prelude.{◌≡◌, ◌+◌, ◌-◌, ◌^◌, ◌<◌, ◌++◌, ◌∷◌, [], ℕ, OnOk, IsTrue, length, slice_index_or};
+ghost use Rattle.std.specs.List.{AllByRecursion};
 ghost use Rattle.extent_nodes.specs.Places.{place_of};
 ghost use Rattle.block_alloc.specs.Runs.{blocks_of};
-ghost use Rattle.block_map.specs.Map.{places_of, last_of, stop_of, EndsAt};
+ghost use Rattle.block_map.specs.Map.{places_of, last_of, stop_of, EndsAt, HasBlock};
 
 use block_alloc::Run;
 use extent_tree::Extents;
@@ -17,7 +18,8 @@ pub fn push_places(
     out: &mut Vec<Run>,
 ) -> Result<(), AllocError>
     requires { blocks.first + blocks.count < 2 ^ 32 }
-    ensures { OnOk result (blocks_of out.new.items ≡ blocks_of out.old.items ++ places_of tree.now.runs blocks.first blocks.count) }
+    ensures places { OnOk result (blocks_of out.new.items ≡ blocks_of out.old.items ++ places_of tree.now.runs blocks.first blocks.count) }
+    ensures some { OnOk result (AllByRecursion HasBlock out.old.items → AllByRecursion HasBlock out.new.items) }
 {
     'each: for block in blocks.first..blocks.first + blocks.count {
         if let Some(place) = tree.at(block) {
@@ -28,8 +30,10 @@ pub fn push_places(
 }
 
 // Adds a block: to the last run, where it goes on there.
+#[tactic(auto, using(crate::proofs::GivenUp::pushed_some))]
 fn push_block(runs: &mut Vec<Run>, block: u32) -> Result<(), AllocError>
-    ensures { OnOk result (blocks_of runs.new.items ≡ blocks_of runs.old.items ++ block ∷ []) }
+    ensures blocks { OnOk result (blocks_of runs.new.items ≡ blocks_of runs.old.items ++ block ∷ []) }
+    ensures some { OnOk result (AllByRecursion HasBlock runs.old.items → AllByRecursion HasBlock runs.new.items) }
 {
     if !runs.is_empty() && goes_on(runs, block) {
         lengthen(runs);
@@ -52,11 +56,12 @@ fn goes_on(runs: &[Run], block: u32) -> bool
 }
 
 // Adds the block behind the last run to it.
-#[tactic(auto, using(crate::proofs::GivenUp::lengthened))]
+#[tactic(auto, using(crate::proofs::GivenUp::lengthened, crate::proofs::GivenUp::longer_some))]
 fn lengthen(runs: &mut Vec<Run>)
     requires some { 0 < length runs.old.items }
     requires room { (last_of runs.old.items).count < 2 ^ 32 - 1 }
-    ensures { blocks_of runs.new.items ≡ blocks_of runs.old.items ++ stop_of (last_of runs.old.items) ∷ [] }
+    ensures blocks { blocks_of runs.new.items ≡ blocks_of runs.old.items ++ stop_of (last_of runs.old.items) ∷ [] }
+    ensures some { AllByRecursion HasBlock runs.old.items → AllByRecursion HasBlock runs.new.items }
 {
     let at = runs.len() - 1;
     let last = runs[at];

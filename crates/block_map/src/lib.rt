@@ -8,5 +8,8 @@ mod given_up;
 mod laws;
 mod map;
 
-pub use laws::{few_blocks_are_few_runs, put_blocks_lie_once, whole_map_fits_a_block};
+pub use laws::{
+    few_blocks_are_few_runs, put_blocks_lie_apart, put_blocks_lie_once, put_blocks_lie_within,
+    whole_map_fits_a_block,
+};
 pub use map::{BlockMap, Place};

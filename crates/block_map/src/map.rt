@@ -1,11 +1,12 @@
 ghost use Rattle.std.specs.Prelude.{◌≡◌, ◌≢◌, ◌≤◌, ◌<◌, ◌+◌, ◌^◌, ◌++◌, ◌⊎◌, [], ℕ, Some, None, IfSome, IfNone, IfOk, OnOk, nat_le, if◌then◌else◌};
+ghost use Rattle.std.specs.List.{AllByRecursion};
 ghost use Rattle.tier_device.specs.declared.media.Tier.{Tier};
 ghost use Rattle.tier_device.specs.declared.media.Tier.TheVariants as tiers;
 ghost use Rattle.extent_nodes.specs.Changes.{after};
 ghost use Rattle.extent_nodes.specs.Normal.{IsRising, PlacesFit, IsNormal};
 ghost use Rattle.extent_nodes.specs.Places.{place_of, SamePlaces};
 ghost use Rattle.block_alloc.specs.Runs.{blocks_of};
-ghost use Rattle.block_map.specs.Map.{runs_in, lies_at, ArePut, AreCut, places_of};
+ghost use Rattle.block_map.specs.Map.{runs_in, lies_at, ArePut, AreCut, places_of, HasBlock};
 
 use crate::given_up::push_places;
 use block_alloc::Run;
@@ -134,11 +135,12 @@ impl BlockMap {
         Ok(ExtentBlock::new(owner, self.runs(tier)?))
     }
 
-    /// Adds where the blocks of a run lie in a tier, those that lie there, behind other runs: in the order of the logical blocks, joined where they go on. After a refusal nothing
+    /// Adds where the blocks of a run lie in a tier, those that lie there, behind other runs: in the order of the logical blocks, joined where they go on; no run is empty, where none was. After a refusal nothing
     /// is said of the runs.
     pub fn push_places(&self, tier: Tier, blocks: Run, out: &mut Vec<Run>) -> Result<(), AllocError>
         requires { blocks.first + blocks.count < 2 ^ 32 }
-        ensures { OnOk result (blocks_of out.new.items ≡ blocks_of out.old.items ++ places_of (runs_in self.now tier) blocks.first blocks.count) }
+        ensures places { OnOk result (blocks_of out.new.items ≡ blocks_of out.old.items ++ places_of (runs_in self.now tier) blocks.first blocks.count) }
+        ensures some { OnOk result (AllByRecursion HasBlock out.old.items → AllByRecursion HasBlock out.new.items) }
     {
         push_places(self.tree(tier), blocks, out)
     }
