@@ -81,6 +81,18 @@ made_whole len patch k old buffer is p lt = byte_made len patch k buffer p lt �
   put (Some b) some = refl
   put None some = absurd cc
 
+-- of a block that begins behind a cut nothing is kept
+kept_none : (len : Length) (k : ℕ) → is_cut_off len k ≡ true → kept_in len k ≡ 0
+kept_none (Grown to) k off = absurd (cc)
+kept_none (Cut least to) k off = let le = leb-true least (4096 * k) off in omega (arith, le)
+
+pub made_behind : (len : Length) (patch : Patch) (k : ℕ) (old buffer : List ℕ) → is_cut_off len k ≡ true → ReadsAfter len patch k old (block_after len patch k buffer)
+made_behind len patch k old buffer off p lt =
+    byte_made len patch k buffer p lt ∙ ap (λ x. elim (patch p) [ None ↦ x | Some b ↦ b ]) (zero buffer ∙ sym (zero old))
+  where
+    zero : (bytes : List ℕ) → kept_byte (Cut (kept_in len k) 4096) bytes p ≡ 0
+    zero bytes = ap (λ b. cond b (get_or bytes p 0) 0) (le-ltb p (kept_in len k) (omega (arith, kept_none len k off)))
+
 pub zeros_are_none : ReadSame (replicate 4096 0) []
 zeros_are_none p lt = get_or-replicate 4096 p 0 0 lt
 
@@ -156,10 +168,6 @@ module _ (c : Change) (old_size new_size : ℕ) (old new : Blocks) (tidy : IsTid
           absurd (cc)
     ]
   ]
-
-  kept_none : (len : Length) (k : ℕ) → is_cut_off len k ≡ true → kept_in len k ≡ 0
-  kept_none (Grown to) k off = absurd (cc)
-  kept_none (Cut least to) k off = let le = leb-true least (4096 * k) off in omega (arith, le)
 
   block_byte : (k p : ℕ) → p < 4096 → get_or (new k) p 0 ≡ byte_after (in_block c.length (patch_at c.patches k) k) (old k) p
   block_byte k p lt = elim (cases_Bool (writes_block c k)) [

@@ -14,10 +14,11 @@ use Rattle.tree_blocks.proofs.Edited.{started_consistent}
 use Rattle.tree_blocks.proofs.FileBlocks.{file_law}
 
 -- an inode of no kind has no body
+pub none_after : (number : ℕ) (c : Change) (old new : Inode) → (started c.base old).kind ≡ None → new.kind ≡ None → IsInodeAfter number (net_of c) old new
+none_after number c old new bare free = record { kind = free ∙ sym bare; body = subst (λ k. BodyAfter number k (net_of c) (started c.base old) new) (sym bare) tt }
+
 pub gone_after : (number : ℕ) (c : Change) (old new : Inode) → c.base ≡ Gone → new.kind ≡ None → IsInodeAfter number (net_of c) old new
-gone_after number c old new gone free =
-    let none : (started c.base old).kind ≡ None = ap (λ b. (started b old).kind) gone in
-    record { kind = free ∙ sym none; body = subst (λ k. BodyAfter number k (net_of c) (started c.base old) new) (sym none) tt }
+gone_after number c old new gone free = none_after number c old new (ap (λ b. (started b old).kind) gone) free
 
 pub file_after : (number : ℕ) (c : Change) (old new : Inode) → IsTidyChange c → IsConsistent number old → IsFileRewritten c (started c.base old) new → IsInodeAfter number (net_of c) old new
 file_after number c old new tidy is written =

@@ -53,11 +53,12 @@ fn cut_block(block: &mut [u8], place: usize)
 }
 
 /// What `change_block` makes of a buffer reads as the change makes it of the old block: where the buffer read as that, as one of zeros does where no tier held the block, or
-/// where a byte is put at each place. A block that no tier held and into which nothing is put needs no block: it reads as zeros, also where the file was cut within it.
+/// where a byte is put at each place, or the block begins behind a cut: then the old block need not be read. A block that no tier held and into which nothing is put needs no block: it reads as zeros, also where the file was cut within it.
 pub fn changed_blocks_read_as_after()
     ensures same { (len : Length) (patch : Patch) (k : ℕ) (old buffer : List ℕ) → ReadSame buffer old → ReadsAfter len patch k old (block_after len patch k buffer) }
     ensures zeros { ReadSame (replicate BLOCK 0) [] }
     ensures whole { (len : Length) (patch : Patch) (k : ℕ) (old buffer : List ℕ) → IsWhole patch → ReadsAfter len patch k old (block_after len patch k buffer) }
+    ensures cut { (len : Length) (patch : Patch) (k : ℕ) (old buffer : List ℕ) → is_cut_off len k ≡ true → ReadsAfter len patch k old (block_after len patch k buffer) }
     ensures hole { (len : Length) (k : ℕ) → ReadsAfter len blank k [] [] }
 {}
 

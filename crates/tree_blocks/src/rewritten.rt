@@ -11,11 +11,12 @@ ghost use Rattle.tree_blocks.specs.After.{started, IsInodeAfter};
 ghost use Rattle.tree_blocks.specs.Directory.{EntryBlocks, LeadToInodes};
 ghost use Rattle.tree_blocks.specs.Rewritten.{IsFileRewritten, IsDirectoryRewritten};
 
-/// An inode of which the slot and the blocks have been written for a change is that after the change: one that is free where its node goes; a file, which may have holes,
+/// An inode of which the slot and the blocks have been written for a change is that after the change: one that is free where its node goes, or where none stands to be changed; a file, which may have holes,
 /// of which the blocks were written that the change puts bytes into or cuts; a directory whose blocks are those of a changed directory in memory. A file or a directory that
 /// is made starts from no blocks.
 pub fn rewritten_inode_is_inode_after()
     ensures gone { (number : ℕ) (c : Change) (old new : Inode) → c.base ≡ Gone → new.kind ≡ None → IsInodeAfter number (net_of c) old new }
+    ensures none { (number : ℕ) (c : Change) (old new : Inode) → (started c.base old).kind ≡ None → new.kind ≡ None → IsInodeAfter number (net_of c) old new }
     ensures file { (number : ℕ) (c : Change) (old new : Inode) → IsTidyChange c → IsConsistent number old → IsFileRewritten c (started c.base old) new → IsInodeAfter number (net_of c) old new }
     ensures directory { (number : ℕ) (c : Change) (before after : EntryBlocks) (old new : Inode) → IsDirectoryRewritten number c before after (started c.base old) new → IsInodeAfter number (net_of c) old new }
 {}
