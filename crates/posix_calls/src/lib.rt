@@ -22,6 +22,7 @@ mod laws;
 mod limits;
 mod name;
 mod names;
+mod numbers;
 mod operation;
 mod own;
 mod path;
@@ -46,6 +47,7 @@ pub use limits::{
 };
 pub use name::Name;
 pub use names::Names;
+pub use numbers::profile_has_its_limits;
 pub use operation::{DecideError, Description, Location, Missing, Operation, Replaced};
 pub use own::OwnDescriptors;
 pub use path::Path;
