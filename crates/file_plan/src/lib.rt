@@ -1,0 +1,6 @@
+//! What a change makes of a file, before anything is written: which of its blocks are written, with which bytes, and where they and the others lie then.
+#![tactic(auto)]
+
+mod numbers;
+
+pub use numbers::written_numbers;
