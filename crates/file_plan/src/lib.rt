@@ -2,5 +2,7 @@
 #![tactic(auto)]
 
 mod numbers;
+mod placing;
 
 pub use numbers::written_numbers;
+pub use placing::place_blocks;

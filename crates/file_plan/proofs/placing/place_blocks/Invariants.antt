@@ -1,0 +1,6 @@
+use Rattle.std.proofs.Common.{ℕ}
+use Rattle.file_plan.specs.Placed.{ArePlaced}
+use Rattle.file_plan.proofs.placing.place_blocks.Given as goal
+
+abbrev pub invariant-each : goal.invariant-each
+invariant-each l = ArePlaced l.numbers l.places l.index l.fn.map l.map
