@@ -1,6 +1,5 @@
 -- One block of a file after the other that is put to its place.
-use Rattle.std.proofs.Common.{◌≡◌, ◌≢◌, ◌<◌, ◌≤◌, ◌+◌, ◌-◌, ◌^◌, ◌∙◌, ◌⊎◌, refl, ℕ, zero, suc, List, [], ◌∷◌, length, get_or, true, false, Bool, Option, Some, None, arith, inl, inr, sym, ap, subst, if◌then◌else◌}
-use Rattle.std.specs.Option.{option_map}
+use Rattle.std.proofs.Common.{◌≡◌, ◌≢◌, ◌<◌, ◌≤◌, ◌+◌, ◌-◌, ◌∙◌, ◌⊎◌, refl, ℕ, zero, suc, List, [], ◌∷◌, length, get_or, true, false, Some, None, arith, inl, inr, sym, ap, subst}
 use Rattle.std.specs.Prelude.{nat_le, nat_lt}
 use Rattle.std.proofs.lemmas.Bool.{cases_lt, and_parts, and_from, leb-true, ltb-true, le-leb, lt-ltb, cond-true, cond-false, false_from_ne_true}
 use Rattle.tier_device.specs.declared.media.Tier.{Tier}

@@ -1,5 +1,5 @@
-use Rattle.std.proofs.Common.{◌≡◌, ◌∙◌, ◌||◌, sym, ap, Bool}
-use Rattle.graph_change.specs.View.{change_of, length_of, patches_of}
+use Rattle.std.proofs.Common.{◌∙◌, ◌||◌, sym, ap, Bool}
+use Rattle.graph_change.specs.View.{length_of}
 use Rattle.graph_change.specs.Change.{cuts_within}
 use Rattle.graph_change.proofs.Making.{has_is}
 use Rattle.file_plan.proofs.numbers.writes_block.Goals as goal

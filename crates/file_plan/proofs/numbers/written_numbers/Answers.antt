@@ -1,4 +1,4 @@
-use Rattle.std.proofs.Common.{◌≡◌, ◌<◌, ◌≤◌, ◌*◌, ◌+◌, ◌∙◌, ℕ, List, ◌∷◌, ◌++◌, [], Vec, Global, subst, sym, ap, arith}
+use Rattle.std.proofs.Common.{◌+◌, ◌∙◌, ℕ, List, Vec, Global, subst, sym, ap, arith}
 use Rattle.graph_change.specs.Change.{writes_block}
 use Rattle.graph_change.specs.View.{change_of}
 use Rattle.file_plan.proofs.Below.{AreBelow, below_more, below_other, below_none}

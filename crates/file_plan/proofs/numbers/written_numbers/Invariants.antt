@@ -1,4 +1,3 @@
-use Rattle.std.proofs.Common.{ℕ}
 use Rattle.graph_change.specs.Change.{writes_block}
 use Rattle.graph_change.specs.View.{change_of}
 use Rattle.file_plan.proofs.Below.{AreBelow}

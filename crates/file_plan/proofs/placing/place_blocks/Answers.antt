@@ -1,4 +1,4 @@
-use Rattle.std.proofs.Common.{◌≡◌, ◌<◌, arith}
+use Rattle.std.proofs.Common.{arith}
 use Rattle.file_plan.proofs.Moves.{later_is_greater, placed_more}
 use Rattle.file_plan.proofs.placing.place_blocks.Goals as goal
 

@@ -1,4 +1,3 @@
-use Rattle.std.proofs.Common.{ℕ}
 use Rattle.file_plan.specs.Placed.{ArePlaced}
 use Rattle.file_plan.proofs.placing.place_blocks.Given as goal
 

@@ -1,0 +1,50 @@
+-- One block more behind the bytes of others.
+use Rattle.std.proofs.Common.{◌≡◌, ◌≤◌, ◌+◌, ◌*◌, ◌∙◌, ℕ, Bool, List, [], ◌++◌, length, take, drop, Option, Some, None, arith, inl, inr, sym, ap, subst, refl}
+use Rattle.std.specs.Prelude.{option_map, unwrap_or}
+use Rattle.std.specs.BTreeMap.{BTreeMap, get}
+use Rattle.std.specs.Ordering.{nat_cmp}
+use Rattle.std.proofs.lemmas.Bool.{cases_lt}
+use Rattle.std.proofs.lemmas.List.{take-append-le, drop-append-le, take_all, length-append, length-drop}
+use Rattle.std.proofs.Math.Seq.{drop-append_seam}
+use Rattle.batch_journal.specs.Images.{slice}
+use Rattle.graph_change.specs.Change.{Change, Patch, blank, patch_at}
+use Rattle.graph_change.specs.View.{patch_of, patches_of}
+use Rattle.graph_change.proofs.Maps.{value_at}
+use Rattle.tree_blocks.specs.Inode.{Blocks}
+use Rattle.std.proofs.lemmas.List.FromFn.{length-map-range_with_len}
+use Rattle.graph_change.specs.Bytes.{Length, byte_after}
+use Rattle.tree_blocks.specs.FileBlock.{put_in, in_block, block_after}
+use Rattle.file_plan.specs.Placed.{number_at}
+use Rattle.file_plan.specs.Bytes.{IsAfter, HoldsBlocks}
+
+put_of : (o : Option (List ℕ × List Bool)) → put_in o ≡ unwrap_or (option_map patch_of o) blank
+put_of None = refl
+put_of (Some b) = refl
+
+-- what is put into a block is what stands at its number
+pub put_is : (m : BTreeMap ℕ (List ℕ × List Bool)) (i : ℕ) (o : Option (List ℕ × List Bool)) → o ≡ get nat_cmp m i → put_in o ≡ patch_at (patches_of m) i
+put_is m i o is = put_of o ∙ ap (λ (x : Option Patch). unwrap_or x blank) (ap (option_map patch_of) is ∙ sym (value_at patch_of m i))
+
+slice_left : (at n : ℕ) (xs ys : List ℕ) → at + n ≤ length xs → slice at n (xs ++ ys) ≡ slice at n xs
+slice_left at n xs ys le = ap (take n) (drop-append-le at xs ys (omega (arith, le))) ∙ take-append-le n (drop at xs) ys (let long = length-drop at xs in omega (arith, long, le))
+
+slice_right : (at n : ℕ) (xs ys : List ℕ) → length xs ≡ at → length ys ≡ n → slice at n (xs ++ ys) ≡ ys
+slice_right at n xs ys here long = ap (take n) (ap (λ k. drop k (xs ++ ys)) (sym here) ∙ drop-append_seam xs ys) ∙ take_all n ys (omega (arith, long))
+
+pub holds_none : (c : Change) (old : Blocks) (numbers : List ℕ) → HoldsBlocks c old numbers 0 []
+holds_none c old numbers = record { long = refl; each = λ n lt. absurd (omega (arith, lt)) }
+
+pub holds_more : (c : Change) (old : Blocks) (numbers : List ℕ) (n : ℕ) (bytes block : List ℕ) → HoldsBlocks c old numbers n bytes → length block ≡ 4096 → IsAfter c old (number_at numbers n) block → HoldsBlocks c old numbers (n + 1) (bytes ++ block)
+holds_more c old numbers n bytes block h long after =
+    let all = h.long in
+    record {
+      long = (let both = length-append bytes block in omega (arith, both, all, long));
+      each = λ m lt. elim (cases_lt m n) [
+        | inl before ↦ subst (λ (b : List ℕ). IsAfter c old (number_at numbers m) b) (sym (slice_left (4096 * m) 4096 bytes block (omega (arith, all, before)))) (h.each m before)
+        | inr ge ↦ (let is : m ≡ n = omega (arith, lt, ge) in
+            subst (λ (j : ℕ). IsAfter c old (number_at numbers j) (slice (4096 * j) 4096 (bytes ++ block))) (sym is)
+            (subst (λ (b : List ℕ). IsAfter c old (number_at numbers n) b) (sym (slice_right (4096 * n) 4096 bytes block all long)) after)) ];
+    }
+
+pub after_is_a_block : (len : Length) (patch : Patch) (k : ℕ) (old : List ℕ) → length (block_after len patch k old) ≡ 4096
+after_is_a_block len patch k old = length-map-range_with_len (byte_after (in_block len patch k) old) 0 4096

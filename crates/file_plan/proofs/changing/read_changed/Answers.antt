@@ -1,0 +1,38 @@
+use Rattle.std.proofs.Common.{◌∙◌, ◌++◌, ℕ, List, IfSome, ap}
+use Rattle.std.proofs.lemmas.List.{append_assoc}
+use Rattle.layout.specs.Places.{Sizes}
+use Rattle.graph_change.specs.View.{change_of}
+use Rattle.area_image.specs.Store.{Store, store_of, logical}
+use Rattle.area_image.specs.Looks.{looked}
+use Rattle.area_image.specs.Checks.{HasFound, IsOnce}
+use Rattle.area_image.proofs.Looked.{carried, carried_back, looks_on}
+use Rattle.file_plan.specs.Bytes.{IsAfter, blocks_from}
+use Rattle.file_plan.specs.Placed.{number_at}
+use Rattle.file_plan.proofs.Adding.{holds_more}
+use Rattle.file_plan.proofs.changing.read_changed.Goals as goal
+
+pub push_block-requires-clause-found : goal.push_block-requires-clause-found
+push_block-requires-clause-found g c =
+    let m = g.M.Media in
+    carried m.moment m.seen m.left m.faults (λ (x : Sizes) (s : Store). IfSome c.args.found (λ e. HasFound x s c.args.inode e.now)) c.args.journal.now c.each.journal looked c.each.invariant.looks c.requires.found
+
+pub push_block-requires-clause-once : goal.push_block-requires-clause-once
+push_block-requires-clause-once g c =
+    let m = g.M.Media in
+    carried m.moment m.seen m.left m.faults (λ (x : Sizes) (s : Store). IsOnce x s c.args.inode) c.args.journal.now c.each.journal looked c.each.invariant.looks c.requires.once
+
+pub each-preserved : goal.each-preserved
+each-preserved g c =
+    let m = g.M.Media in
+    let old = c.args.journal.now in
+    let change = change_of c.args.change.now in
+    let added = c.in-Ok.ensures.added in
+    let before = c.each.invariant.added in
+    let n = c.each.index in
+    let after = carried_back m.moment m.seen m.left m.faults (λ (x : Sizes) (s : Store). IsAfter change (blocks_from c.args.found (logical x s c.args.inode)) (number_at c.args.numbers.now n) added.0) old c.each.journal looked c.each.invariant.looks added.3 in
+    record {
+      looks = looks_on m.moment m.seen m.left m.faults old c.each.journal c.push_block.new.journal tt looked c.each.invariant.looks c.in-Ok.ensures.looks;
+      added = (before.0 ++ added.0,
+        added.1 ∙ ap (λ (xs : List ℕ). xs ++ added.0) before.1 ∙ append_assoc c.args.out.now.items before.0 added.0,
+        holds_more change (blocks_from c.args.found (logical old.geometry (store_of (m.seen old.media)) c.args.inode)) c.args.numbers.now n before.0 added.0 before.2 added.2 after);
+    }
