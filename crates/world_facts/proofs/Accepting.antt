@@ -8,7 +8,7 @@ use Rattle.world_facts.specs.Standing.{IsMarked}
 use Rattle.world_facts.specs.Invariant.{IsCoherent}
 use Rattle.world_facts.specs.RegionSteps.{CanSeal, region_sealed, CanTakeBack, taken_back, CanWipeOther, other_wiped}
 use Rattle.world_facts.specs.KernelSteps.{CanDigest}
-use Rattle.world_facts.specs.Burial.{CanBury, client_buried}
+use Rattle.world_facts.specs.Burial.{CanBury, client_buried, CanJoin, client_joined}
 use Rattle.world_facts.specs.Machine.{IsAcceptedOf, AreAccepted, sealed_of, CanAccept, accept, CanDigestNext}
 use Rattle.world_facts.proofs.Kernels.{each}
 
@@ -75,6 +75,12 @@ module _ (accepted : ℕ → ℕ) (w : World) (c : ℕ) (h : IsCoherent w) where
 
   pub after_burial : AreAccepted accepted w.clients → CanBury w c → AreAccepted accepted (client_buried w c).clients
   after_burial are can = with_part accepted w c are _ (λ is. inl (before_it (accepted c) (w.clients c) (are c is) can.back ∙ sym (at_past is can.back)))
+
+  pub after_join : AreAccepted accepted w.clients → CanJoin w c → AreAccepted accepted (client_joined w c).clients
+  after_join are can = with_part accepted w c are _ (λ is. inl (before_it (accepted c) (w.clients c) (are c is) there ∙ sym (at_past is there)))
+    where
+      there : (w.clients c).other ≢ Away
+      there e = let clash : Wiped ≡ Away = sym can.other ∙ e in cc
 
   pub next : AreAccepted accepted w.clients → is_client c ≡ true → (w.clients c).other ≡ Away → (w.kernel.accounts c).mark ≤ accepted c
       → CanAccept (record { kernel = w.kernel; accepted = accepted }) c (sealed_of (w.clients c)) ⊎ (accepted c ≡ (w.clients c).past + length (w.clients c).sealed)

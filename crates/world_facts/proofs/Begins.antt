@@ -89,7 +89,7 @@ module _ (w : World) (c : ℕ) (b : Begun) (h : IsCoherent w) (can : CanBegin w 
       (booked_same w c (record old { begun = Some b; spare = old.spare - b.change.units }) h can.client)
       (record {
         number = s.number;
-        left = record { closed = s.left.closed; idle = λ e. both (is_settled old.status) e (ap is_settled can.alive) };
+        rests = record { closed = s.rests.closed; idle = λ e. both (is_settled old.status) e (ap is_settled can.alive) };
         marked = s.marked;
         starts = record { records = s.starts.records; idle = λ e. both old.ready can.ready e };
         logged = record { leased = log_leased; paid = log_paid; unnamed = log_unnamed; limits = log_limits };
@@ -130,7 +130,7 @@ module _ (w : World) (c : ℕ) (b : Begun) (h : IsCoherent w) (is : IsBegun w c 
       quiet w c w.kernel.shared its less h is.client refl refl refl (booked_same w c less h is.client)
       (record {
         number = stood.number;
-        left = record { closed = stood.left.closed; idle = λ e. refl };
+        rests = record { closed = stood.rests.closed; idle = λ e. refl };
         marked = stood.marked;
         starts = record { records = stood.starts.records; idle = λ e. refl };
         logged = record {
@@ -159,7 +159,7 @@ module _ (w : World) (c : ℕ) (status : Status) (h : IsCoherent w) (is_c : is_c
   turned_holds =
       let x = h.stands c is_c in
       quiet w c w.kernel.shared (w.kernel.accounts c) turned h is_c refl refl refl (booked_same w c turned h is_c)
-      (record { number = x.number; left = record { closed = λ e. both (is_settled status) e going; idle = λ e. both (is_settled status) e going }; marked = x.marked; starts = x.starts; logged = x.logged; units = x.units; numbered = x.numbered; leased = x.leased; pinned = x.pinned; pending = λ b e. let p = x.pending b e in record { planned = p.planned; some = p.some; pinned = λ off. p.pinned (known off) } })
+      (record { number = x.number; rests = record { closed = λ e. both (is_settled status) e going; idle = λ e. both (is_settled status) e going }; marked = x.marked; starts = x.starts; logged = x.logged; units = x.units; numbered = x.numbered; leased = x.leased; pinned = x.pinned; pending = λ b e. let p = x.pending b e in record { planned = p.planned; some = p.some; pinned = λ off. p.pinned (known off) } })
       (before_less w c turned h is_c (λ i e. e)) (after_less w c turned h is_c (λ i e. e)) (h.agrees c is_c)
 
   pub turned_tree : world_state (with_client w c turned) ≡ world_state w

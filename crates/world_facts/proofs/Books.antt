@@ -77,7 +77,7 @@ module _ (w : World) (c units : ℕ) (h : IsCoherent w) (is_c : is_client c ≡ 
       let were : old.spare + units_in (records_of account old) ≤ account.units = s.units in
       quiet w c w.kernel.shared richer (record old { spare = old.spare + units }) h is_c refl refl refl
       (booked_fewer w c richer (record old { spare = old.spare + units }) h is_c (λ i e. e) (omega (arith, sums, enough)))
-      (record { number = s.number; left = s.left; marked = s.marked; starts = s.starts; logged = s.logged; units = omega (arith, were); numbered = s.numbered; leased = s.leased; pinned = s.pinned; pending = s.pending })
+      (record { number = s.number; rests = s.rests; marked = s.marked; starts = s.starts; logged = s.logged; units = omega (arith, were); numbered = s.numbered; leased = s.leased; pinned = s.pinned; pending = s.pending })
       (before_less w c (record old { spare = old.spare + units }) h is_c (λ i e. e)) (after_less w c (record old { spare = old.spare + units }) h is_c (λ i e. e)) (h.agrees c is_c)
 
   pub units_granted_tree : world_state (units_granted w c units) ≡ world_state w
@@ -90,7 +90,7 @@ module _ (w : World) (c units : ℕ) (h : IsCoherent w) (is_c : is_client c ≡ 
       let were : old.spare + units_in (records_of account old) ≤ account.units = s.units in
       quiet w c w.kernel.shared poorer (record old { spare = old.spare - units }) h is_c refl refl refl
       (booked_fewer w c poorer (record old { spare = old.spare - units }) h is_c (λ i e. e) (omega (arith, sums, fits)))
-      (record { number = s.number; left = s.left; marked = s.marked; starts = s.starts; logged = s.logged; units = omega (arith, were, enough); numbered = s.numbered; leased = s.leased; pinned = s.pinned; pending = s.pending })
+      (record { number = s.number; rests = s.rests; marked = s.marked; starts = s.starts; logged = s.logged; units = omega (arith, were, enough); numbered = s.numbered; leased = s.leased; pinned = s.pinned; pending = s.pending })
       (before_less w c (record old { spare = old.spare - units }) h is_c (λ i e. e)) (after_less w c (record old { spare = old.spare - units }) h is_c (λ i e. e)) (h.agrees c is_c)
 
   pub units_returned_tree : world_state (units_returned w c units) ≡ world_state w
@@ -138,7 +138,7 @@ module _ (w : World) (c i : ℕ) (h : IsCoherent w) (is_c : is_client c ≡ true
       (fits_same w c with_it h is_c refl))
       (record {
         number = stood.number;
-        left = stood.left;
+        rests = stood.rests;
         marked = stood.marked;
         starts = stood.starts;
         logged = stood.logged;
@@ -191,7 +191,7 @@ module _ (w : World) (c i : ℕ) (h : IsCoherent w) (can : CanReturn w c i) wher
       (booked_fewer w c without_it without_number h can.client (λ j e. (of_without book.numbers i j e).1) (fits_same w c without_it h can.client refl))
       (record {
         number = has.number;
-        left = has.left;
+        rests = has.rests;
         marked = has.marked;
         starts = has.starts;
         logged = has.logged;
@@ -228,7 +228,7 @@ module _ (w : World) (c i : ℕ) (h : IsCoherent w) (is_c : is_client c ≡ true
       (booked_fewer w c pin_book pinner h is_c (λ j e. e) (fits_same w c pin_book h is_c refl))
       (record {
         number = x.number;
-        left = x.left;
+        rests = x.rests;
         marked = x.marked;
         starts = x.starts;
         logged = x.logged;
@@ -263,7 +263,7 @@ module _ (w : World) (c i : ℕ) (h : IsCoherent w) (can : CanUnpin w c i) where
       (booked_fewer w c drop_book dropper h can.client (λ j e. e) (fits_same w c drop_book h can.client refl))
       (record {
         number = x.number;
-        left = x.left;
+        rests = x.rests;
         marked = x.marked;
         starts = x.starts;
         logged = x.logged;

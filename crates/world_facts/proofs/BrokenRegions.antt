@@ -6,7 +6,7 @@ use Rattle.posix_calls.specs.Tree.{State}
 use Rattle.log_record.specs.declared.format.Record.{Record}
 use Rattle.world_facts.specs.Logs.{after_clients}
 use Rattle.world_facts.specs.World.{Back, all_of, log_of, records_of, world_state}
-use Rattle.world_facts.specs.Standing.{StartsWiped, HasLeft, IsNumbered}
+use Rattle.world_facts.specs.Standing.{StartsWiped, RestsOnceSettled, IsNumbered}
 use Rattle.world_facts.specs.ClientSteps.{IsBegun, replied}
 use Rattle.world_facts.specs.RegionSteps.{CanWipeOther, other_wiped, CanWipeCurrent, current_wiped}
 use Rattle.world_facts.specs.KernelSteps.{CanDigest, records_digested}
@@ -66,5 +66,5 @@ begun_written is = no_record mkdir_a.change (is.records refl)
 pub settled_begun : IsBegun settled_opening 1 open_a
 settled_begun = record { client = refl; there = refl; known = λ e. absurd (cc) }
 
-pub settled_open : HasLeft ((replied settled_opening 1 open_a).clients 1).status ((replied settled_opening 1 open_a).clients 1).knows.own ((replied settled_opening 1 open_a).clients 1).begun → ⊥
+pub settled_open : RestsOnceSettled ((replied settled_opening 1 open_a).clients 1).status ((replied settled_opening 1 open_a).clients 1).knows.own ((replied settled_opening 1 open_a).clients 1).begun → ⊥
 settled_open is = false≢true (sym (ap is_some (is.closed refl 0)))

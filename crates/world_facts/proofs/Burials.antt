@@ -1,5 +1,5 @@
--- A client that died departs, is buried, and its seat is taken again: the whole stays, and what it had open is closed.
-use Rattle.std.proofs.Common.{◌≡◌, ◌≢◌, inl, inr, ℕ, ◌+◌, ◌-◌, ◌≤◌, cond, true, refl, Some, None, ap, sym, ◌∙◌, arith}
+-- A client that died departs, is buried, and a new one joins under its number: the whole stays, and what it had open is closed.
+use Rattle.std.proofs.Common.{◌≡◌, ◌≢◌, inl, inr, ℕ, ◌+◌, ◌-◌, ◌≤◌, cond, Bool, true, [], refl, Some, None, ap, sym, ◌∙◌, arith}
 use Rattle.std.proofs.lemmas.Bool.{false≢true}
 use Rattle.std.proofs.lemmas.Bool.Decides.{eqb_tells}
 use Rattle.posix_calls.specs.Tree.{Own, Descriptors, sum_up_to}
@@ -11,14 +11,14 @@ use Rattle.file_graph.specs.Units.{charge}
 use Rattle.call_effects.specs.Settled.{without_client}
 use Rattle.call_effects.specs.Wholes.{IsSound, state_of}
 use Rattle.call_effects.specs.Known.{Agrees}
-use Rattle.world_facts.specs.World.{Alive, Failed, Settled, Buried, Client, Account, World, undigested, log_of, whole, held, world_state, at}
+use Rattle.world_facts.specs.World.{Region, Wiped, Away, Status, Alive, Settled, Buried, Client, Account, World, undigested, log_of, whole, held, world_state, at, moved}
 use Rattle.world_facts.specs.Invariant.{IsCoherent}
 use Rattle.world_facts.specs.Opening.{knows_nothing, idle_client, idle_account}
 use Rattle.world_facts.specs.Standing.{Stands, is_settled}
-use Rattle.world_facts.specs.Burial.{CanDepart, departed, CanBury, client_buried, CanJoin, joined}
+use Rattle.world_facts.specs.Burial.{CanDepart, departed, CanBury, client_buried, CanJoin, client_joined}
 use Rattle.world_facts.proofs.Idle.{none_some, idle_stands, nothing_left}
-use Rattle.world_facts.proofs.Begins.{tree_same, turned_holds, turned_tree}
-use Rattle.world_facts.proofs.Moved.{both_same, holds_moved, quiet, booked_same, before_less, after_less, units_moved, whole_same, held_moved}
+use Rattle.world_facts.proofs.Begins.{tree_same}
+use Rattle.world_facts.proofs.Moved.{both_same, holds_moved, quiet, booked_same, before_less, after_less, units_moved, whole_same, held_moved, at_same}
 use Rattle.world_facts.proofs.Books.{booked_fewer}
 
 abbrev nothing_open : Own
@@ -65,7 +65,7 @@ module _ (w : World) (c : ℕ) (h : IsCoherent w) (can : CanDepart w c) where
   departed_stands : Stands w.kernel.shared account c leaver
   departed_stands = record {
     number = s.number;
-    left = record { closed = λ e n. refl; idle = λ e. can.idle };
+    rests = record { closed = λ e n. refl; idle = λ e. can.idle };
     marked = s.marked;
     starts = s.starts;
     logged = s.logged;
@@ -112,9 +112,9 @@ module _ (w : World) (c : ℕ) (h : IsCoherent w) (can : CanDepart w c) where
   pub departed_tree : world_state (departed w c) ≡ state_of (whole w) (without_client (held w) c)
   departed_tree = ap (λ g. state_of g (held (departed w c))) whole_stays ∙ ap (λ o. state_of (whole w) o) held_is
 
--- ---- buried
+-- ---- nothing is left of a client but its mark and where its regions are
 
-module _ (w : World) (c : ℕ) (h : IsCoherent w) (can : CanBury w c) where
+module _ (w : World) (c : ℕ) (other : Region) (ready : Bool) (status : Status) (h : IsCoherent w) (is_c : is_client c ≡ true) (digested : log_of w c ≡ []) (gone : is_settled (w.clients c).status ≡ true) (back : other ≢ Away) where
   abbrev mark : ℕ
   mark = (w.kernel.accounts c).mark
 
@@ -122,30 +122,27 @@ module _ (w : World) (c : ℕ) (h : IsCoherent w) (can : CanBury w c) where
   empty = idle_account mark
 
   abbrev grave : Client
-  grave = record (idle_client c mark) { other = (w.clients c).other; ready = (w.clients c).ready; status = Buried }
+  grave = record (idle_client c mark) { other = other; ready = ready; status = status }
 
   log_same : undigested empty grave ≡ log_of w c
-  log_same = nothing_left (mark - mark) ∙ sym can.digested
-
-  stood : Stands w.kernel.shared (w.kernel.accounts c) c (w.clients c)
-  stood = h.stands c can.client
+  log_same = nothing_left (mark - mark) ∙ sym digested
 
   had_closed : (n : ℕ) → (w.clients c).knows.own n ≡ None
-  had_closed n = stood.left.closed (ap is_settled can.settled) n
+  had_closed n = (h.stands c is_c).rests.closed gone n
 
   own_same : grave.knows.own ≡ (w.clients c).knows.own
   own_same = λ t n. sym (had_closed n) t
 
   fits : charge w.kernel.shared + sum_up_to 8 (λ d. (at w.kernel.accounts c empty d).units) ≤ w.kernel.capacity
   fits =
-      let sums : sum_up_to 8 (λ d. (at w.kernel.accounts c empty d).units) + (w.kernel.accounts c).units ≡ sum_up_to 8 (λ d. (w.kernel.accounts d).units) + 0 = units_moved w c w.kernel.shared empty grave h can.client in
+      let sums : sum_up_to 8 (λ d. (at w.kernel.accounts c empty d).units) + (w.kernel.accounts c).units ≡ sum_up_to 8 (λ d. (w.kernel.accounts d).units) + 0 = units_moved w c w.kernel.shared empty grave h is_c in
       let before : charge w.kernel.shared + sum_up_to 8 (λ d. (w.kernel.accounts d).units) ≤ w.kernel.capacity = h.booked.fits in
       omega (arith, sums, before)
 
   nothing_known : Agrees (knows_nothing c) (whole w) (held w)
   nothing_known = record {
-    client = can.client;
-    own = λ n. ap (λ b. cond b ((w.clients c).knows.own n) None) can.client ∙ had_closed n;
+    client = is_c;
+    own = λ n. ap (λ b. cond b ((w.clients c).knows.own n) None) is_c ∙ had_closed n;
     back = whole w;
     put_back = λ i. inl refl;
     copies = λ i copy e. none_some copy e;
@@ -153,11 +150,11 @@ module _ (w : World) (c : ℕ) (h : IsCoherent w) (can : CanBury w c) where
     granted = λ i e. absurd (false≢true e);
   }
 
-  buried_stands : Stands w.kernel.shared empty c grave
-  buried_stands = let idle = idle_stands w.kernel.shared c mark in record {
+  grave_stands : Stands w.kernel.shared empty c grave
+  grave_stands = let idle = idle_stands w.kernel.shared c mark in record {
     number = idle.number;
-    left = record { closed = λ e n. refl; idle = λ e. refl };
-    marked = record { low = idle.marked.low; high = idle.marked.high; some = λ away. absurd (can.back away); none = λ other. refl };
+    rests = record { closed = λ e n. refl; idle = λ e. refl };
+    marked = record { low = idle.marked.low; high = idle.marked.high; some = λ away. absurd (back away); none = λ off. refl };
     starts = record { records = λ e. refl; idle = λ e. refl };
     logged = idle.logged;
     units = idle.units;
@@ -167,25 +164,45 @@ module _ (w : World) (c : ℕ) (h : IsCoherent w) (can : CanBury w c) where
     pending = λ b e. none_some b e;
   }
 
-  pub buried_holds : IsCoherent (client_buried w c)
-  buried_holds = quiet w c w.kernel.shared empty grave h can.client refl log_same own_same
-      (booked_fewer w c empty grave h can.client (λ i e. absurd (false≢true e)) fits)
-      buried_stands
-      (λ d is_d other i e. absurd (false≢true e))
-      (λ d is_d other i e. refl)
+  emptied_holds : IsCoherent (moved w c w.kernel.shared empty grave)
+  emptied_holds = quiet w c w.kernel.shared empty grave h is_c refl log_same own_same
+      (booked_fewer w c empty grave h is_c (λ i e. absurd (false≢true e)) fits)
+      grave_stands
+      (λ d is_d off i e. absurd (false≢true e))
+      (λ d is_d off i e. refl)
       nothing_known
 
+  emptied_tree : world_state (moved w c w.kernel.shared empty grave) ≡ world_state w
+  emptied_tree = tree_same w c w.kernel.shared empty grave log_same refl own_same
+
+-- ---- buried
+
+module _ (w : World) (c : ℕ) (h : IsCoherent w) (can : CanBury w c) where
+  pub buried_holds : IsCoherent (client_buried w c)
+  buried_holds = emptied_holds w c (w.clients c).other (w.clients c).ready Buried h can.client can.digested (ap is_settled can.settled) can.back
+
   pub buried_tree : world_state (client_buried w c) ≡ world_state w
-  buried_tree = tree_same w c w.kernel.shared empty grave log_same refl own_same
+  buried_tree = emptied_tree w c (w.clients c).other (w.clients c).ready Buried h can.client can.digested (ap is_settled can.settled) can.back
+
+pub buried_account : (w : World) (c : ℕ) → (client_buried w c).kernel.accounts c ≡ idle_account (w.kernel.accounts c).mark
+buried_account w c = there_if c (idle_account (w.kernel.accounts c).mark) (w.kernel.accounts c)
 
 -- ---- joined
 
 module _ (w : World) (c : ℕ) (h : IsCoherent w) (can : CanJoin w c) where
-  not_failed : Alive ≢ Failed → (w.clients c).status ≢ Failed
-  not_failed off is = let clash : Buried ≡ Failed = sym can.buried ∙ is in cc
+  wiped : Wiped ≢ Away
+  wiped e = let clash : Wiped ≡ Away = e in cc
 
-  pub joined_holds : IsCoherent (joined w c)
-  joined_holds = turned_holds w c Alive h can.client refl not_failed
+  pub joined_holds : IsCoherent (client_joined w c)
+  joined_holds = emptied_holds w c Wiped true Alive h can.client can.digested (ap is_settled can.buried) wiped
 
-  pub joined_tree : world_state (joined w c) ≡ world_state w
-  joined_tree = turned_tree w c Alive h can.client refl not_failed
+  pub joined_tree : world_state (client_joined w c) ≡ world_state w
+  joined_tree = emptied_tree w c Wiped true Alive h can.client can.digested (ap is_settled can.buried) wiped
+
+pub joined_client : (w : World) (c : ℕ) → (client_joined w c).clients c ≡ idle_client c (w.kernel.accounts c).mark
+joined_client w c = there_if c (idle_client c (w.kernel.accounts c).mark) (w.clients c)
+
+-- where the account is empty already, as a burial leaves it, the kernel has nothing to do
+pub joined_kernel : (w : World) (c : ℕ) → w.kernel.accounts c ≡ idle_account (w.kernel.accounts c).mark → (client_joined w c).kernel ≡ w.kernel
+joined_kernel w c empty = ap (λ (accounts : ℕ → Account). record { shared = w.kernel.shared; capacity = w.kernel.capacity; accounts = accounts })
+    (ap (λ a. at w.kernel.accounts c a) (sym empty) ∙ at_same w.kernel.accounts c)

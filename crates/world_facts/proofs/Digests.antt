@@ -161,7 +161,7 @@ module _ (w : World) (c : ℕ) (first rest : List Record) (h : IsCoherent w) (ca
   own : Stands shared after c p
   own = record {
     number = s.number;
-    left = s.left;
+    rests = s.rests;
     marked = record { low = (let low : p.past ≤ account.mark = past_low in omega (arith, low)); high = (let low : p.past ≤ account.mark = past_low in let l : length p.sealed ≡ (account.mark - p.past) + (length first + length rest) = lengths in omega (arith, low, l)); some = s.marked.some; none = s.marked.none };
     starts = s.starts;
     logged = record {
@@ -191,7 +191,7 @@ module _ (w : World) (c : ℕ) (first rest : List Record) (h : IsCoherent w) (ca
   digested_holds = holds_moved w c shared after p h can.client book own
       (λ d is_d other. let x = h.stands d is_d in record {
         number = x.number;
-        left = x.left;
+        rests = x.rests;
         marked = x.marked;
         starts = x.starts;
         logged = record { leased = x.logged.leased; paid = paid_same (all_of w d) w.kernel.shared shared (λ i e. beside d i is_d other e) x.logged.paid; limits = keep_same IsWithin (all_of w d) w.kernel.shared shared (λ i e. beside d i is_d other e) x.logged.limits; unnamed = keep_same (λ i o. IsNameless o) (all_of w d) w.kernel.shared shared (λ i e. beside d i is_d other e) x.logged.unnamed };

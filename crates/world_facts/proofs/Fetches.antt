@@ -89,7 +89,7 @@ module _ (w : World) (c i : ℕ) (h : IsCoherent w) (can : CanFetch w c i) where
 
   pub fetched_holds : IsCoherent (fetched w c i)
   fetched_holds = quiet w c w.kernel.shared (w.kernel.accounts c) p h can.client refl refl refl (booked_same w c p h can.client)
-      (record { number = s.number; left = s.left; marked = s.marked; starts = s.starts; logged = s.logged; units = s.units; numbered = s.numbered; leased = record { copies = held_copy; blocks = s.leased.blocks }; pinned = s.pinned; pending = pending })
+      (record { number = s.number; rests = s.rests; marked = s.marked; starts = s.starts; logged = s.logged; units = s.units; numbered = s.numbered; leased = record { copies = held_copy; blocks = s.leased.blocks }; pinned = s.pinned; pending = pending })
       (before_less w c p h can.client (λ j e. e)) (after_less w c p h can.client (λ j e. e)) agrees
 
   pub fetched_tree : world_state (fetched w c i) ≡ world_state w
@@ -137,7 +137,7 @@ module _ (w : World) (c i first count names : ℕ) (bytes : List ℕ) (h : IsCoh
   blocks_fetched_hold = quiet w c w.kernel.shared (w.kernel.accounts c) reader h can.client refl refl refl (booked_same w c reader h can.client)
       (record {
         number = stood.number;
-        left = stood.left;
+        rests = stood.rests;
         marked = stood.marked;
         starts = stood.starts;
         logged = stood.logged;

@@ -24,7 +24,7 @@ module _ (w : World) (c : ℕ) (less : Knowledge) (h : IsCoherent w) (can : CanF
 
   pub forgotten_holds : IsCoherent (forgotten w c less)
   forgotten_holds = quiet w c w.kernel.shared (w.kernel.accounts c) p h can.client refl refl own_same (booked_same w c p h can.client)
-      (record { number = can.fewer.client ∙ s.number; left = record { closed = λ e n. can.fewer.own n ∙ s.left.closed e n; idle = s.left.idle }; marked = s.marked; starts = s.starts; logged = s.logged; units = s.units; numbered = record { made = s.numbered.made; once = s.numbered.once; granted = λ i e. s.numbered.granted i (can.fewer.granted i e); unused = λ i e. s.numbered.unused i (can.fewer.granted i e) }; leased = record { copies = λ i copy e. s.leased.copies i copy (can.fewer.copies.nodes i copy e); blocks = λ i b bytes e. s.leased.blocks i b bytes (can.fewer.copies.blocks i b bytes e) }; pinned = record { opened = λ n o e. s.pinned.opened n o (sym (can.fewer.own n) ∙ e); booked = s.pinned.booked }; pending = λ b e. none_some b (sym can.idle ∙ e) })
+      (record { number = can.fewer.client ∙ s.number; rests = record { closed = λ e n. can.fewer.own n ∙ s.rests.closed e n; idle = s.rests.idle }; marked = s.marked; starts = s.starts; logged = s.logged; units = s.units; numbered = record { made = s.numbered.made; once = s.numbered.once; granted = λ i e. s.numbered.granted i (can.fewer.granted i e); unused = λ i e. s.numbered.unused i (can.fewer.granted i e) }; leased = record { copies = λ i copy e. s.leased.copies i copy (can.fewer.copies.nodes i copy e); blocks = λ i b bytes e. s.leased.blocks i b bytes (can.fewer.copies.blocks i b bytes e) }; pinned = record { opened = λ n o e. s.pinned.opened n o (sym (can.fewer.own n) ∙ e); booked = s.pinned.booked }; pending = λ b e. none_some b (sym can.idle ∙ e) })
       (before_less w c p h can.client (λ i e. e)) (after_less w c p h can.client (λ i e. e))
       (less_agrees (w.clients c).knows (whole w) (held w) (h.agrees c can.client) less can.fewer)
 
@@ -57,7 +57,7 @@ module _ (w : World) (c : ℕ) (fewer : ℕ → ℕ → Option (List ℕ)) (h : 
 
   pub blocks_forgotten_hold : IsCoherent (blocks_forgotten w c fewer)
   blocks_forgotten_hold = quiet w c w.kernel.shared (w.kernel.accounts c) q h can.client refl refl refl (booked_same w c q h can.client)
-      (record { number = t.number; left = t.left; marked = t.marked; starts = t.starts; logged = t.logged; units = t.units; numbered = t.numbered; leased = record { copies = t.leased.copies; blocks = λ i b bytes e. t.leased.blocks i b bytes (can.known i b bytes e) }; pinned = t.pinned; pending = still_pending })
+      (record { number = t.number; rests = t.rests; marked = t.marked; starts = t.starts; logged = t.logged; units = t.units; numbered = t.numbered; leased = record { copies = t.leased.copies; blocks = λ i b bytes e. t.leased.blocks i b bytes (can.known i b bytes e) }; pinned = t.pinned; pending = still_pending })
       (before_less w c q h can.client (λ i e. e)) (after_less w c q h can.client (λ i e. e))
       (less_agrees k (whole w) (held w) (h.agrees c can.client) left (record { client = refl; own = λ n. refl; copies = record { nodes = λ j copy e. e; blocks = can.known }; granted = λ j e. e }))
 

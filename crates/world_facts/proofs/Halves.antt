@@ -54,7 +54,7 @@ module _ (w : World) (c units : ℕ) (h : IsCoherent w) (is_c : is_client c ≡ 
       let enough : charge w.kernel.shared + (sum_up_to 8 (λ d. (w.kernel.accounts d).units) + units) ≤ w.kernel.capacity = room in
       let were : p.spare + units_in (records_of a p) ≤ a.units = s.units in
       quiet w c w.kernel.shared richer p h is_c refl refl refl (booked_fewer w c richer p h is_c (λ i e. e) (omega (arith, sums, enough)))
-      (record { number = s.number; left = s.left; marked = s.marked; starts = s.starts; logged = s.logged; units = omega (arith, were); numbered = s.numbered; leased = s.leased; pinned = s.pinned; pending = s.pending })
+      (record { number = s.number; rests = s.rests; marked = s.marked; starts = s.starts; logged = s.logged; units = omega (arith, were); numbered = s.numbered; leased = s.leased; pinned = s.pinned; pending = s.pending })
       (before_less w c p h is_c (λ i e. e)) (after_less w c p h is_c (λ i e. e)) (h.agrees c is_c)
 
   pub units_booked_tree : world_state (units_booked w c units) ≡ world_state w
@@ -66,7 +66,7 @@ module _ (w : World) (c units : ℕ) (h : IsCoherent w) (is_c : is_client c ≡ 
       let fits : charge w.kernel.shared + sum_up_to 8 (λ d. (w.kernel.accounts d).units) ≤ w.kernel.capacity = h.booked.fits in
       let enough : p.spare + units_in (records_of a p) + units ≤ a.units = can.booked in
       quiet w c w.kernel.shared poorer p h is_c refl refl refl (booked_fewer w c poorer p h is_c (λ i e. e) (omega (arith, sums, fits)))
-      (record { number = s.number; left = s.left; marked = s.marked; starts = s.starts; logged = s.logged; units = omega (arith, enough); numbered = s.numbered; leased = s.leased; pinned = s.pinned; pending = s.pending })
+      (record { number = s.number; rests = s.rests; marked = s.marked; starts = s.starts; logged = s.logged; units = omega (arith, enough); numbered = s.numbered; leased = s.leased; pinned = s.pinned; pending = s.pending })
       (before_less w c p h is_c (λ i e. e)) (after_less w c p h is_c (λ i e. e)) (h.agrees c is_c)
 
   pub units_unbooked_tree : world_state (units_unbooked w c units) ≡ world_state w
@@ -76,7 +76,7 @@ module _ (w : World) (c units : ℕ) (h : IsCoherent w) (is_c : is_client c ≡ 
   units_received_hold can =
       let enough : p.spare + units_in (records_of a p) + units ≤ a.units = can.booked in
       quiet w c w.kernel.shared a receiver h is_c refl refl refl (booked_same w c receiver h is_c)
-      (record { number = s.number; left = s.left; marked = s.marked; starts = s.starts; logged = s.logged; units = omega (arith, enough); numbered = s.numbered; leased = s.leased; pinned = s.pinned; pending = s.pending })
+      (record { number = s.number; rests = s.rests; marked = s.marked; starts = s.starts; logged = s.logged; units = omega (arith, enough); numbered = s.numbered; leased = s.leased; pinned = s.pinned; pending = s.pending })
       (before_less w c receiver h is_c (λ i e. e)) (after_less w c receiver h is_c (λ i e. e)) (h.agrees c is_c)
 
   pub units_received_tree : world_state (units_received w c units) ≡ world_state w
@@ -86,7 +86,7 @@ module _ (w : World) (c units : ℕ) (h : IsCoherent w) (is_c : is_client c ≡ 
   units_sent_hold =
       let were : p.spare + units_in (records_of a p) ≤ a.units = s.units in
       quiet w c w.kernel.shared a sender h is_c refl refl refl (booked_same w c sender h is_c)
-      (record { number = s.number; left = s.left; marked = s.marked; starts = s.starts; logged = s.logged; units = omega (arith, were); numbered = s.numbered; leased = s.leased; pinned = s.pinned; pending = s.pending })
+      (record { number = s.number; rests = s.rests; marked = s.marked; starts = s.starts; logged = s.logged; units = omega (arith, were); numbered = s.numbered; leased = s.leased; pinned = s.pinned; pending = s.pending })
       (before_less w c sender h is_c (λ i e. e)) (after_less w c sender h is_c (λ i e. e)) (h.agrees c is_c)
 
   pub units_sent_tree : world_state (units_sent w c units) ≡ world_state w
@@ -126,7 +126,7 @@ module _ (w : World) (c i : ℕ) (h : IsCoherent w) (is_c : is_client c ≡ true
       (λ d j is_d other e. of_also (λ x. (w.kernel.accounts d).numbers x ≡ false) b.numbers i j e (free.nobody d is_d) (λ has. h.booked.alone c d j is_c is_d other has))
       h.booked.limits
       (fits_same w c with_it h is_c refl))
-      (record { number = t.number; left = t.left; marked = t.marked; starts = t.starts; logged = t.logged; units = t.units; numbered = record { made = λ j e. in_rest (j == i) (b.numbers j) (t.numbered.made j e); once = t.numbered.once; granted = λ j e. in_rest (j == i) (b.numbers j) (t.numbered.granted j e); unused = t.numbered.unused }; leased = t.leased; pinned = t.pinned; pending = t.pending })
+      (record { number = t.number; rests = t.rests; marked = t.marked; starts = t.starts; logged = t.logged; units = t.units; numbered = record { made = λ j e. in_rest (j == i) (b.numbers j) (t.numbered.made j e); once = t.numbered.once; granted = λ j e. in_rest (j == i) (b.numbers j) (t.numbered.granted j e); unused = t.numbered.unused }; leased = t.leased; pinned = t.pinned; pending = t.pending })
       (before_less w c q h is_c (λ j e. e)) (after_less w c q h is_c (λ j e. e)) (h.agrees c is_c)
 
   pub number_booked_tree : world_state (number_booked w c i) ≡ world_state w
@@ -136,7 +136,7 @@ module _ (w : World) (c i : ℕ) (h : IsCoherent w) (is_c : is_client c ≡ true
   number_unbooked_holds can =
       quiet w c w.kernel.shared without_it q h is_c refl refl refl
       (booked_fewer w c without_it q h is_c (λ j e. (of_without b.numbers i j e).1) (fits_same w c without_it h is_c refl))
-      (record { number = t.number; left = t.left; marked = t.marked; starts = t.starts; logged = t.logged; units = t.units; numbered = record { made = λ j e. to_without b.numbers i j (λ same. both (is_made_in j (log_of w c)) e (ap (λ x. is_made_in x (log_of w c)) same ∙ can.unused)) (t.numbered.made j e); once = t.numbered.once; granted = λ j e. to_without b.numbers i j (λ same. both (q.knows.granted j) e (ap q.knows.granted same ∙ can.absent)) (t.numbered.granted j e); unused = t.numbered.unused }; leased = t.leased; pinned = t.pinned; pending = t.pending })
+      (record { number = t.number; rests = t.rests; marked = t.marked; starts = t.starts; logged = t.logged; units = t.units; numbered = record { made = λ j e. to_without b.numbers i j (λ same. both (is_made_in j (log_of w c)) e (ap (λ x. is_made_in x (log_of w c)) same ∙ can.unused)) (t.numbered.made j e); once = t.numbered.once; granted = λ j e. to_without b.numbers i j (λ same. both (q.knows.granted j) e (ap q.knows.granted same ∙ can.absent)) (t.numbered.granted j e); unused = t.numbered.unused }; leased = t.leased; pinned = t.pinned; pending = t.pending })
       (before_less w c q h is_c (λ j e. e)) (after_less w c q h is_c (λ j e. e)) (h.agrees c is_c)
 
   pub number_unbooked_tree : world_state (number_unbooked w c i) ≡ world_state w
@@ -160,7 +160,7 @@ module _ (w : World) (c i : ℕ) (h : IsCoherent w) (is_c : is_client c ≡ true
   number_received_holds can =
       let known = h.agrees c is_c in
       quiet w c w.kernel.shared b with_number h is_c refl refl refl (booked_same w c with_number h is_c)
-      (record { number = t.number; left = t.left; marked = t.marked; starts = t.starts; logged = t.logged; units = t.units; numbered = record { made = t.numbered.made; once = t.numbered.once; granted = λ j e. of_also (λ x. b.numbers x ≡ true) q.knows.granted i j e can.booked (λ has. t.numbered.granted j has); unused = λ j e. of_also (λ x. is_made_in x (log_of w c) ≡ false) q.knows.granted i j e can.unused (λ has. t.numbered.unused j has) }; leased = record { copies = t.leased.copies; blocks = t.leased.blocks }; pinned = t.pinned; pending = λ x is. let y = t.pending x is in record { planned = record { comes = y.planned.comes; effects = y.planned.effects; number = λ m. in_rest (x.new == i) (q.knows.granted x.new) (y.planned.number m) }; some = y.some; pinned = y.pinned } })
+      (record { number = t.number; rests = t.rests; marked = t.marked; starts = t.starts; logged = t.logged; units = t.units; numbered = record { made = t.numbered.made; once = t.numbered.once; granted = λ j e. of_also (λ x. b.numbers x ≡ true) q.knows.granted i j e can.booked (λ has. t.numbered.granted j has); unused = λ j e. of_also (λ x. is_made_in x (log_of w c) ≡ false) q.knows.granted i j e can.unused (λ has. t.numbered.unused j has) }; leased = record { copies = t.leased.copies; blocks = t.leased.blocks }; pinned = t.pinned; pending = λ x is. let y = t.pending x is in record { planned = record { comes = y.planned.comes; effects = y.planned.effects; number = λ m. in_rest (x.new == i) (q.knows.granted x.new) (y.planned.number m) }; some = y.some; pinned = y.pinned } })
       (before_less w c with_number h is_c (λ j e. e)) (after_less w c with_number h is_c (λ j e. e))
       (record {
         client = known.client;
@@ -178,7 +178,7 @@ module _ (w : World) (c i : ℕ) (h : IsCoherent w) (is_c : is_client c ≡ true
   pub number_sent_holds : CanReturn w c i → IsCoherent (number_sent w c i)
   number_sent_holds can =
       quiet w c w.kernel.shared b without_number h is_c refl refl refl (booked_same w c without_number h is_c)
-      (record { number = t.number; left = t.left; marked = t.marked; starts = t.starts; logged = t.logged; units = t.units; numbered = record { made = t.numbered.made; once = t.numbered.once; granted = λ j e. t.numbered.granted j (of_without q.knows.granted i j e).1; unused = λ j e. t.numbered.unused j (of_without q.knows.granted i j e).1 }; leased = record { copies = t.leased.copies; blocks = t.leased.blocks }; pinned = t.pinned; pending = λ x is. none_some x (sym can.idle ∙ is) })
+      (record { number = t.number; rests = t.rests; marked = t.marked; starts = t.starts; logged = t.logged; units = t.units; numbered = record { made = t.numbered.made; once = t.numbered.once; granted = λ j e. t.numbered.granted j (of_without q.knows.granted i j e).1; unused = λ j e. t.numbered.unused j (of_without q.knows.granted i j e).1 }; leased = record { copies = t.leased.copies; blocks = t.leased.blocks }; pinned = t.pinned; pending = λ x is. none_some x (sym can.idle ∙ is) })
       (before_less w c without_number h is_c (λ j e. e)) (after_less w c without_number h is_c (λ j e. e))
       (less_agrees q.knows (whole w) (held w) (h.agrees c is_c) without_number.knows (record { client = refl; own = λ n. refl; copies = record { nodes = λ j copy e. e; blocks = λ j b bytes e. e }; granted = λ j e. (of_without q.knows.granted i j e).1 }))
 
@@ -213,7 +213,7 @@ module _ (w : World) (c i : ℕ) (h : IsCoherent w) (is_c : is_client c ≡ true
   pin_booked_holds =
       quiet w c w.kernel.shared with_pin r h is_c refl refl refl
       (booked_fewer w c with_pin r h is_c (λ j has. has) (fits_same w c with_pin h is_c refl))
-      (record { number = u.number; left = u.left; marked = u.marked; starts = u.starts; logged = u.logged; units = u.units; numbered = u.numbered; leased = u.leased; pinned = record { opened = u.pinned.opened; booked = λ j has. in_rest (j == i) (e.pins j) (u.pinned.booked j has) }; pending = u.pending })
+      (record { number = u.number; rests = u.rests; marked = u.marked; starts = u.starts; logged = u.logged; units = u.units; numbered = u.numbered; leased = u.leased; pinned = record { opened = u.pinned.opened; booked = λ j has. in_rest (j == i) (e.pins j) (u.pinned.booked j has) }; pending = u.pending })
       (before_less w c r h is_c (λ j has. has)) (after_less w c r h is_c (λ j has. has)) (h.agrees c is_c)
 
   pub pin_booked_tree : world_state (pin_booked w c i) ≡ world_state w
@@ -223,7 +223,7 @@ module _ (w : World) (c i : ℕ) (h : IsCoherent w) (is_c : is_client c ≡ true
   pin_unbooked_holds can =
       quiet w c w.kernel.shared without_pin r h is_c refl refl refl
       (booked_fewer w c without_pin r h is_c (λ j has. has) (fits_same w c without_pin h is_c refl))
-      (record { number = u.number; left = u.left; marked = u.marked; starts = u.starts; logged = u.logged; units = u.units; numbered = u.numbered; leased = u.leased; pinned = record { opened = u.pinned.opened; booked = λ j has. to_without e.pins i j (λ same. both (r.pins j) has (ap r.pins same ∙ can.absent)) (u.pinned.booked j has) }; pending = u.pending })
+      (record { number = u.number; rests = u.rests; marked = u.marked; starts = u.starts; logged = u.logged; units = u.units; numbered = u.numbered; leased = u.leased; pinned = record { opened = u.pinned.opened; booked = λ j has. to_without e.pins i j (λ same. both (r.pins j) has (ap r.pins same ∙ can.absent)) (u.pinned.booked j has) }; pending = u.pending })
       (before_less w c r h is_c (λ j has. has)) (after_less w c r h is_c (λ j has. has)) (h.agrees c is_c)
 
   pub pin_unbooked_tree : world_state (pin_unbooked w c i) ≡ world_state w
@@ -232,7 +232,7 @@ module _ (w : World) (c i : ℕ) (h : IsCoherent w) (is_c : is_client c ≡ true
   pub pin_received_holds : IsPinnedAlone w c i → IsCoherent (pin_received w c i)
   pin_received_holds can =
       quiet w c w.kernel.shared e pinner h is_c refl refl refl (booked_same w c pinner h is_c)
-      (record { number = u.number; left = u.left; marked = u.marked; starts = u.starts; logged = u.logged; units = u.units; numbered = u.numbered; leased = u.leased; pinned = record { opened = λ n o is. in_rest (o.inode == i) (r.pins o.inode) (u.pinned.opened n o is); booked = λ j has. of_also (λ y. e.pins y ≡ true) r.pins i j has can.booked (λ was. u.pinned.booked j was) }; pending = λ x is. let y = u.pending x is in record { planned = y.planned; some = y.some; pinned = λ known what opens. in_rest (what.1.inode == i) (r.pins what.1.inode) (y.pinned known what opens) } })
+      (record { number = u.number; rests = u.rests; marked = u.marked; starts = u.starts; logged = u.logged; units = u.units; numbered = u.numbered; leased = u.leased; pinned = record { opened = λ n o is. in_rest (o.inode == i) (r.pins o.inode) (u.pinned.opened n o is); booked = λ j has. of_also (λ y. e.pins y ≡ true) r.pins i j has can.booked (λ was. u.pinned.booked j was) }; pending = λ x is. let y = u.pending x is in record { planned = y.planned; some = y.some; pinned = λ known what opens. in_rest (what.1.inode == i) (r.pins what.1.inode) (y.pinned known what opens) } })
       (before_less w c pinner h is_c (λ j has. has)) (after_less w c pinner h is_c (λ j has. has)) (h.agrees c is_c)
 
   pub pin_received_tree : world_state (pin_received w c i) ≡ world_state w
@@ -241,7 +241,7 @@ module _ (w : World) (c i : ℕ) (h : IsCoherent w) (is_c : is_client c ≡ true
   pub pin_sent_holds : CanUnpin w c i → IsCoherent (pin_sent w c i)
   pin_sent_holds can =
       quiet w c w.kernel.shared e dropper h is_c refl refl refl (booked_same w c dropper h is_c)
-      (record { number = u.number; left = u.left; marked = u.marked; starts = u.starts; logged = u.logged; units = u.units; numbered = u.numbered; leased = u.leased; pinned = record { opened = λ n o is. to_without r.pins i o.inode (can.closed n o is) (u.pinned.opened n o is); booked = λ j has. u.pinned.booked j (of_without r.pins i j has).1 }; pending = λ x is. elim can.idle [ inl idle ↦ none_some x (sym idle ∙ is) | inr failed ↦ let y = u.pending x is in record { planned = y.planned; some = y.some; pinned = λ known. absurd (known failed) } ] })
+      (record { number = u.number; rests = u.rests; marked = u.marked; starts = u.starts; logged = u.logged; units = u.units; numbered = u.numbered; leased = u.leased; pinned = record { opened = λ n o is. to_without r.pins i o.inode (can.closed n o is) (u.pinned.opened n o is); booked = λ j has. u.pinned.booked j (of_without r.pins i j has).1 }; pending = λ x is. elim can.idle [ inl idle ↦ none_some x (sym idle ∙ is) | inr failed ↦ let y = u.pending x is in record { planned = y.planned; some = y.some; pinned = λ known. absurd (known failed) } ] })
       (before_less w c dropper h is_c (λ j has. has)) (after_less w c dropper h is_c (λ j has. has)) (h.agrees c is_c)
 
   pub pin_sent_tree : world_state (pin_sent w c i) ≡ world_state w

@@ -43,7 +43,7 @@ nothing_left (suc k) = refl
 pub idle_stands : (g : Graph) (c past : ℕ) → Stands g (idle_account past) c (idle_client c past)
 idle_stands g c past = record {
   number = refl;
-  left = record { closed = λ e n. refl; idle = λ e. refl };
+  rests = record { closed = λ e n. refl; idle = λ e. refl };
   marked = record { low = omega arith; high = omega arith; some = λ e. absurd (cc); none = λ other. refl };
   starts = record { records = λ e. refl; idle = λ e. refl };
   logged = record {

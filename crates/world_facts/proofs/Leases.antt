@@ -47,7 +47,7 @@ module _ (w : World) (c i : ℕ) (h : IsCoherent w) (is_c : is_client c ≡ true
 
   pub read_taken_holds : IsUnwritten w c i → IsCoherent (read_taken w c i)
   read_taken_holds free = quiet w c w.kernel.shared (w.kernel.accounts c) reader h is_c refl refl refl (booked_same w c reader h is_c)
-      (record { number = s.number; left = s.left; marked = s.marked; starts = s.starts; logged = s.logged; units = s.units; numbered = s.numbered; leased = record { copies = λ j copy e. reader_holds j (s.leased.copies j copy e); blocks = λ j b bytes e. reader_holds j (s.leased.blocks j b bytes e) }; pinned = s.pinned; pending = s.pending })
+      (record { number = s.number; rests = s.rests; marked = s.marked; starts = s.starts; logged = s.logged; units = s.units; numbered = s.numbered; leased = record { copies = λ j copy e. reader_holds j (s.leased.copies j copy e); blocks = λ j b bytes e. reader_holds j (s.leased.blocks j b bytes e) }; pinned = s.pinned; pending = s.pending })
       (before_less w c reader h is_c (λ j e. e))
       (λ d is_d other j e. elim (eqb_tells j i) [
         | inl same ↦ both ((w.clients d).writes j) e (ap (w.clients d).writes same.1 ∙ free d is_d other)
@@ -59,7 +59,7 @@ module _ (w : World) (c i : ℕ) (h : IsCoherent w) (is_c : is_client c ≡ true
   write_taken_holds free = quiet w c w.kernel.shared (w.kernel.accounts c) writer h is_c refl refl refl (booked_same w c writer h is_c)
       (record {
         number = s.number;
-        left = s.left;
+        rests = s.rests;
         marked = s.marked;
         starts = s.starts;
         logged = record { leased = λ j e. in_rest (j == i) ((w.clients c).writes j) (s.logged.leased j e); paid = s.logged.paid; unnamed = s.logged.unnamed; limits = s.logged.limits };
@@ -133,7 +133,7 @@ module _ (w : World) (c i : ℕ) (h : IsCoherent w) (can : CanGive w c i) where
   given_holds = quiet w c w.kernel.shared (w.kernel.accounts c) giver h can.client refl refl refl (booked_same w c giver h can.client)
       (record {
         number = stood.number;
-        left = stood.left;
+        rests = stood.rests;
         marked = stood.marked;
         starts = stood.starts;
         logged = record {

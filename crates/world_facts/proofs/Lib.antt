@@ -25,6 +25,7 @@ pub mod Recoveries
 pub mod Stops
 pub mod Reclaims
 pub mod Machines
+pub mod Migrations
 pub mod Orders
 pub mod Burials
 pub mod Parts

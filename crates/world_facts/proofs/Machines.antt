@@ -19,7 +19,7 @@ use Rattle.world_facts.specs.Opening.{idle_account}
 use Rattle.world_facts.specs.LeaseSteps.{also, without}
 use Rattle.world_facts.specs.BookSteps.{HasRoom, IsUnbooked}
 use Rattle.world_facts.specs.KernelSteps.{CanReclaim}
-use Rattle.world_facts.specs.Machine.{Machine, IsRunning, Sealed, sealed_of, left_of, StandsSealed, with_account, CanAccept, accept, CanDigestNext, account_after, digest, book_units, unbook_units, book_number, unbook_number, book_pin, unbook_pin, bury, reclaim}
+use Rattle.world_facts.specs.Machine.{Machine, IsRunning, Sealed, sealed_of, undigested_sealed, StandsSealed, with_account, CanAccept, accept, CanDigestNext, account_after, digest, book_units, unbook_units, book_number, unbook_number, book_pin, unbook_pin, bury, reclaim}
 use Rattle.world_facts.proofs.Records.{either, both, records_stay, front_written, rest_written, units_append}
 use Rattle.world_facts.proofs.Made.{records_none, rest_made, once_rest, once_front, once_apart, made_append}
 use Rattle.world_facts.proofs.Along.{along_rest, along_front}
@@ -49,16 +49,16 @@ logged_less i g h writes rs gone same unmade s = record {
 }
 
 pub stands_same : (g h : Graph) (a : Account) (c : ℕ) (p : Client) → ((i : ℕ) → is_written i (records_of a p) ≡ true → g i ≡ h i) → Stands g a c p → Stands h a c p
-stands_same g h a c p same s = record { number = s.number; marked = s.marked; starts = s.starts; logged = logged_same g h p.writes (records_of a p) same s.logged; units = s.units; numbered = s.numbered; leased = s.leased; pinned = s.pinned; pending = s.pending; left = s.left }
+stands_same g h a c p same s = record { number = s.number; marked = s.marked; starts = s.starts; logged = logged_same g h p.writes (records_of a p) same s.logged; units = s.units; numbered = s.numbered; leased = s.leased; pinned = s.pinned; pending = s.pending; rests = s.rests }
 
 pub stands_less : (i : ℕ) (g h : Graph) (a : Account) (c : ℕ) (p : Client) → h i ≡ None → ((j : ℕ) → j ≢ i → h j ≡ g j) → is_made_in i (records_of a p) ≡ false → Stands g a c p → Stands h a c p
-stands_less i g h a c p gone same unmade s = record { number = s.number; marked = s.marked; starts = s.starts; logged = logged_less i g h p.writes (records_of a p) gone same unmade s.logged; units = s.units; numbered = s.numbered; leased = s.leased; pinned = s.pinned; pending = s.pending; left = s.left }
+stands_less i g h a c p gone same unmade s = record { number = s.number; marked = s.marked; starts = s.starts; logged = logged_less i g h p.writes (records_of a p) gone same unmade s.logged; units = s.units; numbered = s.numbered; leased = s.leased; pinned = s.pinned; pending = s.pending; rests = s.rests }
 
-pub sealed_same : (g h : Graph) (a : Account) (s : Sealed) → ((i : ℕ) → is_written i (left_of a s) ≡ true → g i ≡ h i) → StandsSealed g a s → StandsSealed h a s
-sealed_same g h a s same t = record { low = t.low; high = t.high; logged = logged_same g h s.writes (left_of a s) same t.logged; units = t.units; made = t.made; once = t.once }
+pub sealed_same : (g h : Graph) (a : Account) (s : Sealed) → ((i : ℕ) → is_written i (undigested_sealed a s) ≡ true → g i ≡ h i) → StandsSealed g a s → StandsSealed h a s
+sealed_same g h a s same t = record { low = t.low; high = t.high; logged = logged_same g h s.writes (undigested_sealed a s) same t.logged; units = t.units; made = t.made; once = t.once }
 
-pub sealed_less : (i : ℕ) (g h : Graph) (a : Account) (s : Sealed) → h i ≡ None → ((j : ℕ) → j ≢ i → h j ≡ g j) → is_made_in i (left_of a s) ≡ false → StandsSealed g a s → StandsSealed h a s
-sealed_less i g h a s gone same unmade t = record { low = t.low; high = t.high; logged = logged_less i g h s.writes (left_of a s) gone same unmade t.logged; units = t.units; made = t.made; once = t.once }
+pub sealed_less : (i : ℕ) (g h : Graph) (a : Account) (s : Sealed) → h i ≡ None → ((j : ℕ) → j ≢ i → h j ≡ g j) → is_made_in i (undigested_sealed a s) ≡ false → StandsSealed g a s → StandsSealed h a s
+sealed_less i g h a s gone same unmade t = record { low = t.low; high = t.high; logged = logged_less i g h s.writes (undigested_sealed a s) gone same unmade t.logged; units = t.units; made = t.made; once = t.once }
 
 -- a client's sealed region, as a part of its own
 pub sealed_stands : (g : Graph) (a : Account) (c : ℕ) (p : Client) → Stands g a c p → StandsSealed g a (sealed_of p)
@@ -188,7 +188,7 @@ module _ (m : Machine) (r : IsRunning m) (c : ℕ) (s : Sealed) (first rest : Li
       let parts : length (drop (x.mark - s.past) s.records) ≡ length first + length rest = ap length can.split ∙ length-append first rest in
       omega (arith, low, high, dropped, parts)
 
-  left_now : left_of after s ≡ rest
+  left_now : undigested_sealed after s ≡ rest
   left_now =
       ap (λ n. drop n s.records) (moved_on x.mark s.past (length first) t.low)
       ∙ drop_more (x.mark - s.past) (length first) s.records (let l : length s.records ≡ (x.mark - s.past) + (length first + length rest) = lengths in omega (arith, l))
@@ -242,7 +242,7 @@ module _ (m : Machine) (r : IsRunning m) (c : ℕ) (s : Sealed) (first rest : Li
       unnamed = along_rest NamesNone first rest m.kernel.shared logged_all.unnamed;
       limits = along_rest (Keeps IsWithin) first rest m.kernel.shared logged_all.limits;
     });
-    units = (let now : units_in (left_of after s) ≡ units_in rest = ap units_in left_now in let were : units_in first + units_in rest ≤ x.units = units_all in omega (arith, now, were));
+    units = (let now : units_in (undigested_sealed after s) ≡ units_in rest = ap units_in left_now in let were : units_in first + units_in rest ≤ x.units = units_all in omega (arith, now, were));
     made = λ i e.
         let there : is_made_in i rest ≡ true = ap (is_made_in i) (sym left_now) ∙ e in
         let clean : is_made_in i first ≡ false = elim (either (is_made_in i first)) [ inl has ↦ both (is_made_in i rest) there (once_apart i first rest (once_now i) has) | inr off ↦ off ] in

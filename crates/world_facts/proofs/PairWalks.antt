@@ -169,20 +169,20 @@ two_hold = begun_holds walked.one 1 walked.write_7 one_holds can_write
 
 -- ---- a stop
 
-leaves : (first second : Bool) → Leaves walked.two (walked.left first second)
+leaves : (first second : Bool) → Leaves walked.two (walked.logs_left first second)
 leaves first second c is_c = elim ((c == 1 && first) || (c == 2 && second)) as (λ b. (cond b (all_of walked.two c) (log_of walked.two c) ≡ log_of walked.two c) ⊎ (cond b (all_of walked.two c) (log_of walked.two c) ≡ all_of walked.two c)) [ true ↦ inr refl | false ↦ inl refl ]
 
-pub outcomes : (first second : Bool) → Stores walked.two (walked.left first second)
-outcomes first second = stop_stores walked.two (walked.left first second) two_hold (leaves first second)
+pub outcomes : (first second : Bool) → Stores walked.two (walked.logs_left first second)
+outcomes first second = stop_stores walked.two (walked.logs_left first second) two_hold (leaves first second)
 
-pub written_if : (first second : Bool) → file_bytes (stored_graph walked.two (walked.left first second) 2) ≡ Some (cond first (7 ∷ []) [])
+pub written_if : (first second : Bool) → file_bytes (stored_graph walked.two (walked.logs_left first second) 2) ≡ Some (cond first (7 ∷ []) [])
 unfolding after_clients
 written_if true true = refl
 written_if true false = refl
 written_if false true = refl
 written_if false false = refl
 
-pub made_if : (first second : Bool) → is_some (stored_graph walked.two (walked.left first second) 3) ≡ second
+pub made_if : (first second : Bool) → is_some (stored_graph walked.two (walked.logs_left first second) 3) ≡ second
 unfolding after_clients
 made_if true true = refl
 made_if true false = refl

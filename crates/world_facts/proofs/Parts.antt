@@ -37,8 +37,8 @@ client_parts g a c p s PinsBooked = s.pinned.booked
 client_parts g a c p s BegunPlanned = λ b e. (s.pending b e).planned
 client_parts g a c p s BegunHasEffects = λ b e. (s.pending b e).some
 client_parts g a c p s BegunPinned = λ b e. (s.pending b e).pinned
-client_parts g a c p s SettledClosed = s.left.closed
-client_parts g a c p s SettledIdle = s.left.idle
+client_parts g a c p s SettledClosed = s.rests.closed
+client_parts g a c p s SettledIdle = s.rests.idle
 
 pub parts_of : (w : World) → IsCoherent w → (q : Part) → Holds q w
 parts_of w h (Book q) = book_parts w.kernel h.booked q
@@ -60,7 +60,7 @@ all_parts w has = record {
     leased = record { copies = has (Each CopiesLeased) c is_c; blocks = has (Each BlocksLeased) c is_c };
     pinned = record { opened = has (Each OpenPinned) c is_c; booked = has (Each PinsBooked) c is_c };
     pending = λ b e. record { planned = has (Each BegunPlanned) c is_c b e; some = has (Each BegunHasEffects) c is_c b e; pinned = has (Each BegunPinned) c is_c b e };
-    left = record { closed = has (Each SettledClosed) c is_c; idle = has (Each SettledIdle) c is_c };
+    rests = record { closed = has (Each SettledClosed) c is_c; idle = has (Each SettledIdle) c is_c };
   };
   beside = has LeasesLegal;
   sound = has WholeSound;

@@ -176,7 +176,7 @@ module _ (w : World) (i : ℕ) (h : IsCoherent w) (can : CanReclaim w.kernel i) 
         };
         stands = λ c is_c. let s = h.stands c is_c in record {
           number = s.number;
-          left = s.left;
+          rests = s.rests;
           marked = s.marked;
           starts = s.starts;
           logged = record { leased = s.logged.leased; paid = paid_less i (all_of w c) w.kernel.shared shared gone else_same (all_unmade c is_c) s.logged.paid; limits = keep_less IsWithin i (all_of w c) w.kernel.shared shared gone else_same (all_unmade c is_c) s.logged.limits; unnamed = keep_less (λ j o. IsNameless o) i (all_of w c) w.kernel.shared shared gone else_same (all_unmade c is_c) s.logged.unnamed };

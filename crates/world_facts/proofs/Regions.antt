@@ -40,7 +40,7 @@ module _ (w : World) (c : ℕ) (h : IsCoherent w) (is_c : is_client c ≡ true) 
   regions_hold = quiet w c w.kernel.shared (w.kernel.accounts c) p h is_c refl log refl (booked_same w c p h is_c)
       (record {
         number = s.number;
-        left = s.left;
+        rests = s.rests;
         marked = marked;
         starts = starts;
         logged = subst (λ rs. IsLogged w.kernel.shared (w.clients c).writes rs) (sym all) s.logged;

@@ -61,7 +61,7 @@ module _ (w : World) (c : ℕ) (call : Call) (new : ℕ) (operation : Operation)
       (booked_same w c told h can.client)
       (record {
         number = s.number;
-        left = record { closed = λ e. both (is_settled (w.clients c).status) e (ap is_settled can.alive); idle = λ e. can.idle };
+        rests = record { closed = λ e. both (is_settled (w.clients c).status) e (ap is_settled can.alive); idle = λ e. can.idle };
         marked = s.marked;
         starts = s.starts;
         logged = s.logged;
@@ -162,7 +162,7 @@ module _ (w : World) (c : ℕ) (b : Begun) (h : IsCoherent w) (is : IsBegun w c 
       (booked_same w c logged h is.client)
       (record {
         number = s.number;
-        left = record { closed = λ e. none_some b (sym (s.left.idle e) ∙ is.there); idle = λ e. refl };
+        rests = record { closed = λ e. none_some b (sym (s.rests.idle e) ∙ is.there); idle = λ e. refl };
         marked = s.marked;
         starts = record { records = λ e. none_some b (sym (s.starts.idle e) ∙ is.there); idle = λ e. refl };
         logged = record { leased = λ i e. s.logged.leased i (ap (is_written i) (sym all_same) ∙ e); paid = subst (λ rs. ArePaid w.kernel.shared rs) (sym all_same) s.logged.paid; unnamed = subst (λ rs. NameNone w.kernel.shared rs) (sym all_same) s.logged.unnamed; limits = subst (λ rs. KeepLimits w.kernel.shared rs) (sym all_same) s.logged.limits };

@@ -1,7 +1,7 @@
--- What becomes of a client that died, and of its seat, each step with when it may be taken.
+-- What becomes of a client that died, and of its number, each step with when it may be taken.
 use Rattle.std.specs.Prelude.{◌≡◌, ◌≢◌, ℕ, [], true, None}
 use Rattle.posix_calls.specs.Operations.{is_client}
-use Rattle.world_facts.specs.World.{Alive, Dead, Settled, Buried, Wiped, Away, World, log_of, moved}
+use Rattle.world_facts.specs.World.{Dead, Settled, Buried, Wiped, Away, World, log_of, moved}
 use Rattle.world_facts.specs.ClientSteps.{with_client}
 use Rattle.world_facts.specs.Opening.{idle_client, idle_account}
 
@@ -25,12 +25,14 @@ pub record CanBury (w : World) (c : ℕ) : Type 0 where
 abbrev pub client_buried : World → ℕ → World
 client_buried w c = moved w c w.kernel.shared (idle_account (w.kernel.accounts c).mark) (record (idle_client c (w.kernel.accounts c).mark) { other = (w.clients c).other; ready = (w.clients c).ready; status = Buried })
 
--- a new client takes its seat, once both regions are wiped
+-- a new client takes its seat, once no region of it holds a record or has a wipe to come
 pub record CanJoin (w : World) (c : ℕ) : Type 0 where
   pub client : is_client c ≡ true
   pub buried : (w.clients c).status ≡ Buried
+  pub digested : log_of w c ≡ []
   pub other : (w.clients c).other ≡ Wiped
   pub ready : (w.clients c).ready ≡ true
 
-abbrev pub joined : World → ℕ → World
-joined w c = with_client w c (record (w.clients c) { status = Alive })
+-- it begins with nothing but its mark, as a client does at a format
+abbrev pub client_joined : World → ℕ → World
+client_joined w c = moved w c w.kernel.shared (idle_account (w.kernel.accounts c).mark) (idle_client c (w.kernel.accounts c).mark)

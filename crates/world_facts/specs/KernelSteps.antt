@@ -27,3 +27,14 @@ pub record CanReclaim (k : Kernel) (i : ℕ) : Type 0 where
 
 abbrev pub reclaimed : World → ℕ → World
 reclaimed w i = record { kernel = record { shared = set_node w.kernel.shared i None; capacity = w.kernel.capacity; accounts = w.kernel.accounts }; clients = w.clients }
+
+-- ---- a run of a file's blocks is migrated
+
+-- the kernel afterwards has the same node at every inode, the same account of every client, and the same capacity
+pub record IsMigrated (before after : Kernel) : Type 0 where
+  pub nodes : (i : ℕ) → after.shared i ≡ before.shared i
+  pub accounts : (c : ℕ) → is_client c ≡ true → after.accounts c ≡ before.accounts c
+  pub capacity : after.capacity ≡ before.capacity
+
+abbrev pub run_migrated : World → Kernel → World
+run_migrated w after = record { kernel = after; clients = w.clients }

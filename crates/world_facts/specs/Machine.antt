@@ -26,17 +26,17 @@ abbrev pub sealed_of : Client → Sealed
 sealed_of p = record { past = p.past; records = p.sealed; writes = p.writes }
 
 -- those that are not digested
-abbrev pub left_of : Account → Sealed → List Record
-left_of a s = drop (a.mark - s.past) s.records
+abbrev pub undigested_sealed : Account → Sealed → List Record
+undigested_sealed a s = drop (a.mark - s.past) s.records
 
 -- what holds of it beside the shared graph and its client's account
 pub record StandsSealed (g : Graph) (a : Account) (s : Sealed) : Type 0 where
   pub low : s.past ≤ a.mark
   pub high : a.mark ≤ s.past + length s.records
-  pub logged : IsLogged g s.writes (left_of a s)
-  pub units : units_in (left_of a s) ≤ a.units
-  pub made : (i : ℕ) → is_made_in i (left_of a s) ≡ true → a.numbers i ≡ true
-  pub once : (i : ℕ) → IsMadeOnce i (left_of a s)
+  pub logged : IsLogged g s.writes (undigested_sealed a s)
+  pub units : units_in (undigested_sealed a s) ≤ a.units
+  pub made : (i : ℕ) → is_made_in i (undigested_sealed a s) ≡ true → a.numbers i ≡ true
+  pub once : (i : ℕ) → IsMadeOnce i (undigested_sealed a s)
 
 -- ---- what holds of the machine
 
@@ -77,7 +77,7 @@ pub record CanDigestNext (m : Machine) (c : ℕ) (s : Sealed) (first rest : List
   pub client : is_client c ≡ true
   pub some : first ≢ []
   pub accepted : (m.kernel.accounts c).mark + length first ≤ m.accepted c
-  pub split : left_of (m.kernel.accounts c) s ≡ first ++ rest
+  pub split : undigested_sealed (m.kernel.accounts c) s ≡ first ++ rest
 
 abbrev pub account_after : Account → List Record → Account
 account_after a first = record a { mark = a.mark + length first; units = a.units - units_in first; numbers = λ i. a.numbers i && not (is_made_in i first) }
@@ -106,6 +106,10 @@ unbook_pin m c i = with_account m c (record (m.kernel.accounts c) { pins = witho
 -- nothing is left in the book of a client that is buried
 abbrev pub bury : Machine → ℕ → Machine
 bury m c = with_account m c (idle_account (m.kernel.accounts c).mark)
+
+-- another kernel, of the same nodes and accounts
+abbrev pub migrate : Machine → Kernel → Machine
+migrate m after = record { kernel = after; accepted = m.accepted }
 
 abbrev pub reclaim : Machine → ℕ → Machine
 reclaim m i = record { kernel = record { shared = set_node m.kernel.shared i None; capacity = m.kernel.capacity; accounts = m.kernel.accounts }; accepted = m.accepted }

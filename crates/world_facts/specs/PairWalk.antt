@@ -63,8 +63,8 @@ abbrev pub two : World
 two = call_begun one 1 write_7
 
 -- what a stop leaves: of each client's begun record all or nothing
-abbrev pub left : (first second : Bool) → ℕ → List Record
-left first second c = if (c == 1 && first) || (c == 2 && second) then all_of two c else log_of two c
+abbrev pub logs_left : (first second : Bool) → ℕ → List Record
+logs_left first second c = if (c == 1 && first) || (c == 2 && second) then all_of two c else log_of two c
 
 -- client 1 is answered, its region sealed beside the other one, which is not wiped yet, and its record digested, while client 2's call is begun
 abbrev pub written : World

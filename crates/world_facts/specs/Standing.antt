@@ -71,7 +71,7 @@ is_settled Buried = true
 is_settled _ = false
 
 -- whose call is settled has nothing open, and no call begun
-pub record HasLeft (status : Status) (own : Own) (begun : Option Begun) : Type 0 where
+pub record RestsOnceSettled (status : Status) (own : Own) (begun : Option Begun) : Type 0 where
   pub closed : is_settled status ≡ true → (n : ℕ) → own n ≡ None
   pub idle : is_settled status ≡ true → begun ≡ None
 
@@ -87,7 +87,7 @@ pub record Stands (g : Graph) (a : Account) (c : ℕ) (p : Client) : Type 0 wher
   pub leased : IsLeased (has_lease p) p.knows
   pub pinned : IsPinned a.pins p.pins p.knows.own
   pub pending : (b : Begun) → p.begun ≡ Some b → IsPending p.status p.knows p.pins b
-  pub left : HasLeft p.status p.knows.own p.begun
+  pub rests : RestsOnceSettled p.status p.knows.own p.begun
 
 -- ---- the kernel's part
 

@@ -7,7 +7,7 @@ ghost use Rattle.call_effects.specs.Known.{Agrees};
 ghost use Rattle.call_effects.specs.Wholes.{IsSound};
 ghost use Rattle.world_facts.specs.Logs.{after_each, LogsAreApart};
 ghost use Rattle.world_facts.specs.World.{log_of, all_of, whole, held, world_state};
-ghost use Rattle.world_facts.specs.Standing.{HasLeft, StartsWiped, IsNumbered, IsBooked};
+ghost use Rattle.world_facts.specs.Standing.{RestsOnceSettled, StartsWiped, IsNumbered, IsBooked};
 ghost use Rattle.world_facts.specs.Parts.{Part, Book, Each, LeasesLegal, WholeKnown, CopiesLeased, BlocksLeased, BegunHasEffects, Holds, NumbersFree, NumbersInRange, RecordsLeased, RecordsPaid, RecordsNameNone, RecordsKeepLimits, UnitsBooked, MadeOnce, GrantedUnused, WholeSound, NumbersInOneHand, NodesWithin, UnitsFit, OwnNumber, MadeBooked, GrantedBooked, OpenPinned, PinsBooked, BegunPlanned, BegunPinned, SettledClosed, SettledIdle, MarkNotPast, MarkNotBefore, AwayHasRecords, BackHasNone, UnwipedHasNone, UnwipedIsIdle, BreaksAlone};
 ghost use Rattle.world_facts.specs.Machine.{CanAccept, sealed_of};
 ghost use Rattle.world_facts.specs.ClientSteps.{CanAnswer, answered, CanBegin, IsBegun, replied};
@@ -243,7 +243,7 @@ pub fn call_begun_in_a_stale_region_is_written_there()
 pub fn call_of_a_settled_client_opens_a_file()
     ensures alone { BreaksAlone (Each SettledIdle) settled_opening }
     ensures begun { IsBegun settled_opening 1 open_a }
-    ensures lost { HasLeft ((replied settled_opening 1 open_a).clients 1).status ((replied settled_opening 1 open_a).clients 1).knows.own ((replied settled_opening 1 open_a).clients 1).begun → ⊥ }
+    ensures lost { RestsOnceSettled ((replied settled_opening 1 open_a).clients 1).status ((replied settled_opening 1 open_a).clients 1).knows.own ((replied settled_opening 1 open_a).clients 1).begun → ⊥ }
 {}
 
 /// Where a region is away that has no record, the kernel never accepts it.
@@ -261,7 +261,7 @@ pub fn call_under_another_number_opens_nothing()
 
 /// Where a record touches an inode that its client doesn't hold for writing, another client takes the lease, and fetches a copy that is not
 /// as the whole is.
-pub fn record_without_a_lease_is_not_fetched()
+pub fn record_without_a_lease_is_missed_by_a_fetch()
     ensures alone { BreaksAlone (Each RecordsLeased) unleased }
     ensures can { IsUnheld unleased 2 2 }
     ensures fetches { CanFetch (write_taken unleased 2 2) 2 2 }

@@ -1,11 +1,12 @@
-//! What becomes of a client that died, and of its seat.
+//! What becomes of a client that died, and of its number.
 
 ghost use Rattle.std.specs.Prelude.{◌≡◌, ℕ};
 ghost use Rattle.call_effects.specs.Settled.{without_client};
 ghost use Rattle.call_effects.specs.Wholes.{state_of};
 ghost use Rattle.world_facts.specs.World.{World, whole, held, world_state};
 ghost use Rattle.world_facts.specs.ClientSteps.{CanDie, died};
-ghost use Rattle.world_facts.specs.Burial.{CanDepart, departed, CanBury, client_buried, CanJoin, joined};
+ghost use Rattle.world_facts.specs.Burial.{CanDepart, departed, CanBury, client_buried, CanJoin, client_joined};
+ghost use Rattle.world_facts.specs.Opening.{idle_client, idle_account};
 ghost use Rattle.world_facts.specs.Invariant.{IsCoherent};
 
 /// A client dies at any point: the tree stays, and a begun call stays begun, till its record is found or not.
@@ -25,10 +26,14 @@ pub fn dead_client_may_depart()
 pub fn departed_client_may_be_buried()
     ensures holds { (w : World) (c : ℕ) → IsCoherent w → CanBury w c → IsCoherent (client_buried w c) }
     ensures tree { (w : World) (c : ℕ) → IsCoherent w → CanBury w c → world_state (client_buried w c) ≡ world_state w }
+    ensures account { (w : World) (c : ℕ) → (client_buried w c).kernel.accounts c ≡ idle_account (w.kernel.accounts c).mark }
 {}
 
-/// A new client takes the seat of one that was buried, with both regions wiped.
-pub fn buried_seat_may_be_taken()
-    ensures holds { (w : World) (c : ℕ) → IsCoherent w → CanJoin w c → IsCoherent (joined w c) }
-    ensures tree { (w : World) (c : ℕ) → IsCoherent w → CanJoin w c → world_state (joined w c) ≡ world_state w }
+/// Once a client is buried and both its regions are wiped, a new one joins under its number, with nothing but the mark. The kernel has
+/// nothing to do for it where the account is empty, as a burial leaves it.
+pub fn new_client_may_join()
+    ensures holds { (w : World) (c : ℕ) → IsCoherent w → CanJoin w c → IsCoherent (client_joined w c) }
+    ensures tree { (w : World) (c : ℕ) → IsCoherent w → CanJoin w c → world_state (client_joined w c) ≡ world_state w }
+    ensures fresh { (w : World) (c : ℕ) → (client_joined w c).clients c ≡ idle_client c (w.kernel.accounts c).mark }
+    ensures kernel { (w : World) (c : ℕ) → w.kernel.accounts c ≡ idle_account (w.kernel.accounts c).mark → (client_joined w c).kernel ≡ w.kernel }
 {}

@@ -4,11 +4,13 @@ ghost use Rattle.std.specs.Prelude.{◌≡◌, ℕ, List, true, Some, None};
 ghost use Rattle.posix_calls.specs.Operations.{is_client};
 ghost use Rattle.posix_calls.specs.declared.descriptor.Descriptor.{Descriptor};
 ghost use Rattle.file_graph.specs.Graph.{set_node, after_effects};
+ghost use Rattle.file_graph.specs.Units.{charge};
 ghost use Rattle.log_record.specs.declared.format.Record.{Record};
 ghost use Rattle.world_facts.specs.Logs.{IsNameless};
-ghost use Rattle.world_facts.specs.World.{Begun, World, whole, world_state};
+ghost use Rattle.world_facts.specs.World.{Begun, Kernel, World, whole, world_state};
 ghost use Rattle.world_facts.specs.ClientSteps.{IsBegun, replied};
-ghost use Rattle.world_facts.specs.KernelSteps.{CanDigest, records_digested, CanReclaim, reclaimed};
+ghost use Rattle.world_facts.specs.KernelSteps.{CanDigest, records_digested, CanReclaim, reclaimed, IsMigrated, run_migrated};
+ghost use Rattle.world_facts.specs.Stop.{stored_graph};
 ghost use Rattle.world_facts.specs.Invariant.{IsCoherent};
 
 /// The first undigested records of a sealed region go into the shared graph, with their mark, units and numbers: the whole is the
@@ -43,4 +45,14 @@ pub fn digest_leaves_begun_calls()
 /// A file that a client has open can't be reclaimed, also where it has lost its last name: it is pinned.
 pub fn open_file_is_not_reclaimed()
     ensures { (w : World) (c n : ℕ) (o : Descriptor) → IsCoherent w → is_client c ≡ true → (w.clients c).knows.own n ≡ Some o → CanReclaim w.kernel o.inode → ⊥ }
+{}
+
+/// A run of a file's blocks is migrated: no node, no mark and nothing that was given moves, so all still holds, with the same charge, and
+/// with the same tree now and after a stop.
+pub fn run_may_be_migrated()
+    ensures holds { (w : World) (after : Kernel) → IsCoherent w → IsMigrated w.kernel after → IsCoherent (run_migrated w after) }
+    ensures whole { (w : World) (after : Kernel) → IsMigrated w.kernel after → whole (run_migrated w after) ≡ whole w }
+    ensures tree { (w : World) (after : Kernel) → IsMigrated w.kernel after → world_state (run_migrated w after) ≡ world_state w }
+    ensures charged { (before after : Kernel) → IsMigrated before after → charge after.shared ≡ charge before.shared }
+    ensures stored { (w : World) (after : Kernel) (logs : ℕ → List Record) → IsMigrated w.kernel after → stored_graph (run_migrated w after) logs ≡ stored_graph w logs }
 {}

@@ -24,7 +24,7 @@
 //! | `Each BackHasNone` | one that is not away has none | `left_behind` | `wipe_of_a_region_that_is_back_loses_a_call` |
 //! | `Each UnwipedHasNone` | a region to be wiped has no record | `unwiped` | `wipe_of_a_written_region_loses_a_call` |
 //! | `Each UnwipedIsIdle` | and none is begun in it | `begun_unwiped` | `call_begun_in_a_stale_region_is_written_there` |
-//! | `Each RecordsLeased` | records touch what their client holds for writing | `unleased` | `record_without_a_lease_is_not_fetched` |
+//! | `Each RecordsLeased` | records touch what their client holds for writing | `unleased` | `record_without_a_lease_is_missed_by_a_fetch` |
 //! | `Each RecordsPaid` | they have the units for what they raise | `overdrawn unpaid` | `unpaid_record_passes_the_capacity` |
 //! | `Each RecordsNameNone` | they name no file that has no name | `to_be_named` | `reclaim_of_a_file_to_be_named_is_seen` |
 //! | `Each RecordsKeepLimits` | each keeps every node within the limits | `past_limit` | `record_past_a_limit_is_digested` |
@@ -79,7 +79,7 @@ pub use broken_laws::{
     number_used_twice_is_free_between, number_without_an_account_is_granted_again,
     pin_without_the_book_is_no_pin, reclaim_of_a_file_to_be_named_is_seen,
     reclaim_of_an_open_file_is_seen, record_of_no_call_breaks_the_whole,
-    record_past_a_limit_is_digested, record_without_a_lease_is_not_fetched,
+    record_past_a_limit_is_digested, record_without_a_lease_is_missed_by_a_fetch,
     region_without_a_record_is_not_accepted, stop_of_an_unsound_whole_is_not_recoverable,
     stop_past_the_capacity_is_not_recoverable, stop_with_a_node_past_a_limit_is_not_recoverable,
     unbooked_units_pass_the_capacity, unpaid_record_passes_the_capacity,
@@ -87,7 +87,7 @@ pub use broken_laws::{
     wipe_of_a_written_region_loses_a_call, writing_without_a_lease_is_seen,
 };
 pub use burial_laws::{
-    buried_seat_may_be_taken, client_may_die, dead_client_may_depart, departed_client_may_be_buried,
+    client_may_die, dead_client_may_depart, departed_client_may_be_buried, new_client_may_join,
 };
 pub use call_laws::{
     begun_call_is_a_step, begun_call_leaves_the_tree, begun_call_may_be_given_up,
@@ -96,7 +96,7 @@ pub use call_laws::{
 pub use half_laws::{number_may_be_on_its_way, pin_may_be_on_its_way, units_may_be_on_their_way};
 pub use kernel_laws::{
     digest_leaves_begun_calls, nameless_file_stays_nameless, open_file_is_not_reclaimed,
-    records_may_be_digested, unused_file_may_be_reclaimed,
+    records_may_be_digested, run_may_be_migrated, unused_file_may_be_reclaimed,
 };
 pub use lease_laws::{
     copy_may_be_fetched, knowledge_may_be_forgotten, lease_may_be_given, read_lease_may_be_taken,
@@ -104,7 +104,7 @@ pub use lease_laws::{
 };
 pub use machine_laws::{
     accepted_regions_are_those_away, digest_keeps_what_is_sealed,
-    kernel_entries_are_steps_of_the_world, kernel_entries_may_be_taken_in_the_world,
+    kernel_digest_may_be_taken_in_the_world, kernel_entries_are_steps_of_the_world,
     kernel_keeps_its_book, parts_stand_where_they_write, region_that_is_away_may_be_accepted,
 };
 pub use opening_laws::{idle_world_holds, opening_world_holds};

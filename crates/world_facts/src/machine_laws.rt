@@ -5,15 +5,15 @@ ghost use Rattle.posix_calls.specs.Operations.{is_client};
 ghost use Rattle.file_graph.specs.Graph.{Graph};
 ghost use Rattle.log_record.specs.declared.format.Record.{Record};
 ghost use Rattle.world_facts.specs.Logs.{after_records, is_written, is_made_in};
-ghost use Rattle.world_facts.specs.World.{Account, Away, Client, World, at, records_of};
+ghost use Rattle.world_facts.specs.World.{Account, Away, Client, Kernel, World, at, records_of};
 ghost use Rattle.world_facts.specs.Standing.{Stands};
 ghost use Rattle.world_facts.specs.BookSteps.{HasRoom, IsUnbooked};
-ghost use Rattle.world_facts.specs.KernelSteps.{CanDigest, CanReclaim, records_digested, reclaimed};
+ghost use Rattle.world_facts.specs.KernelSteps.{CanDigest, CanReclaim, IsMigrated, records_digested, reclaimed, run_migrated};
 ghost use Rattle.world_facts.specs.Halves.{units_booked, units_unbooked, number_booked, number_unbooked, pin_booked, pin_unbooked};
-ghost use Rattle.world_facts.specs.Burial.{CanBury, client_buried};
+ghost use Rattle.world_facts.specs.Burial.{CanBury, client_buried, CanJoin, client_joined};
 ghost use Rattle.world_facts.specs.Opening.{idle_world};
 ghost use Rattle.world_facts.specs.RegionSteps.{CanSeal, region_sealed, CanTakeBack, taken_back, CanWipeOther, other_wiped};
-ghost use Rattle.world_facts.specs.Machine.{Machine, IsRunning, AreAccepted, Sealed, sealed_of, left_of, StandsSealed, CanAccept, accept, CanDigestNext, account_after, digest, book_units, unbook_units, book_number, unbook_number, book_pin, unbook_pin, bury, reclaim};
+ghost use Rattle.world_facts.specs.Machine.{Machine, IsRunning, AreAccepted, Sealed, sealed_of, undigested_sealed, StandsSealed, CanAccept, accept, CanDigestNext, account_after, digest, book_units, unbook_units, book_number, unbook_number, book_pin, unbook_pin, bury, migrate, reclaim};
 ghost use Rattle.world_facts.specs.Invariant.{IsCoherent};
 
 /// Each entry keeps what holds of the kernel alone.
@@ -28,6 +28,7 @@ pub fn kernel_keeps_its_book()
     ensures unbook_pin { (m : Machine) (c i : ℕ) → IsRunning m → is_client c ≡ true → IsRunning (unbook_pin m c i) }
     ensures bury { (m : Machine) (c : ℕ) → IsRunning m → is_client c ≡ true → IsRunning (bury m c) }
     ensures reclaim { (m : Machine) (i : ℕ) → IsRunning m → CanReclaim m.kernel i → IsRunning (reclaim m i) }
+    ensures migrate { (m : Machine) (after : Kernel) → IsRunning m → IsMigrated m.kernel after → IsRunning (migrate m after) }
 {}
 
 /// A client's sealed region is a part of its own, beside the shared graph and the client's account. A digest of its next records keeps
@@ -43,8 +44,8 @@ pub fn digest_keeps_what_is_sealed()
 pub fn parts_stand_where_they_write()
     ensures client { (g h : Graph) (a : Account) (c : ℕ) (p : Client) → ((i : ℕ) → is_written i (records_of a p) ≡ true → g i ≡ h i) → Stands g a c p → Stands h a c p }
     ensures client_less { (i : ℕ) (g h : Graph) (a : Account) (c : ℕ) (p : Client) → h i ≡ None → ((j : ℕ) → j ≢ i → h j ≡ g j) → is_made_in i (records_of a p) ≡ false → Stands g a c p → Stands h a c p }
-    ensures sealed { (g h : Graph) (a : Account) (s : Sealed) → ((i : ℕ) → is_written i (left_of a s) ≡ true → g i ≡ h i) → StandsSealed g a s → StandsSealed h a s }
-    ensures sealed_less { (i : ℕ) (g h : Graph) (a : Account) (s : Sealed) → h i ≡ None → ((j : ℕ) → j ≢ i → h j ≡ g j) → is_made_in i (left_of a s) ≡ false → StandsSealed g a s → StandsSealed h a s }
+    ensures sealed { (g h : Graph) (a : Account) (s : Sealed) → ((i : ℕ) → is_written i (undigested_sealed a s) ≡ true → g i ≡ h i) → StandsSealed g a s → StandsSealed h a s }
+    ensures sealed_less { (i : ℕ) (g h : Graph) (a : Account) (s : Sealed) → h i ≡ None → ((j : ℕ) → j ≢ i → h j ≡ g j) → is_made_in i (undigested_sealed a s) ≡ false → StandsSealed g a s → StandsSealed h a s }
 {}
 
 /// The kernel's entries are what the world's steps make of the kernel's part.
@@ -57,6 +58,7 @@ pub fn kernel_entries_are_steps_of_the_world()
     ensures unbook_number { (w : World) (accepted : ℕ → ℕ) (c i : ℕ) → (unbook_number (record { kernel = w.kernel; accepted = accepted }) c i).kernel ≡ (number_unbooked w c i).kernel }
     ensures book_pin { (w : World) (accepted : ℕ → ℕ) (c i : ℕ) → (book_pin (record { kernel = w.kernel; accepted = accepted }) c i).kernel ≡ (pin_booked w c i).kernel }
     ensures unbook_pin { (w : World) (accepted : ℕ → ℕ) (c i : ℕ) → (unbook_pin (record { kernel = w.kernel; accepted = accepted }) c i).kernel ≡ (pin_unbooked w c i).kernel }
+    ensures migrate { (w : World) (accepted : ℕ → ℕ) (after : Kernel) → (migrate (record { kernel = w.kernel; accepted = accepted }) after).kernel ≡ (run_migrated w after).kernel }
     ensures bury { (w : World) (accepted : ℕ → ℕ) (c : ℕ) → (bury (record { kernel = w.kernel; accepted = accepted }) c).kernel ≡ (client_buried w c).kernel }
 {}
 
@@ -65,14 +67,15 @@ pub fn region_that_is_away_may_be_accepted()
     ensures { (m : Machine) (c : ℕ) (p : Client) → is_client c ≡ true → Stands m.kernel.shared (m.kernel.accounts c) c p → p.other ≡ Away → (m.kernel.accounts c).mark ≡ p.past → m.accepted c ≡ p.past → CanAccept m c (sealed_of p) }
 {}
 
-/// What the kernel may digest of a client's sealed region the world may, and what it has to know of the region holds in every world.
-pub fn kernel_entries_may_be_taken_in_the_world()
+/// A digest of the kernel, unlike its other entries, rests on what a client sealed: what the kernel may digest of that the world may, and
+/// what it has to know of it holds in every world.
+pub fn kernel_digest_may_be_taken_in_the_world()
     ensures digest { (w : World) (accepted : ℕ → ℕ) (c : ℕ) (first rest : List Record) → CanDigestNext (record { kernel = w.kernel; accepted = accepted }) c (sealed_of (w.clients c)) first rest → CanDigest w c first rest }
     ensures sealed { (w : World) (c : ℕ) → IsCoherent w → is_client c ≡ true → StandsSealed w.kernel.shared (w.kernel.accounts c) (sealed_of (w.clients c)) }
 {}
 
-/// The regions that the kernel accepted are the clients' regions that are away: each step of a region, each acceptance and each burial
-/// keeps it. So a region that is away was accepted or may be, and what the world may digest of an accepted one the kernel may.
+/// The regions that the kernel accepted are the clients' regions that are away: each step of a region, each acceptance, each burial
+/// and each client that joins keeps it. So a region that is away was accepted or may be, and what the world may digest of an accepted one the kernel may.
 pub fn accepted_regions_are_those_away()
     ensures opening { (capacity : ℕ) (g : Graph) → AreAccepted (λ c. 0) (idle_world capacity g).clients }
     ensures still { (accepted : ℕ → ℕ) (w : World) (c : ℕ) (p : Client) → AreAccepted accepted w.clients → p.past ≡ (w.clients c).past → p.sealed ≡ (w.clients c).sealed → p.other ≡ (w.clients c).other → AreAccepted accepted (at w.clients c p) }
@@ -81,6 +84,7 @@ pub fn accepted_regions_are_those_away()
     ensures back { (accepted : ℕ → ℕ) (w : World) (c : ℕ) → IsCoherent w → AreAccepted accepted w.clients → (w.kernel.accounts c).mark ≤ accepted c → CanTakeBack w c → AreAccepted accepted (taken_back w c).clients }
     ensures wiped { (accepted : ℕ → ℕ) (w : World) (c : ℕ) → AreAccepted accepted w.clients → CanWipeOther w c → AreAccepted accepted (other_wiped w c).clients }
     ensures buried { (accepted : ℕ → ℕ) (w : World) (c : ℕ) → IsCoherent w → AreAccepted accepted w.clients → CanBury w c → AreAccepted accepted (client_buried w c).clients }
+    ensures joined { (accepted : ℕ → ℕ) (w : World) (c : ℕ) → IsCoherent w → AreAccepted accepted w.clients → CanJoin w c → AreAccepted accepted (client_joined w c).clients }
     ensures next { (accepted : ℕ → ℕ) (w : World) (c : ℕ) → IsCoherent w → AreAccepted accepted w.clients → is_client c ≡ true → (w.clients c).other ≡ Away → (w.kernel.accounts c).mark ≤ accepted c → CanAccept (record { kernel = w.kernel; accepted = accepted }) c (sealed_of (w.clients c)) ⊎ (accepted c ≡ (w.clients c).past + length (w.clients c).sealed) }
     ensures digest { (accepted : ℕ → ℕ) (w : World) (c : ℕ) (first rest : List Record) → IsCoherent w → accepted c ≡ (w.clients c).past + length (w.clients c).sealed → CanDigest w c first rest → CanDigestNext (record { kernel = w.kernel; accepted = accepted }) c (sealed_of (w.clients c)) first rest }
 {}

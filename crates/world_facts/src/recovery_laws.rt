@@ -3,6 +3,7 @@
 ghost use Rattle.std.specs.Prelude.{◌≡◌, ℕ, ◌≤◌, List, [], ◌++◌, true, None};
 ghost use Rattle.posix_calls.specs.Operations.{is_client};
 ghost use Rattle.posix_calls.specs.WellFormed.{IsWithinLimits};
+ghost use Rattle.posix_calls.specs.declared.limits.TheConstants.{MAX_CLIENTS};
 ghost use Rattle.file_graph.specs.Graph.{Graph, set_node};
 ghost use Rattle.file_graph.specs.Units.{charge};
 ghost use Rattle.log_record.specs.declared.format.Record.{Record};
@@ -18,7 +19,7 @@ ghost use Rattle.world_facts.specs.Recovery.{IsRecoverable};
 /// recoverable, to the same graph, and never is more charged than fits. A stop on the way loses nothing.
 pub fn recovery_may_digest_records()
     ensures rest { (capacity : ℕ) (g : Graph) (logs : ℕ → List Record) (c : ℕ) (first rest : List Record) → IsRecoverable capacity g logs → is_client c ≡ true → logs c ≡ first ++ rest → IsRecoverable capacity (after_records g first) (at logs c rest) }
-    ensures same { (capacity : ℕ) (g : Graph) (logs : ℕ → List Record) (c : ℕ) (first rest : List Record) → IsRecoverable capacity g logs → is_client c ≡ true → logs c ≡ first ++ rest → after_clients (at logs c rest) (after_records g first) 8 ≡ after_clients logs g 8 }
+    ensures same { (capacity : ℕ) (g : Graph) (logs : ℕ → List Record) (c : ℕ) (first rest : List Record) → IsRecoverable capacity g logs → is_client c ≡ true → logs c ≡ first ++ rest → after_clients (at logs c rest) (after_records g first) MAX_CLIENTS ≡ after_clients logs g MAX_CLIENTS }
     ensures within { (capacity : ℕ) (g : Graph) (logs : ℕ → List Record) (c : ℕ) (first rest : List Record) → IsRecoverable capacity g logs → is_client c ≡ true → logs c ≡ first ++ rest → AreWithin (after_records g first) }
     ensures charged { (capacity : ℕ) (g : Graph) (logs : ℕ → List Record) (c : ℕ) (first rest : List Record) → IsRecoverable capacity g logs → is_client c ≡ true → logs c ≡ first ++ rest → charge (after_records g first) ≤ capacity }
 {}

@@ -50,9 +50,9 @@ pub fn small_world_unlinks_an_open_file()
 pub fn small_world_of_two_clients()
     ensures given { CanGive pair_walk.back 1 1 }
     ensures begun { IsCoherent pair_walk.two }
-    ensures stopped { (first second : Bool) → Stores pair_walk.two (pair_walk.left first second) }
-    ensures byte { (first second : Bool) → file_bytes (stored_graph pair_walk.two (pair_walk.left first second) 2) ≡ Some (if first then 7 ∷ [] else []) }
-    ensures directory { (first second : Bool) → is_some (stored_graph pair_walk.two (pair_walk.left first second) 3) ≡ second }
+    ensures stopped { (first second : Bool) → Stores pair_walk.two (pair_walk.logs_left first second) }
+    ensures byte { (first second : Bool) → file_bytes (stored_graph pair_walk.two (pair_walk.logs_left first second) 2) ≡ Some (if first then 7 ∷ [] else []) }
+    ensures directory { (first second : Bool) → is_some (stored_graph pair_walk.two (pair_walk.logs_left first second) 3) ≡ second }
     ensures written { Step (world_state pair_walk.two) 1 pair_walk.write_7.call (Wrote 1) (world_state (replied pair_walk.two 1 pair_walk.write_7)) }
     ensures beside { IsCoherent pair_walk.beside }
     ensures still { IsBegun pair_walk.beside 2 pair_walk.mkdir_b }

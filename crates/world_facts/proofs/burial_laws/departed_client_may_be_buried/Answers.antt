@@ -1,4 +1,4 @@
-use Rattle.world_facts.proofs.Burials.{buried_holds, buried_tree}
+use Rattle.world_facts.proofs.Burials.{buried_holds, buried_tree, buried_account}
 use Rattle.world_facts.proofs.burial_laws.departed_client_may_be_buried.Goals as goal
 
 pub returns-clause-holds : goal.returns-clause-holds
@@ -6,3 +6,6 @@ returns-clause-holds c = buried_holds
 
 pub returns-clause-tree : goal.returns-clause-tree
 returns-clause-tree c = buried_tree
+
+pub returns-clause-account : goal.returns-clause-account
+returns-clause-account c = buried_account

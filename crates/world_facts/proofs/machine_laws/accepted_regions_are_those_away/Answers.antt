@@ -1,5 +1,5 @@
 use Rattle.std.proofs.Common.{inl, refl}
-use Rattle.world_facts.proofs.Accepting.{still, after_seal, after_accept, after_return, after_wipe, after_burial, next, may_digest}
+use Rattle.world_facts.proofs.Accepting.{still, after_seal, after_accept, after_return, after_wipe, after_burial, after_join, next, may_digest}
 use Rattle.world_facts.proofs.machine_laws.accepted_regions_are_those_away.Goals as goal
 
 pub returns-clause-opening : goal.returns-clause-opening
@@ -28,3 +28,6 @@ returns-clause-next r accepted w c h are is away low = next accepted w c h are i
 
 pub returns-clause-digest : goal.returns-clause-digest
 returns-clause-digest r accepted w c first rest h whole can = may_digest accepted w c h first rest whole can
+
+pub returns-clause-joined : goal.returns-clause-joined
+returns-clause-joined r accepted w c h are can = after_join accepted w c h are can

@@ -27,3 +27,6 @@ returns-clause-unbook_pin c = λ w accepted d i. refl
 
 pub returns-clause-bury : goal.returns-clause-bury
 returns-clause-bury c = λ w accepted d. refl
+
+pub returns-clause-migrate : goal.returns-clause-migrate
+returns-clause-migrate c = λ w accepted after. refl

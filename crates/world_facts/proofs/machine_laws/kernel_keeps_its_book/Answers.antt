@@ -1,4 +1,5 @@
 use Rattle.world_facts.proofs.Machines.{accepted_runs, digested_runs, units_booked_run, units_unbooked_run, number_booked_runs, number_unbooked_runs, pin_booked_runs, pin_unbooked_runs, buried_runs, reclaimed_runs}
+use Rattle.world_facts.proofs.Migrations.{migrated_runs}
 use Rattle.world_facts.proofs.machine_laws.kernel_keeps_its_book.Goals as goal
 
 pub returns-clause-accept : goal.returns-clause-accept
@@ -30,3 +31,6 @@ returns-clause-bury c = λ m d r is. buried_runs m r d is
 
 pub returns-clause-reclaim : goal.returns-clause-reclaim
 returns-clause-reclaim c = reclaimed_runs
+
+pub returns-clause-migrate : goal.returns-clause-migrate
+returns-clause-migrate c = migrated_runs

@@ -1,5 +1,5 @@
 use Rattle.world_facts.proofs.Machines.{sealed_stands}
-use Rattle.world_facts.proofs.machine_laws.kernel_entries_may_be_taken_in_the_world.Goals as goal
+use Rattle.world_facts.proofs.machine_laws.kernel_digest_may_be_taken_in_the_world.Goals as goal
 
 pub returns-clause-digest : goal.returns-clause-digest
 returns-clause-digest r w accepted c first rest can = record { client = can.client; some = can.some; split = can.split }

@@ -1,5 +1,5 @@
 use Rattle.world_facts.proofs.AloneRecords.{fewer_alone, fewer_unheld, fewer_fetch, fewer_wrong}
-use Rattle.world_facts.proofs.broken_laws.record_without_a_lease_is_not_fetched.Goals as goal
+use Rattle.world_facts.proofs.broken_laws.record_without_a_lease_is_missed_by_a_fetch.Goals as goal
 
 pub returns-clause-alone : goal.returns-clause-alone
 returns-clause-alone c = fewer_alone
