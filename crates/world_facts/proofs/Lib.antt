@@ -56,3 +56,4 @@ pub mod AloneCopies
 pub mod AloneReading
 pub mod AllAlone
 pub mod Accepting
+pub mod OwnCopies

@@ -188,7 +188,7 @@ module _ (m : Machine) (r : IsRunning m) (c : ℕ) (s : Sealed) (first rest : Li
       let parts : length (drop (x.mark - s.past) s.records) ≡ length first + length rest = ap length can.split ∙ length-append first rest in
       omega (arith, low, high, dropped, parts)
 
-  left_now : undigested_sealed after s ≡ rest
+  pub left_now : undigested_sealed after s ≡ rest
   left_now =
       ap (λ n. drop n s.records) (moved_on x.mark s.past (length first) t.low)
       ∙ drop_more (x.mark - s.past) (length first) s.records (let l : length s.records ≡ (x.mark - s.past) + (length first + length rest) = lengths in omega (arith, l))

@@ -3,6 +3,7 @@ pub mod Broken
 pub mod BrokenParts
 pub mod Burial
 pub mod ClientSteps
+pub mod Copies
 pub mod FiveWalk
 pub mod Halves
 pub mod Invariant

@@ -51,6 +51,7 @@ mod book_laws;
 mod broken_laws;
 mod burial_laws;
 mod call_laws;
+mod copy_laws;
 mod half_laws;
 mod kernel_laws;
 mod lease_laws;
@@ -61,6 +62,7 @@ mod part_laws;
 mod recovery_laws;
 mod region_laws;
 mod stop_laws;
+mod tree_laws;
 mod walk_laws;
 
 pub use book_laws::{
@@ -93,6 +95,7 @@ pub use call_laws::{
     begun_call_is_a_step, begun_call_leaves_the_tree, begun_call_may_be_given_up,
     call_without_a_record_is_a_step, failed_client_leaves_the_tree,
 };
+pub use copy_laws::{copies_are_of_the_own_records, kernel_steps_keep_copies};
 pub use half_laws::{number_may_be_on_its_way, pin_may_be_on_its_way, units_may_be_on_their_way};
 pub use kernel_laws::{
     digest_leaves_begun_calls, nameless_file_stays_nameless, open_file_is_not_reclaimed,
@@ -108,7 +111,7 @@ pub use machine_laws::{
     kernel_keeps_its_book, parts_stand_where_they_write, region_that_is_away_may_be_accepted,
 };
 pub use opening_laws::{idle_world_holds, opening_world_holds};
-pub use order_laws::clients_records_commute;
+pub use order_laws::{clients_records_commute, digests_commute};
 pub use part_laws::{
     invariant_is_all_its_parts, knowledge_is_of_copies_and_blocks, one_part_may_move,
     quiet_part_may_move,
@@ -119,6 +122,7 @@ pub use recovery_laws::{
 };
 pub use region_laws::{region_may_be_sealed, region_may_be_taken_back, region_may_be_wiped};
 pub use stop_laws::stop_stores_an_outcome;
+pub use tree_laws::world_stands_for_a_tree;
 pub use walk_laws::{
     small_world_of_five_nodes, small_world_of_two_clients, small_world_unlinks_an_open_file,
     small_world_walks,

@@ -1,5 +1,16 @@
+use Rattle.posix_calls.proofs.Steps.{run_joined}
+use Rattle.world_facts.specs.World.{world_state}
 use Rattle.world_facts.proofs.Stops.{stop_stores}
 use Rattle.world_facts.proofs.stop_laws.stop_stores_an_outcome.Goals as goal
 
-pub returns : goal.returns
-returns c = stop_stores
+pub returns-clause-stores : goal.returns-clause-stores
+returns-clause-stores c = stop_stores
+
+pub returns-clause-outcome : goal.returns-clause-outcome
+returns-clause-outcome c = λ w logs opening acknowledged h leaves run. let out = (stop_stores w logs h leaves).outcome in record {
+  more = out.more;
+  last = out.last;
+  some_of = out.some_of;
+  run = run_joined acknowledged out.more opening (world_state w) out.last run out.run;
+  settled = out.settled;
+}
