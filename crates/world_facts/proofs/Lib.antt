@@ -57,3 +57,4 @@ pub mod AloneReading
 pub mod AllAlone
 pub mod Accepting
 pub mod OwnCopies
+pub mod BurialWalks

@@ -1,5 +1,5 @@
 -- A client's copies are as its own records leave the shared nodes; the kernel's steps keep that.
-use Rattle.std.proofs.Common.{◌≡◌, ◌≢◌, ◌⊎◌, inl, inr, ℕ, cond, Bool, true, false, List, ◌++◌, refl, None, ap, sym, ◌∙◌, subst, append_assoc}
+use Rattle.std.proofs.Common.{◌≡◌, ◌≢◌, ◌⊎◌, inl, inr, ℕ, ◌-◌, cond, Bool, true, false, List, ◌++◌, drop, None, ap, sym, ◌∙◌, subst, append_assoc}
 use Rattle.std.specs.Prelude.{option_map}
 use Rattle.std.proofs.lemmas.Bool.Decides.{eqb_tells}
 use Rattle.posix_calls.specs.Operations.{is_client}
@@ -15,8 +15,8 @@ use Rattle.world_facts.specs.Parts.{ClientPart, RecordsLeased, CopiesLeased, Blo
 use Rattle.world_facts.specs.Copies.{HasOwnCopies}
 use Rattle.world_facts.specs.Invariant.{IsCoherent}
 use Rattle.world_facts.specs.LeaseSteps.{own_view}
-use Rattle.world_facts.specs.Machine.{Machine, IsRunning, Sealed, sealed_of, undigested_sealed, StandsSealed, CanDigestNext, account_after}
-use Rattle.world_facts.proofs.Records.{either, both, still_false, records_alone, records_stay, records_append, front_written}
+use Rattle.world_facts.specs.Machine.{Machine, IsRunning, Sealed, sealed_of, StandsSealed, CanDigestNext, account_after}
+use Rattle.world_facts.proofs.Records.{either, both, records_alone, records_stay, records_append, front_written}
 use Rattle.world_facts.proofs.Owners.{whole_at}
 use Rattle.world_facts.proofs.Made.{records_none}
 use Rattle.world_facts.proofs.Keeping.{through}
@@ -95,6 +95,9 @@ kept_digested m c p first rest r stands can t =
     subst (λ g. HasTrueCopies p.knows g)
     (ap (after_records m.kernel.shared) was ∙ records_append m.kernel.shared first (rest ++ p.current) ∙ ap (after_records (after_records m.kernel.shared first)) (sym is))
     t
+
+pub kept_in_account : (g : Graph) (a b : Account) (p : Client) → b.mark ≡ a.mark → HasOwnCopies g a p → HasOwnCopies g b p
+kept_in_account g a b p same t = subst (λ mark. HasTrueCopies p.knows (after_records g (drop (mark - p.past) p.sealed ++ p.current))) (sym same) t
 
 module _ (i : ℕ) (g h : Graph) (a : Account) (p : Client) (file : IsNameless (g i)) (gone : h i ≡ None) (same : (j : ℕ) → j ≢ i → h j ≡ g j) (unmade : is_made_in i (undigested a p) ≡ false) (unnamed : NameNone g (undigested a p)) (t : HasOwnCopies g a p) where
   abbrev was : Graph

@@ -118,7 +118,7 @@ can_unlink = record {
     wider : (i : ℕ) → is_touched i walked.unlink_a.change ≡ true → is_touched i made.mkdir_a.change ≡ true
     wider i e = elim (2 == i) as (λ b. (1 == i || (b || false)) ≡ true → (b || (1 == i || (b || false))) ≡ true) [ true ↦ λ e. refl | false ↦ λ e. e ] e
 
-unlinking_holds : IsCoherent walked.unlinking
+pub unlinking_holds : IsCoherent walked.unlinking
 unlinking_holds = begun_holds walked.known 1 walked.unlink_a known_holds can_unlink
 
 unlinking_begun : IsBegun walked.unlinking 1 walked.unlink_a

@@ -2,6 +2,7 @@ pub mod BookSteps
 pub mod Broken
 pub mod BrokenParts
 pub mod Burial
+pub mod BurialWalk
 pub mod ClientSteps
 pub mod Copies
 pub mod FiveWalk

@@ -124,6 +124,6 @@ pub use region_laws::{region_may_be_sealed, region_may_be_taken_back, region_may
 pub use stop_laws::stop_stores_an_outcome;
 pub use tree_laws::world_stands_for_a_tree;
 pub use walk_laws::{
-    small_world_of_five_nodes, small_world_of_two_clients, small_world_unlinks_an_open_file,
-    small_world_walks,
+    small_world_buries_a_client, small_world_of_five_nodes, small_world_of_two_clients,
+    small_world_unlinks_an_open_file, small_world_walks,
 };

@@ -13,7 +13,10 @@ ghost use Rattle.world_facts.specs.LeaseSteps.{CanGive};
 ghost use Rattle.world_facts.specs.KernelSteps.{CanReclaim};
 ghost use Rattle.world_facts.specs.Stop.{Stores, stored_graph};
 ghost use Rattle.world_facts.specs.Walk.{mkdir_a, making, made, passed};
+ghost use Rattle.world_facts.specs.Opening.{idle_client};
+ghost use Rattle.world_facts.specs.Burial.{CanBury, CanJoin};
 ghost use Rattle.world_facts.specs.UnlinkWalk as unlink_walk;
+ghost use Rattle.world_facts.specs.BurialWalk as burial_walk;
 ghost use Rattle.world_facts.specs.PairWalk as pair_walk;
 ghost use Rattle.world_facts.specs.FiveWalk as five_walk;
 
@@ -72,4 +75,18 @@ pub fn small_world_of_five_nodes()
     ensures nameless { IsNameless (five_walk.kept.kernel.shared 2) }
     ensures byte { file_bytes (five_walk.kept.kernel.shared 2) ≡ Some (7 ∷ []) }
     ensures pinned { CanReclaim five_walk.kept.kernel 2 → ⊥ }
+{}
+
+/// Client 1 dies in its unlink, while it has `/a` open. The record is found whole, so the call was a step. What it had open is closed, its two
+/// records are digested, and it is buried: only then the file goes, since the pin goes with the client. Once its other region is wiped a
+/// new client joins under its number, with nothing but the mark 2, and the tree is the one from when the client was gone.
+pub fn small_world_buries_a_client()
+    ensures found { Step (world_state burial_walk.dead) 1 unlink_walk.unlink_a.call Done (world_state burial_walk.found) }
+    ensures pinned { CanReclaim burial_walk.back.kernel 2 → ⊥ }
+    ensures buries { CanBury burial_walk.back 1 }
+    ensures unpinned { CanReclaim burial_walk.buried.kernel 2 }
+    ensures joins { CanJoin burial_walk.wiped 1 }
+    ensures joined { IsCoherent burial_walk.joined }
+    ensures fresh { burial_walk.joined.clients 1 ≡ idle_client 1 2 }
+    ensures same { world_state burial_walk.joined ≡ world_state burial_walk.gone }
 {}

@@ -1,4 +1,4 @@
-use Rattle.world_facts.proofs.OwnCopies.{kept_elsewhere, kept_beside, kept_digested, kept_reclaimed}
+use Rattle.world_facts.proofs.OwnCopies.{kept_elsewhere, kept_beside, kept_digested, kept_in_account, kept_reclaimed}
 use Rattle.world_facts.proofs.copy_laws.kernel_steps_keep_copies.Goals as goal
 
 pub returns-clause-elsewhere : goal.returns-clause-elsewhere
@@ -12,3 +12,6 @@ returns-clause-digest_own r = kept_digested
 
 pub returns-clause-reclaim : goal.returns-clause-reclaim
 returns-clause-reclaim r = kept_reclaimed
+
+pub returns-clause-account : goal.returns-clause-account
+returns-clause-account r = kept_in_account
