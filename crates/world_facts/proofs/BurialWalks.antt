@@ -86,10 +86,10 @@ wiped_holds = other_wiped_holds walked.emptied 1 emptied_holds refl refl
 pub can_join : CanJoin walked.wiped 1
 can_join = record { client = refl; buried = refl; digested = refl; other = refl; ready = refl }
 
-pub new_holds : IsCoherent walked.joined
+pub new_holds : IsCoherent walked.renewed
 new_holds = joined_holds walked.wiped 1 wiped_holds can_join
 
-pub new_tree : world_state walked.joined ≡ world_state walked.gone
+pub new_tree : world_state walked.renewed ≡ world_state walked.gone
 new_tree =
     joined_tree walked.wiped 1 wiped_holds can_join
     ∙ other_wiped_tree walked.emptied 1 emptied_holds refl refl

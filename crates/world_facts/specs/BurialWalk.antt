@@ -35,5 +35,5 @@ emptied = reclaimed buried 2
 abbrev pub wiped : World
 wiped = other_wiped emptied 1
 
-abbrev pub joined : World
-joined = client_joined wiped 1
+abbrev pub renewed : World
+renewed = client_joined wiped 1

@@ -1,9 +1,11 @@
 //! The steps of leases and copies. None of them changes the tree.
 
-ghost use Rattle.std.specs.Prelude.{◌≡◌, ℕ, List, Option, true};
+ghost use Rattle.std.specs.Prelude.{◌≡◌, ℕ, List, Option, true, Some};
 ghost use Rattle.posix_calls.specs.Operations.{is_client};
+ghost use Rattle.call_effects.specs.NodeView.{NodeView};
 ghost use Rattle.call_effects.specs.Known.{Knowledge};
-ghost use Rattle.world_facts.specs.World.{World, has_lease, whole, world_state};
+ghost use Rattle.world_facts.specs.Logs.{is_touched};
+ghost use Rattle.world_facts.specs.World.{Begun, World, has_lease, whole, world_state};
 ghost use Rattle.world_facts.specs.LeaseSteps.{IsUnwritten, IsUnheld, read_taken, write_taken, CanGive, given, own_view, CanFetch, fetched, CanRead, blocks_fetched, CanForget, forgotten, CanForgetBlocks, blocks_forgotten};
 ghost use Rattle.world_facts.specs.Invariant.{IsCoherent};
 
@@ -46,4 +48,12 @@ pub fn knowledge_may_be_forgotten()
 /// clients' records are.
 pub fn view_of_a_held_inode_is_the_wholes()
     ensures { (w : World) (c i : ℕ) → IsCoherent w → is_client c ≡ true → has_lease (w.clients c) i ≡ true → whole w i ≡ own_view w c i }
+{}
+
+/// While a call is begun, also where the client's device failed in it, the client holds for writing what its record touches and holds what it
+/// was planned by, and gives nothing.
+pub fn begun_call_keeps_its_leases()
+    ensures writes { (w : World) (c i : ℕ) (b : Begun) → IsCoherent w → is_client c ≡ true → (w.clients c).begun ≡ Some b → is_touched i b.change ≡ true → (w.clients c).writes i ≡ true }
+    ensures copies { (w : World) (c i : ℕ) (copy : Option NodeView) → IsCoherent w → is_client c ≡ true → (w.clients c).knows.copies i ≡ Some copy → has_lease (w.clients c) i ≡ true }
+    ensures kept { (w : World) (c i : ℕ) (b : Begun) → (w.clients c).begun ≡ Some b → CanGive w c i → ⊥ }
 {}

@@ -102,8 +102,9 @@ pub use kernel_laws::{
     records_may_be_digested, run_may_be_migrated, unused_file_may_be_reclaimed,
 };
 pub use lease_laws::{
-    copy_may_be_fetched, knowledge_may_be_forgotten, lease_may_be_given, read_lease_may_be_taken,
-    view_of_a_held_inode_is_the_wholes, write_lease_may_be_taken,
+    begun_call_keeps_its_leases, copy_may_be_fetched, knowledge_may_be_forgotten,
+    lease_may_be_given, read_lease_may_be_taken, view_of_a_held_inode_is_the_wholes,
+    write_lease_may_be_taken,
 };
 pub use machine_laws::{
     accepted_regions_are_those_away, digest_keeps_what_is_sealed,

@@ -86,7 +86,7 @@ pub fn small_world_buries_a_client()
     ensures buries { CanBury burial_walk.back 1 }
     ensures unpinned { CanReclaim burial_walk.buried.kernel 2 }
     ensures joins { CanJoin burial_walk.wiped 1 }
-    ensures joined { IsCoherent burial_walk.joined }
-    ensures fresh { burial_walk.joined.clients 1 ≡ idle_client 1 2 }
-    ensures same { world_state burial_walk.joined ≡ world_state burial_walk.gone }
+    ensures joined { IsCoherent burial_walk.renewed }
+    ensures fresh { burial_walk.renewed.clients 1 ≡ idle_client 1 2 }
+    ensures same { world_state burial_walk.renewed ≡ world_state burial_walk.gone }
 {}

@@ -1,0 +1,15 @@
+use Rattle.std.proofs.Common.{◌≡◌, false, ap, sym, ◌∙◌}
+use Rattle.world_facts.specs.Logs.{is_touched, is_written}
+use Rattle.world_facts.specs.World.{change_of, log_of}
+use Rattle.world_facts.proofs.Records.{in_first, rest_written}
+use Rattle.world_facts.proofs.Idle.{none_some}
+use Rattle.world_facts.proofs.lease_laws.begun_call_keeps_its_leases.Goals as goal
+
+pub returns-clause-writes : goal.returns-clause-writes
+returns-clause-writes r w c i b h is_c e there = (h.stands c is_c).logged.leased i (rest_written i (log_of w c) (change_of (w.clients c).begun) (ap (λ o. is_written i (change_of o)) e ∙ in_first (is_touched i b.change) false there))
+
+pub returns-clause-copies : goal.returns-clause-copies
+returns-clause-copies r w c i copy h is_c e = (h.stands c is_c).leased.copies i copy e
+
+pub returns-clause-kept : goal.returns-clause-kept
+returns-clause-kept r w c i b e can = none_some b (sym can.idle ∙ e)
