@@ -1,0 +1,47 @@
+-- What becomes of the blocks of inodes that are rewritten.
+use Rattle.std.specs.Prelude.{◌≡◌, ◌<◌, ◌≤◌, ◌↔◌, ◌⊎◌, ℕ, Bool, true, false, List, [], ◌∷◌, Some}
+use Rattle.std.specs.List.{Contains}
+use Rattle.tier_device.specs.declared.media.Tier.{Tier}
+use Rattle.tier_device.specs.declared.media.Tier.TheVariants.{Fast}
+use Rattle.file_graph.specs.Graph.{is_among}
+use Rattle.layout.specs.Places.{Sizes, is_inode, node_end, data_first}
+use Rattle.block_alloc.specs.Runs.{blocks_of}
+use Rattle.area_image.specs.Store.{Store}
+use Rattle.area_image.specs.Spelled.{Use, used}
+use Rattle.free_pools.specs.Value.{PoolsView, data_pool}
+use Rattle.free_pools.specs.declared.taking.Taken.{Taken}
+use Rattle.free_pools.specs.Taking.{runs_of}
+
+-- Each number is an inode's, and none stands twice.
+abbrev pub AreInodesOnce : List ℕ → Type 0
+AreInodesOnce [] = Unit {0}
+AreInodesOnce (i ∷ is) = (is_inode i ≡ true) × (is_among i is ≡ false) × AreInodesOnce is
+
+-- Inode i has a use for a block.
+abbrev pub Uses : Sizes → Store → ℕ → Tier → ℕ → Type 0
+Uses g s i t k = (u : Use) × (u.inode ≡ i) × (used g s u ≡ Some (t, k))
+
+-- Inode i had a use for a block, and has none now.
+abbrev pub GivesUp : Sizes → Store → Store → ℕ → Tier → ℕ → Type 0
+GivesUp g old new i t k = (Uses g old i t k) × (Uses g new i t k → ⊥)
+
+-- Inodes that are rewritten keep blocks, get some that were taken, all of those, and give up some; the others use what they did.
+pub record Exchanges (g : Sizes) (rewritten : ℕ → Bool) (old new : Store) (taken given : Tier → ℕ → Type 0) : Type 0 where
+  pub others : (u : Use) → rewritten u.inode ≡ false → used g new u ≡ used g old u
+  pub gets : (i : ℕ) (t : Tier) (k : ℕ) → rewritten i ≡ true → Uses g new i t k → Uses g old i t k ⊎ taken t k
+  pub all : (t : Tier) (k : ℕ) → taken t k → (u : Use) × (used g new u ≡ Some (t, k))
+  pub gives : (t : Tier) (k : ℕ) → given t k ↔ ((i : ℕ) × (rewritten i ≡ true) × GivesUp g old new i t k)
+
+-- The block was taken of the node pool or of a tier's data blocks.
+abbrev pub IsTaken : Taken → Tier → ℕ → Type 0
+IsTaken taken t k = ((t ≡ Fast) × Contains (blocks_of taken.nodes.items) k) ⊎ Contains (blocks_of (runs_of taken t)) k
+
+-- The blocks that are given stand in their pools beside those that were there.
+pub record WereGiven (g : Sizes) (old new : PoolsView) (given : Tier → ℕ → Type 0) : Type 0 where
+  pub nodes : (k : ℕ) → Contains new.nodes.free k ↔ (Contains old.nodes.free k ⊎ (given Fast k × (k < node_end g)))
+  pub per_tier : (t : Tier) (k : ℕ) → Contains (data_pool new t).free k ↔ (Contains (data_pool old t).free k ⊎ (given t k × (data_first g t ≤ k)))
+
+-- The pools have what they had but for what was taken, and what was given.
+pub record HaveExchanged (g : Sizes) (old new : PoolsView) (taken given : Tier → ℕ → Type 0) : Type 0 where
+  pub nodes : (k : ℕ) → Contains new.nodes.free k ↔ ((Contains old.nodes.free k × (taken Fast k → ⊥)) ⊎ (given Fast k × (k < node_end g)))
+  pub per_tier : (t : Tier) (k : ℕ) → Contains (data_pool new t).free k ↔ ((Contains (data_pool old t).free k × (taken t k → ⊥)) ⊎ (given t k × (data_first g t ≤ k)))
