@@ -21,16 +21,18 @@ AreInodesOnce (i ∷ is) = (is_inode i ≡ true) × (is_among i is ≡ false) ×
 abbrev pub Uses : Sizes → Store → ℕ → Tier → ℕ → Type 0
 Uses g s i t k = (u : Use) × (u.inode ≡ i) × (used g s u ≡ Some (t, k))
 
--- Inode i had a use for a block, and has none now.
-abbrev pub GivesUp : Sizes → Store → Store → ℕ → Tier → ℕ → Type 0
-GivesUp g old new i t k = (Uses g old i t k) × (Uses g new i t k → ⊥)
+-- An inode that is rewritten had a use for a block, and has none now.
+pub record IsGivenUp (g : Sizes) (rewritten : ℕ → Bool) (old new : Store) (t : Tier) (k : ℕ) : Type 0 where
+  pub inode : ℕ
+  pub its : rewritten inode ≡ true
+  pub was : Uses g old inode t k
+  pub none : Uses g new inode t k → ⊥
 
--- Inodes that are rewritten keep blocks, get some that were taken, all of those, and give up some; the others use what they did.
-pub record Exchanges (g : Sizes) (rewritten : ℕ → Bool) (old new : Store) (taken given : Tier → ℕ → Type 0) : Type 0 where
+-- Inodes that are rewritten keep blocks, and get all that were taken and no other; the others use what they did.
+pub record Exchanges (g : Sizes) (rewritten : ℕ → Bool) (old new : Store) (taken : Tier → ℕ → Type 0) : Type 0 where
   pub others : (u : Use) → rewritten u.inode ≡ false → used g new u ≡ used g old u
   pub gets : (i : ℕ) (t : Tier) (k : ℕ) → rewritten i ≡ true → Uses g new i t k → Uses g old i t k ⊎ taken t k
   pub all : (t : Tier) (k : ℕ) → taken t k → (u : Use) × (used g new u ≡ Some (t, k))
-  pub gives : (t : Tier) (k : ℕ) → given t k ↔ ((i : ℕ) × (rewritten i ≡ true) × GivesUp g old new i t k)
 
 -- The block was taken of the node pool or of a tier's data blocks.
 abbrev pub IsTaken : Taken → Tier → ℕ → Type 0

@@ -7,4 +7,4 @@ mod room;
 
 pub use changing::{given_blocks_are_used, pools_after_change};
 pub use charges::charge_after_change;
-pub use room::{data_never_runs_out, nodes_never_run_out};
+pub use room::{data_never_runs_out, nodes_never_run_out, small_changes_find_blocks};

@@ -1,6 +1,6 @@
 //! How many blocks are free.
 
-ghost use Rattle.std.specs.Prelude.{◌≤◌, ◌+◌, ◌*◌, length};
+ghost use Rattle.std.specs.Prelude.{◌≤◌, ◌<◌, ◌+◌, ◌*◌, ◌⊎◌, ℕ, length};
 ghost use Rattle.file_graph.specs.Units.{charge};
 ghost use Rattle.layout.specs.declared.places.TheConstants.{SPARE_BLOCKS};
 ghost use Rattle.layout.specs.Places.{Sizes, node_blocks};
@@ -23,4 +23,11 @@ pub fn nodes_never_run_out()
     ensures inodes { (g : Sizes) (s : Store) (p : PoolsView) → IsSpelled g s → AreFree g s p → node_blocks g ≤ length p.nodes.free + charge (graph g s) + 2 * MAX_INODE }
     ensures units { (g : Sizes) (s : Store) (p : PoolsView) → IsSpelled g s → AreFree g s p → node_blocks g ≤ length p.nodes.free + 3 * charge (graph g s) }
     ensures spare { (g : Sizes) (s : Store) (p : PoolsView) → IsSpelled g s → KeepsUnits g s → AreFree g s p → 2048 ≤ length p.nodes.free }
+{}
+
+/// A change that wants no more blocks than the format spares finds them, where the graph keeps the units: so it does with one more data block for each unit that the graph does
+/// not cost. What is refused here is what `Pools::take` answers `NoBlock` for.
+pub fn small_changes_find_blocks()
+    ensures spare { (g : Sizes) (s : Store) (p : PoolsView) (nodes blocks : ℕ) → IsSpelled g s → KeepsUnits g s → AreFree g s p → nodes ≤ 2048 → blocks ≤ SPARE_BLOCKS → (length p.nodes.free < nodes) ⊎ (length (free_data p) < blocks) → ⊥ }
+    ensures growing { (g : Sizes) (s : Store) (p : PoolsView) (nodes blocks : ℕ) → IsSpelled g s → KeepsUnits g s → AreFree g s p → nodes ≤ 2048 → charge (graph g s) + blocks ≤ g.units + SPARE_BLOCKS → (length p.nodes.free < nodes) ⊎ (length (free_data p) < blocks) → ⊥ }
 {}

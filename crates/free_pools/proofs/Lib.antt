@@ -1,7 +1,7 @@
 mod Fronts
 mod Splits
-mod Members
+pub mod Members
 mod Courses
 mod Held
 mod Stored
-mod Departed
+pub mod Departed
