@@ -40,9 +40,9 @@ root_room : (g : Sizes) (s : Store) (i : ℕ) (u t : Tier) (k : ℕ) → used g 
 root_room g s i u t k is = elim (cases_Bool (root_of (slot g s i) u == 0)) [
   | inl none ↦ absurd (none_some (t, k) (sym (cond-true (root_of (slot g s i) u == 0) None (Some (Fast, root_of (slot g s i) u)) none) ∙ is))
   | inr some ↦
-      let at : Some (Fast, root_of (slot g s i) u) ≡ Some (t, k) = sym (cond-false (root_of (slot g s i) u == 0) None (Some (Fast, root_of (slot g s i) u)) some) ∙ is in
       let within = root_within g s i u (λ e. eqb-false (root_of (slot g s i) u) 0 some e) in
       let room : IsRoom g Fast (root_of (slot g s i) u) = record { first = within.0; last = omega (arith, within.1) } in
+      let at : Some (Fast, root_of (slot g s i) u) ≡ Some (t, k) = sym (cond-false (root_of (slot g s i) u == 0) None (Some (Fast, root_of (slot g s i) u)) some) ∙ is in
       subst (λ (v : Tier). IsRoom g v k) (ap tier_in at) (subst (IsRoom g Fast) (ap block_in at) room)
 ]
 
