@@ -50,10 +50,10 @@ pub record IsLogged (g : Graph) (own : Own) (asked : Call) (new : ℕ) (entry : 
 
 -- ---- what is done and what is recovered
 
--- the graph after records, one after the other
-abbrev pub after_records : Graph → List Record → Graph
-after_records g [] = g
-after_records g (r ∷ rs) = after_records (after_effects g r.effects) rs
+-- the graph after a replay of records, one after the other
+abbrev pub after_replay : Graph → List Record → Graph
+after_replay g [] = g
+after_replay g (r ∷ rs) = after_replay (after_effects g r.effects) rs
 
 -- the first call's record stands behind the old ones of its region, and is done
 pub record IsDone (g after : Graph) (old new : List Record) : Type 0 where
@@ -74,4 +74,4 @@ MayHold left found = (c : List ℕ) × left c × (found ≡ records c)
 
 -- a graph with all records of such a content but the first ones, which were done
 abbrev pub IsRecovered : (List ℕ → Type 0) → ℕ → Graph → Graph → Type 0
-IsRecovered left done g after = (found : List Record) × MayHold left found × (after ≡ after_records g (drop done found))
+IsRecovered left done g after = (found : List Record) × MayHold left found × (after ≡ after_replay g (drop done found))

@@ -7,7 +7,7 @@ ghost use Rattle.tier_device.specs.Stop.{medium_of};
 ghost use Rattle.file_graph.specs.Graph.{graph_of, after_effects};
 ghost use Rattle.update_log.specs.Frames.{joined, records};
 ghost use Rattle.update_log.specs.View.{records_of};
-ghost use Rattle.workload_cli.specs.FirstPath.{after_records, MayHold, IsRecovered};
+ghost use Rattle.workload_cli.specs.FirstPath.{after_replay, MayHold, IsRecovered};
 
 use crate::options::Stop;
 use crate::run_error::RunError;
@@ -132,7 +132,7 @@ fn records_on<M: Media + Drop>(alloc: Global, media: M) -> Result<Vec<Record>, R
 
 // Does the effects of records that are not done yet.
 fn replay(graph: &mut PlainGraph, records: &[Record], done: usize) -> Result<(), RunError>
-    ensures { OnOk result (graph_of graph.new ≡ after_records (graph_of graph.old) (drop done records.now)) }
+    ensures { OnOk result (graph_of graph.new ≡ after_replay (graph_of graph.old) (drop done records.now)) }
 {
     let rest = records.get(done..).unwrap_or(&[]);
     for entry in rest {
