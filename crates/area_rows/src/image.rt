@@ -18,13 +18,13 @@ pub struct Image {
 
 impl Image {
     /// The media of a geometry, all zeros.
-    pub fn new(alloc: Global, geometry: &Geometry) -> Image {
-        Image {
+    pub fn new(alloc: Global, geometry: &Geometry) -> Result<Image, AllocError> {
+        Ok(Image {
             alloc,
-            fast: zeros(alloc, geometry, Tier::Fast),
-            block: zeros(alloc, geometry, Tier::Block),
-            slow: zeros(alloc, geometry, Tier::Slow),
-        }
+            fast: zeros(alloc, geometry, Tier::Fast)?,
+            block: zeros(alloc, geometry, Tier::Block)?,
+            slow: zeros(alloc, geometry, Tier::Slow)?,
+        })
     }
 
     /// Puts the blocks of a world, whose lines are `TIER BLOCK DATA`. Lines of regions and comments say nothing here.
@@ -53,8 +53,10 @@ impl Image {
         match kind {
             "set" => self.put_data(tier, block, number, words),
             "noise" => {
-                let bytes = noise(self.alloc, number, words.number());
-                self.put_bytes(tier, block, 0, &bytes, words);
+                match noise(self.alloc, number, words.number()) {
+                    Ok(bytes) => self.put_bytes(tier, block, 0, &bytes, words),
+                    Err(_) => words.fail(),
+                }
             }
             _ => words.fail(),
         }
@@ -97,12 +99,9 @@ impl Image {
     }
 }
 
-fn zeros(alloc: Global, geometry: &Geometry, tier: Tier) -> Vec<u8> {
+fn zeros(alloc: Global, geometry: &Geometry, tier: Tier) -> Result<Vec<u8>, AllocError> {
     let count = geometry.tier_blocks(tier) as usize;
-    match vec![in alloc; 0u8; BLOCK.saturating_mul(count)] {
-        Ok(bytes) => bytes,
-        Err(_) => Vec::new(alloc),
-    }
+    vec![in alloc; 0u8; BLOCK.saturating_mul(count)]
 }
 
 // Whether there is room for it.
@@ -115,12 +114,12 @@ fn overwrite(bytes: &mut [u8], at: usize, text: &[u8]) -> bool {
 }
 
 // So many bytes that a seed leads to.
-fn noise(alloc: Global, count: u32, seed: u32) -> Vec<u8> {
+fn noise(alloc: Global, count: u32, seed: u32) -> Result<Vec<u8>, AllocError> {
     let mut bytes = Vec::new(alloc);
     let mut state = seed;
     for _ in 0..count {
         state = state.wrapping_mul(1664525).wrapping_add(1013904223);
-        let _ = bytes.push(state.to_be_bytes()[0]);
+        bytes.push(state.to_be_bytes()[0])?;
     }
-    bytes
+    Ok(bytes)
 }

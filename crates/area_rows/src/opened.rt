@@ -17,16 +17,24 @@ use tier_device::{Media, Tier};
 pub fn tell_opened(rt: &HostRuntime, input: &mut Input<'_>, out: &mut Text) {
     let alloc = input.alloc();
     if let Some(geometry) = input.geometry() {
-        let mut image = Image::new(alloc, &geometry);
-        match fs::read_to_string(rt, input.part(';')) {
-            Ok(lines) => image.put_world(&lines, input),
-            Err(_) => input.fail(),
+        match Image::new(alloc, &geometry) {
+            Ok(image) => put_image(rt, image, input, out),
+            Err(_) => out.cut(),
         }
-        put_changes(alloc, &mut image, input);
-        match image.into_media() {
-            Ok(media) => put_medium(alloc, media, out),
-            Err(_) => out.field("", &AreaError::Memory),
-        }
+    }
+}
+
+fn put_image(rt: &HostRuntime, image: Image, input: &mut Input<'_>, out: &mut Text) {
+    let alloc = input.alloc();
+    let mut image = image;
+    match fs::read_to_string(rt, input.part(';')) {
+        Ok(lines) => image.put_world(&lines, input),
+        Err(_) => input.fail(),
+    }
+    put_changes(alloc, &mut image, input);
+    match image.into_media() {
+        Ok(media) => put_medium(alloc, media, out),
+        Err(_) => out.field("", &AreaError::Memory),
     }
 }
 

@@ -30,31 +30,29 @@ impl Rows {
             if line.starts_with("  ") {
                 row.put(" ");
             } else {
-                self.try_line(rt, row.as_str());
+                self.try_line(rt, &row);
                 row.clear();
             }
             row.put(line.trim());
         }
-        self.try_line(rt, row.as_str());
+        self.try_line(rt, &row);
         self.report.field("", &self.held);
         self.report.field(" rows hold, ", &self.failed);
         self.report.put(" do not");
     }
 
     // `NAME: WORLD => ANSWER`; a line that is empty or a comment is no row.
-    fn try_line(&mut self, rt: &HostRuntime, text: &str) {
-        if text.is_empty() || text.starts_with('#') {
-            return;
+    fn try_line(&mut self, rt: &HostRuntime, line: &Text) {
+        let text = line.as_str();
+        if line.is_cut() {
+            self.failed = self.failed.saturating_add(1);
+            self.report.put("no memory for a row\n");
+        } else if !text.is_empty() && !text.starts_with('#') {
+            let (name, rest) = parted(text, ": ");
+            let (world, answer) = parted(rest, " => ");
+            let said = told(rt, world);
+            self.hold(name, said.as_str(), answer);
         }
-        let (name, rest) = parted(text, ": ");
-        let (world, answer) = parted(rest, " => ");
-        let mut input = Input::new(rt.alloc(), world);
-        let mut said = Text::new(rt.alloc());
-        tell_opened(rt, &mut input, &mut said);
-        if input.is_bad() {
-            said.put("the row can't be read");
-        }
-        self.hold(name, said.as_str(), answer);
     }
 
     fn hold(&mut self, name: &str, said: &str, answer: &str) {
@@ -70,17 +68,35 @@ impl Rows {
     }
 
     pub fn report(&self) -> &str {
+        if self.report.is_cut() {
+            return "no memory for the report";
+        }
         self.report.as_str()
     }
 
-    /// 1 where a row does not hold.
+    /// 1 where a row does not hold, or there was no memory to tell it.
     pub fn status(&self) -> ExitCode {
-        if self.failed == 0 {
+        if self.failed == 0 && !self.report.is_cut() {
             ExitCode::SUCCESS
         } else {
             ExitCode::FAILURE
         }
     }
+}
+
+// What is said of a world.
+fn told(rt: &HostRuntime, world: &str) -> Text {
+    let mut input = Input::new(rt.alloc(), world);
+    let mut out = Text::new(rt.alloc());
+    tell_opened(rt, &mut input, &mut out);
+    if input.is_bad() {
+        out.put("the row can't be read");
+    }
+    if out.is_cut() {
+        out.clear();
+        out.put("no memory for what is said");
+    }
+    out
 }
 
 // What stands before the first of these, and what behind it.

@@ -5,17 +5,29 @@ use script_lines::{is_plain, run_len};
 use std::alloc::Global;
 use std::fmt::Display;
 
-/// A text that is put together piece by piece. A piece for which there is no memory is left out, and the row does not hold.
+/// A text that is put together piece by piece. A piece for which there is no memory is left out, and the text is then cut.
 #[derive(Drop)]
 pub struct Text {
     text: String,
+    is_cut: bool,
 }
 
 impl Text {
     pub fn new(alloc: Global) -> Self {
         Text {
             text: String::new(alloc),
+            is_cut: false,
         }
+    }
+
+    /// Whether a piece was left out, or there was no memory for what it should tell.
+    pub fn is_cut(&self) -> bool {
+        self.is_cut
+    }
+
+    /// Notes that there was no memory.
+    pub fn cut(&mut self) {
+        self.is_cut = true;
     }
 
     pub fn as_str(&self) -> &str {
@@ -28,22 +40,26 @@ impl Text {
 
     pub fn clear(&mut self) {
         self.text.clear();
+        self.is_cut = false;
     }
 
     pub fn put(&mut self, piece: &str) {
-        let _ = self.text.push_str(piece);
+        let is_put = self.text.push_str(piece).is_ok();
+        self.is_cut |= !is_put;
     }
 
     /// Some words, and a value behind them.
     pub fn field<T: Display>(&mut self, words: &str, value: &T) {
-        let _ = write!(self.text, "{words}{value}");
+        let is_put = write!(self.text, "{words}{value}").is_ok();
+        self.is_cut |= !is_put;
     }
 
     /// A name. Bytes from 0x21 to 0x7e but `%` stand as they are, all others as `%hh`.
     pub fn name(&mut self, name: &[u8]) {
         for byte in name {
             if is_plain(*byte) {
-                let _ = self.text.push(char::from(*byte));
+                let is_put = self.text.push(char::from(*byte)).is_ok();
+                self.is_cut |= !is_put;
             } else {
                 self.hex("%", *byte);
             }
@@ -66,7 +82,8 @@ impl Text {
     }
 
     fn hex(&mut self, words: &str, byte: u8) {
-        let _ = write!(self.text, "{words}{byte:02x}");
+        let is_put = write!(self.text, "{words}{byte:02x}").is_ok();
+        self.is_cut |= !is_put;
     }
 }
 

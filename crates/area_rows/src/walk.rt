@@ -20,12 +20,15 @@ pub fn put_tree<M: Media + Drop>(alloc: Global, journal: Journal<M>, out: &mut T
         journal,
         lines: Vec::new(alloc),
         left: Vec::new(alloc),
+        is_cut: false,
     };
     walk.leave(1, Text::new(alloc));
     for _ in 0..PATHS {
         walk.next();
     }
-    let _ = walk.lines.sort();
+    if walk.lines.sort().is_err() || walk.is_cut {
+        out.cut();
+    }
     for line in &walk.lines {
         out.put("; ");
         out.put(line);
@@ -39,18 +42,21 @@ struct Path {
     text: Text,
 }
 
-// What is told of the paths that were looked at, and the paths that are left.
+// What is told of the paths that were looked at, the paths that are left, and whether there was no memory for some of them.
 #[derive(Drop)]
 struct Walk<M: Media + Drop> {
     alloc: Global,
     journal: Journal<M>,
     lines: Vec<String>,
     left: Vec<Path>,
+    is_cut: bool,
 }
 
 impl<M: Media + Drop> Walk<M> {
     fn leave(&mut self, inode: u32, text: Text) {
-        let _ = self.left.push(Path { inode, text });
+        self.is_cut |= text.is_cut();
+        let is_left = self.left.push(Path { inode, text }).is_ok();
+        self.is_cut |= !is_left;
     }
 
     fn next(&mut self) {
@@ -65,26 +71,33 @@ impl<M: Media + Drop> Walk<M> {
         requires low { 1 ≤ inode }
         requires high { inode ≤ MAX_INODE }
     {
-        if let Ok(parts) = read_inode(self.alloc, &mut self.journal, inode) {
-            let mut line = self.path_of(path, "");
-            match parts.slot {
-                Slot::Free => line.put(" nothing"),
-                Slot::File { names, size, .. } => {
-                    line.field(" file ", &size);
-                    line.field(" ", &names);
-                    line.field(" (inode ", &inode);
-                    line.put(") ");
-                    line.data(&self.content(&parts, size));
-                }
-                Slot::Directory { entries, .. } => {
-                    line.field(" dir ", &entries);
-                    line.field(" (inode ", &inode);
-                    line.put(")");
-                    self.leave_entries(&parts, path);
-                }
-            }
-            let _ = self.lines.push(line.into_string());
+        match read_inode(self.alloc, &mut self.journal, inode) {
+            Ok(parts) => self.put_line(inode, path, &parts),
+            Err(_) => self.is_cut = true,
         }
+    }
+
+    fn put_line(&mut self, inode: u32, path: &Text, parts: &InodeParts) {
+        let mut line = self.path_of(path, "");
+        match parts.slot {
+            Slot::Free => line.put(" nothing"),
+            Slot::File { names, size, .. } => {
+                line.field(" file ", &size);
+                line.field(" ", &names);
+                line.field(" (inode ", &inode);
+                line.put(") ");
+                line.data(&self.content(parts, size));
+            }
+            Slot::Directory { entries, .. } => {
+                line.field(" dir ", &entries);
+                line.field(" (inode ", &inode);
+                line.put(")");
+                self.leave_entries(parts, path);
+            }
+        }
+        self.is_cut |= line.is_cut();
+        let is_put = self.lines.push(line.into_string()).is_ok();
+        self.is_cut |= !is_put;
     }
 
     // A path, the root's as `/`, with some words behind it.
@@ -103,7 +116,8 @@ impl<M: Media + Drop> Walk<M> {
         let mut bytes = Vec::new(self.alloc);
         for block in 0..length_of(&parts.slot) {
             let more = self.logical(&parts.extents, block);
-            let _ = bytes.extend_from_slice(&more);
+            let is_put = bytes.extend_from_slice(&more).is_ok();
+            self.is_cut |= !is_put;
         }
         bytes.truncate(size as usize);
         bytes
@@ -113,14 +127,19 @@ impl<M: Media + Drop> Walk<M> {
     fn leave_entries(&mut self, parts: &InodeParts, path: &Text) {
         for block in 0..length_of(&parts.slot) {
             let bytes = self.logical(&parts.extents, block);
-            if let Ok(list) = DirEntries::read(0, &bytes) {
-                for index in 0..list.len() {
-                    let entry = list.entry(index);
-                    let mut text = self.path_of(path, "/");
-                    text.name(entry.name);
-                    self.leave(entry.inode, text);
-                }
+            match DirEntries::read(0, &bytes) {
+                Ok(list) => self.leave_list(&list, path),
+                Err(_) => self.is_cut = true,
             }
+        }
+    }
+
+    fn leave_list(&mut self, list: &DirEntries, path: &Text) {
+        for index in 0..list.len() {
+            let entry = list.entry(index);
+            let mut text = self.path_of(path, "/");
+            text.name(entry.name);
+            self.leave(entry.inode, text);
         }
     }
 
