@@ -3,10 +3,11 @@
 tools/failing_allocations.py [--quick] [PROGRAM..].
 
 They are those that read scripts, records, blocks and media: `strata_sh` over its tour and the scripts of `script_rows`, `strata_first`
-with and without stops, `file_log` over files with and without records, and torn and damaged ones, `media_rows` and `format_rows` row by
-row over their tables, where damaged images are read. A run ends as it should where it tells the want of memory by its name, or says
-what it says with all memory there. It does not where it answers anything else: damage, no such entry, or fewer bytes. Nor does a row
-that tells a want of memory while no allocation failed. How each program tells it stands at its function below.
+with and without stops, `file_log` over files with and without records, and torn and damaged ones, `media_rows`, `format_rows` and
+`area_rows` row by row over their tables, where damaged images and worlds are read. A run ends as it should where it tells the want of
+memory by its name, or says what it says with all memory there. It does not where it answers anything else: damage, no such entry, or
+fewer bytes. Nor does a row that tells a want of memory while no allocation failed. How each program tells it stands at its function
+below.
 
 The programs are built by `rt run`; `tools/failing_allocations.c` makes their allocations fail. It takes four minutes, and those that a
 build takes; the gate does not run it. With --quick only each seventh allocation of a run fails. Exit status: 0 where all runs ended as
@@ -282,11 +283,11 @@ def said_well(said, answer):
     return len(rest) < len(found) and has_in_order(items(answer), rest)
 
 
-# format_rows tells the want of memory of what it tries as the crates name it, and its own by one of these.
+# format_rows and area_rows tell the want of memory of what they try as the crates name it, and their own by one of these.
 OF_ITS_OWN = ("no memory for the report\n", "no memory for a row\n0 rows hold, 1 do not\n")
 
 
-def format_row_ends_well(run):
+def row_ends_well(run):
     if run.status != 1:
         return False
     if not run.out:
@@ -298,11 +299,12 @@ def format_row_ends_well(run):
     return run.out.endswith("\n0 rows hold, 1 do not\n") and (said == "no memory for what is said" or said.endswith("the row can't be read") or said_well(said, found[3]))
 
 
-def format_row(text):
-    whole, runs = all_of("format_rows", text, folder=f"{CRATES}/format_rows/data")
+def row(program, text):
+    """A row of a table, by the program that reads it."""
+    whole, runs = all_of(program, text, folder=f"{CRATES}/{program}/data")
     if whole.status or whole.out != "1 rows hold, 0 do not\n":
         return Tally(0, 0, [f"the row itself: {text.partition(': ')[0]}"])
-    return tally(f"format_rows, {text.partition(': ')[0]}", whole, runs, format_row_ends_well)
+    return tally(f"{program}, {text.partition(': ')[0]}", whole, runs, row_ends_well)
 
 
 def rows_of(path):
@@ -365,10 +367,10 @@ def jobs_of(program):
         return logs()
     if program == "media_rows":
         return [(media_row, (it,)) for it in rows_of(f"{CRATES}/media_rows/stdin")]
-    return [(format_row, (it,)) for it in rows_of(f"{CRATES}/format_rows/stdin")]
+    return [(row, (program, it)) for it in rows_of(f"{CRATES}/{program}/stdin")]
 
 
-PROGRAMS = ("strata_sh", "strata_first", "file_log", "media_rows", "format_rows")
+PROGRAMS = ("strata_sh", "strata_first", "file_log", "media_rows", "format_rows", "area_rows")
 
 
 def main():
