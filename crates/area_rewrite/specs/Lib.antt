@@ -1,0 +1,4 @@
+pub mod Written
+pub mod Moved
+pub mod Changed
+pub mod Many
