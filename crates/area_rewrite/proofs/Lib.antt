@@ -1,0 +1,5 @@
+pub mod Reading
+pub mod Places
+pub mod Moving
+pub mod Changing
+pub mod Taking

@@ -1,0 +1,23 @@
+use Rattle.std.proofs.Common.{◌≡◌, ℕ, true, sym, subst}
+use Rattle.graph_change.specs.Change.{Change, net_of}
+use Rattle.layout.specs.declared.slot.Slot.{Slot}
+use Rattle.layout.specs.Places.{Sizes, IsAllowed, is_inode}
+use Rattle.tree_blocks.specs.After.{started, IsInodeAfter}
+use Rattle.tree_blocks.specs.Directory.{EntryBlocks}
+use Rattle.tree_blocks.specs.Rewritten.{IsDirectoryRewritten}
+use Rattle.block_map.specs.Map.{TierRuns}
+use Rattle.area_image.specs.Store.{Store, inode}
+use Rattle.area_rewrite.specs.Written.{IsWritten, IsFit}
+use Rattle.area_rewrite.specs.Changed.{IsDirectoryWritten}
+use Rattle.area_rewrite.proofs.Changing.{directory_rewritten}
+use Rattle.area_rewrite.proofs.changed.written_directory_is_rewritten.Goals as goal
+
+pub returns : goal.returns
+returns c =
+    let rewritten : (g : Sizes) (d : Change) (before after : EntryBlocks) (old new : Store) (i : ℕ) (x : Slot) (m : TierRuns) → IsAllowed g → is_inode i ≡ true → IsFit g x m → IsWritten new i x m → IsDirectoryWritten g d before after old new i x m → IsDirectoryRewritten i d before after (started d.base (inode g old i)) (inode g new i) = λ g d before after old new i x m allowed number fit written changed. subst (IsDirectoryRewritten i d before after (started d.base (inode g old i))) (sym (c.written_inode_is_read.ensures.inodes g new i x m allowed number fit written)) (directory_rewritten g d before after old new i x m changed) in
+    record {
+      rewritten = rewritten;
+      after = λ g d before after old new i x m allowed number fit written changed consistent.
+          let is : IsInodeAfter i (net_of d) (inode g old i) (inode g new i) = c.rewritten_inode_is_inode_after.ensures.directory i d before after (inode g old i) (inode g new i) (rewritten g d before after old new i x m allowed number fit written changed) in
+          (is, (c.inode_after_is_node_after.ensures i (net_of d) (inode g old i) (inode g new i) consistent is).1);
+    }
