@@ -8,11 +8,12 @@ use Rattle.tier_device.specs.declared.media.Tier.TheVariants.{Fast}
 use Rattle.layout.specs.declared.slot.Slot.{Slot}
 use Rattle.layout.specs.declared.slot.Slot.TheVariants as slots
 use Rattle.layout.specs.Places.{Sizes, is_inode, is_node, node_end}
+use Rattle.layout.specs.Slot.{slot_of}
 use Rattle.tree_blocks.specs.Inode.{Inode, IsConsistent, inode_of, AreAlike, ReadAlike, Blocks}
 use Rattle.file_graph.specs.declared.effect.Kind.{Kind}
 use Rattle.file_graph.specs.declared.effect.Kind.TheVariants as kind
 use Rattle.block_map.specs.Map.{TierRuns}
-use Rattle.area_image.specs.Store.{Store, slot_read, slot, root_of, length_of, place, logical, inode}
+use Rattle.area_image.specs.Store.{Store, slot_bytes, slot_read, slot, root_of, length_of, place, logical, inode}
 use Rattle.area_image.specs.Reads.{IsRoom, IsPlaced, Free}
 use Rattle.area_image.specs.Spelled.{Use, used, SpellsInode, AreUsedOnce, IsSpelled}
 use Rattle.area_image.specs.Rewrites.{Rewrites}
@@ -130,18 +131,17 @@ module _ (g : Sizes) (rewritten : ℕ → Bool) (old new : Store) (t : Tier) (k 
 
 -- ---- the graph
 
--- an inode of no number is none, which is consistent
+-- what is no inode's number has a free slot
+no_slot : (g : Sizes) (s : Store) (i : ℕ) → is_inode i ≡ false → slot g s i ≡ slots.Free
+unfolding slot_read
+no_slot g s i other = ap (λ o. unwrap_or o slots.Free) (cond-false (is_inode i) (slot_of g (slot_bytes s i)) None other)
+
+-- so it is consistent, too
 pub all_consistent : (g : Sizes) (s : Store) → ((i : ℕ) → is_inode i ≡ true → SpellsInode g s i) → (i : ℕ) → IsConsistent i (inode g s i)
 all_consistent g s inodes i = elim (cases_Bool (is_inode i)) [
   | inl number ↦ (inodes i number).consistent
-  | inr other ↦ subst (λ (y : Slot). IsConsistent i (inode_of y (logical g s i))) (sym (free_slot other)) tt
-] where
-  free_slot : is_inode i ≡ false → slot g s i ≡ slots.Free
-  unfolding slot_read
-  free_slot other = cond_free (cond-false (is_inode i) _ None other)
-    where
-      cond_free : {o : Option Slot} → o ≡ None → unwrap_or o slots.Free ≡ slots.Free
-      cond_free e = ap (λ o. unwrap_or o slots.Free) e
+  | inr other ↦ subst (λ (y : Slot). IsConsistent i (inode_of y (logical g s i))) (sym (no_slot g s i other)) tt
+]
 
 read_self : (k : Option Kind) (size : ℕ) (b : Blocks) → ReadAlike k size b b
 read_self None size b = tt
