@@ -7,6 +7,7 @@
 mod changed;
 mod many;
 mod moved;
+mod whole;
 mod written;
 
 pub use changed::{written_directory_is_rewritten, written_file_is_rewritten};
@@ -15,6 +16,7 @@ pub use many::{
     moved_inodes_are_the_same_graph, written_inodes_are_rewritten,
 };
 pub use moved::moved_inode_is_alike;
+pub use whole::{changed_store_spells_the_graph_after, moved_store_spells_the_same_graph};
 pub use written::{
     logical_blocks_are_read_where_they_lie, written_inode_is_read, written_inode_is_spelled,
 };
