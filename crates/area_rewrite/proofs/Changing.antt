@@ -1,22 +1,21 @@
 -- An inode that is written anew for a change of it.
-use Rattle.std.proofs.Common.{◌≡◌, ◌<◌, ℕ, [], true, false, refl, sym, ap, subst, ◌∙◌, Option, Some, None}
+use Rattle.std.proofs.Common.{◌≡◌, ◌<◌, ℕ, [], refl, sym, ap, subst, ◌∙◌, Some}
 use Rattle.std.specs.Prelude.{get_or}
 use Rattle.tier_device.specs.declared.media.Tier.{Tier}
 use Rattle.tier_device.specs.declared.media.Tier.TheVariants.{Fast, Block, Slow}
 use Rattle.file_graph.specs.declared.effect.Kind.TheVariants as kind
-use Rattle.graph_change.specs.Bytes.{length_after}
-use Rattle.graph_change.specs.Net.{Base, Kept, Made, Gone, names_after}
+use Rattle.graph_change.specs.Net.{Base, Kept, Made, Gone}
 use Rattle.graph_change.specs.Change.{Change}
 use Rattle.layout.specs.declared.slot.Slot.{Slot}
 use Rattle.layout.specs.declared.slot.Slot.TheVariants as slots
 use Rattle.layout.specs.Places.{Sizes}
-use Rattle.tree_blocks.specs.Inode.{Blocks, Inode, inode_of, blocks_for}
+use Rattle.tree_blocks.specs.Inode.{Blocks, inode_of, blocks_for}
 use Rattle.tree_blocks.specs.After.{started}
 use Rattle.tree_blocks.specs.Directory.{EntryBlocks, numbered}
 use Rattle.tree_blocks.specs.FileBlock.{AreWritten}
-use Rattle.tree_blocks.specs.Rewritten.{HasNames, IsFileRewritten, IsDirectoryRewritten, AreHeldOf}
+use Rattle.tree_blocks.specs.Rewritten.{IsFileRewritten, IsDirectoryRewritten}
 use Rattle.block_map.specs.Map.{TierRuns, lies_at}
-use Rattle.area_image.specs.Store.{Store, touch_of, root_of, slot, place, at_or, logical, inode}
+use Rattle.area_image.specs.Store.{Store, slot, place, at_or, logical, inode}
 use Rattle.area_rewrite.specs.Written.{logical_by}
 use Rattle.area_rewrite.specs.Changed.{place_from, LieAsChanged, IsFileWritten, IsDirectoryWritten}
 use Rattle.area_rewrite.proofs.Places.{by_nowhere, by_same}

@@ -1,5 +1,5 @@
 -- An inode of which blocks are moved.
-use Rattle.std.proofs.Common.{◌≡◌, ◌≤◌, ◌<◌, ◌+◌, ◌/◌, ◌%◌, inl, inr, ℕ, [], refl, sym, ap, subst, ◌∙◌, arith, Option, Some, None}
+use Rattle.std.proofs.Common.{◌≡◌, ◌≤◌, ◌<◌, ◌+◌, ◌/◌, ◌%◌, inl, inr, ℕ, [], refl, sym, ap, subst, ◌∙◌, arith, Some}
 use Rattle.std.specs.Prelude.{get_or, is_some}
 use Rattle.std.proofs.lemmas.Bool.{cases_lt}
 use Rattle.tier_device.specs.declared.media.Tier.{Tier}

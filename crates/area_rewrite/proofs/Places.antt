@@ -1,11 +1,11 @@
 -- Logical blocks, by where they lie.
-use Rattle.std.proofs.Common.{◌≡◌, ◌≢◌, ◌≤◌, ◌<◌, ℕ, List, [], refl, sym, ap, ◌∙◌, arith, Option, Some, None}
+use Rattle.std.proofs.Common.{◌≡◌, ◌≢◌, ◌≤◌, ◌<◌, ℕ, List, [], refl, ap, ◌∙◌, arith, Option, Some, None}
 use Rattle.std.specs.Prelude.{is_some}
 use Rattle.tier_device.specs.declared.media.Tier.{Tier}
 use Rattle.tier_device.specs.declared.media.Tier.TheVariants.{Fast, Block, Slow}
 use Rattle.layout.specs.Places.{Sizes}
 use Rattle.batch_journal.specs.Blocks.{Blocks}
-use Rattle.block_map.specs.Map.{TierRuns, lies_at, LieOnce, LieBelow}
+use Rattle.block_map.specs.Map.{TierRuns, lies_at, LieOnce}
 use Rattle.area_image.specs.Store.{Store, place, at_or, logical}
 use Rattle.area_rewrite.specs.Written.{logical_by}
 

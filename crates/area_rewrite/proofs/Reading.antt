@@ -1,6 +1,6 @@
 -- What is read of an inode that is written anew.
-use Rattle.std.proofs.Common.{◌≡◌, ◌<◌, inl, inr, ℕ, List, [], true, refl, sym, ap, subst, ◌∙◌, Option, Some, None}
-use Rattle.std.specs.Prelude.{◌==◌, nat_le, is_some, IsSome, unwrap_or, if◌then◌else◌}
+use Rattle.std.proofs.Common.{◌≡◌, ◌<◌, inl, inr, ℕ, List, [], true, refl, sym, ap, ◌∙◌, Option, Some, None}
+use Rattle.std.specs.Prelude.{◌==◌, nat_le, is_some, unwrap_or, if◌then◌else◌}
 use Rattle.std.specs.Option.{option_map}
 use Rattle.std.specs.List.{list_all}
 use Rattle.std.proofs.lemmas.Bool.{and_from, eq-eqb, ne_eqb, cond-true, cond-false}
@@ -15,11 +15,11 @@ use Rattle.layout.specs.Extents.{ExtentList, extents_of, extents_spelling}
 use Rattle.layout.specs.Places.{Sizes, is_inode}
 use Rattle.layout.specs.Slot.{slot_of, slot_spelling}
 use Rattle.extent_nodes.specs.Places.{end_of, place_of}
-use Rattle.tree_blocks.specs.Inode.{IsConsistent, inode_of}
+use Rattle.tree_blocks.specs.Inode.{inode_of}
 use Rattle.block_map.specs.Map.{TierRuns, runs_in, lies_at, LieBelow}
 use Rattle.area_image.specs.Store.{Store, slot_read, slot, root_of, space_of, length_of, is_own, own_extents, extents_by, extents_read, place, at_or, logical, inode}
-use Rattle.area_image.specs.Spelled.{SpellsInode, used}
-use Rattle.area_rewrite.specs.Written.{list_of, IsListed, IsWritten, IsFit, logical_by, block_by}
+use Rattle.area_image.specs.Spelled.{used}
+use Rattle.area_rewrite.specs.Written.{list_of, IsListed, IsWritten, logical_by, block_by}
 
 -- Slot and runs are read again from what they are spelled as, and the runs end within the length.
 pub record AreSpelled (g : Sizes) (i : ℕ) (x : Slot) (m : TierRuns) : Type 0 where

@@ -1,5 +1,5 @@
 -- Which blocks inodes that are written anew take, and which they give up.
-use Rattle.std.proofs.Common.{◌≡◌, ◌≢◌, ◌≤◌, ◌<◌, ◌+◌, ◌⊎◌, inl, inr, ℕ, Bool, true, false, refl, sym, ap, subst, ◌∙◌, arith, Option, Some, None}
+use Rattle.std.proofs.Common.{◌≡◌, ◌≢◌, ◌≤◌, ◌<◌, inl, inr, ℕ, Bool, true, false, refl, sym, ap, subst, ◌∙◌, arith, Option, Some, None}
 use Rattle.std.specs.Prelude.{◌↔◌, ◌==◌, nat_le, nat_lt, unwrap_or, if◌then◌else◌}
 use Rattle.std.specs.Option.{option_map}
 use Rattle.std.proofs.lemmas.Bool.{cases_Bool, true≢false, and_parts, leb-true, ltb-true, eqb-false, cond-true, cond-false}
@@ -15,7 +15,7 @@ use Rattle.file_graph.specs.declared.effect.Kind.TheVariants as kind
 use Rattle.block_map.specs.Map.{TierRuns}
 use Rattle.area_image.specs.Store.{Store, slot_bytes, slot_read, slot, root_of, length_of, place, logical, inode}
 use Rattle.area_image.specs.Reads.{IsRoom, IsPlaced, Free}
-use Rattle.area_image.specs.Spelled.{Use, used, SpellsInode, AreUsedOnce, IsSpelled}
+use Rattle.area_image.specs.Spelled.{Use, used, SpellsInode, AreUsedOnce}
 use Rattle.area_image.specs.Rewrites.{Rewrites}
 use Rattle.area_rewrite.specs.Written.{block_by}
 use Rattle.area_rewrite.specs.Many.{MayTake, Takes, TakeOnce, KeepOrTakeFree, TakeFreeOnce, AreWrittenAnew}

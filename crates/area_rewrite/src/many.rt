@@ -10,7 +10,7 @@ ghost use Rattle.tree_blocks.specs.Inode.{IsConsistent, AreAlike};
 ghost use Rattle.tree_blocks.specs.After.{IsInodeAfter};
 ghost use Rattle.block_map.specs.Map.{TierRuns};
 ghost use Rattle.area_image.specs.Store.{Store, inode, graph};
-ghost use Rattle.area_image.specs.Reads.{IsRoom, Free};
+ghost use Rattle.area_image.specs.Reads.{Free};
 ghost use Rattle.area_image.specs.Spelled.{IsSpelled, Use, used};
 ghost use Rattle.area_image.specs.Rewrites.{Rewrites};
 ghost use Rattle.area_rewrite.specs.Many.{MayTake, Takes, TakeOnce, KeepOrTakeFree, TakeFreeOnce, AreWrittenAnew};

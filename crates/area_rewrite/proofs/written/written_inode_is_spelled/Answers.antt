@@ -1,4 +1,4 @@
-use Rattle.std.proofs.Common.{sym, ap, subst, ◌∙◌}
+use Rattle.std.proofs.Common.{ap, subst}
 use Rattle.std.specs.Prelude.{is_some, IsSome}
 use Rattle.area_rewrite.proofs.written.written_inode_is_spelled.Goals as goal
 
