@@ -3,3 +3,4 @@ pub mod Places
 pub mod Moving
 pub mod Changing
 pub mod Taking
+pub mod Freeing

@@ -1,15 +1,17 @@
 //! What holds where an inode is written anew for a change of it.
 
-ghost use Rattle.std.specs.Prelude.{◌≡◌, ℕ, true};
+ghost use Rattle.std.specs.Prelude.{◌≡◌, ℕ, [], None, true};
+ghost use Rattle.tier_device.specs.declared.media.Tier.{Tier};
 ghost use Rattle.graph_change.specs.Change.{Change, net_of};
 ghost use Rattle.graph_change.specs.Tidy.{IsTidyChange};
 ghost use Rattle.layout.specs.declared.slot.Slot.{Slot};
+ghost use Rattle.layout.specs.declared.slot.Slot.TheVariants as slots;
 ghost use Rattle.layout.specs.Places.{Sizes, IsAllowed, is_inode};
 ghost use Rattle.tree_blocks.specs.Inode.{IsConsistent};
 ghost use Rattle.tree_blocks.specs.After.{started, IsInodeAfter};
 ghost use Rattle.tree_blocks.specs.Directory.{EntryBlocks};
 ghost use Rattle.tree_blocks.specs.Rewritten.{IsFileRewritten, IsDirectoryRewritten};
-ghost use Rattle.block_map.specs.Map.{TierRuns};
+ghost use Rattle.block_map.specs.Map.{TierRuns, runs_in};
 ghost use Rattle.area_image.specs.Store.{Store, inode};
 ghost use Rattle.area_rewrite.specs.Written.{IsWritten, IsFit};
 ghost use Rattle.area_rewrite.specs.Changed.{IsFileWritten, IsDirectoryWritten};
@@ -36,4 +38,13 @@ pub fn written_directory_is_rewritten()
     written_inode_is_read();
     rewritten_inode_is_inode_after();
     inode_after_is_node_after();
+}
+
+/// A free slot without runs is fit. An inode that is written so is that after a change by which its node goes, or which is of none.
+pub fn written_free_slot_is_inode_after()
+    ensures fit { (g : Sizes) (m : TierRuns) → ((t : Tier) → runs_in m t ≡ []) → IsFit g slots.Free m }
+    ensures after { (g : Sizes) (c : Change) (old new : Store) (i : ℕ) (m : TierRuns) → IsAllowed g → is_inode i ≡ true → ((t : Tier) → runs_in m t ≡ []) → IsWritten new i slots.Free m → (started c.base (inode g old i)).kind ≡ None → IsInodeAfter i (net_of c) (inode g old i) (inode g new i) }
+{
+    written_inode_is_read();
+    rewritten_inode_is_inode_after();
 }

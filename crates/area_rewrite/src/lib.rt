@@ -10,7 +10,9 @@ mod moved;
 mod whole;
 mod written;
 
-pub use changed::{written_directory_is_rewritten, written_file_is_rewritten};
+pub use changed::{
+    written_directory_is_rewritten, written_file_is_rewritten, written_free_slot_is_inode_after,
+};
 pub use many::{
     changed_inodes_are_the_graph_after, given_up_blocks_are_free, kept_and_free_blocks_lie_apart,
     moved_inodes_are_the_same_graph, written_inodes_are_rewritten,
