@@ -9,7 +9,7 @@ use Rattle.graph_change.specs.Change.{Change, patch_at, writes_block}
 use Rattle.layout.specs.declared.slot.Slot.{Slot}
 use Rattle.layout.specs.declared.slot.Slot.TheVariants as slots
 use Rattle.layout.specs.Places.{Sizes}
-use Rattle.tree_blocks.specs.Inode.{Inode, blocks_for}
+use Rattle.tree_blocks.specs.Inode.{blocks_for}
 use Rattle.tree_blocks.specs.After.{started, IsDirectoryAfter}
 use Rattle.tree_blocks.specs.Directory.{EntryBlocks, numbered}
 use Rattle.tree_blocks.specs.FileBlock.{ReadsAfter, is_cut_off}
