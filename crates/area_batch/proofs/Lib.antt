@@ -1,0 +1,5 @@
+mod SlotBytes
+mod Blocks
+mod Images
+mod ByNumber
+mod Put

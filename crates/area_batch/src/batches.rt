@@ -70,7 +70,7 @@ fn push_slot_blocks<M: Media>(
     ensures looks { Looks M.moment M.seen M.left M.faults journal.old journal.new result }
 {
     let mut rest = slots;
-    'blocks: for block in FIRST_SLOT_BLOCK..MARKS_BLOCK {
+    'numbers: for block in FIRST_SLOT_BLOCK..MARKS_BLOCK {
         let (here, others) = rest.split_at(count_up_to(rest, block));
         match push_slot_block(journal, block, here, batch) {
             Ok(()) => rest = others,

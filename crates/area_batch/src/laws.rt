@@ -16,6 +16,8 @@ ghost use Rattle.area_batch.specs.declared.slots.ChangedSlot.{ChangedSlot};
 ghost use Rattle.area_batch.specs.Slots.{RiseIn};
 ghost use Rattle.area_batch.specs.Batches.{IsBatchOf, IsPutIn};
 
+use layout::{marks_are_read, slot_is_read};
+
 /// After a batch the slots, the marks and the node blocks are put into the store. It was made for a store with the same slot blocks, in which data may have been other.
 pub fn batch_is_put()
     ensures { (s old new : Store) (c : List ℕ) (slots : List ChangedSlot) (m : Option Marks) (nodes batch : List (ℕ × List ℕ))
@@ -28,4 +30,7 @@ pub fn put_slots_are_read()
     ensures slots { (g : Sizes) (old new : Store) (slots : List ChangedSlot) (m : Option Marks) (nodes : List (ℕ × List ℕ)) (x : ChangedSlot)
         → IsAllowed g → IsPutIn slots m nodes old new → RiseIn 1 MAX_INODE slots → Contains slots x → fits_slot g x.slot ≡ true → slot_read g new x.inode ≡ Some x.slot }
     ensures marks { (old new : Store) (slots : List ChangedSlot) (m : Marks) (nodes : List (ℕ × List ℕ)) → IsPutIn slots (Some m) nodes old new → fits_marks m ≡ true → marks new ≡ Some m }
-{}
+{
+    slot_is_read();
+    marks_are_read();
+}

@@ -1,0 +1,12 @@
+use Rattle.std.proofs.Common.{ap, sym, ◌∙◌}
+use Rattle.layout.specs.Slot.{slot_of, slot_spelling}
+use Rattle.area_image.specs.Store.{slot_bytes}
+use Rattle.area_image.proofs.Shown.{slot_is}
+use Rattle.std.specs.Prelude.{Some}
+use Rattle.area_batch.proofs.SlotBytes.{within}
+use Rattle.area_batch.proofs.laws.put_slots_are_read.Goals as goal
+
+pub returns-clause-slots : goal.returns-clause-slots
+returns-clause-slots c g old new slots m nodes x allowed put rises has fits =
+    let range = within 1 1024 slots x rises has in
+    slot_is g new x.inode (slot_spelling x.slot) (Some x.slot) range.0 range.1 (sym (put.slots_put x has)) (c.slot_is_read.ensures g x.slot allowed fits)
