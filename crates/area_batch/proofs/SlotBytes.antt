@@ -30,7 +30,7 @@ text_long f =
 
 filled_long : (text : List ℕ) → length text ≡ 36 → length (filled 128 text) ≡ 128
 unfolding filled zeros
-filled_long text is = omega (arith, is, length-append text (replicate (128 - length text) 0), length-replicate (128 - length text) 0)
+filled_long text is = omega (arith, is, length-append text (replicate (128 - length text) 0), length-replicate {A = ℕ} (128 - length text) 0)
 
 pub slot_long : (x : Slot) → length (slot_spelling x) ≡ 128
 slot_long x = filled_long (slot_text (slot_fields x)) (text_long (slot_fields x))

@@ -37,4 +37,4 @@ loop-number-preserved c =
 pub returns : goal.returns
 returns c =
     let batch = c.loop-number.batch in
-    sym (append-nil batch) ∙ ap (λ (es : List (ℕ × List ℕ)). batch ++ es) (sym c.in-None.ensures.steps.0) ∙ c.loop-number.invariant.pushed
+    record { pushed = sym (append-nil batch) ∙ ap (λ (es : List (ℕ × List ℕ)). batch ++ es) (sym c.in-None.ensures.steps.0) ∙ c.loop-number.invariant.pushed }
