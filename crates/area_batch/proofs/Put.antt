@@ -1,12 +1,11 @@
 -- What becomes of a store by a batch.
-use Rattle.std.proofs.Common.{◌≡◌, ◌≢◌, inl, inr, ℕ, ◌+◌, ◌≤◌, ◌<◌, List, [], Option, Some, None, refl, sym, ◌∙◌, ap, subst, arith, Bool, true, false, cond, ◌||◌}
-use Rattle.std.specs.Prelude.{nat_le, nat_lt, option_map}
+use Rattle.std.proofs.Common.{◌≡◌, ◌≢◌, inl, inr, ℕ, ◌≤◌, ◌<◌, List, [], Option, Some, None, refl, sym, ◌∙◌, ap, subst, arith, true, false}
+use Rattle.std.specs.Prelude.{nat_le, nat_lt}
 use Rattle.std.specs.List.{Contains}
 use Rattle.std.proofs.lemmas.Bool.{cases_Bool, cases_eq, cond-true, cond-false, and_parts, leb-true, lt-ltb, le-leb, or_left, or_right}
 use Rattle.tier_device.specs.declared.media.Tier.{Tier}
 use Rattle.tier_device.specs.declared.media.Tier.TheVariants.{Fast}
 use Rattle.layout.specs.declared.marks.Marks.{Marks}
-use Rattle.layout.specs.Marks.{marks_spelling}
 use Rattle.layout.specs.Places.{is_inode, slot_block, slot_byte}
 use Rattle.layout.specs.Slot.{slot_spelling}
 use Rattle.batch_journal.specs.Images.{slice, image_for, or_else, with_images}

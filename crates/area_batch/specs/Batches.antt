@@ -6,7 +6,7 @@ use Rattle.tier_device.specs.declared.media.Tier.TheVariants.{Fast}
 use Rattle.layout.specs.declared.places.TheConstants.{BLOCK, SUPER_BLOCK, FIRST_SLOT_BLOCK, MARKS_BLOCK, FIRST_NODE_BLOCK}
 use Rattle.layout.specs.declared.marks.Marks.{Marks}
 use Rattle.layout.specs.Marks.{marks_spelling}
-use Rattle.layout.specs.Places.{Sizes, is_node, is_inode, slot_block}
+use Rattle.layout.specs.Places.{Sizes, is_node, is_inode}
 use Rattle.layout.specs.Slot.{slot_spelling}
 use Rattle.batch_journal.specs.Images.{image_for, or_else, with_images}
 use Rattle.batch_journal.specs.Blocks.{Blocks, is_home}
