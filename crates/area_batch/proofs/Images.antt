@@ -1,5 +1,5 @@
 -- The images of a batch, in their order.
-use Rattle.std.proofs.Common.{◌≡◌, ◌≢◌, inl, inr, ℕ, ◌+◌, ◌≤◌, ◌<◌, Bool, true, false, List, [], ◌∷◌, ◌++◌, length, Option, Some, None, refl, sym, ap, subst, ◌∙◌, arith, ltb, ◌==◌, ◌||◌}
+use Rattle.std.proofs.Common.{◌≡◌, ◌≢◌, inl, inr, ℕ, ◌+◌, ◌≤◌, ◌<◌, true, false, List, [], ◌∷◌, ◌++◌, length, Option, Some, None, refl, sym, ap, subst, ◌∙◌, arith, ltb, ◌==◌}
 use Rattle.std.specs.Prelude.{IsSome, IfSome, nat_le, nat_lt, option_map}
 use Rattle.std.proofs.lemmas.Bool.{true≢false, cases_lt, cond-true, cond-false, ne_eqb, and_parts, leb-true, le-leb, lt-ltb, le-ltb, or_left, or_from}
 use Rattle.tier_device.specs.declared.media.Tier.TheVariants.{Fast}

@@ -1,8 +1,8 @@
-use Rattle.std.proofs.Common.{◌≡◌, refl, ◌+◌, ◌-◌, ◌*◌, ◌≤◌, ◌<◌, ◌∙◌, ◌++◌, inl, inr, Err, ℕ, List, length, sym, subst, ap, arith, true, cond, ltb}
+use Rattle.std.proofs.Common.{◌≡◌, refl, ◌+◌, ◌-◌, ◌*◌, ◌≤◌, ◌∙◌, ◌++◌, inl, inr, Err, ℕ, List, length, sym, subst, ap, arith, true}
 use Rattle.std.proofs.lemmas.Bool.{cases_eq}
 use Rattle.std.proofs.lemmas.List.{length-append}
 use Rattle.tier_device.specs.declared.media.Tier.TheVariants.{Fast}
-use Rattle.batch_journal.specs.Blocks.{Blocks, AreJournaled}
+use Rattle.batch_journal.specs.Blocks.{AreJournaled}
 use Rattle.area_image.specs.Store.{Store, store_of}
 use Rattle.area_image.specs.Looks.{looked}
 use Rattle.area_image.proofs.Looked.{store_same, looks_on, looks_none, looks_answer}

@@ -1,6 +1,5 @@
-use Rattle.std.proofs.Common.{ap, sym, ◌∙◌}
-use Rattle.layout.specs.Slot.{slot_of, slot_spelling}
-use Rattle.area_image.specs.Store.{slot_bytes}
+use Rattle.std.proofs.Common.{sym}
+use Rattle.layout.specs.Slot.{slot_spelling}
 use Rattle.area_image.proofs.Shown.{slot_is}
 use Rattle.std.specs.Prelude.{Some}
 use Rattle.area_batch.proofs.SlotBytes.{within}

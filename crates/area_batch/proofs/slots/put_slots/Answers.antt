@@ -1,6 +1,5 @@
 use Rattle.std.proofs.Common.{◌≡◌, ◌+◌, ◌-◌, ◌*◌, ◌∙◌, ℕ, suc, drop, ap, sym, arith}
-use Rattle.layout.specs.Places.{slot_block}
-use Rattle.area_batch.specs.Slots.{with_slot, with_slots}
+use Rattle.area_batch.specs.Slots.{with_slots}
 use Rattle.area_batch.proofs.Blocks.{none_such, at_within, with_next}
 use Rattle.area_batch.proofs.slots.put_slots.Goals as goal
 
