@@ -1,5 +1,5 @@
 -- Effects one after the other, as a loop adds them.
-use Rattle.std.proofs.Common.{◌≡◌, List, [], ◌∷◌, ◌++◌, refl, ℕ, suc, ◌+◌, ◌<◌, zero, length, take, get_or, ap, ◌∙◌, arith}
+use Rattle.std.proofs.Common.{◌≡◌, List, [], ◌∷◌, ◌++◌, refl, ℕ, suc, ◌+◌, ◌<◌, zero, length, take, get_or, ap, sym, ◌∙◌, arith}
 use Rattle.std.specs.Prelude.{Result, Ok, Err, IfErr}
 use Rattle.std.proofs.Math.Seq.{take-suc}
 use Rattle.std.proofs.lemmas.List.Concat.{flat_map-append}
@@ -19,6 +19,9 @@ take_next xs i d lt = let e : i + 1 ≡ suc i = omega arith in ap (λ k. take k 
 -- with the next effect of a list
 pub next_effect : (cs : Changes) (es : List Effect) (i : ℕ) (d : Effect) → i < length es → with_effects cs (take (i + 1) es) ≡ with_effect (get_or es i d) (with_effects cs (take i es))
 next_effect cs es i d lt = ap (with_effects cs) (take_next es i d lt) ∙ with_more cs (take i es) (get_or es i d ∷ [])
+
+pub effect_added : (cs : Changes) (es : List Effect) (i : ℕ) (e : Effect) → i < length es → e ≡ get_or es i e → with_effect e (with_effects cs (take i es)) ≡ with_effects cs (take (i + 1) es)
+effect_added cs es i e inside is = ap (λ (x : Effect). with_effect x (with_effects cs (take i es))) is ∙ sym (next_effect cs es i e inside)
 
 -- the effects with those of one more record
 pub one_record : (rs : List Record) (r : Record) → effects_of (rs ++ r ∷ []) ≡ effects_of rs ++ r.effects
