@@ -3,7 +3,7 @@
 //!
 //! A file is known by its size, a directory by its entries (`NodeSummary`). What effects make of such a node is what they make of the node, and its
 //! numbers after them are told without doing them (`counts_after`). By how much effects raise the charge of a graph is told by the nodes that they touch
-//! (`record_costs`): a map tells what stands at each of these inodes, or that nothing does.
+//! (`record_costs`): a map tells what stands at each of these inodes, or that nothing does. Who has the graph tells its nodes one by one (`Nodes`).
 //!
 //! A record is good (`IsGood` in `specs/Good.antt`) where its client holds every inode that it touches for writing, its units pay for what it raises, what
 //! it touches keeps the limits after it, and the graph after it costs no more than there is. `test_record` tells that, or names an inode to be looked up.
@@ -16,6 +16,7 @@ mod known;
 mod laws;
 mod node_counts;
 mod node_summary;
+mod nodes;
 mod record_check;
 mod taking;
 mod verdict;
@@ -28,6 +29,7 @@ pub use laws::{
 };
 pub use node_counts::{NodeCounts, cost};
 pub use node_summary::{NodeSummary, SummaryBody};
+pub use nodes::Nodes;
 pub use record_check::RecordCheck;
 pub use taking::take_effects;
 pub use verdict::{Verdict, test_record};

@@ -1,7 +1,7 @@
 //! A row of records, each tested over the graph as those before it leave it.
 
 ghost use Rattle.std.specs.Prelude.{◌≡◌, ℕ, true, None, IfErr, IfOk, OnOk, OnErr};
-ghost use Rattle.std.specs.List.{list_any};
+ghost use Rattle.std.specs.List.Sorted.{IsNonDecreasing};
 ghost use Rattle.std.specs.Ordering.{nat_cmp};
 ghost use Rattle.std.specs.BTreeMap.{get};
 ghost use Rattle.file_graph.specs.Graph.{Graph};
@@ -10,7 +10,7 @@ ghost use Rattle.log_record.specs.Grammar.{IsRecord};
 ghost use Rattle.call_effects.specs.NodeView.{view_at};
 ghost use Rattle.record_check.specs.Good.{IsGood, Tells, asked};
 ghost use Rattle.record_check.specs.Known.{first_unknown, is_unknown};
-ghost use Rattle.record_check.specs.Memory.{is_enter};
+ghost use Rattle.record_check.specs.Memory.{want_room};
 ghost use Rattle.record_check.specs.Row.{HasCome, Stands, known_by, left_by, with_known};
 
 use crate::node_summary::NodeSummary;
@@ -58,8 +58,8 @@ impl RecordCheck {
     }
 
     /// Tests the next record (`test_record`), and goes on behind a good one: the check then stands over the graph after it. Another
-    /// changes nothing, and may be tested again when more is known. An error is want of memory for a good record that enters a name;
-    /// nothing is then said of what is left, and the check is to be dropped.
+    /// changes nothing, and may be tested again when more is known. An error is want of memory for a good record that enters a name into
+    /// what is known to be a directory by then; nothing is then said of what is left, and the check is to be dropped.
     pub fn next(
         &mut self,
         alloc: Global,
@@ -68,12 +68,13 @@ impl RecordCheck {
         next: &Record,
     ) -> Result<Verdict, AllocError>
         requires spelled { IsRecord next.now }
+        requires rising { IsNonDecreasing held.now }
         ensures tells { IfOk result (λ v. (g : Graph) → Stands self.old g → Tells held.now capacity g next.now v) }
         ensures unknown { IfOk result (λ v. asked v ≡ first_unknown self.old.known next.now.effects) }
         ensures known { IfOk result (λ v. get nat_cmp self.new.known ≡ known_by v next.now (get nat_cmp self.old.known)) }
         ensures stands { IfOk result (λ v. (g : Graph) → Stands self.old g → Stands self.new (left_by v g next.now)) }
         ensures first { IfOk result (λ v. (g h : Graph) → HasCome self.old g h → HasCome self.new g (left_by v h next.now)) }
-        ensures memory { IfErr result (λ _. list_any is_enter next.now.effects ≡ true) }
+        ensures memory { IfErr result (λ _. want_room next.now.effects (get nat_cmp self.old.known) ≡ true) }
         ensures good { IfErr result (λ _. (g : Graph) → Stands self.old g → IsGood held.now capacity g next.now) }
         ensures seen { IfErr result (λ _. first_unknown self.old.known next.now.effects ≡ None) }
     {

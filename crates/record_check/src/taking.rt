@@ -1,15 +1,15 @@
 //! What is known after the effects of a record.
 
-ghost use Rattle.std.specs.Prelude.{◌≡◌, true, OnErr, OnOk};
+ghost use Rattle.std.specs.Prelude.{◌≡◌, true, Some, OnErr, OnOk};
 ghost use Rattle.std.specs.Ordering.{nat_cmp};
 ghost use Rattle.std.specs.BTreeMap.{get};
-ghost use Rattle.std.specs.List.{AllByRecursion, list_any};
+ghost use Rattle.std.specs.List.{AllByRecursion};
 ghost use Rattle.file_graph.specs.Graph.{Graph, after_effects};
 ghost use Rattle.file_graph.specs.Plain.{is_drop};
 ghost use Rattle.log_record.specs.Grammar.{Fits};
 ghost use Rattle.call_effects.specs.NodeView.{view_acted};
 ghost use Rattle.record_check.specs.Known.{Agrees, known_after, known_acted};
-ghost use Rattle.record_check.specs.Memory.{is_enter};
+ghost use Rattle.record_check.specs.Memory.{enters_known, is_directory, is_enter, want_room};
 
 use crate::node_summary::NodeSummary;
 use file_graph::Effect;
@@ -18,7 +18,7 @@ use std::collections::BTreeMap;
 
 /// Does the effects of a record to what is known. Of an inode of which nothing is known nothing is known after it. Where there is no
 /// memory for it, some of the effects may be done and others not: nothing is said of what is left, and the whole is to be dropped. None is
-/// asked for where no effect enters a name.
+/// asked for but to enter a name into what is known to be a directory by then.
 pub fn take_effects(
     alloc: Global,
     known: &mut BTreeMap<u32, Option<NodeSummary>>,
@@ -27,7 +27,7 @@ pub fn take_effects(
     requires fit { AllByRecursion Fits effects.now }
     ensures known { OnOk result (get nat_cmp known.new ≡ known_after effects.now (get nat_cmp known.old)) }
     ensures agrees { OnOk result ((g : Graph) → Agrees known.old g → Agrees known.new (after_effects g effects.now)) }
-    ensures memory { OnErr result (list_any is_enter effects.now ≡ true) }
+    ensures memory { OnErr result (want_room effects.now (get nat_cmp known.old) ≡ true) }
 {
     for effect in effects {
         take_effect(alloc, known, effect)?;
@@ -42,7 +42,7 @@ fn take_effect(
 ) -> Result<(), AllocError>
     requires fits { Fits effect.now }
     ensures known { OnOk result (get nat_cmp known.new ≡ known_acted effect.now (get nat_cmp known.old)) }
-    ensures memory { OnErr result (is_enter effect.now ≡ true) }
+    ensures memory { OnErr result (enters_known effect.now (get nat_cmp known.old) ≡ true) }
 {
     let inode = effect.subject();
     if let Some(node) = known.get_mut(&inode) {
@@ -56,6 +56,7 @@ fn act(alloc: Global, node: &mut Option<NodeSummary>, effect: &Effect) -> Result
     requires fits { Fits effect.now }
     ensures acted { OnOk result (node.new ≡ view_acted effect.now node.old) }
     ensures memory { OnErr result (is_enter effect.now ≡ true) }
+    ensures directory { OnErr result (is_directory (Some node.old) ≡ true) }
 {
     if is_drop(effect) {
         *node = None;

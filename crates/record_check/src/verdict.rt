@@ -2,6 +2,7 @@
 
 ghost use Rattle.std.specs.Prelude.{◌≡◌, ◌-◌, ◌+◌, ◌≤◌, Some, None, length, nat_le, if◌then◌else◌};
 ghost use Rattle.std.specs.List.{AllByRecursion, list_all};
+ghost use Rattle.std.specs.List.Sorted.{IsNonDecreasing};
 ghost use Rattle.file_graph.specs.Graph.{Graph, is_among, touches};
 ghost use Rattle.file_graph.specs.Units.{charge};
 ghost use Rattle.log_record.specs.Grammar.{Fits, IsRecord};
@@ -32,8 +33,8 @@ pub enum Verdict {
 }
 
 /// Whether a record may be digested into each graph that is as it is known and has a charge of `used` units, where its client holds
-/// the inodes `held` for writing, and where there are `capacity` units in all. An inode that the record touches and of which nothing
-/// is known is named, the first in the order of its effects. Nothing is changed, and no memory is taken.
+/// the inodes `held` for writing, listed rising, and where there are `capacity` units in all. An inode that the record touches and of
+/// which nothing is known is named, the first in the order of its effects. Nothing is changed, and no memory is taken.
 pub fn test_record(
     known: &BTreeMap<u32, Option<NodeSummary>>,
     used: u64,
@@ -42,6 +43,7 @@ pub fn test_record(
     next: &Record,
 ) -> Verdict
     requires spelled { IsRecord next.now }
+    requires rising { IsNonDecreasing held.now }
     ensures tells { (g : Graph) → Agrees known.now g → charge g ≡ used → Tells held.now capacity g next.now result }
     ensures unknown { asked result ≡ first_unknown known.now next.now.effects }
 {
@@ -80,6 +82,7 @@ fn charge_after(used: u64, capacity: u64, costs: RecordCosts) -> Option<u64>
 // Whether each inode that effects touch is held.
 #[tactic(auto, using(crate::proofs::Touched::next_all))]
 fn are_held(held: &[u32], effects: &[Effect]) -> bool
+    requires { IsNonDecreasing held.now }
     ensures { result ≡ are_held held.now effects.now }
 {
     for effect in effects {
@@ -90,15 +93,12 @@ fn are_held(held: &[u32], effects: &[Effect]) -> bool
     true
 }
 
+#[tactic(auto, using(crate::proofs::Searched::among_searched))]
 fn is_among(inodes: &[u32], inode: u32) -> bool
+    requires { IsNonDecreasing inodes.now }
     ensures { result ≡ is_among inode inodes.now }
 {
-    for it in inodes {
-        if *it == inode {
-            return true;
-        }
-    }
-    false
+    inodes.binary_search(&inode).is_ok()
 }
 
 // Whether each inode that effects touch keeps the limits after them.

@@ -8,9 +8,10 @@ use std::test::Fail;
 #[test]
 fn each_inode_that_is_written_is_held(rt: HostRuntime) -> Result<(), Fail> {
     let alloc = rt.alloc();
-    let rows: [(&[u32], bool); 6] = [
+    let rows: [(&[u32], bool); 7] = [
         (&[1, 2], true),
-        (&[9, 2, 7, 1], true),
+        (&[1, 2, 7, 9], true),
+        (&[1, 3, 7, 9], false),
         (&[2], false),
         (&[1], false),
         (&[3], false),

@@ -1,5 +1,8 @@
 //! Effects, nodes and checks in a few words.
 
+ghost use Rattle.std.specs.Prelude.{IsTrue};
+ghost use Rattle.std.specs.List.Sorted.{IsNonDecreasing};
+
 use file_graph::{Child, Effect, Effects, Kind};
 use log_record::Record;
 use node_bodies::NameMap;
@@ -19,7 +22,15 @@ pub fn opening(alloc: Global) -> Result<RecordCheck, AllocError> {
     Ok(check)
 }
 
-/// What a check tells of a record of these effects; none where no log can hold such a record.
+// Whether inodes are listed rising.
+#[tactic(auto, using(std::proofs::lemmas::List::Sorted::non_decreasing_from_is_sorted))]
+fn are_rising(inodes: &[u32]) -> bool
+    ensures { IsTrue result → IsNonDecreasing inodes.now }
+{
+    inodes.is_sorted()
+}
+
+/// What a check tells of a record of these effects; none where no log can hold such a record, or where what is held is not listed rising.
 pub fn told(
     alloc: Global,
     check: &mut RecordCheck,
@@ -32,7 +43,7 @@ pub fn told(
         units,
         effects: Effects::from_vec(effects),
     };
-    if !next.has_spelling() {
+    if !next.has_spelling() || !are_rising(held) {
         return Ok(None);
     }
     Ok(Some(check.next(alloc, capacity, held, &next)?))
