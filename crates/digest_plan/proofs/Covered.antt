@@ -26,12 +26,12 @@ right_of : (b c : Bool) → c ≡ true → (b || c) ≡ true
 right_of true c e = refl
 right_of false c e = e
 
-touched_first : (r : Record) (rs : List Record) (i : ℕ) → is_among i (touches r.effects) ≡ true → is_among i (touches (effects_of (r ∷ rs))) ≡ true
+pub touched_first : (r : Record) (rs : List Record) (i : ℕ) → is_among i (touches r.effects) ≡ true → is_among i (touches (effects_of (r ∷ rs))) ≡ true
 touched_first r rs i among =
     ap (is_among i) (touches_joined r.effects (effects_of rs)) ∙ among_joined i (touches r.effects) (touches (effects_of rs))
     ∙ left_of (is_among i (touches r.effects)) (is_among i (touches (effects_of rs))) among
 
-touched_later : (r : Record) (rs : List Record) (i : ℕ) → is_among i (touches (effects_of rs)) ≡ true → is_among i (touches (effects_of (r ∷ rs))) ≡ true
+pub touched_later : (r : Record) (rs : List Record) (i : ℕ) → is_among i (touches (effects_of rs)) ≡ true → is_among i (touches (effects_of (r ∷ rs))) ≡ true
 touched_later r rs i among =
     ap (is_among i) (touches_joined r.effects (effects_of rs)) ∙ among_joined i (touches r.effects) (touches (effects_of rs))
     ∙ right_of (is_among i (touches r.effects)) (is_among i (touches (effects_of rs))) among

@@ -16,11 +16,11 @@ AreKnown m is = (i : ℕ) → is_among i is ≡ true → is_unknown m i ≡ fals
 either_of : (b c : Bool) → b ≡ true → (b || c) ≡ true
 either_of b c e = ap (λ x. x || c) e
 
-or_of : (b c : Bool) → c ≡ true → (b || c) ≡ true
+pub or_of : (b c : Bool) → c ≡ true → (b || c) ≡ true
 or_of true c e = refl
 or_of false c e = e
 
-among_first : (d : ℕ) (is : List ℕ) → is_among d (d ∷ is) ≡ true
+pub among_first : (d : ℕ) (is : List ℕ) → is_among d (d ∷ is) ≡ true
 among_first d is = elim (eqb_tells d d) [
   | inl same ↦ either_of (d == d) (is_among d is) same.0
   | inr apart ↦ absurd (apart.1 refl)

@@ -1,3 +1,4 @@
+mod Asks
 pub mod Covered
 pub mod Known
 pub mod Runs

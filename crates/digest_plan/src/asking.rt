@@ -1,15 +1,14 @@
 //! Nodes are asked for before a record is tested.
 
-ghost use Rattle.std.specs.Prelude.{◌≡◌, ℕ, true, false, None, IfErr, OnOk};
+ghost use Rattle.std.specs.Prelude.{◌≡◌, ℕ, List, true, false, None, Some, IfErr, OnOk};
 ghost use Rattle.file_graph.specs.Graph.{Graph, touches, is_among};
 ghost use Rattle.record_check.specs.Known.{first_unknown, is_unknown};
 ghost use Rattle.record_check.specs.Row.{HasCome};
-ghost use Rattle.digest_plan.specs.declared.error.PlanError.TheVariants as why;
+ghost use Rattle.digest_plan.specs.Asked.{AskedKnown, AskedOnce, AreAmong, refusal_of};
 
 use crate::error::PlanError;
-use crate::nodes::Nodes;
 use file_graph::Effect;
-use record_check::{RecordCheck, is_unknown};
+use record_check::{Nodes, RecordCheck, is_unknown};
 use std::alloc::Global;
 
 /// Asks for each inode that effects touch and of which nothing is known.
@@ -22,9 +21,8 @@ pub fn learn_touched<N: Nodes>(
     ensures stays { N.graph nodes.new ≡ N.graph nodes.old }
     ensures come { OnOk result ((h : Graph) → HasCome check.old (N.graph nodes.old) h → HasCome check.new (N.graph nodes.old) h) }
     ensures known { OnOk result (first_unknown check.new.known effects.now ≡ None) }
-    ensures told { OnOk result ((first : N) → N.has_told first nodes.old → N.has_told first nodes.new) }
-    ensures memory { IfErr result (λ e. e ≡ why.Memory → (first : N) → N.has_told first nodes.old → N.has_told first nodes.new) }
-    ensures failed { IfErr result (λ e. (x : N.Error) → e ≡ why.Nodes x → (first : N) → N.has_told first nodes.old → N.has_failed first nodes.new x) }
+    ensures answered { OnOk result ((first : N) (among : List ℕ) → AreAmong (touches effects.now) among → AskedKnown N.asked check.old.known among first nodes.old → AskedKnown N.asked check.new.known among first nodes.new) }
+    ensures refused { IfErr result (λ e. (first : N) (among : List ℕ) → AreAmong (touches effects.now) among → AskedKnown N.asked check.old.known among first nodes.old → AskedOnce N.asked among first nodes.new (refusal_of e)) }
 {
     for effect in effects {
         learn(alloc, nodes, check, effect.subject())?;
@@ -43,9 +41,8 @@ fn learn<N: Nodes>(
     ensures come { OnOk result ((h : Graph) → HasCome check.old (N.graph nodes.old) h → HasCome check.new (N.graph nodes.old) h) }
     ensures known { OnOk result (is_unknown check.new.known inode ≡ false) }
     ensures others { OnOk result ((i : ℕ) → is_unknown check.old.known i ≡ false → is_unknown check.new.known i ≡ false) }
-    ensures told { OnOk result ((first : N) → N.has_told first nodes.old → N.has_told first nodes.new) }
-    ensures memory { IfErr result (λ e. e ≡ why.Memory → (first : N) → N.has_told first nodes.old → N.has_told first nodes.new) }
-    ensures failed { IfErr result (λ e. (x : N.Error) → e ≡ why.Nodes x → (first : N) → N.has_told first nodes.old → N.has_failed first nodes.new x) }
+    ensures answered { OnOk result ((first : N) (among : List ℕ) → is_among inode among ≡ true → AskedKnown N.asked check.old.known among first nodes.old → AskedKnown N.asked check.new.known among first nodes.new) }
+    ensures refused { IfErr result (λ e. (first : N) (among : List ℕ) → is_among inode among ≡ true → AskedKnown N.asked check.old.known among first nodes.old → AskedOnce N.asked among first nodes.new (refusal_of e)) }
 {
     if !is_unknown(&check.known, inode) {
         return Ok(());

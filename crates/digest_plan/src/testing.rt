@@ -1,19 +1,21 @@
 //! Records are tested one after the other, until one is bad.
 
-ghost use Rattle.std.specs.Prelude.{◌≡◌, ◌<◌, true, false, IfErr, IfOk, OnOk, length};
+ghost use Rattle.std.specs.Prelude.{◌≡◌, ◌<◌, ℕ, List, true, false, None, IfErr, IfOk, OnOk, length};
 ghost use Rattle.std.specs.List.{AllByRecursion};
-ghost use Rattle.file_graph.specs.Graph.{Graph, after_effects};
+ghost use Rattle.std.specs.List.Sorted.{IsNonDecreasing};
+ghost use Rattle.file_graph.specs.Graph.{Graph, after_effects, touches};
+ghost use Rattle.file_graph.specs.Units.{charge};
 ghost use Rattle.log_record.specs.Grammar.{IsRecord};
+ghost use Rattle.coalescer.specs.Records.{effects_of};
 ghost use Rattle.record_check.specs.Good.{IsGood};
 ghost use Rattle.record_check.specs.Row.{HasCome};
+ghost use Rattle.digest_plan.specs.Asked.{AreAmong, AskedKnown, AskedOnce, refusal_of};
 ghost use Rattle.digest_plan.specs.Plan.{Finds};
-ghost use Rattle.digest_plan.specs.declared.error.PlanError.TheVariants as why;
 
 use crate::asking::learn_touched;
 use crate::error::PlanError;
-use crate::nodes::Nodes;
 use log_record::Record;
-use record_check::{RecordCheck, Verdict};
+use record_check::{Nodes, RecordCheck, Verdict};
 use std::alloc::Global;
 
 /// What a test of some records found.
@@ -25,23 +27,27 @@ pub enum Found {
     FirstBad { place: usize },
 }
 
-/// Tests records over a graph, each as those before it leave it.
+/// Tests records over the graph that the nodes are told of, whose charge is `used` units: each as those before it leave it, for a client that
+/// holds the inodes `held` for writing, listed rising, and where there are `capacity` units in all. No node is asked for twice, nor one
+/// that no record touches.
 pub fn test_records<N: Nodes>(
     alloc: Global,
     nodes: &mut N,
+    used: u64,
     capacity: u64,
     held: &[u32],
     records: &[Record],
 ) -> Result<Found, PlanError<N::Error>>
     requires spelled { AllByRecursion IsRecord records.now }
+    requires rising { IsNonDecreasing held.now }
+    requires used { charge (N.graph nodes.old) ≡ used }
     ensures stays { N.graph nodes.new ≡ N.graph nodes.old }
-    ensures tells { IfOk result (λ found. (first : N) → N.has_told first nodes.old → Finds held.now capacity (N.graph nodes.old) records.now found) }
-    ensures told { OnOk result ((first : N) → N.has_told first nodes.old → N.has_told first nodes.new) }
-    ensures memory { IfErr result (λ e. e ≡ why.Memory → (first : N) → N.has_told first nodes.old → N.has_told first nodes.new) }
-    ensures failed { IfErr result (λ e. (x : N.Error) → e ≡ why.Nodes x → (first : N) → N.has_told first nodes.old → N.has_failed first nodes.new x) }
+    ensures tells { IfOk result (Finds held.now capacity (N.graph nodes.old) records.now) }
+    ensures answered { OnOk result (AskedOnce N.asked (touches (effects_of records.now)) nodes.old nodes.new None) }
+    ensures refused { IfErr result (λ e. AskedOnce N.asked (touches (effects_of records.now)) nodes.old nodes.new (refusal_of e)) }
     ensures some { IfErr result (λ e. 0 < length records.now) }
 {
-    let mut check = RecordCheck::new(alloc, nodes.charge());
+    let mut check = RecordCheck::new(alloc, used);
     for place in 0..records.len() {
         if !test_next(alloc, nodes, &mut check, capacity, held, &records[place])? {
             return Ok(Found::FirstBad { place });
@@ -62,12 +68,12 @@ fn test_next<N: Nodes>(
     next: &Record,
 ) -> Result<bool, PlanError<N::Error>>
     requires spelled { IsRecord next.now }
+    requires rising { IsNonDecreasing held.now }
     ensures stays { N.graph nodes.new ≡ N.graph nodes.old }
     ensures good { IfOk result (λ is_good. is_good ≡ true → (h : Graph) → HasCome check.old (N.graph nodes.old) h → IsGood held.now capacity h next.now × HasCome check.new (N.graph nodes.old) (after_effects h next.now.effects)) }
     ensures bad { IfOk result (λ is_good. is_good ≡ false → (h : Graph) → HasCome check.old (N.graph nodes.old) h → IsGood held.now capacity h next.now → ⊥) }
-    ensures told { OnOk result ((first : N) → N.has_told first nodes.old → N.has_told first nodes.new) }
-    ensures memory { IfErr result (λ e. e ≡ why.Memory → (first : N) → N.has_told first nodes.old → N.has_told first nodes.new) }
-    ensures failed { IfErr result (λ e. (x : N.Error) → e ≡ why.Nodes x → (first : N) → N.has_told first nodes.old → N.has_failed first nodes.new x) }
+    ensures answered { OnOk result ((first : N) (among : List ℕ) → AreAmong (touches next.now.effects) among → AskedKnown N.asked check.old.known among first nodes.old → AskedKnown N.asked check.new.known among first nodes.new) }
+    ensures refused { IfErr result (λ e. (first : N) (among : List ℕ) → AreAmong (touches next.now.effects) among → AskedKnown N.asked check.old.known among first nodes.old → AskedOnce N.asked among first nodes.new (refusal_of e)) }
 {
     learn_touched(alloc, nodes, check, next.effects.as_slice())?;
     match check.next(alloc, capacity, held, next) {

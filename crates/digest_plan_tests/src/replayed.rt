@@ -3,15 +3,15 @@ ghost use Rattle.std.specs.List.{AllByRecursion};
 ghost use Rattle.std.specs.Ordering.{nat_cmp};
 ghost use Rattle.std.specs.BTreeMap.{get};
 ghost use Rattle.file_graph.specs.Graph.{after_effects, fresh, graph_of};
+ghost use Rattle.file_graph.specs.Units.{charge};
 ghost use Rattle.log_record.specs.Grammar.{Fits};
 ghost use Rattle.call_effects.specs.NodeView.{view_at};
 
-use digest_plan::Nodes;
 use file_graph::{Effect, PlainGraph};
 use log_record::Record;
 use node_bodies::NameMap;
 use posix_calls::ROOT;
-use record_check::{NodeSummary, RecordCheck, take_effects};
+use record_check::{NodeSummary, Nodes, RecordCheck, take_effects};
 use std::alloc::{AllocError, Global};
 use std::marker::Model;
 
@@ -39,6 +39,13 @@ impl Model for Replayed {
 }
 
 impl Replayed {
+    /// The charge of the graph, in units.
+    pub fn charge(&self) -> u64
+        ensures { result ≡ charge (graph_of self.now) }
+    {
+        self.graph.charge()
+    }
+
     /// The graph that a record makes; none where the record has no spelling.
     pub fn new(alloc: Global, made: Record) -> Result<Option<Self>, AllocError> {
         if !made.has_spelling() {
@@ -62,17 +69,17 @@ fn graph_after(alloc: Global, effects: &[Effect]) -> Result<PlainGraph, AllocErr
 impl Nodes for Replayed {
     type Error = AllocError;
 
+    ghost use Rattle.std.specs.Prelude.{◌≡◌, refl};
+    ghost use Rattle.std.proofs.Common.{◌∙◌};
     ghost use Rattle.file_graph.specs.Graph.{graph_of};
 
     ghost graph = { λ r. graph_of r };
 
-    ghost has_told = { λ first now. Unit {0} };
+    ghost asked = { λ first last inodes refusal. last ≡ first };
 
-    ghost has_failed = { λ first now e. Unit {0} };
+    ghost none_asked = { λ nodes. refl };
 
-    fn charge(&self) -> u64 {
-        self.graph.charge()
-    }
+    ghost more_asked = { λ first next last before behind refusal answered more. more ∙ answered };
 
     fn node(&mut self, alloc: Global, inode: u32) -> Result<Option<NodeSummary>, AllocError> {
         node_after(alloc, self.made.effects.as_slice(), inode)

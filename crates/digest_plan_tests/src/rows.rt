@@ -2,6 +2,7 @@
 
 ghost use Rattle.std.specs.Prelude.{IsTrue};
 ghost use Rattle.std.specs.List.{AllByRecursion};
+ghost use Rattle.std.specs.List.Sorted.{IsNonDecreasing};
 ghost use Rattle.log_record.specs.Grammar.{IsRecord};
 
 use crate::replayed::Replayed;
@@ -67,6 +68,14 @@ fn write(alloc: Global, at: u64, units: u32) -> Result<Record, AllocError> {
     })
 }
 
+// Whether inodes are listed rising.
+#[tactic(auto, using(std::proofs::lemmas::List::Sorted::non_decreasing_from_is_sorted))]
+fn are_rising(inodes: &[u32]) -> bool
+    ensures { IsTrue result → IsNonDecreasing inodes.now }
+{
+    inodes.is_sorted()
+}
+
 // Whether a log can hold the records.
 fn are_spelled(records: &[Record]) -> bool
     ensures { IsTrue result → AllByRecursion IsRecord records.now }
@@ -92,10 +101,11 @@ fn planned(
     for inode in 1u32..100 {
         held.push(inode)?;
     }
-    if !are_spelled(records) {
+    if !are_spelled(records) || !are_rising(&held) {
         return Err(AllocError);
     }
-    match prepare(alloc, &mut nodes, capacity, &held, records) {
+    let used = nodes.charge();
+    match prepare(alloc, &mut nodes, used, capacity, &held, records) {
         Ok(Plan::Digest(chunk)) => Ok((chunk.count, chunk.change.nodes.len(), chunk.charge)),
         Ok(Plan::Bad { place }) => Ok((place, 0, 0)),
         Err(_) => Err(AllocError),

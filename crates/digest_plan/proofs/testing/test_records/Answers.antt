@@ -1,11 +1,21 @@
-use Rattle.std.proofs.Common.{subst, sym, take, ◌∙◌}
-use Rattle.file_graph.specs.Graph.{Graph, after_effects}
+use Rattle.std.proofs.Common.{refl, subst, sym, take, ◌∙◌}
+use Rattle.std.proofs.lemmas.Result.{err_from_is_err_and}
+use Rattle.file_graph.specs.Graph.{Graph, after_effects, touches}
 use Rattle.log_record.specs.declared.format.Record.{Record}
 use Rattle.coalescer.specs.Records.{effects_of}
 use Rattle.record_check.specs.Good.{IsGood}
 use Rattle.record_check.specs.Row.{HasCome}
+use Rattle.digest_plan.proofs.Asks.{known_once, none_known, touched_in}
 use Rattle.digest_plan.proofs.Runs.{next_good, next_graph, bad_behind}
 use Rattle.digest_plan.proofs.testing.test_records.Goals as goal
+
+pub loop-place-init : goal.loop-place-init
+loop-place-init g c = record {
+  stays = refl;
+  good = tt;
+  come = c.new-check.ensures.stands (g.N.Nodes.graph c.args.nodes.now) c.requires.used;
+  asked = none_known g.N.Nodes.asked c.new-check.result.known (touches (effects_of c.args.records.now)) c.args.nodes.now (g.met.N.Nodes.none_asked c.args.nodes.now);
+}
 
 pub loop-place-preserved : goal.loop-place-preserved
 loop-place-preserved g c =
@@ -17,17 +27,23 @@ loop-place-preserved g c =
     let next = c.index-records-place.result in
     let same = c.loop-place.invariant.stays in
     let left = after_effects first (effects_of (take place records)) in
-    let here = λ (x : g.row.N.Denot) (h : g.N.Nodes.has_told x c.args.nodes.now). subst (λ (G : Graph). HasCome c.loop-place.check G left) (sym same) (c.loop-place.invariant.come x h) in
-    let told = λ (x : g.row.N.Denot) (h : g.N.Nodes.has_told x c.args.nodes.now). c.in_ok-test_next.ensures.good c.if-not-branch.false left (here x h) in
+    let here = subst (λ (G : Graph). HasCome c.loop-place.check G left) (sym same) c.loop-place.invariant.come in
+    let told = c.in_ok-test_next.ensures.good c.if-not-branch.false left here in
     record {
       stays = c.in_ok-test_next.ensures.stays ∙ same;
-      told = λ x h. c.in_ok-test_next.ensures.told x (c.loop-place.invariant.told x h);
-      good = λ x h. next_good held capacity first records place next c.loop-place-test.true c.index-records-place.is (c.loop-place.invariant.good x h) (told x h).0;
-      come = λ x h. subst (λ (h : Graph). HasCome c.test_next.new.check first h) (next_graph first records place next c.loop-place-test.true c.index-records-place.is) (subst (λ (G : Graph). HasCome c.test_next.new.check G (after_effects left next.effects)) same (told x h).1);
+      good = next_good held capacity first records place next c.loop-place-test.true c.index-records-place.is c.loop-place.invariant.good told.0;
+      come = subst (λ (h : Graph). HasCome c.test_next.new.check first h) (next_graph first records place next c.loop-place-test.true c.index-records-place.is) (subst (λ (G : Graph). HasCome c.test_next.new.check G (after_effects left next.effects)) same told.1);
+      asked = c.in_ok-test_next.ensures.answered c.args.nodes.now (touches (effects_of records)) (touched_in records place next c.loop-place-test.true c.index-records-place.is) c.loop-place.invariant.asked;
     }
 
+pub returns-in_err-test_next-clause-refused : goal.returns-in_err-test_next-clause-refused
+returns-in_err-test_next-clause-refused g c =
+    let p = err_from_is_err_and c.from_residual.result c.from_residual.ensures.1 in
+    rw (p.1, p.2)
+    (c.in_err-test_next.ensures.refused c.args.nodes.now (touches (effects_of c.args.records.now)) (touched_in c.args.records.now c.loop-place.place c.index-records-place.result c.loop-place-test.true c.index-records-place.is) c.loop-place.invariant.asked)
+
 pub returns-then-not-branch-clause-tells : goal.returns-then-not-branch-clause-tells
-returns-then-not-branch-clause-tells g c = λ x h.
+returns-then-not-branch-clause-tells g c =
     let first = g.N.Nodes.graph c.args.nodes.now in
     let held = c.args.held.now in
     let capacity = c.args.capacity in
@@ -35,6 +51,15 @@ returns-then-not-branch-clause-tells g c = λ x h.
     let place = c.loop-place.place in
     let next = c.index-records-place.result in
     let left = after_effects first (effects_of (take place records)) in
-    let come = subst (λ (G : Graph). HasCome c.loop-place.check G left) (sym c.loop-place.invariant.stays) (c.loop-place.invariant.come x h) in
-    bad_behind held capacity first records place next c.loop-place-test.true (c.loop-place.invariant.good x h)
+    let come = subst (λ (G : Graph). HasCome c.loop-place.check G left) (sym c.loop-place.invariant.stays) c.loop-place.invariant.come in
+    bad_behind held capacity first records place next c.loop-place-test.true c.loop-place.invariant.good
     (λ good. c.in_ok-test_next.ensures.bad c.if-not-branch.true left come (subst (λ (r : Record). IsGood held capacity left r) (sym c.index-records-place.is) good))
+
+pub returns-then-not-branch-clause-answered : goal.returns-then-not-branch-clause-answered
+returns-then-not-branch-clause-answered g c =
+    let among = touches (effects_of c.args.records.now) in
+    known_once g.N.Nodes.asked c.test_next.new.check.known among c.args.nodes.now c.test_next.new.nodes
+    (c.in_ok-test_next.ensures.answered c.args.nodes.now among (touched_in c.args.records.now c.loop-place.place c.index-records-place.result c.loop-place-test.true c.index-records-place.is) c.loop-place.invariant.asked)
+
+pub returns-clause-answered : goal.returns-clause-answered
+returns-clause-answered g c = known_once g.N.Nodes.asked c.loop-place.check.known (touches (effects_of c.args.records.now)) c.args.nodes.now c.loop-place.nodes c.loop-place.invariant.asked
