@@ -1,20 +1,32 @@
 -- What comes of the questions that a plan asks the shared area.
-use Rattle.std.specs.Prelude.{ℕ, List, Result, Err}
+use Rattle.std.specs.Prelude.{◌≡◌, ℕ, false, List, Option, Some, None, Result, Ok, Err}
 use Rattle.tier_device.specs.declared.media.Tier.{Tier}
 use Rattle.batch_journal.specs.View.{JournalView}
 use Rattle.area_image.specs.declared.error.AreaError.{AreaError}
 use Rattle.area_image.specs.Looks.{Looks, looked}
+use Rattle.area_image.proofs.Looked.{looks_none, looks_on}
 use Rattle.shared_area.specs.Parts.{IsNoDamage}
 
--- a call that was refused
-abbrev pub refused : AreaError → Result (Unit {0}) AreaError
-refused e = Err e
+-- how the last question ended
+abbrev pub outcome : Option AreaError → Result (Unit {0}) AreaError
+outcome None = looked
+outcome (Some e) = Err e
+
+-- a refusal tells of no damage
+abbrev pub OfNoDamage : Option AreaError → Type 0
+OfNoDamage None = Unit {0}
+OfNoDamage (Some e) = IsNoDamage e
 
 module _ {M : Type 0} (moment : M → ℕ) (seen : M → Tier → List ℕ) (left : M → ℕ → Tier → List ℕ → Type 0) (faults : M → ℕ) where
-  -- Each question was answered: the area was only read.
-  abbrev pub HasTold : JournalView M → JournalView M → Type 0
-  HasTold first now = Looks moment seen left faults first now looked
+  -- An area of which no device had failed was only read.
+  abbrev pub HasAsked : JournalView M → JournalView M → Option AreaError → Type 0
+  HasAsked first last refusal = first.failed ≡ false → Looks moment seen left faults first last (outcome refusal) × OfNoDamage refusal
 
-  -- The last one was refused: the area was only read, and of no damage it told.
-  abbrev pub HasRefused : JournalView M → JournalView M → AreaError → Type 0
-  HasRefused first now e = Looks moment seen left faults first now (refused e) × IsNoDamage e
+  pub nothing_asked : (area : JournalView M) → HasAsked area area None
+  nothing_asked area going = (looks_none moment seen left faults area tt going, tt)
+
+  pub asked_on : (first next last : JournalView M) (refusal : Option AreaError) → HasAsked first next None → HasAsked next last refusal → HasAsked first last refusal
+  asked_on first next last refusal answered more going =
+      let before = (answered going).0 in
+      let behind = more before.going.1 in
+      (looks_on moment seen left faults first next last tt (outcome refusal) before behind.0, behind.1)

@@ -1,5 +1,7 @@
 ghost use Rattle.std.specs.Prelude.{◌≡◌, ◌≢◌, ◌<◌, false, IfErr, IfOk, length};
 ghost use Rattle.std.specs.List.{AllByRecursion};
+ghost use Rattle.std.specs.List.Sorted.{IsNonDecreasing};
+ghost use Rattle.file_graph.specs.Units.{charge};
 ghost use Rattle.log_record.specs.Grammar.{IsRecord};
 ghost use Rattle.area_image.specs.declared.error.AreaError.TheVariants.{DeviceFault};
 ghost use Rattle.area_image.specs.Store.{store_of, graph};
@@ -15,8 +17,8 @@ use shared_area::Shared;
 use std::alloc::Global;
 use tier_device::Media;
 
-/// What is to be done with the records of a client that are not digested yet, where it holds the inodes `held` for writing: over the graph
-/// of the shared area, and within its units. It takes no lock and changes no device.
+/// What is to be done with the records of a client that are not digested yet, where it holds the inodes `held` for writing, listed rising:
+/// over the graph of the shared area, and within its units. It takes no lock and changes no device.
 ///
 /// `DeviceFault` at once where a device has failed, and where one fails while the area is read. `Memory` where there was none; then nothing
 /// has changed.
@@ -27,6 +29,7 @@ pub fn plan<M: Media>(
     records: &[Record],
 ) -> Result<Plan, AreaError>
     requires spelled { AllByRecursion IsRecord records.now }
+    requires rising { IsNonDecreasing held.now }
     ensures tells { IfOk result (λ plan. Tells held.now area.old.geometry.units (graph area.old.geometry (store_of (M.seen area.old.media))) records.now plan) }
     ensures only { IfErr result IsNoDamage }
     ensures some { IfErr result (λ e. e ≢ DeviceFault → 0 < length records.now) }
@@ -35,28 +38,39 @@ pub fn plan<M: Media>(
     if area.has_failed() {
         return Err(AreaError::DeviceFault);
     }
-    let capacity = area.geometry().units() as u64;
+    let used = area.charge();
+    let capacity = capacity_of(area);
     let mut asked = Asked { area };
-    plan_over(alloc, &mut asked, capacity, held, records)
+    plan_over(alloc, &mut asked, used, capacity, held, records)
+}
+
+// How many units there are in all.
+fn capacity_of<M: Media>(area: &Shared<M>) -> u64
+    ensures { result ≡ area.now.geometry.units }
+{
+    area.geometry().units() as u64
 }
 
 // The same over an area that is asked.
 fn plan_over<M: Media>(
     alloc: Global,
     asked: &mut Asked<'_, M>,
+    used: u64,
     capacity: u64,
     held: &[u32],
     records: &[Record],
 ) -> Result<Plan, AreaError>
     requires spelled { AllByRecursion IsRecord records.now }
+    requires rising { IsNonDecreasing held.now }
     requires going { asked.old.area.now.failed ≡ false }
+    requires used { charge (graph asked.old.area.now.geometry (store_of (M.seen asked.old.area.now.media))) ≡ used }
     ensures same_area { asked.new.area.ghost_name ≡ asked.old.area.ghost_name }
     ensures tells { IfOk result (λ plan. Tells held.now capacity (graph asked.old.area.now.geometry (store_of (M.seen asked.old.area.now.media))) records.now plan) }
     ensures only { IfErr result IsNoDamage }
     ensures some { IfErr result (λ e. 0 < length records.now) }
     ensures looks { Looks M.moment M.seen M.left M.faults asked.old.area.now asked.new.area.now result }
 {
-    match prepare(alloc, asked, capacity, held, records) {
+    match prepare(alloc, asked, used, capacity, held, records) {
         Ok(plan) => Ok(plan),
         Err(PlanError::Memory) => Err(AreaError::Memory),
         Err(PlanError::Nodes(error)) => Err(error),
