@@ -1,0 +1,11 @@
+use Rattle.std.proofs.Common.{◌≤◌, ◌<◌, ℕ}
+use Rattle.std.specs.Prelude.{IsSome}
+use Rattle.block_map.specs.Map.{lies_at}
+use Rattle.area_move.specs.Placed.{InFaster}
+use Rattle.area_move.proofs.testing.lie_above.Given as goal
+
+-- the blocks up to this one lie in such tiers
+abbrev pub invariant-each : goal.invariant-each
+invariant-each l = record {
+  above : (k : ℕ) → l.fn.run.first ≤ k → k < l.block → InFaster l.to (λ t. IsSome (lies_at l.map t k));
+}
