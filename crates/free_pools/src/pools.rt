@@ -238,27 +238,33 @@ impl Pools {
         self.take_parts(nodes, fast, block, slow)
     }
 
-    /// Takes the lowest free data blocks of one tier. `NoBlock` exactly where fewer are free, `Memory` where the answer found no room. After a refusal the pools have the
-    /// same free blocks.
-    pub fn take_in(&mut self, tier: Tier, blocks: u32) -> Result<Taken, AllocatorError>
+    /// Takes the lowest free blocks of the node pool, and the lowest free data blocks of one tier. `NoBlock` exactly where fewer are free, of the node pool or in the tier;
+    /// `Memory` where the answer found no room. After a refusal the pools have the same free blocks.
+    pub fn take_in(
+        &mut self,
+        nodes: u32,
+        tier: Tier,
+        blocks: u32,
+    ) -> Result<Taken, AllocatorError>
+        ensures nodes { IfOk result (λ taken. blocks_of taken.nodes.items ≡ take nodes self.old.nodes.free) }
         ensures taken { IfOk result (λ taken. blocks_of (runs_of taken tier) ≡ take blocks (data_pool self.old tier).free) }
+        ensures left_nodes { OnOk result (self.new.nodes.free ≡ drop nodes self.old.nodes.free) }
         ensures left { OnOk result ((data_pool self.new tier).free ≡ drop blocks (data_pool self.old tier).free) }
         ensures others { IfOk result (λ taken. (t : Tier) → t ≢ tier → blocks_of (runs_of taken t) ≡ []) }
-        ensures nodes { IfOk result (λ taken. blocks_of taken.nodes.items ≡ []) }
         ensures fronts { IfOk result (WereTaken self.old self.new) }
         ensures room { OnOk result (KeepsRoom self.old self.new) }
         // What was taken can be given back without memory.
         ensures undone { IfOk result (CanUndo self.new) }
-        ensures few { IsErrOf result NoBlock ↔ (length (data_pool self.old tier).free < blocks) }
+        ensures few { IsErrOf result NoBlock ↔ ((length self.old.nodes.free < nodes) ⊎ (length (data_pool self.old tier).free < blocks)) }
         ensures err { OnErr result (SameFree self.old self.new) }
     {
-        if self.free(tier) < blocks {
+        if self.nodes.free() < nodes || self.free(tier) < blocks {
             return Err(AllocatorError::NoBlock);
         }
         match tier {
-            Tier::Fast => self.take_parts(0, blocks, 0, 0),
-            Tier::Block => self.take_parts(0, 0, blocks, 0),
-            Tier::Slow => self.take_parts(0, 0, 0, blocks),
+            Tier::Fast => self.take_parts(nodes, blocks, 0, 0),
+            Tier::Block => self.take_parts(nodes, 0, blocks, 0),
+            Tier::Slow => self.take_parts(nodes, 0, 0, blocks),
         }
     }
 
