@@ -1,2 +1,6 @@
 pub mod Steps
 pub mod Fits
+pub mod Runs
+pub mod Given
+pub mod GivenUp
+pub mod Roots

@@ -1,1 +1,5 @@
 pub mod Placed
+pub mod Lists
+pub mod Moving
+pub mod Given
+pub mod Found

@@ -1,0 +1,15 @@
+use Rattle.std.proofs.Common.{◌≡◌, ◌≤◌, ◌+◌, length, take, drop}
+use Rattle.tier_device.specs.declared.media.Tier.{Tier}
+use Rattle.block_alloc.specs.Runs.{blocks_of}
+use Rattle.free_pools.specs.Value.{data_pool}
+use Rattle.area_move.specs.Given.{AreUsed, WereAdded}
+use Rattle.area_move.proofs.giving.give_nodes.Given as goal
+
+-- the first runs are given
+abbrev pub invariant-runs : goal.invariant-runs
+invariant-runs l = record {
+  added : WereAdded l.fn.pools.nodes l.pools.nodes (blocks_of (take l.place l.runs));
+  used : AreUsed l.pools.nodes (drop l.place l.runs);
+  room : length l.runs ≤ l.pools.nodes.room + l.place;
+  others : (t : Tier) → data_pool l.pools t ≡ data_pool l.fn.pools t;
+}

@@ -1,0 +1,35 @@
+-- A file of which a run may be moved, as it is read.
+use Rattle.std.specs.Prelude.{◌≡◌, ◌≤◌, ◌+◌, ℕ, [], Some, true}
+use Rattle.tier_device.specs.declared.media.Tier.{Tier}
+use Rattle.file_graph.specs.declared.effect.Kind.TheVariants as kind
+use Rattle.layout.specs.declared.slot.Slot.{Slot}
+use Rattle.layout.specs.Places.{Sizes, is_inode}
+use Rattle.layout.specs.Slot.{fits_slot}
+use Rattle.extent_nodes.specs.Spelled.{LiesWithin, IsOneToOne}
+use Rattle.block_map.specs.Map.{runs_in, LieOnce, LieBelow}
+use Rattle.tree_blocks.specs.Inode.{inode_of}
+use Rattle.area_image.specs.Store.{Store, slot_read, length_of, space_of}
+use Rattle.area_move.specs.Lists.{LieAsIn}
+use Rattle.area_move.specs.Moving.{CanMove}
+use Rattle.area_move.specs.declared.finding.FileRun.{FileRun}
+
+-- The slot is that of a file, and the run has a block or more, all among those that it takes.
+pub record IsWithinFile (slot : Slot) (first count : ℕ) : Type 0 where
+  pub kind_is : (inode_of slot (λ k. [])).kind ≡ Some kind.File
+  pub some : 1 ≤ count
+  pub within : first + count ≤ length_of slot
+
+-- The run may be moved; these are the slot, and where the blocks lie: once, each in a place of its own, where a file's may.
+pub record IsFileRun (g : Sizes) (s : Store) (i first count : ℕ) (to : Tier) (x : FileRun) : Type 0 where
+  pub can : CanMove g s i first count to
+  pub number : is_inode i ≡ true
+  pub slot_is : slot_read g s i ≡ Some x.slot
+  pub fits : fits_slot g x.slot ≡ true
+  pub within_file : IsWithinFile x.slot first count
+  pub places : LieAsIn g s i x.map
+  pub first_is : x.run.first ≡ first
+  pub count_is : x.run.count ≡ count
+  pub once : LieOnce x.map
+  pub below : LieBelow (length_of x.slot) x.map
+  pub within : (t : Tier) → LiesWithin g (space_of x.slot t) (runs_in x.map t)
+  pub apart : (t : Tier) → IsOneToOne (runs_in x.map t)

@@ -1,0 +1,62 @@
+-- The extents of an inode, as they are read and as they are in memory.
+use Rattle.std.specs.Prelude.{◌≡◌, ◌≢◌, ◌+◌, ◌*◌, ◌<◌, ◌==◌, true, ℕ, List, [], Option, Some, None, IfSome, IsSome, if◌then◌else◌}
+use Rattle.tier_device.specs.declared.media.Tier.{Tier}
+use Rattle.layout.specs.declared.places.TheConstants.{BLOCK}
+use Rattle.layout.specs.declared.slot.Slot.{Slot}
+use Rattle.layout.specs.Extents.{ExtentList}
+use Rattle.layout.specs.Places.{Sizes}
+use Rattle.layout.specs.Slot.{is_root}
+use Rattle.batch_journal.specs.Images.{slice}
+use Rattle.block_map.specs.Map.{TierRuns, runs_in, lies_at}
+use Rattle.tree_blocks.specs.Inode.{Blocks}
+use Rattle.area_image.specs.Store.{Store, place, root_of, space_of}
+use Rattle.area_image.specs.Map.{in_tier, place_by, IsOwnList}
+use Rattle.area_image.specs.declared.tiers.InodeExtents.{InodeExtents}
+
+-- The extents of each tier are a list of this inode's, within the limits of the format.
+abbrev pub AreOwnLists : Sizes → ℕ → Slot → InodeExtents → Type 0
+AreOwnLists g i slot x = (t : Tier) → IfSome (in_tier x t) (IsOwnList g (space_of slot t) i)
+
+-- Each block lies in memory where the extents tell.
+abbrev pub HasPlaces : InodeExtents → TierRuns → Type 0
+HasPlaces x m = (t : Tier) (k : ℕ) → lies_at m t k ≡ place_by x t k
+
+-- An extent block of this inode has the runs of a tier; there is none where there is no run.
+abbrev pub IsListOf : ℕ → TierRuns → Tier → Option ExtentList → Type 0
+IsListOf i m t None = runs_in m t ≡ []
+IsListOf i m t (Some v) = (runs_in m t ≢ []) × (v ≡ record { owner = i; level = 0; extents = runs_in m t })
+
+-- So have the extent blocks of all tiers.
+abbrev pub AreListsOf : ℕ → TierRuns → InodeExtents → Type 0
+AreListsOf i m x = (t : Tier) → IsListOf i m t (in_tier x t)
+
+-- Each block lies in memory where the media tell.
+abbrev pub LieAsIn : Sizes → Store → ℕ → TierRuns → Type 0
+LieAsIn g s i m = (t : Tier) (k : ℕ) → lies_at m t k ≡ place g s i t k
+
+-- A block lies in some tier.
+abbrev pub LiesSomewhere : TierRuns → ℕ → Type 0
+LiesSomewhere m k = (t : Tier) × IsSome (lies_at m t k)
+
+-- The bytes are those of a run of blocks, one after the other.
+abbrev pub HoldsRun : Blocks → ℕ → ℕ → List ℕ → Type 0
+HoldsRun blocks first count bytes = (n : ℕ) → n < count → slice (BLOCK * n) BLOCK bytes ≡ blocks (first + n)
+
+-- the root of a tier for new extents: none where there are none, else the old one, or where that is none a block that is spare
+abbrev pub root_for : ℕ → Option ExtentList → ℕ → ℕ
+root_for old None spare = 0
+root_for old (Some v) spare = if old == 0 then spare else old
+
+-- Each tier has such a root.
+abbrev pub HasRoots : InodeExtents → ℕ → Slot → Slot → Type 0
+HasRoots x spare old new = (t : Tier) → root_of new t ≡ root_for (root_of old t) (in_tier x t) spare
+
+-- A tier has extents, and no block that lists them.
+abbrev pub LacksRoot : Slot → InodeExtents → Tier → Type 0
+LacksRoot slot x t = (root_of slot t ≡ 0) × IsSome (in_tier x t)
+
+-- The spare block is none or one of the node pool that the slot does not name, and one tier at most lacks one.
+pub record SpareFits (g : Sizes) (slot : Slot) (x : InodeExtents) (spare : ℕ) : Type 0 where
+  pub node : is_root g spare ≡ true
+  pub fresh : (t : Tier) → root_of slot t ≢ 0 → root_of slot t ≢ spare
+  pub one : (t u : Tier) → LacksRoot slot x t → LacksRoot slot x u → t ≡ u

@@ -1,0 +1,28 @@
+ghost use Rattle.std.specs.Prelude.{◌≡◌};
+ghost use Rattle.area_move.specs.declared.error.RelocateError.TheVariants.{Memory};
+
+use std::alloc::AllocError;
+use thiserror::Error;
+
+/// Why a run of blocks was not moved.
+#[derive(Clone, Copy, Debug, PartialEq, Eq, Error)]
+pub enum RelocateError {
+    #[error("the device failed")]
+    DeviceFault,
+    /// There is no file, the run has no block or more than 256, or some block of it lies in no tier that is faster than the one asked for.
+    #[error("the run does not lie in faster tiers")]
+    NotMapped,
+    /// Fewer blocks are free in the tier than the run has.
+    #[error("too few blocks are free")]
+    NoBlock,
+    #[error("out of memory")]
+    Memory,
+}
+
+impl From<AllocError> for RelocateError {
+    ghost from_gives = { λ _ e. e ≡ Memory };
+
+    fn from(_e: AllocError) -> RelocateError {
+        RelocateError::Memory
+    }
+}

@@ -1,0 +1,66 @@
+// From the extents of an inode to a map in memory, and back.
+ghost use Rattle.std.specs.Prelude.{◌≡◌, ℕ, IfOk};
+ghost use Rattle.layout.specs.declared.slot.Slot.{Slot};
+ghost use Rattle.tier_device.specs.declared.media.Tier.{Tier};
+ghost use Rattle.extent_nodes.specs.Spelled.{LiesWithin};
+ghost use Rattle.block_map.specs.Map.{runs_in};
+ghost use Rattle.area_image.specs.Store.{space_of};
+ghost use Rattle.area_image.specs.Map.{extents_in};
+ghost use Rattle.area_move.specs.Lists.{AreOwnLists, HasPlaces, IsListOf, AreListsOf};
+
+use area_image::InodeExtents;
+use block_map::BlockMap;
+use extent_nodes::block_spells_a_map;
+use layout::{Extent, ExtentBlock, Geometry};
+use std::alloc::{AllocError, Global};
+use tier_device::Tier;
+
+// The extents of a block, none where there is no block.
+fn listed(found: &Option<ExtentBlock>) -> &[Extent]
+    ensures { result.now ≡ extents_in found.now }
+{
+    match found {
+        Some(list) => list.extents(),
+        None => &[],
+    }
+}
+
+/// Where the blocks of an inode lie, as its extents tell.
+pub fn map_of(
+    alloc: Global,
+    geometry: &Geometry,
+    found: &InodeExtents,
+) -> Result<BlockMap, AllocError>
+    requires { (i : ℕ) × (slot : Slot) × AreOwnLists geometry.now i slot found.now }
+    ensures places { IfOk result (HasPlaces found.now) }
+    ensures within { (i : ℕ) (slot : Slot) → AreOwnLists geometry.now i slot found.now → IfOk result (λ m. (t : Tier) → LiesWithin geometry.now (space_of slot t) (runs_in m t)) }
+{
+    let _units = geometry.units();
+    block_spells_a_map();
+    let fast = listed(&found.fast);
+    let block = listed(&found.block);
+    let slow = listed(&found.slow);
+    let map = BlockMap::from_extents(alloc, fast, block, slow)?;
+    Ok(map)
+}
+
+// The extent block of a tier, where it has a run.
+fn list_of(map: &BlockMap, tier: Tier, owner: u32) -> Result<Option<ExtentBlock>, AllocError>
+    ensures { IfOk result (IsListOf owner map.now tier) }
+{
+    let list = map.extent_block(tier, owner)?;
+    if list.extents().is_empty() {
+        return Ok(None);
+    }
+    Ok(Some(list))
+}
+
+/// The extent blocks of an inode whose blocks lie so: one for each tier that has some.
+pub fn extents_of(map: &BlockMap, owner: u32) -> Result<InodeExtents, AllocError>
+    ensures { IfOk result (AreListsOf owner map.now) }
+{
+    let fast = list_of(map, Tier::Fast, owner)?;
+    let block = list_of(map, Tier::Block, owner)?;
+    let slow = list_of(map, Tier::Slow, owner)?;
+    Ok(InodeExtents { fast, block, slow })
+}
