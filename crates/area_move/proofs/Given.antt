@@ -1,13 +1,12 @@
 -- Runs that are given back one after the other.
 use Rattle.std.proofs.Common.{◌≡◌, ◌≤◌, ◌<◌, ◌⊎◌, inl, inr, ℕ, zero, suc, ◌+◌, List, [], ◌∷◌, ◌++◌, length, take, drop, get_or, sym, ap, ◌∙◌, refl, subst, arith}
-use Rattle.std.specs.Prelude.{◌↔◌}
 use Rattle.std.specs.List.{Contains, AllByRecursion, range_with_len}
 use Rattle.std.proofs.lemmas.Bool.{cases_lt}
 use Rattle.std.proofs.lemmas.List.{take_more}
 use Rattle.std.proofs.lemmas.List.Elements.{Contains-append_left, Contains-append_right, Contains-append_cases}
 use Rattle.block_alloc.specs.declared.runs.Run.{Run}
-use Rattle.block_alloc.specs.Runs.{Apart, run_blocks, blocks_of}
-use Rattle.block_alloc.specs.Value.{FreeBlocks, IsUsed, SamePool}
+use Rattle.block_alloc.specs.Runs.{run_blocks, blocks_of}
+use Rattle.block_alloc.specs.Value.{FreeBlocks, IsUsed}
 use Rattle.block_alloc.proofs.Blocks.{blocks-push}
 use Rattle.free_pools.specs.Value.{GivesRun}
 use Rattle.area_move.specs.Given.{AreUsed, WereAdded}

@@ -1,17 +1,17 @@
 -- Runs of places that are given up.
 use Rattle.std.proofs.Common.{◌≡◌, ◌≤◌, ◌<◌, ◌⊎◌, inl, inr, ℕ, zero, suc, ◌+◌, ◌-◌, List, [], ◌∷◌, ◌++◌, Option, Some, None, sym, ap, ◌∙◌, refl, subst, arith}
-use Rattle.std.specs.List.{Contains, AllByRecursion, range_with_len}
+use Rattle.std.specs.List.{Contains, AllByRecursion}
 use Rattle.std.proofs.lemmas.Bool.{cases_lt}
 use Rattle.std.proofs.lemmas.List.Elements.{Contains-append_left, Contains-append_right}
 use Rattle.layout.specs.declared.extents.Extent.{Extent}
 use Rattle.extent_nodes.specs.Places.{place_of}
 use Rattle.extent_nodes.specs.Spelled.{IsOneToOne}
 use Rattle.block_alloc.specs.declared.runs.Run.{Run}
-use Rattle.block_alloc.specs.Runs.{Apart, run_blocks, blocks_of}
+use Rattle.block_alloc.specs.Runs.{run_blocks, blocks_of}
 use Rattle.block_alloc.specs.Value.{FreeBlocks, IsUsed}
 use Rattle.block_map.specs.Map.{places_of, listed, HasBlock}
 use Rattle.area_move.specs.Given.{AreUsed, IsInUse}
-use Rattle.area_move.proofs.Given.{all_from, cons_cases, cons_here, cons_there, nothing, in_range}
+use Rattle.area_move.proofs.Given.{all_from, cons_cases, nothing, in_range}
 
 -- no number stands twice
 abbrev Once : List ℕ → Type 0

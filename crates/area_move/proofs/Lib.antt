@@ -4,3 +4,4 @@ pub mod Runs
 pub mod Given
 pub mod GivenUp
 pub mod Roots
+pub mod Movable

@@ -1,6 +1,6 @@
 -- A slot with roots for new extents.
-use Rattle.std.proofs.Common.{◌≡◌, ◌≢◌, ◌⊎◌, inl, inr, ℕ, Bool, true, false, Option, Some, None, ◌&&◌, sym, ap, ◌∙◌, refl, subst}
-use Rattle.std.specs.Prelude.{◌==◌, ◌||◌, not, nat_lt, nat_le, ◌^◌, IsSome, if◌then◌else◌}
+use Rattle.std.proofs.Common.{◌≡◌, ◌≢◌, inl, inr, ℕ, true, Option, Some, None, sym, ap, ◌∙◌, refl, subst}
+use Rattle.std.specs.Prelude.{◌==◌, ◌||◌, not, nat_lt, ◌^◌, IsSome}
 use Rattle.std.proofs.lemmas.Bool.{cases_Bool, and_parts, and_from, cond-true, cond-false, eqb-true, eqb-false, false≢true}
 use Rattle.layout.specs.Extents.{ExtentList}
 use Rattle.layout.specs.Places.{Sizes}
@@ -8,7 +8,7 @@ use Rattle.layout.specs.Slot.{is_root, roots_apart, fits_slot}
 use Rattle.layout.specs.declared.slot.Slot.TheVariants as slots
 use Rattle.tier_device.specs.declared.media.Tier.TheVariants as tiers
 use Rattle.area_image.specs.declared.tiers.InodeExtents.{InodeExtents}
-use Rattle.area_move.specs.Lists.{root_for, LacksRoot, SpareFits}
+use Rattle.area_move.specs.Lists.{root_for, SpareFits}
 
 -- the root of a tier for new extents is none, the one it had, or the spare one where it had none
 data Root (old : ℕ) (o : Option ExtentList) (spare n : ℕ) : Type 0 where

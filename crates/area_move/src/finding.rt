@@ -17,10 +17,11 @@ ghost use Rattle.area_move.specs.Found.{IsWithinFile, IsFileRun};
 
 use crate::mapping::map_of;
 use crate::testing::lie_above;
-use area_image::{AreaError, length_of, read_all_extents};
+use area_image::{AreaError, length_of, read_all_extents, read_slot};
 use batch_journal::Journal;
 use block_alloc::Run;
 use block_map::BlockMap;
+use file_graph::is_inode;
 use layout::Slot;
 use std::alloc::Global;
 use tier_device::{Media, Tier};
@@ -76,6 +77,71 @@ fn read_map<M: Media>(
         Ok(found) => match map_of(alloc, &geometry, &found) {
             Ok(map) => Ok(map),
             Err(_) => Err(AreaError::Memory),
+        },
+        Err(error) => Err(error),
+    }
+}
+
+// The run of an inode that has this slot, where it may be moved.
+fn find_in<M: Media>(
+    alloc: Global,
+    journal: &mut Journal<M>,
+    inode: u32,
+    slot: Slot,
+    run: Run,
+    to: Tier,
+) -> Result<Option<FileRun>, AreaError>
+    requires number { is_inode inode ≡ true }
+    requires fits { fits_slot journal.old.geometry slot ≡ true }
+    requires slot_is { slot_read journal.old.geometry (store_of (M.seen journal.old.media)) inode ≡ Some slot }
+    requires within { IsWithinFile slot run.first run.count }
+    requires opens { IsOpenable journal.old.geometry (store_of (M.seen journal.old.media)) }
+    ensures found { IfOk result (λ x. IfSome x (IsFileRun journal.old.geometry (store_of (M.seen journal.old.media)) inode run.first run.count to)) }
+    ensures none { IfOk result (λ x. x ≡ None → CanMove journal.old.geometry (store_of (M.seen journal.old.media)) inode run.first run.count to → ⊥) }
+    ensures only { IfErr result (λ e. OnDamage e (λ _ _. ⊥)) }
+    ensures looks { Looks M.moment M.seen M.left M.faults journal.old journal.new result }
+{
+    match read_map(alloc, journal, inode, &slot) {
+        Ok(map) => {
+            if lie_above(&map, run, to) {
+                Ok(Some(FileRun { slot, map, run }))
+            } else {
+                Ok(None)
+            }
+        }
+        Err(error) => Err(error),
+    }
+}
+
+/// A run of a file, if it may be moved to a tier: `None` where the inode is no file, the run has no block or more than 256, or some block of it lies in no faster tier. It
+/// makes four device calls at most. `Memory` where there was none for an extent block, or for where the file's blocks lie.
+pub fn find_run<M: Media>(
+    alloc: Global,
+    journal: &mut Journal<M>,
+    inode: u32,
+    first: u64,
+    count: u32,
+    to: Tier,
+) -> Result<Option<FileRun>, AreaError>
+    requires { journal.old.failed ≡ false → IsOpenable journal.old.geometry (store_of (M.seen journal.old.media)) }
+    ensures found { IfOk result (λ x. IfSome x (IsFileRun journal.old.geometry (store_of (M.seen journal.old.media)) inode first count to)) }
+    ensures none { IfOk result (λ x. x ≡ None → CanMove journal.old.geometry (store_of (M.seen journal.old.media)) inode first count to → ⊥) }
+    ensures only { IfErr result (λ e. OnDamage e (λ _ _. ⊥)) }
+    ensures looks { Looks M.moment M.seen M.left M.faults journal.old journal.new result }
+{
+    if journal.has_failed() {
+        return Err(AreaError::DeviceFault);
+    }
+    if !is_inode(inode) {
+        return Ok(None);
+    }
+    match read_slot(journal, inode) {
+        Ok(slot) => match run_of(&slot, first, count) {
+            Some(run) => match find_in(alloc, journal, inode, slot, run, to) {
+                Ok(found) => Ok(found),
+                Err(error) => Err(error),
+            },
+            None => Ok(None),
         },
         Err(error) => Err(error),
     }

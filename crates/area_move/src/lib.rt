@@ -15,7 +15,7 @@ mod rooting;
 mod testing;
 
 pub use error::RelocateError;
-pub use finding::FileRun;
+pub use finding::{FileRun, find_run};
 pub use giving::{give_data, give_nodes};
 pub use laws::{placed_blocks_are_fit, places_can_be_given};
 pub use mapping::{extents_of, map_of};

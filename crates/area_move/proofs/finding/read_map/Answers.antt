@@ -1,11 +1,9 @@
-use Rattle.std.proofs.Common.{◌≡◌, ◌∙◌, sym, subst}
-use Rattle.std.specs.Prelude.{IfSome}
+use Rattle.std.proofs.Common.{◌∙◌, sym, subst}
 use Rattle.tier_device.specs.declared.media.Tier.{Tier}
 use Rattle.layout.specs.Places.{Sizes}
 use Rattle.extent_nodes.specs.Spelled.{LiesWithin}
 use Rattle.block_map.specs.Map.{runs_in}
 use Rattle.area_image.specs.Store.{Store, store_of, space_of}
-use Rattle.area_image.specs.Map.{in_tier, IsOwnList}
 use Rattle.area_image.proofs.Parts.{extents_all}
 use Rattle.area_image.proofs.Tails.{place_is}
 use Rattle.area_move.specs.Lists.{AreOwnLists}

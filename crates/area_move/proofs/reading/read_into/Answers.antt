@@ -1,8 +1,8 @@
-use Rattle.std.proofs.Common.{◌≡◌, ◌≤◌, ◌<◌, ◌+◌, ◌-◌, ◌*◌, ◌∙◌, ◌++◌, ℕ, List, length, take, drop, sym, ap, subst, arith}
+use Rattle.std.proofs.Common.{◌≡◌, ◌≤◌, ◌+◌, ◌-◌, ◌*◌, ◌∙◌, ◌++◌, ℕ, List, length, take, drop, sym, ap, subst, arith}
 use Rattle.std.proofs.lemmas.List.{drop-drop, append_assoc}
 use Rattle.tier_device.specs.Media.{overwritten}
 use Rattle.tier_device.specs.RecordLaws.{torn_overwritten}
-use Rattle.area_image.specs.Store.{Store, store_of, logical}
+use Rattle.area_image.specs.Store.{store_of, logical}
 use Rattle.area_image.specs.Looks.{looked}
 use Rattle.area_image.specs.Checks.{IsOnce}
 use Rattle.area_image.proofs.Looked.{carried, carried_back, looks_on}

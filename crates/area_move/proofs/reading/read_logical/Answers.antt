@@ -1,5 +1,5 @@
-use Rattle.std.proofs.Common.{◌≡◌, ◌∙◌, Some, sym, ap}
-use Rattle.area_image.specs.Store.{Store, store_of, place, logical}
+use Rattle.std.proofs.Common.{◌≡◌, ◌∙◌, Some, sym}
+use Rattle.area_image.specs.Store.{Store, store_of, place}
 use Rattle.area_image.proofs.Damages.{logical_is}
 use Rattle.area_image.proofs.Lists.{place_placed}
 use Rattle.area_image.proofs.Twins.{room_home}
