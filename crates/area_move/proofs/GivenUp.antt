@@ -100,4 +100,4 @@ pub given_up_used : (p : FreeBlocks) (es : List Extent) (first count : ℕ) (run
     → ((b k : ℕ) → place_of es b ≡ Some k → IsInUse p k) → AreUsed p runs
 given_up_used p es first count runs is some one each =
     runs_used p runs some (subst Once (sym is) (places_once es first count one)) (λ k at.
-      (let r = lies_there es first count k (subst (λ xs. Contains xs k) is at) in each r.block k r.there))
+    (let r = lies_there es first count k (subst (λ xs. Contains xs k) is at) in each r.block k r.there))

@@ -9,12 +9,7 @@ use std::alloc::AllocError;
 use tier_device::Tier;
 
 /// Puts as many blocks from a first one on as some runs of a tier have to the blocks of these runs, in order.
-pub fn put_runs(
-    map: &mut BlockMap,
-    first: u32,
-    tier: Tier,
-    runs: &[Run],
-) -> Result<(), AllocError>
+pub fn put_runs(map: &mut BlockMap, first: u32, tier: Tier, runs: &[Run]) -> Result<(), AllocError>
     requires blocks { first + length (blocks_of runs.now) < 2 ^ 32 }
     requires places { EndsFit runs.now }
     ensures { OnOk result (ArePlaced first tier (blocks_of runs.now) map.old map.new) }

@@ -16,11 +16,7 @@ fn root_for(old: u32, list: &Option<ExtentBlock>, spare: u32) -> u32
     ensures { result ≡ root_for old list.now spare }
 {
     match list {
-        Some(_) => if old == 0 {
-            spare
-        } else {
-            old
-        },
+        Some(_) => if old == 0 { spare } else { old },
         None => 0,
     }
 }

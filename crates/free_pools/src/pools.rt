@@ -240,12 +240,7 @@ impl Pools {
 
     /// Takes the lowest free blocks of the node pool, and the lowest free data blocks of one tier. `NoBlock` exactly where fewer are free, of the node pool or in the tier;
     /// `Memory` where the answer found no room. After a refusal the pools have the same free blocks.
-    pub fn take_in(
-        &mut self,
-        nodes: u32,
-        tier: Tier,
-        blocks: u32,
-    ) -> Result<Taken, AllocatorError>
+    pub fn take_in(&mut self, nodes: u32, tier: Tier, blocks: u32) -> Result<Taken, AllocatorError>
         ensures nodes { IfOk result (λ taken. blocks_of taken.nodes.items ≡ take nodes self.old.nodes.free) }
         ensures taken { IfOk result (λ taken. blocks_of (runs_of taken tier) ≡ take blocks (data_pool self.old tier).free) }
         ensures left_nodes { OnOk result (self.new.nodes.free ≡ drop nodes self.old.nodes.free) }

@@ -51,7 +51,7 @@ from_extents-requires c =
 
 pub returns-clause-places : goal.returns-clause-places
 returns-clause-places c = has_places c.args.found.now c.in_ok-map.map
-  (same _ _ _ c.listed-fast.ensures c.in_ok-map.ensures.fast) (same _ _ _ c.listed-block.ensures c.in_ok-map.ensures.block) (same _ _ _ c.listed-slow.ensures c.in_ok-map.ensures.slow)
+    (same _ _ _ c.listed-fast.ensures c.in_ok-map.ensures.fast) (same _ _ _ c.listed-block.ensures c.in_ok-map.ensures.block) (same _ _ _ c.listed-slow.ensures c.in_ok-map.ensures.slow)
 
 pub returns-clause-within : goal.returns-clause-within
 returns-clause-within c i slot own t b p at =
