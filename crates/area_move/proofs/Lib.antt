@@ -5,3 +5,4 @@ pub mod Given
 pub mod GivenUp
 pub mod Roots
 pub mod Movable
+pub mod Few
