@@ -1,6 +1,7 @@
 -- The extents of an inode, as they are read and as they are in memory.
-use Rattle.std.specs.Prelude.{◌≡◌, ◌≢◌, ◌+◌, ◌*◌, ◌<◌, ◌==◌, true, ℕ, List, [], Option, Some, None, IfSome, IsSome, if◌then◌else◌}
+use Rattle.std.specs.Prelude.{◌≡◌, ◌≢◌, ◌+◌, ◌*◌, ◌<◌, ◌==◌, ◌||◌, not, ◌++◌, ◌∷◌, true, ℕ, List, [], Option, Some, None, IfSome, IsSome, if◌then◌else◌}
 use Rattle.tier_device.specs.declared.media.Tier.{Tier}
+use Rattle.tier_device.specs.declared.media.Tier.TheVariants as tiers
 use Rattle.layout.specs.declared.places.TheConstants.{BLOCK}
 use Rattle.layout.specs.declared.slot.Slot.{Slot}
 use Rattle.layout.specs.Extents.{ExtentList}
@@ -60,3 +61,11 @@ pub record SpareFits (g : Sizes) (slot : Slot) (x : InodeExtents) (spare : ℕ) 
   pub node : is_root g spare ≡ true
   pub fresh : (t : Tier) → root_of slot t ≢ 0 → root_of slot t ≢ spare
   pub one : (t u : Tier) → LacksRoot slot x t → LacksRoot slot x u → t ≡ u
+
+-- a block that listed extents, where nothing lists them now
+abbrev pub root_left : ℕ → ℕ → List ℕ
+root_left old new = if (old == 0) || not (new == 0) then [] else old ∷ []
+
+-- the blocks that listed extents of an inode, of the tiers in which none does now
+abbrev pub roots_left : Slot → Slot → List ℕ
+roots_left old new = root_left (root_of old tiers.Fast) (root_of new tiers.Fast) ++ root_left (root_of old tiers.Block) (root_of new tiers.Block) ++ root_left (root_of old tiers.Slow) (root_of new tiers.Slow)

@@ -19,7 +19,7 @@ pub use error::RelocateError;
 pub use finding::{FileRun, find_run};
 pub use giving::{give_data, give_nodes};
 pub use laws::{placed_blocks_are_fit, places_can_be_given};
-pub use leaving::places_in;
+pub use leaving::{places_in, roots_left};
 pub use mapping::{extents_of, map_of};
 pub use placing::put_runs;
 pub use reading::read_run;
