@@ -2,6 +2,7 @@ pub mod Ready
 pub mod Sound
 pub mod Replays
 pub mod Files
+pub mod FirstRuns
 pub mod Counts
 pub mod Entries
 pub mod Wants

@@ -3,3 +3,4 @@ pub mod Parts
 pub mod Opening
 pub mod Reading
 pub mod Naming
+pub mod Running

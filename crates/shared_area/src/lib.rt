@@ -8,6 +8,7 @@ mod naming;
 mod node;
 mod opening;
 mod reading;
+mod running;
 mod shared;
 mod touching;
 

@@ -21,14 +21,17 @@ ghost use Rattle.shared_area.specs.Opening.{SpellsNone, IsMediumDamage, TakesMem
 ghost use Rattle.shared_area.specs.Ready.{OpensAs, HasCount};
 ghost use Rattle.shared_area.specs.Reading.{bytes_at, IsReadFrom};
 ghost use Rattle.shared_area.specs.Parts.{IsNoDamage, IsTierOf};
+ghost use Rattle.shared_area.specs.Running.{FindsRun, file_lies};
 
 use crate::finding::find_tier;
 use crate::node::find_node;
 use crate::opening::{read_contents, told};
 use crate::reading::read_file;
+use crate::running::find_run;
 use crate::touching::find_touch;
 use area_image::AreaError;
 use batch_journal::Journal;
+use block_alloc::Run;
 use free_pools::Pools;
 use layout::{Geometry, Marks};
 use record_check::NodeSummary;
@@ -152,6 +155,19 @@ impl<M: Media> Shared<M> {
     {
         let alloc = self.alloc;
         find_tier(alloc, &mut self.journal, inode, block)
+    }
+
+    /// The first run of a file's logical blocks in a tier, of `most` blocks at most: blocks that follow one another, whatever their places; `None` where no block of a file
+    /// at this inode lies there. `Memory` where there was none for an extent block.
+    pub fn first_run(&mut self, inode: u32, tier: Tier, most: u32) -> Result<Option<Run>, AreaError>
+        requires { 0 < most }
+        ensures run { IfOk result (FindsRun (file_lies self.old.geometry (store_of (M.seen self.old.media)) inode tier) most) }
+        ensures only { IfErr result IsNoDamage }
+        ensures memory { IfErr result (λ e. e ≡ Memory → WantsMemory self.old.geometry (store_of (M.seen self.old.media)) inode) }
+        ensures looks { Looks M.moment M.seen M.left M.faults self.old self.new result }
+    {
+        let alloc = self.alloc;
+        find_run(alloc, &mut self.journal, inode, tier, most)
     }
 
     /// The number of the last digest that wrote an inode; 0 where there is no such inode. It takes no memory.

@@ -1,0 +1,54 @@
+-- The first run of a file's blocks, by its slot and its extents.
+use Rattle.std.proofs.Common.{◌≡◌, ◌≢◌, ◌<◌, ◌∙◌, ℕ, false, refl, sym, ap, subst, Option, Some, None}
+use Rattle.std.specs.Prelude.{IsSome, is_some}
+use Rattle.tier_device.specs.declared.media.Tier.{Tier}
+use Rattle.layout.specs.declared.slot.Slot.{Slot}
+use Rattle.layout.specs.Places.{Sizes, is_inode}
+use Rattle.block_alloc.specs.declared.runs.Run.{Run}
+use Rattle.area_image.specs.Store.{Store, place, length_of}
+use Rattle.area_image.specs.Map.{place_by, IsOnceAt}
+use Rattle.area_image.specs.Spelled.{IsOpenable}
+use Rattle.area_image.specs.declared.tiers.InodeExtents.{InodeExtents}
+use Rattle.area_image.specs.declared.inode.InodeParts.{InodeParts}
+use Rattle.area_image.proofs.Parts.{slot_as}
+use Rattle.area_image.proofs.Tails.{place_is, placed_by}
+use Rattle.shared_area.specs.Parts.{HasParts}
+use Rattle.shared_area.specs.Running.{FindsRun, file_place, file_lies}
+use Rattle.shared_area.proofs.Sound.{no_slot}
+
+none_from : (o : Option ℕ) → (IsSome o → ⊥) → o ≡ None
+none_from None f = refl
+none_from (Some x) f = absurd (f refl)
+
+some_from : (o : Option ℕ) → IsSome o → (x : ℕ) × (o ≡ Some x)
+some_from None is = cc
+some_from (Some x) is = (x, refl)
+
+-- what another tier maps, this one does not
+pub none_of_other : (x : InodeExtents) (k p : ℕ) (t u : Tier) → IsOnceAt x k → place_by x u k ≡ Some p → u ≢ t → place_by x t k ≡ None
+none_of_other x k p t u once there other = none_from (place_by x t k) (λ here. other (once u t (ap (λ (o : Option ℕ). is_some o) there) here))
+
+module _ (g : Sizes) (s : Store) (i : ℕ) (x : InodeParts) (has : HasParts g s i x) where
+  is_place : (t : Tier) (k : ℕ) → place g s i t k ≡ place_by x.extents t k
+  is_place t k = place_is g s i x.extents has.extents t k
+
+  pub parts_once : IsOpenable g s → (k : ℕ) → IsOnceAt x.extents k
+  parts_once opens k t u here there = (opens.spelled.inodes i has.number).once t u k (subst (λ (o : Option ℕ). IsSome o) (sym (is_place t k)) here) (subst (λ (o : Option ℕ). IsSome o) (sym (is_place u k)) there)
+
+  pub parts_within : (t : Tier) (k : ℕ) → IsSome (place_by x.extents t k) → k < length_of x.slot
+  parts_within t k is =
+      let p = some_from (place_by x.extents t k) is in
+      subst (λ (y : Slot). k < length_of y) (slot_as g s i x.slot has.slot) (placed_by g s i x.extents has.extents t k p.0 p.1).within
+
+  -- the first run of what the parts map is that of the file
+  pub run_is : (t : Tier) (most : ℕ) (r : Option Run) → ((o : Option ℕ) → file_place x.slot o ≡ o) → FindsRun (place_by x.extents t) most r → FindsRun (file_lies g s i t) most r
+  run_is t most r file found =
+      let same : (k : ℕ) → place_by x.extents t k ≡ file_lies g s i t k = λ k. sym (ap (λ (y : Slot). file_place y (place g s i t k)) (slot_as g s i x.slot has.slot) ∙ file (place g s i t k) ∙ is_place t k) in
+      subst (λ (f : ℕ → Option ℕ). FindsRun f most r) (λ j k. same k j) found
+
+  -- where there is no file none lies anywhere
+  pub none_lie : (t : Tier) → ((o : Option ℕ) → file_place x.slot o ≡ None) → (k : ℕ) → file_lies g s i t k ≡ None
+  none_lie t file k = ap (λ (y : Slot). file_place y (place g s i t k)) (slot_as g s i x.slot has.slot) ∙ file (place g s i t k)
+
+pub no_inode_lies : (g : Sizes) (s : Store) (i : ℕ) (t : Tier) → is_inode i ≡ false → (k : ℕ) → file_lies g s i t k ≡ None
+no_inode_lies g s i t none k = ap (λ (y : Slot). file_place y (place g s i t k)) (no_slot g s i none)
