@@ -43,7 +43,8 @@ holds_more c old numbers n bytes block h long after =
         | inl before ↦ subst (λ (b : List ℕ). IsAfter c old (number_at numbers m) b) (sym (slice_left (4096 * m) 4096 bytes block (omega (arith, all, before)))) (h.each m before)
         | inr ge ↦ (let is : m ≡ n = omega (arith, lt, ge) in
             subst (λ (j : ℕ). IsAfter c old (number_at numbers j) (slice (4096 * j) 4096 (bytes ++ block))) (sym is)
-            (subst (λ (b : List ℕ). IsAfter c old (number_at numbers n) b) (sym (slice_right (4096 * n) 4096 bytes block all long)) after)) ];
+            (subst (λ (b : List ℕ). IsAfter c old (number_at numbers n) b) (sym (slice_right (4096 * n) 4096 bytes block all long)) after))
+      ];
     }
 
 pub after_is_a_block : (len : Length) (patch : Patch) (k : ℕ) (old : List ℕ) → length (block_after len patch k old) ≡ 4096

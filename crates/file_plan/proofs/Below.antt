@@ -22,26 +22,31 @@ pub record AreBelow (holds : ℕ → Bool) (end : ℕ) (ks : List ℕ) : Type 0 
 -- one more for which it holds
 pub below_more : (holds : ℕ → Bool) (end : ℕ) (ks : List ℕ) → holds end ≡ true → AreBelow holds end ks → AreBelow holds (end + 1) (ks ++ end ∷ [])
 below_more holds end ks is b = record {
-    rising = rising_push 0 end end (end + 1) ks (omega arith) (omega arith) (omega arith) b.rising;
-    each = λ k. (
-      λ has. elim (Contains-push_cases ks end k has) [
-        | inl before ↦ (let lt = ((b.each k).0 before).0 in omega (arith, lt), ((b.each k).0 before).1)
-        | inr now ↦ (omega (arith, now), subst (λ j. holds j ≡ true) now is) ],
-      λ both. elim (cases_lt k end) [
-        | inl lt ↦ Contains-append_left ks (end ∷ []) k ((b.each k).1 (lt, both.1))
-        | inr ge ↦ subst (λ j. Contains (ks ++ end ∷ []) j) (let lt = both.0 in omega (arith, lt, ge)) (Contains-push ks end) ]);
-  }
+  rising = rising_push 0 end end (end + 1) ks (omega arith) (omega arith) (omega arith) b.rising;
+  each = λ k. (
+    λ has. elim (Contains-push_cases ks end k has) [
+      | inl before ↦ (let lt = ((b.each k).0 before).0 in omega (arith, lt), ((b.each k).0 before).1)
+      | inr now ↦ (omega (arith, now), subst (λ j. holds j ≡ true) now is)
+    ],
+    λ both. elim (cases_lt k end) [
+      | inl lt ↦ Contains-append_left ks (end ∷ []) k ((b.each k).1 (lt, both.1))
+      | inr ge ↦ subst (λ j. Contains (ks ++ end ∷ []) j) (let lt = both.0 in omega (arith, lt, ge)) (Contains-push ks end)
+    ],
+  );
+}
 
 -- one for which it does not
 pub below_other : (holds : ℕ → Bool) (end : ℕ) (ks : List ℕ) → holds end ≡ false → AreBelow holds end ks → AreBelow holds (end + 1) ks
 below_other holds end ks not b = record {
-    rising = rising_longer 0 end (end + 1) ks (omega arith) b.rising;
-    each = λ k. (
-      λ has. (let lt = ((b.each k).0 has).0 in omega (arith, lt), ((b.each k).0 has).1),
-      λ both. elim (cases_lt k end) [
-        | inl lt ↦ (b.each k).1 (lt, both.1)
-        | inr ge ↦ absurd (true≢false (sym (subst (λ j. holds j ≡ true) (let lt = both.0 in omega (arith, lt, ge)) both.1) ∙ not)) ]);
-  }
+  rising = rising_longer 0 end (end + 1) ks (omega arith) b.rising;
+  each = λ k. (
+    λ has. (let lt = ((b.each k).0 has).0 in omega (arith, lt), ((b.each k).0 has).1),
+    λ both. elim (cases_lt k end) [
+      | inl lt ↦ (b.each k).1 (lt, both.1)
+      | inr ge ↦ absurd (true≢false (sym (subst (λ j. holds j ≡ true) (let lt = both.0 in omega (arith, lt, ge)) both.1) ∙ not))
+    ],
+  );
+}
 
 -- none is found below none
 pub below_none : (holds : ℕ → Bool) → AreBelow holds 0 []

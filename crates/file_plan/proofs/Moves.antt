@@ -56,7 +56,8 @@ module _ (first place : ℕ) (tier : Tier) (old new : TierRuns) (put : ArePut fi
   pub others_lie : (t : Tier) (k : ℕ) → first ≢ k → lies_at new t k ≡ lies_at old t k
   others_lie t k other = elim (same_or_other t tier) [
     | inl is ↦ subst (λ u. lies_at new u k ≡ lies_at old u k) (sym is) (put.there k ∙ cond-false (in_run first 1 k) (Some (place + (k - first))) (place_of (runs_in old tier) k) (others_out first k other))
-    | inr not ↦ put.others t not k ∙ cond-false (in_run first 1 k) None (place_of (runs_in old t) k) (others_out first k other) ]
+    | inr not ↦ put.others t not k ∙ cond-false (in_run first 1 k) None (place_of (runs_in old t) k) (others_out first k other)
+  ]
 
 -- one more block at its place
 pub placed_more : (numbers : List ℕ) (places : List Place) (n : ℕ) (old mid new : TierRuns) → ((m : ℕ) → m < n → number_at numbers m ≢ number_at numbers n) → ArePlaced numbers places n old mid → ArePut (number_at numbers n) 1 (nth_place places n).tier (nth_place places n).block mid new → ArePlaced numbers places (n + 1) old new
@@ -66,17 +67,19 @@ placed_more numbers places n old mid new differ so_far put =
     record {
       there = λ m lt. elim (cases_lt m n) [
         | inl before ↦ others_lie first p.block p.tier mid new put (nth_place places m).tier (number_at numbers m) (λ e. differ m before (sym e)) ∙ so_far.there m before
-        | inr ge ↦ subst (λ j. lies_at new (nth_place places j).tier (number_at numbers j) ≡ Some (nth_place places j).block) (omega (arith, lt, ge)) (lies_there first p.block p.tier mid new put) ];
+        | inr ge ↦ subst (λ j. lies_at new (nth_place places j).tier (number_at numbers j) ≡ Some (nth_place places j).block) (omega (arith, lt, ge)) (lies_there first p.block p.tier mid new put)
+      ];
       once = λ m t lt other. elim (cases_lt m n) [
         | inl before ↦ others_lie first p.block p.tier mid new put t (number_at numbers m) (λ e. differ m before (sym e)) ∙ so_far.once m t before other
         | inr ge ↦ (let is : m ≡ n = omega (arith, lt, ge) in
-            subst (λ j. lies_at new t (number_at numbers j) ≡ None) (sym is) (lies_once first p.block p.tier mid new put t (subst (λ j. t ≢ (nth_place places j).tier) is other))) ];
+            subst (λ j. lies_at new t (number_at numbers j) ≡ None) (sym is) (lies_once first p.block p.tier mid new put t (subst (λ j. t ≢ (nth_place places j).tier) is other)))
+      ];
       others = λ k t none. others_lie first p.block p.tier mid new put t k (none n (omega arith)) ∙ so_far.others k t (λ m lt. none m (omega (arith, lt)));
     }
 
 pub placed_none : (numbers : List ℕ) (places : List Place) (old : TierRuns) → ArePlaced numbers places 0 old old
 placed_none numbers places old = record {
-    there = λ n lt. absurd (omega (arith, lt));
-    once = λ n t lt other. absurd (omega (arith, lt));
-    others = λ k t none p. lies_at old t k;
-  }
+  there = λ n lt. absurd (omega (arith, lt));
+  once = λ n t lt other. absurd (omega (arith, lt));
+  others = λ k t none p. lies_at old t k;
+}

@@ -8,4 +8,3 @@ use Rattle.graph_change.specs.Change.{Change, writes_block}
 pub record AreNumbers (c : Change) (written : List ℕ) : Type 0 where
   pub rising : (end : ℕ) × Rising 0 end written
   pub each : (k : ℕ) → Contains written k ↔ (writes_block c k ≡ true)
-

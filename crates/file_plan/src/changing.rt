@@ -101,7 +101,12 @@ fn push_block<M: Media>(
     let mut block = blank_block();
     match read_started(journal, inode, found, number, &mut block) {
         Ok(()) => {
-            change_block(&mut block, number, change.length, change.blocks.get(&number));
+            change_block(
+                &mut block,
+                number,
+                change.length,
+                change.blocks.get(&number),
+            );
             match out.extend_from_slice(&block) {
                 Ok(()) => Ok(()),
                 Err(_) => Err(AreaError::Memory),

@@ -9,11 +9,7 @@ use block_map::{BlockMap, Place};
 use std::alloc::AllocError;
 
 /// Puts the blocks of these numbers, which rise, to places: each to its own, wherever it lay before. After want of memory nothing is said of the map.
-pub fn place_blocks(
-    map: &mut BlockMap,
-    numbers: &[u64],
-    places: &[Place],
-) -> Result<(), AllocError>
+pub fn place_blocks(map: &mut BlockMap, numbers: &[u64], places: &[Place]) -> Result<(), AllocError>
     requires fit { CanBePlaced numbers.now places.now }
     requires rising { (end : ℕ) × Rising 0 end numbers.now }
     ensures { OnOk result (ArePlaced numbers.now places.now (length numbers.now) map.old map.new) }

@@ -18,13 +18,13 @@ module _ (g : Sizes) (s : Store) (t : Tier) where
   -- a file with its first run there, where one is found
   pub candidate_some : (i : ℕ) (run : Run) (o : Option Run) (touch : ℕ) → o ≡ Some run → FindsRun (file_lies g s i t) MOST_BLOCKS o → touch ≡ touched g s i → IsCandidate g s t i (Some (touch, record { inode = i; run = run }))
   candidate_some i run o touch is finds same = record {
-      picked = record {
-        inside = refl;
-        run = subst (λ (x : Option Run). FindsRun (file_lies g s i t) MOST_BLOCKS x) is finds;
-        least = λ j among lies. inr (ap (touched g s) (sym among), omega (arith, among));
-      };
-      touch = same;
-    }
+    picked = record {
+      inside = refl;
+      run = subst (λ (x : Option Run). FindsRun (file_lies g s i t) MOST_BLOCKS x) is finds;
+      least = λ j among lies. inr (ap (touched g s) (sym among), omega (arith, among));
+    };
+    touch = same;
+  }
 
   not_some : (o : Option ℕ) → o ≡ None → IsSome o → ⊥
   not_some None is some = cc
@@ -35,15 +35,16 @@ module _ (g : Sizes) (s : Store) (t : Tier) where
 
   pub candidate_none : (i : ℕ) (o : Option Run) → o ≡ None → FindsRun (file_lies g s i t) MOST_BLOCKS o → IsCandidate g s t i None
   candidate_none i o is finds = record {
-      picked = λ j among lies. nothing i o is finds (subst (λ (k : ℕ). LiesIn g s t k) among lies);
-      touch = tt;
-    }
+    picked = λ j among lies. nothing i o is finds (subst (λ (k : ℕ). LiesIn g s t k) among lies);
+    touch = tt;
+  }
 
   before_here : (i : ℕ) (best found : Found) → best.0 ≡ touched g s best.1.inode → found.0 ≡ touched g s found.1.inode → best.0 ≤ found.0 → best.1.inode < i → (j : ℕ) → j ≡ i → ComesBefore g s found.1.inode j → ComesBefore g s best.1.inode j
   before_here i best found is_best is_found le low j here (inl less) = inl (omega (arith, is_best, is_found, le, less))
   before_here i best found is_best is_found le low j here (inr both) = elim (cases_lt best.0 found.0) [
     | inl less ↦ (let same = both.0 in inl (omega (arith, is_best, is_found, less, same)))
-    | inr ge ↦ (let same = both.0 in inr (omega (arith, is_best, is_found, le, ge, same), omega (arith, low, here))) ]
+    | inr ge ↦ (let same = both.0 in inr (omega (arith, is_best, is_found, le, ge, same), omega (arith, low, here)))
+  ]
 
   found_first : (best found : Found) → best.0 ≡ touched g s best.1.inode → found.0 ≡ touched g s found.1.inode → found.0 < best.0 → (j : ℕ) → ComesBefore g s best.1.inode j → ComesBefore g s found.1.inode j
   found_first best found is_best is_found less j (inl first) = inl (omega (arith, is_best, is_found, less, first))
@@ -52,53 +53,58 @@ module _ (g : Sizes) (s : Store) (t : Tier) where
   -- below one inode more
   pub best_stays : (i : ℕ) (best : Option Found) → IsBestBelow g s t i best → IsCandidate g s t i None → IsBestBelow g s t (i + 1) best
   best_stays i None b c = record {
-      picked = λ j lt lies. elim (cases_lt j i) [
-        | inl before ↦ b.picked j before lies
-        | inr ge ↦ c.picked j (omega (arith, lt, ge)) lies ];
-      touch = tt;
-    }
+    picked = λ j lt lies. elim (cases_lt j i) [
+      | inl before ↦ b.picked j before lies
+      | inr ge ↦ c.picked j (omega (arith, lt, ge)) lies
+    ];
+    touch = tt;
+  }
   best_stays i (Some x) b c = record {
-      picked = record {
-        inside = (let lt = b.picked.inside in omega (arith, lt));
-        run = b.picked.run;
-        least = λ j lt lies. elim (cases_lt j i) [
-          | inl before ↦ b.picked.least j before lies
-          | inr ge ↦ absurd (c.picked j (omega (arith, lt, ge)) lies) ];
-      };
-      touch = b.touch;
-    }
+    picked = record {
+      inside = (let lt = b.picked.inside in omega (arith, lt));
+      run = b.picked.run;
+      least = λ j lt lies. elim (cases_lt j i) [
+        | inl before ↦ b.picked.least j before lies
+        | inr ge ↦ absurd (c.picked j (omega (arith, lt, ge)) lies)
+      ];
+    };
+    touch = b.touch;
+  }
 
   pub best_or_found : (i : ℕ) (best : Option Found) (found x : Found) → IsBestBelow g s t i best → IsCandidate g s t i (Some found) → IsFirstOf best found x → IsBestBelow g s t (i + 1) (Some x)
   best_or_found i None found x b c is = subst (λ (y : Found). IsBestBelow g s t (i + 1) (Some y)) (sym is) (record {
-      picked = record {
-        inside = (let here = c.picked.inside in omega (arith, here));
-        run = c.picked.run;
-        least = λ j lt lies. elim (cases_lt j i) [
-          | inl before ↦ absurd (b.picked j before lies)
-          | inr ge ↦ c.picked.least j (omega (arith, lt, ge)) lies ];
-      };
-      touch = c.touch;
-    })
+    picked = record {
+      inside = (let here = c.picked.inside in omega (arith, here));
+      run = c.picked.run;
+      least = λ j lt lies. elim (cases_lt j i) [
+        | inl before ↦ absurd (b.picked j before lies)
+        | inr ge ↦ c.picked.least j (omega (arith, lt, ge)) lies
+      ];
+    };
+    touch = c.touch;
+  })
   best_or_found i (Some best) found x b c (inl first) = subst (λ (y : Found). IsBestBelow g s t (i + 1) (Some y)) (sym first.1) (record {
-      picked = record {
-        inside = (let lt = b.picked.inside in omega (arith, lt));
-        run = b.picked.run;
-        least = λ j lt lies. elim (cases_lt j i) [
-          | inl before ↦ b.picked.least j before lies
-          | inr ge ↦ before_here i best found b.touch c.touch first.0 b.picked.inside j (omega (arith, lt, ge)) ((c.picked.least j (omega (arith, lt, ge)) lies)) ];
-      };
-      touch = b.touch;
-    })
+    picked = record {
+      inside = (let lt = b.picked.inside in omega (arith, lt));
+      run = b.picked.run;
+      least = λ j lt lies. elim (cases_lt j i) [
+        | inl before ↦ b.picked.least j before lies
+        | inr ge ↦ before_here i best found b.touch c.touch first.0 b.picked.inside j (omega (arith, lt, ge)) ((c.picked.least j (omega (arith, lt, ge)) lies))
+      ];
+    };
+    touch = b.touch;
+  })
   best_or_found i (Some best) found x b c (inr later) = subst (λ (y : Found). IsBestBelow g s t (i + 1) (Some y)) (sym later.1) (record {
-      picked = record {
-        inside = (let here = c.picked.inside in omega (arith, here));
-        run = c.picked.run;
-        least = λ j lt lies. elim (cases_lt j i) [
-          | inl before ↦ found_first best found b.touch c.touch later.0 j (b.picked.least j before lies)
-          | inr ge ↦ c.picked.least j (omega (arith, lt, ge)) lies ];
-      };
-      touch = c.touch;
-    })
+    picked = record {
+      inside = (let here = c.picked.inside in omega (arith, here));
+      run = c.picked.run;
+      least = λ j lt lies. elim (cases_lt j i) [
+        | inl before ↦ found_first best found b.touch c.touch later.0 j (b.picked.least j before lies)
+        | inr ge ↦ c.picked.least j (omega (arith, lt, ge)) lies
+      ];
+    };
+    touch = c.touch;
+  })
 
   nobody : (j : ℕ) → j ≡ 0 → LiesIn g s t j → ⊥
   nobody j zero lies = not_some (file_lies g s j t lies.0) (no_inode_lies g s j t (ap is_inode zero) lies.0) lies.1
@@ -114,11 +120,13 @@ module _ (g : Sizes) (s : Store) (t : Tier) where
   pub best_of_all : (end : ℕ) (best : Option Found) → 1025 ≤ end → IsBestBelow g s t end best → IsPickedIn g s t (pick_of best)
   best_of_all end None all b = λ j among lies. elim (cases_lt j end) [
     | inl lt ↦ b.picked j lt lies
-    | inr ge ↦ nobody_behind j (omega (arith, ge, all)) lies ]
+    | inr ge ↦ nobody_behind j (omega (arith, ge, all)) lies
+  ]
   best_of_all end (Some x) all b = record {
-      inside = tt;
-      run = b.picked.run;
-      least = λ j among lies. elim (cases_lt j end) [
-        | inl lt ↦ b.picked.least j lt lies
-        | inr ge ↦ absurd (nobody_behind j (omega (arith, ge, all)) lies) ];
-    }
+    inside = tt;
+    run = b.picked.run;
+    least = λ j among lies. elim (cases_lt j end) [
+      | inl lt ↦ b.picked.least j lt lies
+      | inr ge ↦ absurd (nobody_behind j (omega (arith, ge, all)) lies)
+    ];
+  }

@@ -32,7 +32,9 @@ each-preserved g c =
     let after = carried_back m.moment m.seen m.left m.faults (λ (x : Sizes) (s : Store). IsAfter change (blocks_from c.args.found (logical x s c.args.inode)) (number_at c.args.numbers.now n) added.0) old c.each.journal looked c.each.invariant.looks added.3 in
     record {
       looks = looks_on m.moment m.seen m.left m.faults old c.each.journal c.push_block.new.journal tt looked c.each.invariant.looks c.in-Ok.ensures.looks;
-      added = (before.0 ++ added.0,
+      added = (
+        before.0 ++ added.0,
         added.1 ∙ ap (λ (xs : List ℕ). xs ++ added.0) before.1 ∙ append_assoc c.args.out.now.items before.0 added.0,
-        holds_more change (blocks_from c.args.found (logical old.geometry (store_of (m.seen old.media)) c.args.inode)) c.args.numbers.now n before.0 added.0 before.2 added.2 after);
+        holds_more change (blocks_from c.args.found (logical old.geometry (store_of (m.seen old.media)) c.args.inode)) c.args.numbers.now n before.0 added.0 before.2 added.2 after,
+      );
     }

@@ -18,7 +18,8 @@ numbers-preserved c =
           (below_more holds n c.numbers.written.items (sym c.writes_block.ensures ∙ w.if-writes_block.true) c.numbers.invariant)
       | else-writes_block w ↦
           subst (λ (v : Vec ℕ Global). AreBelow holds (n + 1) v.items) (sym w.written-is)
-          (below_other holds n c.numbers.written.items (sym c.writes_block.ensures ∙ w.if-writes_block.false) c.numbers.invariant) ]
+          (below_other holds n c.numbers.written.items (sym c.writes_block.ensures ∙ w.if-writes_block.false) c.numbers.invariant)
+    ]
 
 pub returns : goal.returns
 returns c =
@@ -27,5 +28,6 @@ returns c =
       rising = (c.numbers.number, b.rising);
       each = λ k. (
         λ has. ((b.each k).0 has).1,
-        λ is. (b.each k).1 (let lt = c.blocks_before_end-number-end.ensures k (c.requires.blocks k is) in let all = c.numbers-test.false in omega (arith, lt, all), is));
+        λ is. (b.each k).1 (let lt = c.blocks_before_end-number-end.ensures k (c.requires.blocks k is) in let all = c.numbers-test.false in omega (arith, lt, all), is),
+      );
     }
