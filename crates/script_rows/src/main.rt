@@ -4,7 +4,6 @@
 #![tactic(auto)]
 
 mod difference;
-mod known;
 mod report;
 mod row;
 mod run;

@@ -1,5 +1,5 @@
 // The rows of a table.
-use crate::spelled::add_spelled;
+use crate::spelled::Spelled;
 use std::alloc::Global;
 
 /// A run, and what it is to print.
@@ -9,43 +9,48 @@ pub struct Row<'a> {
     pub name: &'a str,
     /// The words of the command line, with the program's name in front.
     pub words: Vec<&'a str>,
-    pub script: Vec<u8>,
-    pub printed: Vec<u8>,
+    pub script: Spelled,
+    pub printed: Spelled,
     pub status: u64,
     /// The line on standard error. Where it begins with two dots, what stands behind them is to be within some line there.
     pub error: &'a str,
-    /// Whether a line can't be read, or there was no memory for it.
+    /// Whether a line that is neither of the script nor printed can't be read, or there was no memory for it.
     pub is_bad: bool,
 }
 
-/// Reads a row: its name, and its lines below.
-pub fn read_row<'a>(alloc: Global, text: &'a str) -> Row<'a> {
-    let (name, lines) = text.split_once('\n').unwrap_or((text, ""));
-    let mut row = Row {
-        alloc,
-        name,
-        words: Vec::new(alloc),
-        script: Vec::new(alloc),
-        printed: Vec::new(alloc),
-        status: 0,
-        error: "",
-        is_bad: false,
-    };
-    for line in lines.lines() {
-        row.add_line(line);
-    }
-    if row.words.is_empty() {
-        row.add_words("strata_sh");
-    }
-    row
-}
-
 impl<'a> Row<'a> {
+    /// A row of which nothing is read.
+    pub fn new(alloc: Global) -> Self {
+        Row {
+            alloc,
+            name: "",
+            words: Vec::new(alloc),
+            script: Spelled::new(alloc),
+            printed: Spelled::new(alloc),
+            status: 0,
+            error: "",
+            is_bad: false,
+        }
+    }
+
+    /// Reads a row: its name, and its lines below.
+    pub fn read(&mut self, text: &'a str) {
+        let (name, lines) = text.split_once('\n').unwrap_or((text, ""));
+        self.name = name;
+        for line in lines.lines() {
+            self.add_line(line);
+        }
+        if self.words.is_empty() {
+            self.add_words("strata_sh");
+        }
+    }
+
     fn add_line(&mut self, line: &'a str) {
-        match line.split_once(' ') {
-            Some(("$", words)) => self.add_words(words),
-            Some(("!", end)) => self.set_end(end),
-            Some(("@", many)) => self.add_many(many),
+        let (word, rest) = line.split_once(' ').unwrap_or(("", ""));
+        match word {
+            "$" => self.add_words(rest),
+            "!" => self.set_end(rest),
+            "@" => self.add_many(rest),
             _ => self.add_call(line, 0),
         }
     }
@@ -92,34 +97,16 @@ impl<'a> Row<'a> {
             return;
         }
         if let Some(text) = line.strip_prefix("=>") {
-            return self.add_printed(text.strip_prefix(' ').unwrap_or(text), number);
+            return self
+                .printed
+                .add_line(text.strip_prefix(' ').unwrap_or(text), number);
         }
         match line.split_once(" => ") {
             Some((call, answer)) => {
-                self.add_script(call, number);
-                self.add_printed(answer, number);
+                self.script.add_line(call, number);
+                self.printed.add_line(answer, number);
             }
-            None => self.add_script(line, number),
+            None => self.script.add_line(line, number),
         }
-    }
-
-    fn add_script(&mut self, text: &str, number: u64) {
-        if !add_text(&mut self.script, text, number) {
-            self.is_bad = true;
-        }
-    }
-
-    fn add_printed(&mut self, text: &str, number: u64) {
-        if !add_text(&mut self.printed, text, number) {
-            self.is_bad = true;
-        }
-    }
-}
-
-// A line with its newline; one that ends in `\c` has none.
-fn add_text(bytes: &mut Vec<u8>, text: &str, number: u64) -> bool {
-    match text.strip_suffix("\\c") {
-        Some(text) => add_spelled(bytes, text, number),
-        None => add_spelled(bytes, text, number) && bytes.push(b'\n').is_ok(),
     }
 }

@@ -1,5 +1,4 @@
 // The runs of the programs.
-use crate::known::run_known;
 use crate::row::Row;
 use posix_calls::Errno;
 use std::io::{BufReader, Write};
@@ -44,31 +43,24 @@ pub fn run(row: &Row<'_>) -> Ran {
         err: Vec::new(row.alloc),
     };
     match row.words.first().copied().unwrap_or("") {
-        "strata_first" => first(row, &mut ran),
-        "known" => known(row, &mut ran),
+        "strata_first" => {
+            ran.status = run_first(row.alloc, &row.words, &mut ran.out, &mut ran.err);
+        }
         "errors" => print_errors(&mut ran.out),
         _ => shell(row, &mut ran),
     }
     ran
 }
 
-fn first(row: &Row<'_>, ran: &mut Ran) {
-    ran.status = run_first(row.alloc, &row.words, &mut ran.out, &mut ran.err);
-}
-
 // The name of each error, as it is displayed.
 fn print_errors(out: &mut Vec<u8>) {
-    for errno in ERRORS {
+    for errno in &ERRORS {
         let _ = writeln!(out, "{errno}");
     }
 }
 
-fn known(row: &Row<'_>, ran: &mut Ran) {
-    ran.status = run_known(row.alloc, &row.script, &mut ran.out);
-}
-
 fn shell(row: &Row<'_>, ran: &mut Ran) {
-    ran.status = match BufReader::with_capacity(row.alloc, AT_A_TIME, row.script.as_slice()) {
+    ran.status = match BufReader::with_capacity(row.alloc, AT_A_TIME, row.script.bytes.as_slice()) {
         Ok(reader) => run_sh(row.alloc, &row.words, reader, &mut ran.out, &mut ran.err),
         Err(_) => 3,
     };

@@ -1,57 +1,94 @@
 // The texts of a table.
 use script_lines::hex_byte;
+use std::alloc::Global;
 use std::io::Write;
 
-/// Adds the bytes that a text spells. A `\` stands before what can't be written as it is: `\xhh` is a byte, `\{TEXT*N}` a text
-/// N times, `\i` the number of a line that is written many times, and `\e` nothing. Whether all of it could be read and added.
-pub fn add_spelled(bytes: &mut Vec<u8>, text: &str, number: u64) -> bool {
-    let (front, escapes) = text.split_once('\\').unwrap_or((text, "e"));
-    let mut is_added = add(bytes, front);
-    for part in escapes.split('\\') {
-        is_added = add_escape(bytes, part, number) && is_added;
-    }
-    is_added
+/// The bytes that texts of a table spell.
+#[derive(Drop)]
+pub struct Spelled {
+    pub bytes: Vec<u8>,
+    /// Whether a text can't be read, or there was no memory for it.
+    pub is_bad: bool,
 }
 
-fn add(bytes: &mut Vec<u8>, text: &str) -> bool {
-    bytes.extend_from_slice(text.as_bytes()).is_ok()
-}
+impl Spelled {
+    pub fn new(alloc: Global) -> Self {
+        Spelled {
+            bytes: Vec::new(alloc),
+            is_bad: false,
+        }
+    }
 
-// What stands behind a `\`, up to the next one.
-fn add_escape(bytes: &mut Vec<u8>, part: &str, number: u64) -> bool {
-    if let Some(rest) = part.strip_prefix('e') {
-        return add(bytes, rest);
+    /// A line with its newline; one that ends in `\c` has none.
+    pub fn add_line(&mut self, text: &str, number: u64) {
+        match text.strip_suffix("\\c") {
+            Some(text) => self.add_spelled(text, number),
+            None => {
+                self.add_spelled(text, number);
+                self.add(b"\n");
+            }
+        }
     }
-    if let Some(rest) = part.strip_prefix('i') {
-        return write!(bytes, "{number}{rest}").is_ok();
-    }
-    match part.strip_prefix('{') {
-        Some(rest) => add_repeated(bytes, rest),
-        None => add_byte(bytes, part.as_bytes()),
-    }
-}
 
-// `xhh`, and what stands behind.
-fn add_byte(bytes: &mut Vec<u8>, part: &[u8]) -> bool {
-    let [b'x', high, low, rest @ ..] = part else {
-        return false;
-    };
-    match hex_byte(*high, *low) {
-        Some(byte) => bytes.push(byte).is_ok() && bytes.extend_from_slice(rest).is_ok(),
-        None => false,
+    // Adds the bytes that a text spells. A `\` stands before what can't be written as it is: `\xhh` is a byte, `\{TEXT*N}` a text
+    // N times, `\i` the number of a line that is written many times, and `\e` nothing.
+    fn add_spelled(&mut self, text: &str, number: u64) {
+        let (front, escapes) = text.split_once('\\').unwrap_or((text, "e"));
+        self.add(front.as_bytes());
+        for part in escapes.split('\\') {
+            self.add_escape(part, number);
+        }
     }
-}
 
-// `TEXT*N}`, and what stands behind.
-fn add_repeated(bytes: &mut Vec<u8>, part: &str) -> bool {
-    let (inside, rest) = part.split_once('}').unwrap_or(("", ""));
-    let (text, count) = inside.rsplit_once('*').unwrap_or(("", ""));
-    let Ok(count) = count.parse::<u64>() else {
-        return false;
-    };
-    let mut is_added = true;
-    for _ in 0..count {
-        is_added = is_added && add(bytes, text);
+    fn add(&mut self, bytes: &[u8]) {
+        if self.bytes.extend_from_slice(bytes).is_err() {
+            self.is_bad = true;
+        }
     }
-    is_added && add(bytes, rest)
+
+    // What stands behind a `\`, up to the next one.
+    fn add_escape(&mut self, part: &str, number: u64) {
+        if let Some(rest) = part.strip_prefix('e') {
+            return self.add(rest.as_bytes());
+        }
+        if let Some(rest) = part.strip_prefix('i') {
+            if write!(self.bytes, "{number}{rest}").is_err() {
+                self.is_bad = true;
+            }
+            return;
+        }
+        match part.strip_prefix('{') {
+            Some(rest) => self.add_repeated(rest),
+            None => self.add_byte(part.as_bytes()),
+        }
+    }
+
+    // `xhh`, and what stands behind.
+    fn add_byte(&mut self, part: &[u8]) {
+        match part {
+            [b'x', high, low, rest @ ..] => match hex_byte(*high, *low) {
+                Some(byte) => {
+                    self.add(&[byte]);
+                    self.add(rest);
+                }
+                None => self.is_bad = true,
+            },
+            _ => self.is_bad = true,
+        }
+    }
+
+    // `TEXT*N}`, and what stands behind.
+    fn add_repeated(&mut self, part: &str) {
+        let (inside, rest) = part.split_once('}').unwrap_or(("", ""));
+        let (text, count) = inside.rsplit_once('*').unwrap_or(("", ""));
+        match count.parse::<u64>() {
+            Ok(count) => {
+                for _ in 0..count {
+                    self.add(text.as_bytes());
+                }
+            }
+            Err(_) => self.is_bad = true,
+        }
+        self.add(rest.as_bytes());
+    }
 }

@@ -1,7 +1,7 @@
 // The rows of a table, one after the other.
-use crate::difference::first_difference;
+use crate::difference::are_same;
 use crate::report::Report;
-use crate::row::{Row, read_row};
+use crate::row::Row;
 use crate::run::{Ran, run};
 use std::alloc::Global;
 
@@ -9,10 +9,12 @@ use std::alloc::Global;
 /// for the reader.
 pub fn run_table(alloc: Global, table: &str, report: &mut Report) -> bool {
     let (mut held, mut count) = (0u64, 0u64);
-    for text in table.split("\n== ").skip(1) {
-        count = count.saturating_add(1);
-        if try_row(&read_row(alloc, text), report) {
-            held = held.saturating_add(1);
+    if let Some((_, rows)) = table.split_once("\n== ") {
+        for text in rows.split("\n== ") {
+            count = count.saturating_add(1);
+            if try_row(alloc, text, report) {
+                held = held.saturating_add(1);
+            }
         }
     }
     report.say("", &held);
@@ -21,25 +23,17 @@ pub fn run_table(alloc: Global, table: &str, report: &mut Report) -> bool {
     held == count
 }
 
-fn try_row(row: &Row<'_>, report: &mut Report) -> bool {
-    if row.is_bad {
+fn try_row(alloc: Global, text: &str, report: &mut Report) -> bool {
+    let mut row = Row::new(alloc);
+    row.read(text);
+    if row.is_bad || row.script.is_bad || row.printed.is_bad {
         report.say(row.name, &": this row can't be read\n");
         return false;
     }
-    let ran = run(row);
-    let printed = prints_that(row, &ran, report);
-    let ended = ends_so(row, &ran, report);
+    let ran = run(&row);
+    let printed = are_same(row.name, &ran.out, &row.printed.bytes, report);
+    let ended = ends_so(&row, &ran, report);
     printed && ended
-}
-
-fn prints_that(row: &Row<'_>, ran: &Ran, report: &mut Report) -> bool {
-    match first_difference(&ran.out, &row.printed) {
-        Some(difference) => {
-            difference.tell(row.name, report);
-            false
-        }
-        None => true,
-    }
 }
 
 // Whether the status and the errors are those of the row.

@@ -1,12 +1,15 @@
 // A client's call by its record, beside the same call on a whole tree.
-use crate::known::part::KnownPart;
+ghost use Rattle.std.specs.Prelude.{IfOk};
+ghost use Rattle.posix_calls.specs.Operations.{IsInRange};
+
+use crate::part::KnownPart;
 use call_effects::{growth_of, record_of};
 use file_graph::{Effect, PlainGraph};
 use log_record::Record;
 use plain_tree::PlainTree;
 use posix_calls::{
-    Call, DecideError, Descriptor, MAX_CLIENTS, MAX_DESCRIPTORS, MAX_INODE, Missing, Operation,
-    OwnDescriptors, ROOT, Reply, decide,
+    Call, DecideError, MAX_CLIENTS, MAX_INODE, Missing, Operation, OwnDescriptors, ROOT, Reply,
+    decide,
 };
 use std::alloc::{AllocError, Global};
 
@@ -23,6 +26,8 @@ pub struct Beside {
     tree: PlainTree,
     pub part: KnownPart,
     owns: Vec<OwnDescriptors>,
+    /// What the last call was answered.
+    pub reply: Option<Reply>,
     /// How many inodes the last call was decided by, and by how many units it might raise the graph.
     pub decided: usize,
     pub growth: u32,
@@ -45,6 +50,7 @@ impl Beside {
             tree: PlainTree::new(alloc)?,
             part: KnownPart::new(alloc, graph),
             owns,
+            reply: None,
             decided: 0,
             growth: 0,
             blocks: Vec::new(alloc),
@@ -52,48 +58,54 @@ impl Beside {
         })
     }
 
-    /// Notes that something is wrong.
-    pub fn fail(&mut self) -> Option<Reply> {
-        self.is_wrong = true;
-        None
-    }
-
     fn expect(&mut self, holds: bool) {
         self.is_wrong = self.is_wrong || !holds;
     }
 
-    /// What a client's call is answered by the graph, and also by the tree.
-    pub fn ask(&mut self, client: u32, call: &Call) -> Option<Reply> {
+    /// Answers a client's call by the graph, and by the tree also.
+    pub fn ask(&mut self, client: u32, call: &Call) {
         self.growth = 0;
         self.blocks.clear();
         self.part.forget();
-        let reply = self.answer(client, call);
-        self.compare(client, call, &reply);
-        reply
-    }
-
-    fn compare(&mut self, client: u32, call: &Call, reply: &Option<Reply>) {
+        self.answer(client, call);
         let wanted = self.tree.ask(client, call);
-        let are_same = are_same(self.alloc, reply, &wanted);
-        self.expect(are_same);
+        let is_same = self.is_answered(&wanted);
+        self.expect(is_same);
     }
 
-    // What the graph answers: nothing is known at first, and what is lacked becomes known.
-    fn answer(&mut self, client: u32, call: &Call) -> Option<Reply> {
+    fn is_answered(&self, wanted: &Reply) -> bool {
+        match &self.reply {
+            Some(Reply::Read { bytes }) => match wanted {
+                Reply::Read { bytes: other } => bytes.as_slice() == other.as_slice(),
+                _ => false,
+            },
+            Some(reply) => match format!(in self.alloc; "{wanted:?}") {
+                Ok(text) => is_told(self.alloc, reply, &text),
+                Err(_) => false,
+            },
+            None => false,
+        }
+    }
+
+    // Answers by the graph: nothing is known at first, and what is lacked becomes known.
+    fn answer(&mut self, client: u32, call: &Call) {
         for _ in 0..MOST_LACKED {
             match self.decided_by_part(client, call) {
                 Ok(operation) => return self.answer_by(client, operation),
                 Err(DecideError::Refused { errno }) => {
                     self.decided = self.part.known().len();
-                    return Some(Reply::Failed { errno });
+                    self.reply = Some(Reply::Failed { errno });
+                    return;
                 }
                 Err(why) => self.learn(why),
             }
         }
-        self.fail()
+        self.is_wrong = true;
     }
 
-    fn decided_by_part(&self, client: u32, call: &Call) -> Result<Operation, DecideError> {
+    fn decided_by_part(&self, client: u32, call: &Call) -> Result<Operation, DecideError>
+        ensures { IfOk result (λ operation. IsInRange operation) }
+    {
         match self.owns.get((client as usize).saturating_sub(1)) {
             Some(own) => decide(self.alloc, &self.part, own, call),
             None => Err(DecideError::Memory),
@@ -118,24 +130,27 @@ impl Beside {
         }
     }
 
-    fn answer_by(&mut self, client: u32, operation: Operation) -> Option<Reply> {
+    fn answer_by(&mut self, client: u32, operation: Operation)
+        requires { IsInRange operation }
+    {
         self.decided = self.part.known().len();
-        match operation {
-            Operation::Tell { answer } => Some(answer),
-            operation => self.carry_out(client, operation),
+        self.reply = operation.reply();
+        if self.reply.is_none() {
+            self.reply = Some(operation.into_reply());
+        } else {
+            self.carry_out(client, operation);
         }
     }
 
-    // Carries an operation out by its record, and answers it.
-    fn carry_out(&mut self, client: u32, operation: Operation) -> Option<Reply> {
+    // Carries an operation out by its record.
+    fn carry_out(&mut self, client: u32, operation: Operation)
+        requires { IsInRange operation }
+    {
         let new = self.next_free();
-        let reply = reply_to(&operation);
-        let opens = opened_by(&operation, new);
         self.growth = self.growth_of(&operation);
+        self.set_descriptor(client, &operation, new);
         self.record(operation, new);
-        self.set_descriptor(client, opens);
         self.drop_unused();
-        Some(reply)
     }
 
     // By how many units an operation raises the graph.
@@ -155,7 +170,7 @@ impl Beside {
         let mut operation = operation;
         for _ in 0..MOST_LACKED {
             operation = match record_of(self.alloc, &self.part, operation, new, UNITS) {
-                Ok(Some(record)) => return self.apply_record(&record),
+                Ok(Some(record)) => return self.apply(&record),
                 Ok(None) => return,
                 Err((why, back)) => {
                     self.learn(why);
@@ -164,12 +179,6 @@ impl Beside {
             };
         }
         self.is_wrong = true;
-    }
-
-    // A record has some effects, and the units that were given.
-    fn apply_record(&mut self, record: &Record) {
-        self.expect(record.units == UNITS && !record.effects.is_empty());
-        self.apply(record.effects.as_slice());
     }
 
     // The lowest inode number that is free.
@@ -183,14 +192,15 @@ impl Beside {
         0
     }
 
-    // Applies effects, which raise the graph by no more than they were to.
-    fn apply(&mut self, effects: &[Effect]) {
+    // Applies a record. It has some effects, and the units that were given, and raises the graph by no more than it was to.
+    fn apply(&mut self, record: &Record) {
+        self.expect(record.units == UNITS && !record.effects.is_empty());
         let most = self
             .part
             .graph
             .charge()
             .saturating_add(u64::from(self.growth));
-        for effect in effects {
+        for effect in record.effects.as_slice() {
             self.apply_one(effect);
         }
         let charge = self.part.graph.charge();
@@ -202,15 +212,12 @@ impl Beside {
         self.expect(is_applied);
     }
 
-    fn set_descriptor(&mut self, client: u32, opens: Option<(u32, Option<Descriptor>)>) {
-        let Some((number, what)) = opens else {
-            return;
-        };
-        let Some(own) = self.owns.get_mut((client as usize).saturating_sub(1)) else {
-            return;
-        };
-        if number < MAX_DESCRIPTORS {
-            own.set(number, what);
+    // Opens or closes what an operation does, if anything.
+    fn set_descriptor(&mut self, client: u32, operation: &Operation, new: u32)
+        requires { IsInRange operation.now }
+    {
+        if let Some(own) = self.owns.get_mut((client as usize).saturating_sub(1)) {
+            own.carry_out(operation, new);
         }
     }
 
@@ -224,21 +231,12 @@ impl Beside {
     }
 
     fn is_open(&self, inode: u32) -> bool {
-        self.owns.iter().any(|own| has_open(own, inode))
-    }
-}
-
-fn are_same(alloc: Global, reply: &Option<Reply>, wanted: &Reply) -> bool {
-    match reply {
-        Some(Reply::Read { bytes }) => match wanted {
-            Reply::Read { bytes: other } => bytes.as_slice() == other.as_slice(),
-            _ => false,
-        },
-        Some(reply) => match format!(in alloc; "{wanted:?}") {
-            Ok(text) => is_told(alloc, reply, &text),
-            Err(_) => false,
-        },
-        None => false,
+        for own in &self.owns {
+            if own.has_open(inode) {
+                return true;
+            }
+        }
+        false
     }
 }
 
@@ -247,55 +245,4 @@ fn is_told(alloc: Global, reply: &Reply, text: &str) -> bool {
         Ok(told) => told.as_str() == text,
         Err(_) => false,
     }
-}
-
-fn has_open(own: &OwnDescriptors, inode: u32) -> bool {
-    for number in 0..MAX_DESCRIPTORS {
-        if own.get(number).map_or(false, |what| what.inode == inode) {
-            return true;
-        }
-    }
-    false
-}
-
-fn reply_to(operation: &Operation) -> Reply {
-    match operation {
-        Operation::NewFile { descriptor, .. } => Reply::Opened {
-            descriptor: *descriptor,
-        },
-        Operation::OpenFile { descriptor, .. } => Reply::Opened {
-            descriptor: *descriptor,
-        },
-        Operation::Write { bytes, .. } => Reply::Wrote {
-            count: u32::try_from(bytes.len()).unwrap_or(0),
-        },
-        _ => Reply::Done,
-    }
-}
-
-// The descriptor that an operation sets, and to what.
-fn opened_by(operation: &Operation, new: u32) -> Option<(u32, Option<Descriptor>)> {
-    let (number, inode, reads, writes) = match operation {
-        Operation::NewFile {
-            descriptor,
-            reads,
-            writes,
-            ..
-        } => (*descriptor, new, *reads, *writes),
-        Operation::OpenFile {
-            inode,
-            descriptor,
-            reads,
-            writes,
-            ..
-        } => (*descriptor, *inode, *reads, *writes),
-        Operation::CloseFile { descriptor, .. } => return Some((*descriptor, None)),
-        _ => return None,
-    };
-    let what = Descriptor {
-        inode,
-        reads,
-        writes,
-    };
-    Some((number, Some(what)))
 }

@@ -1,7 +1,7 @@
 // A graph of which a part is known.
 ghost use Rattle.std.specs.Prelude.{◌≡◌};
 ghost use Rattle.file_graph.specs.Graph.{graph_of, is_among};
-ghost use Rattle.script_rows.specs.Known.{part_of};
+ghost use Rattle.known_rows.specs.Known.{part_of};
 
 use file_graph::PlainGraph;
 use graph_answers::GraphAnswers;
@@ -69,7 +69,7 @@ impl KnownPart {
 fn is_among(inode: u32, known: &[u32]) -> bool
     ensures { result ≡ is_among inode known.now }
 {
-    known.iter().any(|other| *other == inode)
+    known.contains(&inode)
 }
 
 impl TreeAnswers for KnownPart {

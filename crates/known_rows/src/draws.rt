@@ -1,5 +1,7 @@
 // Calls that are drawn.
 
+const CLIENTS: [&str; 2] = ["1", "2"];
+
 // The calls: P and Q are paths, and D is a descriptor.
 const CALLS: [&str; 13] = [
     "mkdir P",
@@ -20,8 +22,11 @@ const CALLS: [&str; 13] = [
 /// The paths on which calls are tried.
 pub const PATHS: [&str; 8] = ["/d", "/e", "/f", "/g", "/d/f", "/d/e", "/e/f", "/e/d/f"];
 
+/// The descriptors on which calls are tried.
+pub const DESCRIPTORS: [&str; 4] = ["0", "1", "2", "3"];
+
 /// Numbers below 2^31, in a row that is always the same.
-#[derive(Clone, Copy)]
+#[derive(Drop)]
 pub struct Draws {
     state: u64,
 }
@@ -31,16 +36,14 @@ impl Draws {
         Draws { state: 1 }
     }
 
-    fn next(&mut self) -> usize {
+    // One of some texts.
+    fn next_of(&mut self, texts: &[&'static str]) -> &'static str {
         self.state = self
             .state
             .wrapping_mul(6_364_136_223_846_793_005)
             .wrapping_add(1_442_695_040_888_963_407);
-        (self.state >> 33) as usize
-    }
-
-    fn next_of(&mut self, texts: &[&'static str]) -> &'static str {
-        let at = self.next().checked_rem(texts.len()).unwrap_or(0);
+        let number = (self.state >> 33) as usize;
+        let at = number.checked_rem(texts.len()).unwrap_or(0);
         texts.get(at).copied().unwrap_or("")
     }
 
@@ -48,26 +51,18 @@ impl Draws {
     /// can't be read.
     pub fn line(&mut self, line: &mut String) {
         line.clear();
-        put_number(line, self.next() % 2 + 1);
+        let _ = line.push_str(self.next_of(&CLIENTS));
         for word in self.next_of(&CALLS).split(' ') {
             let _ = line.push(' ');
-            self.word(line, word);
+            let _ = line.push_str(self.drawn(word));
         }
     }
 
-    fn word(&mut self, line: &mut String, word: &str) {
+    fn drawn(&mut self, word: &'static str) -> &'static str {
         match word {
-            "P" | "Q" => put(line, self.next_of(&PATHS)),
-            "D" => put_number(line, self.next() % 4),
-            word => put(line, word),
+            "P" | "Q" => self.next_of(&PATHS),
+            "D" => self.next_of(&DESCRIPTORS),
+            word => word,
         }
     }
-}
-
-fn put(line: &mut String, word: &str) {
-    let _ = line.push_str(word);
-}
-
-fn put_number(line: &mut String, number: usize) {
-    let _ = write!(line, "{number}");
 }
