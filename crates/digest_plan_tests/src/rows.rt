@@ -69,7 +69,6 @@ fn write(alloc: Global, at: u64, units: u32) -> Result<Record, AllocError> {
 }
 
 // Whether inodes are listed rising.
-#[tactic(auto, using(std::proofs::lemmas::List::Sorted::non_decreasing_from_is_sorted))]
 fn are_rising(inodes: &[u32]) -> bool
     ensures { IsTrue result → IsNonDecreasing inodes.now }
 {

@@ -23,7 +23,6 @@ pub fn opening(alloc: Global) -> Result<RecordCheck, AllocError> {
 }
 
 // Whether inodes are listed rising.
-#[tactic(auto, using(std::proofs::lemmas::List::Sorted::non_decreasing_from_is_sorted))]
 fn are_rising(inodes: &[u32]) -> bool
     ensures { IsTrue result → IsNonDecreasing inodes.now }
 {
