@@ -20,6 +20,7 @@ pub mod Halves
 pub mod Bytes
 pub mod Forgets
 pub mod Fetches
+pub mod DigestedParts
 pub mod Digests
 pub mod Recoveries
 pub mod Stops

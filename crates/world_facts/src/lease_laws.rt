@@ -7,6 +7,7 @@ ghost use Rattle.call_effects.specs.Known.{Knowledge};
 ghost use Rattle.world_facts.specs.Logs.{is_touched};
 ghost use Rattle.world_facts.specs.World.{Begun, World, has_lease, whole, world_state};
 ghost use Rattle.world_facts.specs.LeaseSteps.{IsUnwritten, IsUnheld, read_taken, write_taken, CanGive, given, own_view, CanFetch, fetched, CanRead, blocks_fetched, CanForget, forgotten, CanForgetBlocks, blocks_forgotten};
+ghost use Rattle.world_facts.specs.Burial.{CanBury};
 ghost use Rattle.world_facts.specs.Invariant.{IsCoherent};
 
 /// A client takes a lease for reading where no other holds the inode for writing.
@@ -51,9 +52,10 @@ pub fn view_of_a_held_inode_is_the_wholes()
 {}
 
 /// While a call is begun, also where the client's device failed in it, the client holds for writing what its record touches and holds what it
-/// was planned by, and gives nothing.
+/// was planned by, gives nothing, and is not buried, which would leave it none.
 pub fn begun_call_keeps_its_leases()
     ensures writes { (w : World) (c i : ℕ) (b : Begun) → IsCoherent w → is_client c ≡ true → (w.clients c).begun ≡ Some b → is_touched i b.change ≡ true → (w.clients c).writes i ≡ true }
     ensures copies { (w : World) (c i : ℕ) (copy : Option NodeView) → IsCoherent w → is_client c ≡ true → (w.clients c).knows.copies i ≡ Some copy → has_lease (w.clients c) i ≡ true }
     ensures kept { (w : World) (c i : ℕ) (b : Begun) → (w.clients c).begun ≡ Some b → CanGive w c i → ⊥ }
+    ensures unburied { (w : World) (c : ℕ) (b : Begun) → IsCoherent w → (w.clients c).begun ≡ Some b → CanBury w c → ⊥ }
 {}

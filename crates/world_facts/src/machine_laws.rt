@@ -1,11 +1,11 @@
 //! The kernel as a part of its own: each of its entries keeps its book, what is sealed, and what is said of the clients' parts.
 
-ghost use Rattle.std.specs.Prelude.{◌≡◌, ◌≢◌, ◌⊎◌, ℕ, ◌+◌, ◌≤◌, List, length, true, false, None};
+ghost use Rattle.std.specs.Prelude.{◌≡◌, ◌≢◌, ◌⊎◌, ℕ, ◌+◌, ◌≤◌, List, length, Bool, true, false, None};
 ghost use Rattle.posix_calls.specs.Operations.{is_client};
 ghost use Rattle.file_graph.specs.Graph.{Graph};
 ghost use Rattle.log_record.specs.declared.format.Record.{Record};
-ghost use Rattle.world_facts.specs.Logs.{after_records, is_written, is_made_in};
-ghost use Rattle.world_facts.specs.World.{Account, Away, Client, Kernel, World, at, records_of};
+ghost use Rattle.world_facts.specs.Logs.{after_records, is_written, is_made_in, units_in};
+ghost use Rattle.world_facts.specs.World.{Account, Away, Client, Kernel, World, at, undigested, records_of};
 ghost use Rattle.world_facts.specs.Standing.{Stands};
 ghost use Rattle.world_facts.specs.BookSteps.{HasRoom, IsUnbooked};
 ghost use Rattle.world_facts.specs.KernelSteps.{CanDigest, CanReclaim, IsMigrated, records_digested, reclaimed, run_migrated};
@@ -32,20 +32,26 @@ pub fn kernel_keeps_its_book()
 {}
 
 /// A client's sealed region is a part of its own, beside the shared graph and the client's account. A digest of its next records keeps
-/// what is said of it, and leaves the shared graph as it was wherever its client holds nothing for writing.
+/// what is said of it, and of its client's whole part, and leaves the shared graph as it was wherever its client holds nothing for writing.
 pub fn digest_keeps_what_is_sealed()
     ensures sealed { (g : Graph) (a : Account) (c : ℕ) (p : Client) → Stands g a c p → StandsSealed g a (sealed_of p) }
+    ensures client { (m : Machine) (c : ℕ) (p : Client) (first rest : List Record) → IsRunning m → Stands m.kernel.shared (m.kernel.accounts c) c p → CanDigestNext m c (sealed_of p) first rest → Stands (after_records m.kernel.shared first) (account_after (m.kernel.accounts c) first) c p }
     ensures own { (m : Machine) (c : ℕ) (s : Sealed) (first rest : List Record) → IsRunning m → StandsSealed m.kernel.shared (m.kernel.accounts c) s → CanDigestNext m c s first rest → StandsSealed (after_records m.kernel.shared first) (account_after (m.kernel.accounts c) first) s }
     ensures beside { (m : Machine) (c : ℕ) (s : Sealed) (first rest : List Record) → IsRunning m → StandsSealed m.kernel.shared (m.kernel.accounts c) s → CanDigestNext m c s first rest → (others : List Record) → ((i : ℕ) → is_written i others ≡ true → s.writes i ≡ false) → (i : ℕ) → is_written i others ≡ true → m.kernel.shared i ≡ after_records m.kernel.shared first i }
 {}
 
 /// What is said of a client's part, or of a sealed region, beside the shared graph is so beside every other graph that has the same
-/// nodes where its records write, and beside one that lacks a node that they don't make.
+/// nodes where its records write, and beside one that lacks a node that they don't make. It is so beside every other account with the same
+/// mark that has the units of the records and the spare ones, the numbers and the pins; and a sealed region may stand under other leases that
+/// still have what its records write.
 pub fn parts_stand_where_they_write()
     ensures client { (g h : Graph) (a : Account) (c : ℕ) (p : Client) → ((i : ℕ) → is_written i (records_of a p) ≡ true → g i ≡ h i) → Stands g a c p → Stands h a c p }
     ensures client_less { (i : ℕ) (g h : Graph) (a : Account) (c : ℕ) (p : Client) → h i ≡ None → ((j : ℕ) → j ≢ i → h j ≡ g j) → is_made_in i (records_of a p) ≡ false → Stands g a c p → Stands h a c p }
+    ensures client_account { (g : Graph) (a b : Account) (c : ℕ) (p : Client) → b.mark ≡ a.mark → p.spare + units_in (records_of a p) ≤ b.units → ((i : ℕ) → p.knows.granted i ≡ true → b.numbers i ≡ true) → ((i : ℕ) → is_made_in i (undigested a p) ≡ true → b.numbers i ≡ true) → ((i : ℕ) → p.pins i ≡ true → b.pins i ≡ true) → Stands g a c p → Stands g b c p }
     ensures sealed { (g h : Graph) (a : Account) (s : Sealed) → ((i : ℕ) → is_written i (undigested_sealed a s) ≡ true → g i ≡ h i) → StandsSealed g a s → StandsSealed h a s }
     ensures sealed_less { (i : ℕ) (g h : Graph) (a : Account) (s : Sealed) → h i ≡ None → ((j : ℕ) → j ≢ i → h j ≡ g j) → is_made_in i (undigested_sealed a s) ≡ false → StandsSealed g a s → StandsSealed h a s }
+    ensures sealed_account { (g : Graph) (a b : Account) (s : Sealed) → b.mark ≡ a.mark → units_in (undigested_sealed a s) ≤ b.units → ((i : ℕ) → is_made_in i (undigested_sealed a s) ≡ true → b.numbers i ≡ true) → StandsSealed g a s → StandsSealed g b s }
+    ensures sealed_leases { (g : Graph) (a : Account) (s : Sealed) (writes : ℕ → Bool) → ((i : ℕ) → is_written i (undigested_sealed a s) ≡ true → writes i ≡ true) → StandsSealed g a s → StandsSealed g a (record s { writes = writes }) }
 {}
 
 /// The kernel's entries are what the world's steps make of the kernel's part.

@@ -1,6 +1,7 @@
-use Rattle.std.proofs.Common.{◌≡◌, false, ap, sym, ◌∙◌}
+use Rattle.std.proofs.Common.{false, ap, sym, ◌∙◌}
 use Rattle.world_facts.specs.Logs.{is_touched, is_written}
 use Rattle.world_facts.specs.World.{change_of, log_of}
+use Rattle.world_facts.specs.Standing.{is_settled}
 use Rattle.world_facts.proofs.Records.{in_first, rest_written}
 use Rattle.world_facts.proofs.Idle.{none_some}
 use Rattle.world_facts.proofs.lease_laws.begun_call_keeps_its_leases.Goals as goal
@@ -13,3 +14,6 @@ returns-clause-copies r w c i copy h is_c e = (h.stands c is_c).leased.copies i 
 
 pub returns-clause-kept : goal.returns-clause-kept
 returns-clause-kept r w c i b e can = none_some b (sym can.idle ∙ e)
+
+pub returns-clause-unburied : goal.returns-clause-unburied
+returns-clause-unburied r w c b h e can = none_some b (sym ((h.stands c can.client).rests.idle (ap is_settled can.settled)) ∙ e)

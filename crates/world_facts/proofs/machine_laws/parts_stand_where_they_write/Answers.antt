@@ -1,4 +1,4 @@
-use Rattle.world_facts.proofs.Machines.{stands_same, stands_less, sealed_same, sealed_less}
+use Rattle.world_facts.proofs.Machines.{stands_same, stands_less, stands_account, sealed_same, sealed_less, sealed_account, sealed_leases}
 use Rattle.world_facts.proofs.machine_laws.parts_stand_where_they_write.Goals as goal
 
 pub returns-clause-client : goal.returns-clause-client
@@ -12,3 +12,12 @@ returns-clause-sealed c = sealed_same
 
 pub returns-clause-sealed_less : goal.returns-clause-sealed_less
 returns-clause-sealed_less c = sealed_less
+
+pub returns-clause-client_account : goal.returns-clause-client_account
+returns-clause-client_account c = stands_account
+
+pub returns-clause-sealed_account : goal.returns-clause-sealed_account
+returns-clause-sealed_account c = sealed_account
+
+pub returns-clause-sealed_leases : goal.returns-clause-sealed_leases
+returns-clause-sealed_leases c = sealed_leases
