@@ -1,8 +1,10 @@
 -- Each step of the walk may be taken.
-use Rattle.std.proofs.Common.{◌≡◌, false, [], ◌∷◌, refl, sym, ◌∙◌}
+use Rattle.std.proofs.Common.{◌≡◌, inl, inr, ℕ, false, [], ◌∷◌, refl, ap, sym, ◌∙◌}
 use Rattle.std.proofs.lemmas.Bool.{false≢true}
+use Rattle.std.proofs.lemmas.Bool.Decides.{eqb_tells}
 use Rattle.posix_calls.specs.Operations.{Step}
 use Rattle.posix_calls.specs.declared.call.Reply.TheVariants.{Done}
+use Rattle.posix_calls.proofs.Sums.{same_if}
 use Rattle.world_facts.specs.World.{Alive, Failed, Dead, world_state}
 use Rattle.world_facts.specs.Invariant.{IsCoherent}
 use Rattle.world_facts.specs.ClientSteps.{IsBegun}
@@ -98,3 +100,13 @@ new_tree =
     ∙ taken_back_tree walked.kept 1 kept_holds can_take_back
     ∙ digested_tree (region_sealed walked.gone 1) 1 (unlinked.open_a.change ∷ unlinked.unlink_a.change ∷ []) [] handed_holds can_digest
     ∙ sealed_tree walked.gone 1 gone_holds can_seal
+
+-- the burial left nothing in the account, so the kernel is as it was
+pub new_kernel : walked.renewed.kernel ≡ walked.wiped.kernel
+new_kernel = λ t. record { shared = walked.wiped.kernel.shared; capacity = walked.wiped.kernel.capacity; accounts = λ d. same d t }
+  where
+    same : (d : ℕ) → walked.renewed.kernel.accounts d ≡ walked.wiped.kernel.accounts d
+    same d = elim (eqb_tells d 1) [
+      | inl is ↦ ap walked.renewed.kernel.accounts is.1 ∙ sym (ap walked.wiped.kernel.accounts is.1)
+      | inr off ↦ same_if d 1 (walked.renewed.kernel.accounts 1) (walked.wiped.kernel.accounts d) off.1
+    ]

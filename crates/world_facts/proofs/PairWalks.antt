@@ -30,6 +30,7 @@ use Rattle.world_facts.specs.ClientSteps.{CanBegin, IsBegun, replied}
 use Rattle.world_facts.specs.LeaseSteps.{IsUnheld, CanFetch, CanGive, given}
 use Rattle.world_facts.specs.BookSteps.{HasRoom, IsUnbooked, units_granted}
 use Rattle.world_facts.specs.RegionSteps.{region_sealed}
+use Rattle.world_facts.specs.KernelSteps.{CanDigest}
 use Rattle.world_facts.specs.UnlinkWalk as opened
 use Rattle.world_facts.specs.PairWalk as walked
 use Rattle.world_facts.proofs.Idle.{none_some}
@@ -205,3 +206,20 @@ still_begun = record { client = refl; there = refl; known = λ e. absurd (cc) }
 
 pub made_step : Step (world_state walked.beside) 2 walked.mkdir_b.call Done (world_state walked.made)
 made_step = replied_step walked.beside 2 walked.mkdir_b beside_holds still_begun
+
+-- ---- both regions are sealed
+
+both_answered : IsCoherent (replied walked.written 2 walked.mkdir_b)
+both_answered = replied_holds walked.written 2 walked.mkdir_b written_holds (record { client = refl; there = refl; known = λ e. absurd (cc) })
+
+first_sealed : IsCoherent (region_sealed (replied walked.written 2 walked.mkdir_b) 1)
+first_sealed = sealed_holds (replied walked.written 2 walked.mkdir_b) 1 both_answered (record { client = refl; idle = refl; some = λ e. absurd (cc); back = λ e. absurd (cc) })
+
+pub both_hold : IsCoherent walked.both
+both_hold = sealed_holds (region_sealed (replied walked.written 2 walked.mkdir_b) 1) 2 first_sealed (record { client = refl; idle = refl; some = λ e. absurd (cc); back = λ e. absurd (cc) })
+
+pub first_digests : CanDigest walked.both 1 (walked.write_7.change ∷ []) []
+first_digests = record { client = refl; some = λ e. absurd (cc); split = refl }
+
+pub second_digests : CanDigest walked.both 2 (walked.mkdir_b.change ∷ []) []
+second_digests = record { client = refl; some = λ e. absurd (cc); split = refl }

@@ -73,5 +73,9 @@ written = replied two 1 write_7
 abbrev pub beside : World
 beside = records_digested (region_sealed written 1) 1 (write_7.change ∷ [])
 
+-- or both clients are answered, and both regions sealed
+abbrev pub both : World
+both = region_sealed (region_sealed (replied written 2 mkdir_b) 1) 2
+
 abbrev pub made : World
 made = replied beside 2 mkdir_b

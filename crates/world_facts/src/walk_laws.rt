@@ -10,7 +10,7 @@ ghost use Rattle.world_facts.specs.World.{log_of, all_of, world_state};
 ghost use Rattle.world_facts.specs.Invariant.{IsCoherent};
 ghost use Rattle.world_facts.specs.ClientSteps.{IsBegun, replied};
 ghost use Rattle.world_facts.specs.LeaseSteps.{CanGive};
-ghost use Rattle.world_facts.specs.KernelSteps.{CanReclaim};
+ghost use Rattle.world_facts.specs.KernelSteps.{CanDigest, CanReclaim};
 ghost use Rattle.world_facts.specs.Stop.{Stores, stored_graph};
 ghost use Rattle.world_facts.specs.Walk.{mkdir_a, making, made, passed};
 ghost use Rattle.world_facts.specs.Opening.{idle_client};
@@ -49,7 +49,8 @@ pub fn small_world_unlinks_an_open_file()
 
 /// With the file open, client 1 has its record digested and gives the root to client 2, which begins `mkdir /b`; client 1 begins a
 /// write. A stop has four outcomes, one for each choice of the two records. Then client 1 is answered and its record digested while
-/// the other call is begun, whose answer is a step still.
+/// the other call is begun, whose answer is a step still. Where both are answered and both regions sealed instead, either record may be
+/// digested first.
 pub fn small_world_of_two_clients()
     ensures given { CanGive pair_walk.back 1 1 }
     ensures begun { IsCoherent pair_walk.two }
@@ -60,6 +61,9 @@ pub fn small_world_of_two_clients()
     ensures beside { IsCoherent pair_walk.beside }
     ensures still { IsBegun pair_walk.beside 2 pair_walk.mkdir_b }
     ensures made { Step (world_state pair_walk.beside) 2 pair_walk.mkdir_b.call Done (world_state pair_walk.made) }
+    ensures sealed { IsCoherent pair_walk.both }
+    ensures first { CanDigest pair_walk.both 1 (pair_walk.write_7.change ∷ []) [] }
+    ensures second { CanDigest pair_walk.both 2 (pair_walk.mkdir_b.change ∷ []) [] }
 {}
 
 /// Client 1's region comes back, and it gives the lease on the file that it has open to client 2, which makes `/b/x` and `/b/y` and
@@ -79,7 +83,8 @@ pub fn small_world_of_five_nodes()
 
 /// Client 1 dies in its unlink, while it has `/a` open. The record is found whole, so the call was a step. What it had open is closed, its two
 /// records are digested, and it is buried: only then the file goes, since the pin goes with the client. Once its other region is wiped a
-/// new client joins under its number, with nothing but the mark 2, and the tree is the one from when the client was gone.
+/// new client joins under its number, with nothing but the mark 2; the kernel needs nothing for that, and the tree is the one from when the
+/// client was gone.
 pub fn small_world_buries_a_client()
     ensures found { Step (world_state burial_walk.dead) 1 unlink_walk.unlink_a.call Done (world_state burial_walk.found) }
     ensures pinned { CanReclaim burial_walk.back.kernel 2 → ⊥ }
@@ -88,5 +93,6 @@ pub fn small_world_buries_a_client()
     ensures joins { CanJoin burial_walk.wiped 1 }
     ensures joined { IsCoherent burial_walk.renewed }
     ensures fresh { burial_walk.renewed.clients 1 ≡ idle_client 1 2 }
+    ensures kernel { burial_walk.renewed.kernel ≡ burial_walk.wiped.kernel }
     ensures same { world_state burial_walk.renewed ≡ world_state burial_walk.gone }
 {}

@@ -1,5 +1,5 @@
 use Rattle.std.proofs.Common.{refl}
-use Rattle.world_facts.proofs.BurialWalks.{found_step, back_unreclaimed, can_bury, can_reclaim, can_join, new_holds, new_tree}
+use Rattle.world_facts.proofs.BurialWalks.{found_step, back_unreclaimed, can_bury, can_reclaim, can_join, new_holds, new_kernel, new_tree}
 use Rattle.world_facts.proofs.walk_laws.small_world_buries_a_client.Goals as goal
 
 pub returns-clause-found : goal.returns-clause-found
@@ -25,3 +25,6 @@ returns-clause-fresh r = refl
 
 pub returns-clause-same : goal.returns-clause-same
 returns-clause-same r = new_tree
+
+pub returns-clause-kernel : goal.returns-clause-kernel
+returns-clause-kernel r = new_kernel

@@ -1,4 +1,4 @@
-use Rattle.world_facts.proofs.PairWalks.{can_give, two_hold, outcomes, written_if, made_if, written_step, beside_holds, still_begun, made_step}
+use Rattle.world_facts.proofs.PairWalks.{can_give, two_hold, outcomes, written_if, made_if, written_step, beside_holds, still_begun, made_step, both_hold, first_digests, second_digests}
 use Rattle.world_facts.proofs.walk_laws.small_world_of_two_clients.Goals as goal
 
 pub returns-clause-given : goal.returns-clause-given
@@ -27,3 +27,12 @@ returns-clause-still c = still_begun
 
 pub returns-clause-made : goal.returns-clause-made
 returns-clause-made c = made_step
+
+pub returns-clause-sealed : goal.returns-clause-sealed
+returns-clause-sealed c = both_hold
+
+pub returns-clause-first : goal.returns-clause-first
+returns-clause-first c = first_digests
+
+pub returns-clause-second : goal.returns-clause-second
+returns-clause-second c = second_digests
