@@ -8,7 +8,7 @@ use Rattle.file_graph.specs.Units.{charge}
 use Rattle.log_record.specs.declared.format.Record.{Record}
 use Rattle.call_effects.specs.Wholes.{IsSound, state_of}
 use Rattle.call_effects.specs.Known.{Agrees}
-use Rattle.world_facts.specs.Logs.{after_records, is_written, is_made_in, units_in, IsPaid, IsNameless, Keeps}
+use Rattle.world_facts.specs.Logs.{after_records, is_written, is_made_in, units_in, IsPaid, Keeps}
 use Rattle.world_facts.specs.Limits.{IsWithin}
 use Rattle.world_facts.specs.World.{Client, Account, World, undigested, records_of, change_of, log_of, all_of, whole, held, world_state, at}
 use Rattle.world_facts.specs.Standing.{IsBooked, Stands}
@@ -18,10 +18,11 @@ use Rattle.world_facts.proofs.Records.{either, both, records_stay, front_unwritt
 use Rattle.world_facts.proofs.Owners.{digested_whole}
 use Rattle.world_facts.proofs.Made.{records_none}
 use Rattle.world_facts.proofs.Along.{along_front}
-use Rattle.world_facts.proofs.Paid.{paid_same, charge_records}
-use Rattle.world_facts.proofs.Keeping.{through, keep_same}
+use Rattle.world_facts.proofs.Paid.{charge_records}
+use Rattle.world_facts.proofs.Keeping.{through}
 use Rattle.world_facts.proofs.Facts.{apart_logs}
 use Rattle.world_facts.proofs.Facts as facts
+use Rattle.world_facts.proofs.PartsStand.{stands_same}
 use Rattle.world_facts.proofs.DigestedParts as part
 use Rattle.world_facts.proofs.Moved.{both_same, holds_moved, booked_moved, units_moved, log_there, log_else, held_same}
 
@@ -100,18 +101,7 @@ module _ (w : World) (c : ℕ) (first rest : List Record) (h : IsCoherent w) (ca
 
   pub digested_holds : IsCoherent (records_digested w c first)
   digested_holds = holds_moved w c shared after p h can.client book (part.digested_stands w.kernel.shared account c p first rest s can.split)
-      (λ d is_d other. let x = h.stands d is_d in record {
-        number = x.number;
-        rests = x.rests;
-        marked = x.marked;
-        starts = x.starts;
-        logged = record { leased = x.logged.leased; paid = paid_same (all_of w d) w.kernel.shared shared (λ i e. beside d i is_d other e) x.logged.paid; limits = keep_same IsWithin (all_of w d) w.kernel.shared shared (λ i e. beside d i is_d other e) x.logged.limits; unnamed = keep_same (λ i o. IsNameless o) (all_of w d) w.kernel.shared shared (λ i e. beside d i is_d other e) x.logged.unnamed };
-        units = x.units;
-        numbered = x.numbered;
-        leased = x.leased;
-        pinned = x.pinned;
-        pending = x.pending;
-      })
+      (λ d is_d other. stands_same w.kernel.shared shared (w.kernel.accounts d) d (w.clients d) (λ i e. beside d i is_d other e) (h.stands d is_d))
       (λ d is_d other. h.beside c d can.client is_d other)
       (λ d is_d other. h.beside d c is_d can.client (λ same. other (sym same)))
       (both_same (λ g o. IsSound g o) digest_keeps open_same h.sound)

@@ -25,6 +25,7 @@ pub mod Digests
 pub mod Recoveries
 pub mod Stops
 pub mod Reclaims
+pub mod PartsStand
 pub mod Machines
 pub mod Migrations
 pub mod Orders

@@ -1,5 +1,5 @@
 -- Each entry of the kernel keeps its book, what is sealed, and what is said of clients' parts.
-use Rattle.std.proofs.Common.{◌≡◌, ◌≢◌, inl, inr, ℕ, ◌+◌, ◌-◌, ◌<◌, ◌≤◌, ◌||◌, Bool, true, false, List, ◌++◌, length, drop, refl, None, ap, sym, ◌∙◌, subst, arith}
+use Rattle.std.proofs.Common.{◌≡◌, inl, inr, ℕ, ◌+◌, ◌-◌, ◌<◌, ◌≤◌, ◌||◌, true, false, List, ◌++◌, length, drop, refl, None, ap, sym, ◌∙◌, subst, arith}
 use Rattle.std.specs.Prelude.{◌&&◌, not}
 use Rattle.std.proofs.lemmas.Bool.{false≢true}
 use Rattle.std.proofs.lemmas.Bool.Decides.{eqb_tells}
@@ -12,9 +12,9 @@ use Rattle.file_graph.specs.Graph.{Graph, set_node}
 use Rattle.file_graph.specs.Units.{charge}
 use Rattle.log_record.specs.declared.format.Record.{Record}
 use Rattle.world_facts.specs.Limits.{IsWithin}
-use Rattle.world_facts.specs.Logs.{after_records, is_written, is_made_in, IsMadeOnce, units_in, IsPaid, IsNameless, Along, Keeps, NamesNone}
+use Rattle.world_facts.specs.Logs.{after_records, is_written, is_made_in, IsMadeOnce, units_in, IsPaid, Along, Keeps, NamesNone}
 use Rattle.world_facts.specs.World.{Account, Client, Kernel, undigested, records_of, change_of, at}
-use Rattle.world_facts.specs.Standing.{IsMarked, IsLogged, IsNumbered, Stands}
+use Rattle.world_facts.specs.Standing.{IsLogged, Stands}
 use Rattle.world_facts.specs.Opening.{idle_account}
 use Rattle.world_facts.specs.LeaseSteps.{also, without}
 use Rattle.world_facts.specs.BookSteps.{HasRoom, IsUnbooked}
@@ -23,71 +23,14 @@ use Rattle.world_facts.specs.Machine.{Machine, IsRunning, Sealed, sealed_of, und
 use Rattle.world_facts.proofs.Records.{either, both, records_stay, front_written, rest_written, units_append}
 use Rattle.world_facts.proofs.Made.{records_none, rest_made, once_rest, once_front, once_apart, made_append}
 use Rattle.world_facts.proofs.Along.{along_rest, along_front}
-use Rattle.world_facts.proofs.Paid.{paid_same, charge_records}
-use Rattle.world_facts.proofs.Keeping.{through, keep_same, keep_less}
+use Rattle.world_facts.proofs.Paid.{charge_records}
+use Rattle.world_facts.proofs.Keeping.{through}
 use Rattle.world_facts.proofs.Kernels.{each, units_moved, booked_moved}
 use Rattle.world_facts.proofs.Books.{of_also, of_without}
 use Rattle.world_facts.proofs.DigestedParts.{drop_more, both_of}
-use Rattle.world_facts.proofs.Reclaims.{charge_less, paid_less}
+use Rattle.world_facts.proofs.Reclaims.{charge_less}
 
--- ---- what is said of a part depends on the shared graph where its records write, and nowhere else
-
-logged_same : (g h : Graph) (writes : ℕ → Bool) (rs : List Record) → ((i : ℕ) → is_written i rs ≡ true → g i ≡ h i) → IsLogged g writes rs → IsLogged h writes rs
-logged_same g h writes rs same s = record {
-  leased = s.leased;
-  paid = paid_same rs g h same s.paid;
-  unnamed = keep_same (λ i o. IsNameless o) rs g h same s.unnamed;
-  limits = keep_same IsWithin rs g h same s.limits;
-}
-
-logged_less : (i : ℕ) (g h : Graph) (writes : ℕ → Bool) (rs : List Record) → h i ≡ None → ((j : ℕ) → j ≢ i → h j ≡ g j) → is_made_in i rs ≡ false → IsLogged g writes rs → IsLogged h writes rs
-logged_less i g h writes rs gone same unmade s = record {
-  leased = s.leased;
-  paid = paid_less i rs g h gone same unmade s.paid;
-  unnamed = keep_less (λ j o. IsNameless o) i rs g h gone same unmade s.unnamed;
-  limits = keep_less IsWithin i rs g h gone same unmade s.limits;
-}
-
-pub stands_same : (g h : Graph) (a : Account) (c : ℕ) (p : Client) → ((i : ℕ) → is_written i (records_of a p) ≡ true → g i ≡ h i) → Stands g a c p → Stands h a c p
-stands_same g h a c p same s = record { number = s.number; marked = s.marked; starts = s.starts; logged = logged_same g h p.writes (records_of a p) same s.logged; units = s.units; numbered = s.numbered; leased = s.leased; pinned = s.pinned; pending = s.pending; rests = s.rests }
-
-pub stands_less : (i : ℕ) (g h : Graph) (a : Account) (c : ℕ) (p : Client) → h i ≡ None → ((j : ℕ) → j ≢ i → h j ≡ g j) → is_made_in i (records_of a p) ≡ false → Stands g a c p → Stands h a c p
-stands_less i g h a c p gone same unmade s = record { number = s.number; marked = s.marked; starts = s.starts; logged = logged_less i g h p.writes (records_of a p) gone same unmade s.logged; units = s.units; numbered = s.numbered; leased = s.leased; pinned = s.pinned; pending = s.pending; rests = s.rests }
-
-pub sealed_same : (g h : Graph) (a : Account) (s : Sealed) → ((i : ℕ) → is_written i (undigested_sealed a s) ≡ true → g i ≡ h i) → StandsSealed g a s → StandsSealed h a s
-sealed_same g h a s same t = record { low = t.low; high = t.high; logged = logged_same g h s.writes (undigested_sealed a s) same t.logged; units = t.units; made = t.made; once = t.once }
-
-pub sealed_less : (i : ℕ) (g h : Graph) (a : Account) (s : Sealed) → h i ≡ None → ((j : ℕ) → j ≢ i → h j ≡ g j) → is_made_in i (undigested_sealed a s) ≡ false → StandsSealed g a s → StandsSealed h a s
-sealed_less i g h a s gone same unmade t = record { low = t.low; high = t.high; logged = logged_less i g h s.writes (undigested_sealed a s) gone same unmade t.logged; units = t.units; made = t.made; once = t.once }
-
--- and on the account by what the part needs of it
-pub stands_account : (g : Graph) (a b : Account) (c : ℕ) (p : Client) → b.mark ≡ a.mark → p.spare + units_in (records_of a p) ≤ b.units → ((i : ℕ) → p.knows.granted i ≡ true → b.numbers i ≡ true) → ((i : ℕ) → is_made_in i (undigested a p) ≡ true → b.numbers i ≡ true) → ((i : ℕ) → p.pins i ≡ true → b.pins i ≡ true) → Stands g a c p → Stands g b c p
-stands_account g a b c p mark enough granted made pinned s = record {
-  number = s.number;
-  marked = subst (λ n. IsMarked n p.past p.sealed p.other) (sym mark) s.marked;
-  starts = s.starts;
-  logged = subst (λ n. IsLogged g p.writes ((drop (n - p.past) p.sealed ++ p.current) ++ change_of p.begun)) (sym mark) s.logged;
-  units = subst (λ n. p.spare + units_in ((drop (n - p.past) p.sealed ++ p.current) ++ change_of p.begun) ≤ b.units) (sym mark) enough;
-  numbered = subst (λ n. IsNumbered b.numbers p.knows.granted (drop (n - p.past) p.sealed ++ p.current)) (sym mark) (record { made = made; once = s.numbered.once; granted = granted; unused = s.numbered.unused });
-  leased = s.leased;
-  pinned = record { opened = s.pinned.opened; booked = pinned };
-  pending = s.pending;
-  rests = s.rests;
-}
-
-pub sealed_account : (g : Graph) (a b : Account) (s : Sealed) → b.mark ≡ a.mark → units_in (undigested_sealed a s) ≤ b.units → ((i : ℕ) → is_made_in i (undigested_sealed a s) ≡ true → b.numbers i ≡ true) → StandsSealed g a s → StandsSealed g b s
-sealed_account g a b s mark enough made t = record {
-  low = subst (λ n. s.past ≤ n) (sym mark) t.low;
-  high = subst (λ n. n ≤ s.past + length s.records) (sym mark) t.high;
-  logged = subst (λ n. IsLogged g s.writes (drop (n - s.past) s.records)) (sym mark) t.logged;
-  units = subst (λ n. units_in (drop (n - s.past) s.records) ≤ b.units) (sym mark) enough;
-  made = subst (λ n. (i : ℕ) → is_made_in i (drop (n - s.past) s.records) ≡ true → b.numbers i ≡ true) (sym mark) made;
-  once = subst (λ n. (i : ℕ) → IsMadeOnce i (drop (n - s.past) s.records)) (sym mark) t.once;
-}
-
--- and on what is held for writing by where its records write
-pub sealed_leases : (g : Graph) (a : Account) (s : Sealed) (writes : ℕ → Bool) → ((i : ℕ) → is_written i (undigested_sealed a s) ≡ true → writes i ≡ true) → StandsSealed g a s → StandsSealed g a (record s { writes = writes })
-sealed_leases g a s writes held t = record { low = t.low; high = t.high; logged = record { leased = held; paid = t.logged.paid; unnamed = t.logged.unnamed; limits = t.logged.limits }; units = t.units; made = t.made; once = t.once }
+-- ---- what is sealed
 
 -- a client's sealed region, as a part of its own
 pub sealed_stands : (g : Graph) (a : Account) (c : ℕ) (p : Client) → Stands g a c p → StandsSealed g a (sealed_of p)

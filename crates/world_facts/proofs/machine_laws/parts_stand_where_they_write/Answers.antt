@@ -1,4 +1,4 @@
-use Rattle.world_facts.proofs.Machines.{stands_same, stands_less, stands_account, sealed_same, sealed_less, sealed_account, sealed_leases}
+use Rattle.world_facts.proofs.PartsStand.{stands_same, stands_less, stands_account, sealed_same, sealed_less, sealed_account, sealed_leases}
 use Rattle.world_facts.proofs.machine_laws.parts_stand_where_they_write.Goals as goal
 
 pub returns-clause-client : goal.returns-clause-client
