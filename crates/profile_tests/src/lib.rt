@@ -1,5 +1,5 @@
 //! Tests of graphs and records, over what the libraries make public: `file_graph` (`graphs`) and `log_record` (`records`). What
-//! calls are answered, and their records, is told by the rows of `script_rows`.
+//! calls are answered, and their records, is told by the rows of `script_rows` and `known_rows`.
 #![tactic(auto)]
 
 #[cfg(test)]
