@@ -15,7 +15,7 @@ use Rattle.block_map.specs.Map.{TierRuns, runs_in, lies_at, LieOnce, LieBelow}
 use Rattle.area_move.specs.Placed.{ArePlaced}
 use Rattle.area_move.proofs.Steps.{moved_in, moved_out, away_in, away_out}
 
-tier_is : (t u : Tier) → (t ≡ u) ⊎ (t ≢ u)
+pub tier_is : (t u : Tier) → (t ≡ u) ⊎ (t ≢ u)
 tier_is Fast Fast = inl refl
 tier_is Fast Block = inr (λ e. cc)
 tier_is Fast Slow = inr (λ e. cc)
@@ -27,7 +27,7 @@ tier_is Slow Block = inr (λ e. cc)
 tier_is Slow Slow = inl refl
 
 -- a block is of a run, or not
-run_cases : (first n k : ℕ) → ((first ≤ k) × (k < first + n)) ⊎ ((k < first) ⊎ (first + n ≤ k))
+pub run_cases : (first n k : ℕ) → ((first ≤ k) × (k < first + n)) ⊎ ((k < first) ⊎ (first + n ≤ k))
 run_cases first n k = elim (cases_lt k first) [
   | inl lt ↦ inr (inl lt)
   | inr ge ↦ elim (cases_lt k (first + n)) [ inl lt ↦ inl (ge, lt) | inr past ↦ inr (inr past) ]
@@ -51,13 +51,13 @@ rising_one low end (x ∷ xs) (suc i) (suc j) is at_i at_j same = ap suc (rising
 -- ---- where each block lies then
 
 module _ (first : ℕ) (tier : Tier) (places : List ℕ) (old new : TierRuns) (placed : ArePlaced first tier places old new) where
-  there : (k : ℕ) → first ≤ k → k < first + length places → lies_at new tier k ≡ Some (get_or places (k - first) 0)
+  pub there : (k : ℕ) → first ≤ k → k < first + length places → lies_at new tier k ≡ Some (get_or places (k - first) 0)
   there k low high = placed.there k ∙ moved_in first places (lies_at old tier k) k low high
 
-  gone : (t : Tier) (k : ℕ) → t ≢ tier → first ≤ k → k < first + length places → lies_at new t k ≡ None
+  pub gone : (t : Tier) (k : ℕ) → t ≢ tier → first ≤ k → k < first + length places → lies_at new t k ≡ None
   gone t k other low high = placed.others t other k ∙ away_in first (length places) (lies_at old t k) k low high
 
-  stays : (t : Tier) (k : ℕ) → (k < first) ⊎ (first + length places ≤ k) → lies_at new t k ≡ lies_at old t k
+  pub stays : (t : Tier) (k : ℕ) → (k < first) ⊎ (first + length places ≤ k) → lies_at new t k ≡ lies_at old t k
   stays t k far = elim (tier_is t tier) [
     | inl same ↦ subst (λ (u : Tier). lies_at new u k ≡ lies_at old u k) (sym same) (placed.there k ∙ moved_out first places (lies_at old tier k) k far)
     | inr other ↦ placed.others t other k ∙ away_out first (length places) (lies_at old t k) k far

@@ -14,15 +14,15 @@ use Rattle.area_move.specs.Given.{AreUsed, IsInUse}
 use Rattle.area_move.proofs.Given.{all_from, cons_cases, nothing, in_range}
 
 -- no number stands twice
-abbrev Once : List ℕ → Type 0
+abbrev pub Once : List ℕ → Type 0
 Once [] = Unit {0}
 Once (x ∷ xs) = (Contains xs x → ⊥) × Once xs
 
-once_rest : (xs ys : List ℕ) → Once (xs ++ ys) → Once ys
+pub once_rest : (xs ys : List ℕ) → Once (xs ++ ys) → Once ys
 once_rest [] ys once = once
 once_rest (x ∷ xs) ys once = once_rest xs ys once.1
 
-once_apart : (xs ys : List ℕ) (k : ℕ) → Once (xs ++ ys) → Contains xs k → Contains ys k → ⊥
+pub once_apart : (xs ys : List ℕ) (k : ℕ) → Once (xs ++ ys) → Contains xs k → Contains ys k → ⊥
 once_apart [] ys k once at there = nothing k at
 once_apart (x ∷ xs) ys k once at there = elim (cons_cases x xs k at) [
   | inl here ↦ once.0 (Contains-append_right xs ys x (subst (Contains ys) (sym here) there))
@@ -55,7 +55,7 @@ lies_there es first (suc n) p at = by (place_of es first) refl (λ there. lies_t
       | inr there ↦ later (rest there)
     ]
 
-places_once : (es : List Extent) (first count : ℕ) → IsOneToOne es → Once (places_of es first count)
+pub places_once : (es : List Extent) (first count : ℕ) → IsOneToOne es → Once (places_of es first count)
 places_once es first zero one = tt
 places_once es first (suc n) one = by (place_of es first) refl (places_once es (first + 1) n one)
   where
@@ -69,7 +69,7 @@ places_once es first (suc n) one = by (place_of es first) refl (places_once es (
 -- ---- runs of such places
 
 -- a number is before a run, behind it, or one of its blocks
-beside : (r : Run) (k : ℕ) → (Contains (run_blocks r) k → ⊥) → (k < r.first) ⊎ (r.first + r.count ≤ k)
+pub beside : (r : Run) (k : ℕ) → (Contains (run_blocks r) k → ⊥) → (k < r.first) ⊎ (r.first + r.count ≤ k)
 beside r k out = elim (cases_lt k r.first) [
   | inl lt ↦ inl lt
   | inr ge ↦ elim (cases_lt k (r.first + r.count)) [ inl lt ↦ absurd (out (in_range r.first r.count k ge lt)) | inr past ↦ inr past ]

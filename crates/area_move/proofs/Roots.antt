@@ -39,7 +39,7 @@ apart_from a b differ = elim (cases_Bool (a == 0)) [
   ]
 ]
 
-apart_parts : (a b : ℕ) → roots_apart a b ≡ true → a ≢ 0 → a ≢ b
+pub apart_parts : (a b : ℕ) → roots_apart a b ≡ true → a ≢ 0 → a ≢ b
 apart_parts a b apart some same =
     elim (cases_Bool (a == 0)) [
       | inl zero ↦ some (eqb-true a 0 zero)

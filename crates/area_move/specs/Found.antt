@@ -19,6 +19,12 @@ pub record IsWithinFile (slot : Slot) (first count : ℕ) : Type 0 where
   pub some : 1 ≤ count
   pub within : first + count ≤ length_of slot
 
+-- The run lies within the file at an inode.
+pub record HasFileRun (g : Sizes) (s : Store) (i first count : ℕ) : Type 0 where
+  pub file : Slot
+  pub slot_is : slot_read g s i ≡ Some file
+  pub within : IsWithinFile file first count
+
 -- The run may be moved; these are the slot, and where the blocks lie: once, each in a place of its own, where a file's may.
 pub record IsFileRun (g : Sizes) (s : Store) (i first count : ℕ) (to : Tier) (x : FileRun) : Type 0 where
   pub can : CanMove g s i first count to

@@ -3,3 +3,4 @@ pub mod Lists
 pub mod Moving
 pub mod Given
 pub mod Found
+pub mod Errors

@@ -1,6 +1,10 @@
 ghost use Rattle.std.specs.Prelude.{◌≡◌};
+ghost use Rattle.area_image.specs.Damage.{OnDamage};
 ghost use Rattle.area_move.specs.declared.error.RelocateError.TheVariants.{Memory};
+ghost use Rattle.area_move.specs.Errors.{relocate_error, IsTold};
 
+use area_image::AreaError;
+use block_alloc::AllocatorError;
 use std::alloc::AllocError;
 use thiserror::Error;
 
@@ -24,5 +28,28 @@ impl From<AllocError> for RelocateError {
 
     fn from(_e: AllocError) -> RelocateError {
         RelocateError::Memory
+    }
+}
+
+impl From<AllocatorError> for RelocateError {
+    ghost from_gives = { λ old new. new ≡ relocate_error old };
+
+    fn from(error: AllocatorError) -> RelocateError {
+        match error {
+            AllocatorError::NoBlock => RelocateError::NoBlock,
+            AllocatorError::Memory => RelocateError::Memory,
+        }
+    }
+}
+
+/// Why a run of blocks was not moved, where the media were not read or not written; no damage is found on media that are opened.
+pub fn told(error: AreaError) -> RelocateError
+    requires { OnDamage error (λ _ _. ⊥) }
+    ensures { IsTold error result }
+{
+    match error {
+        AreaError::DeviceFault => RelocateError::DeviceFault,
+        AreaError::Damaged { .. } => unreachable!(),
+        AreaError::Memory => RelocateError::Memory,
     }
 }

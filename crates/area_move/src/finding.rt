@@ -9,11 +9,12 @@ ghost use Rattle.block_map.specs.Map.{runs_in};
 ghost use Rattle.area_image.specs.Store.{store_of, slot_read, length_of, space_of};
 ghost use Rattle.area_image.specs.Spelled.{IsOpenable};
 ghost use Rattle.area_image.specs.Damage.{OnDamage};
+ghost use Rattle.area_image.specs.declared.error.AreaError.TheVariants.{Memory};
 ghost use Rattle.area_image.specs.Looks.{Looks};
 ghost use Rattle.area_image.specs.Map.{HasNoExtents};
 ghost use Rattle.area_move.specs.Lists.{LieAsIn};
 ghost use Rattle.area_move.specs.Moving.{CanMove};
-ghost use Rattle.area_move.specs.Found.{IsWithinFile, IsFileRun};
+ghost use Rattle.area_move.specs.Found.{IsWithinFile, IsFileRun, HasFileRun};
 
 use crate::mapping::map_of;
 use crate::testing::lie_above;
@@ -114,7 +115,7 @@ fn find_in<M: Media>(
 }
 
 /// A run of a file, if it may be moved to a tier: `None` where the inode is no file, the run has no block or more than 256, or some block of it lies in no faster tier. It
-/// makes four device calls at most. `Memory` where there was none for an extent block, or for where the file's blocks lie.
+/// makes four device calls at most. `Memory` where there was none for an extent block, or for where the file's blocks lie: only where there is a file that the run lies within.
 pub fn find_run<M: Media>(
     alloc: Global,
     journal: &mut Journal<M>,
@@ -127,6 +128,7 @@ pub fn find_run<M: Media>(
     ensures found { IfOk result (λ x. IfSome x (IsFileRun journal.old.geometry (store_of (M.seen journal.old.media)) inode first count to)) }
     ensures none { IfOk result (λ x. x ≡ None → CanMove journal.old.geometry (store_of (M.seen journal.old.media)) inode first count to → ⊥) }
     ensures only { IfErr result (λ e. OnDamage e (λ _ _. ⊥)) }
+    ensures memory { IfErr result (λ e. e ≡ Memory → HasFileRun journal.old.geometry (store_of (M.seen journal.old.media)) inode first count) }
     ensures looks { Looks M.moment M.seen M.left M.faults journal.old journal.new result }
 {
     if journal.has_failed() {

@@ -1,5 +1,5 @@
 // Blocks that are given up go back to their pools.
-ghost use Rattle.std.specs.Prelude.{◌≡◌, ◌≢◌, ◌≤◌, length};
+ghost use Rattle.std.specs.Prelude.{◌≡◌, ◌≢◌, ◌≤◌, ◌+◌, length};
 ghost use Rattle.tier_device.specs.declared.media.Tier.{Tier};
 ghost use Rattle.block_alloc.specs.Runs.{blocks_of};
 ghost use Rattle.free_pools.specs.Value.{data_pool};
@@ -14,6 +14,7 @@ pub fn give_data(pools: &mut Pools, tier: Tier, runs: &[Run])
     requires used { AreUsed (data_pool pools.old tier) runs.now }
     requires room { length runs.now ≤ (data_pool pools.old tier).room }
     ensures given { WereAdded (data_pool pools.old tier) (data_pool pools.new tier) (blocks_of runs.now) }
+    ensures room { (data_pool pools.old tier).room ≤ (data_pool pools.new tier).room + length runs.now }
     ensures others { (t : Tier) → t ≢ tier → data_pool pools.new t ≡ data_pool pools.old t }
     ensures nodes { pools.new.nodes ≡ pools.old.nodes }
 {
@@ -27,6 +28,7 @@ pub fn give_nodes(pools: &mut Pools, runs: &[Run])
     requires used { AreUsed pools.old.nodes runs.now }
     requires room { length runs.now ≤ pools.old.nodes.room }
     ensures given { WereAdded pools.old.nodes pools.new.nodes (blocks_of runs.now) }
+    ensures room { pools.old.nodes.room ≤ pools.new.nodes.room + length runs.now }
     ensures others { (t : Tier) → data_pool pools.new t ≡ data_pool pools.old t }
 {
     'runs: for place in 0..runs.len() {

@@ -48,6 +48,7 @@ fn push_root(old: u32, new: u32, out: &mut Vec<Run>) -> Result<(), AllocError>
 /// The blocks that listed extents of an inode by its old slot, in tiers where the new one names none: each as a run, three at most.
 pub fn roots_left(alloc: Global, old: &Slot, new: &Slot) -> Result<Vec<Run>, AllocError>
     ensures blocks { IfOk result (λ v. blocks_of v.items ≡ roots_left old.now new.now) }
+    ensures some { IfOk result (λ v. AllByRecursion HasBlock v.items) }
     ensures few { IfOk result (λ v. length v.items ≤ 3) }
 {
     let mut runs = Vec::new(alloc);

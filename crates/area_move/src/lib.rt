@@ -15,7 +15,7 @@ mod reading;
 mod rooting;
 mod testing;
 
-pub use error::RelocateError;
+pub use error::{RelocateError, told};
 pub use finding::{FileRun, find_run};
 pub use giving::{give_data, give_nodes};
 pub use laws::{placed_blocks_are_fit, places_can_be_given};

@@ -1,7 +1,8 @@
 // From the extents of an inode to a map in memory, and back.
-ghost use Rattle.std.specs.Prelude.{◌≡◌, ℕ, IfOk};
+ghost use Rattle.std.specs.Prelude.{◌≡◌, ℕ, IfOk, OnOk};
 ghost use Rattle.layout.specs.declared.slot.Slot.{Slot};
 ghost use Rattle.tier_device.specs.declared.media.Tier.{Tier};
+ghost use Rattle.extent_nodes.specs.Normal.{IsNormal};
 ghost use Rattle.extent_nodes.specs.Spelled.{LiesWithin};
 ghost use Rattle.block_map.specs.Map.{runs_in};
 ghost use Rattle.area_image.specs.Store.{space_of};
@@ -46,7 +47,8 @@ pub fn map_of(
 
 // The extent block of a tier, where it has a run.
 fn list_of(map: &BlockMap, tier: Tier, owner: u32) -> Result<Option<ExtentBlock>, AllocError>
-    ensures { IfOk result (IsListOf owner map.now tier) }
+    ensures list { IfOk result (IsListOf owner map.now tier) }
+    ensures normal { IsNormal (runs_in map.now tier) }
 {
     let list = map.extent_block(tier, owner)?;
     if list.extents().is_empty() {
@@ -57,7 +59,8 @@ fn list_of(map: &BlockMap, tier: Tier, owner: u32) -> Result<Option<ExtentBlock>
 
 /// The extent blocks of an inode whose blocks lie so: one for each tier that has some.
 pub fn extents_of(map: &BlockMap, owner: u32) -> Result<InodeExtents, AllocError>
-    ensures { IfOk result (AreListsOf owner map.now) }
+    ensures lists { IfOk result (AreListsOf owner map.now) }
+    ensures normal { OnOk result ((t : Tier) → IsNormal (runs_in map.now t)) }
 {
     let fast = list_of(map, Tier::Fast, owner)?;
     let block = list_of(map, Tier::Block, owner)?;

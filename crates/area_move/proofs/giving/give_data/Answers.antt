@@ -21,6 +21,7 @@ runs-init c = record {
   added = added_none (data_pool c.args.pools.now c.args.tier);
   used = c.requires.used;
   room = omega (arith, c.requires.room);
+  left = omega arith;
   others = λ t other. refl;
   nodes = refl;
 }
@@ -37,6 +38,7 @@ runs-preserved c =
       added = added_next o p q runs i none c.runs-test.true c.runs.invariant.added given;
       used = used_next p q runs i none c.runs-test.true given c.runs.invariant.used;
       room = omega (arith, given.room, c.runs.invariant.room);
+      left = omega (arith, given.room, c.runs.invariant.left);
       others = λ t other. c.give.ensures.others t other ∙ c.runs.invariant.others t other;
       nodes = c.give.ensures.nodes ∙ c.runs.invariant.nodes;
     }

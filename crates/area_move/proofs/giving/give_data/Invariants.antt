@@ -11,6 +11,7 @@ invariant-runs l = record {
   added : WereAdded (data_pool l.fn.pools l.tier) (data_pool l.pools l.tier) (blocks_of (take l.place l.runs));
   used : AreUsed (data_pool l.pools l.tier) (drop l.place l.runs);
   room : length l.runs ≤ (data_pool l.pools l.tier).room + l.place;
+  left : (data_pool l.fn.pools l.tier).room ≤ (data_pool l.pools l.tier).room + l.place;
   others : (t : Tier) → t ≢ l.tier → data_pool l.pools t ≡ data_pool l.fn.pools t;
   nodes : l.pools.nodes ≡ l.fn.pools.nodes;
 }

@@ -20,6 +20,7 @@ runs-init c = record {
   added = added_none (c.args.pools.now.nodes);
   used = c.requires.used;
   room = omega (arith, c.requires.room);
+  left = omega arith;
   others = λ t. refl;
 }
 
@@ -35,6 +36,7 @@ runs-preserved c =
       added = added_next o p q runs i none c.runs-test.true c.runs.invariant.added given;
       used = used_next p q runs i none c.runs-test.true given c.runs.invariant.used;
       room = omega (arith, given.room, c.runs.invariant.room);
+      left = omega (arith, given.room, c.runs.invariant.left);
       others = λ t. c.give_nodes.ensures.others t ∙ c.runs.invariant.others t;
     }
 

@@ -11,5 +11,6 @@ invariant-runs l = record {
   added : WereAdded l.fn.pools.nodes l.pools.nodes (blocks_of (take l.place l.runs));
   used : AreUsed l.pools.nodes (drop l.place l.runs);
   room : length l.runs ≤ l.pools.nodes.room + l.place;
+  left : l.fn.pools.nodes.room ≤ l.pools.nodes.room + l.place;
   others : (t : Tier) → data_pool l.pools t ≡ data_pool l.fn.pools t;
 }
