@@ -75,7 +75,7 @@ beside r k out = elim (cases_lt k r.first) [
   | inr ge ↦ elim (cases_lt k (r.first + r.count)) [ inl lt ↦ absurd (out (in_range r.first r.count k ge lt)) | inr past ↦ inr past ]
 ]
 
-run_used : (p : FreeBlocks) (r : Run) → 0 < r.count → ((k : ℕ) → Contains (run_blocks r) k → IsInUse p k) → IsUsed p r
+pub run_used : (p : FreeBlocks) (r : Run) → 0 < r.count → ((k : ℕ) → Contains (run_blocks r) k → IsInUse p k) → IsUsed p r
 run_used p r some each =
     let first = each r.first (in_range r.first r.count r.first (omega arith) (omega (arith, some))) in
     let last = each (r.first + r.count - 1) (in_range r.first r.count (r.first + r.count - 1) (omega (arith, some)) (omega (arith, some))) in
@@ -88,7 +88,7 @@ run_used p r some each =
       apart = all_from (λ k. (k < r.first) ⊎ (r.first + r.count ≤ k)) p.free (λ k at. beside r k (λ inside. (each k inside).used at));
     }
 
-runs_used : (p : FreeBlocks) (runs : List Run) → AllByRecursion HasBlock runs → Once (blocks_of runs) → ((k : ℕ) → Contains (blocks_of runs) k → IsInUse p k) → AreUsed p runs
+pub runs_used : (p : FreeBlocks) (runs : List Run) → AllByRecursion HasBlock runs → Once (blocks_of runs) → ((k : ℕ) → Contains (blocks_of runs) k → IsInUse p k) → AreUsed p runs
 runs_used p [] some once each = tt
 runs_used p (r ∷ rs) some once each = (
   run_used p r some.0 (λ k at. each k (Contains-append_left (run_blocks r) (blocks_of rs) k at)),

@@ -23,5 +23,5 @@ pub use leaving::{places_in, roots_left};
 pub use mapping::{extents_of, map_of};
 pub use placing::put_runs;
 pub use reading::read_run;
-pub use rooting::slot_for;
+pub use rooting::{root_for, slot_for};
 pub use testing::{is_faster, lie_above};

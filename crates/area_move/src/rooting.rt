@@ -11,8 +11,8 @@ ghost use Rattle.area_move.specs.Lists.{root_for, HasRoots, SpareFits};
 use area_image::InodeExtents;
 use layout::{ExtentBlock, Slot};
 
-// The root of a tier for new extents there.
-fn root_for(old: u32, list: &Option<ExtentBlock>, spare: u32) -> u32
+/// The root of a tier for new extents there: none where there are none, else the old one, or the spare one where there was none.
+pub fn root_for(old: u32, list: &Option<ExtentBlock>, spare: u32) -> u32
     ensures { result ≡ root_for old list.now spare }
 {
     match list {
