@@ -3,8 +3,9 @@
 tools/failing_allocations.py [--quick] [PROGRAM..].
 
 They are those that read scripts, records, blocks and media: `strata_sh` over its tour and the scripts of `script_rows`, `strata_first`
-with and without stops, `file_log` over files with and without records, and torn and damaged ones, `media_rows`, `format_rows` and
-`area_rows` row by row over their tables, where damaged images and worlds are read. A run ends as it should where it tells the want of
+with and without stops, `file_log` over files with and without records, and torn and damaged ones, `media_rows`, `format_rows`,
+`image_rows` and `area_rows` row by row over their tables, where damaged images and worlds are read; rows that must not hold are left
+out. A run ends as it should where it tells the want of
 memory by its name, or says what it says with all memory there. It does not where it answers anything else: damage, no such entry, or
 fewer bytes. Nor does a row that tells a want of memory while no allocation failed. How each program tells it stands at its function
 below.
@@ -24,6 +25,8 @@ import typing
 
 TOP = os.path.dirname(os.path.dirname(os.path.abspath(__file__)))
 CRATES = f"{TOP}/crates"
+# How the rows begin that must not hold.
+NOT_TO_HOLD = "must not hold"
 # How the crates' errors display the want of memory. A `MemMedia` keeps a record of its calls; where the record can't grow, the call fails.
 NAMES = ("out of memory", "ENOMEM", "the device failed")
 ROOM = tempfile.TemporaryDirectory(prefix="allocations-")
@@ -180,6 +183,8 @@ def script_rows():
     with open(f"{CRATES}/script_rows/stdin", encoding="utf-8") as file:
         rows = file.read().split("\n== ")[1:]
     for row in rows:
+        if row.startswith(NOT_TO_HOLD):
+            continue
         lines, words = script_row(row)
         if words[0] == "strata_sh":
             yield script, (lines, words[1:], row.partition("\n")[0])
@@ -262,7 +267,7 @@ def logs():
     return [(log_reads, (path, name)) for name, path in files.items()] + [(log_appends, (before,)) for before in (0, 4)]
 
 
-# A row of a table. What format_rows and media_rows say in place of its answer stands between `says` and `not`.
+# A row of a table. What format_rows, image_rows and media_rows say in place of its answer stands between `says` and `not`.
 
 SAYS = re.compile(r"^(.*)\n  says (.*)\n  not  (.*)\n", re.M)
 
@@ -283,7 +288,7 @@ def said_well(said, answer):
     return len(rest) < len(found) and has_in_order(items(answer), rest)
 
 
-# format_rows and area_rows tell the want of memory of what they try as the crates name it, and their own by one of these.
+# format_rows, image_rows and area_rows tell the want of memory of what they try as the crates name it, and their own by one of these.
 OF_ITS_OWN = ("no memory for the report\n", "no memory for a row\n0 rows hold, 1 do not\n")
 
 
@@ -301,7 +306,8 @@ def row_ends_well(run):
 
 def row(program, text):
     """A row of a table, by the program that reads it."""
-    whole, runs = all_of(program, text, folder=f"{CRATES}/{program}/data")
+    data = f"{CRATES}/{program}/data"
+    whole, runs = all_of(program, text, folder=data if os.path.isdir(data) else None)
     if whole.status or whole.out != "1 rows hold, 0 do not\n":
         return Tally(0, 0, [f"the row itself: {text.partition(': ')[0]}"])
     return tally(f"{program}, {text.partition(': ')[0]}", whole, runs, row_ends_well)
@@ -316,7 +322,7 @@ def rows_of(path):
                 rows[-1] += f"{line}\n"
             elif line and not line.startswith("#"):
                 rows.append(f"{line}\n")
-    return rows
+    return [it for it in rows if not it.startswith(NOT_TO_HOLD)]
 
 
 # A call of a medium that can't note it fails, and all others answer as if that call were not there.
@@ -370,7 +376,7 @@ def jobs_of(program):
     return [(row, (program, it)) for it in rows_of(f"{CRATES}/{program}/stdin")]
 
 
-PROGRAMS = ("strata_sh", "strata_first", "file_log", "media_rows", "format_rows", "area_rows")
+PROGRAMS = ("strata_sh", "strata_first", "file_log", "media_rows", "format_rows", "image_rows", "area_rows")
 
 
 def main():

@@ -5,21 +5,23 @@
 #![tactic(auto)]
 
 mod image;
-mod input;
 mod opened;
-mod row;
-mod text;
 mod walk;
 
-use row::Rows;
-use std::io::{self, Read};
+use opened::tell_opened;
+use row_tables::{Input, Teller, Text, run_table};
+use std::io;
 use std::process::ExitCode;
 
 fn main(rt: HostRuntime) -> io::Result<ExitCode> {
-    let mut table = String::new(rt.alloc());
-    rt.stdin().read_to_string(&mut table)?;
-    let mut rows = Rows::new(rt.alloc());
-    rows.try_table(&rt, &table);
-    println!(rt; "{}", rows.report())?;
-    Ok(rows.status())
+    run_table(&rt, &Worlds)
+}
+
+// The media that are opened.
+struct Worlds;
+
+impl Teller for Worlds {
+    fn tell(&self, rt: &HostRuntime, input: &mut Input<'_>, out: &mut Text) {
+        tell_opened(rt, input, out);
+    }
 }

@@ -3,12 +3,11 @@ ghost use Rattle.tier_device.specs.declared.media.Tier.{Tier};
 ghost use Rattle.tier_device.specs.Media.{AtRest};
 
 use crate::image::Image;
-use crate::input::Input;
-use crate::text::Text;
 use crate::walk::put_tree;
 use area_image::{AreaError, OpenArea, open_area};
 use batch_journal::{Journal, JournalError};
-use layout::{Marks, What};
+use layout::What;
+use row_tables::{Input, Structure, Text};
 use std::alloc::Global;
 use std::fs;
 use tier_device::{Media, Tier};
@@ -65,7 +64,7 @@ fn put_area<M: Media + Drop>(alloc: Global, journal: Journal<M>, out: &mut Text)
     let mut journal = journal;
     match open_area(alloc, &mut journal) {
         Ok(area) => {
-            put_marks(&area.marks, out);
+            area.marks.tell(out);
             out.field("; charge ", &area.charge);
             put_used(&area, out);
             put_tree(alloc, journal, out);
@@ -87,15 +86,6 @@ fn put_damage(what: What, block: u32, out: &mut Text) {
         What::FileData => "data",
     });
     out.field(" in block ", &block);
-}
-
-fn put_marks(marks: &Marks, out: &mut Text) {
-    out.put("marks");
-    for mark in &marks.clients {
-        out.field(" ", &mark.generation);
-        out.field(":", &mark.done);
-    }
-    out.field(", digests ", &marks.digests);
 }
 
 // The blocks in use of each tier that has some.

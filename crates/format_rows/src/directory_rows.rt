@@ -1,9 +1,8 @@
 // Directories of many entries, block by block.
-use crate::data_words::{Input, filled};
-use crate::words::Text;
 use file_graph::Kind;
 use layout::{BLOCK, DirBlock, DirEntry, LayoutError, MAX_IN_BLOCK};
 use posix_calls::Name;
+use row_tables::{Input, Text, filled};
 use std::alloc::{AllocError, Global};
 
 /// `whole-directory OWNER COUNT BLOCK AT SIZE`: how many blocks so many entries take, how many of these are spelled by the same

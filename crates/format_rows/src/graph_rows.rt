@@ -1,10 +1,8 @@
 // What the effects of records do to a graph.
-use crate::data_words::Input;
-use crate::record_rows::put_record;
-use crate::words::Text;
 use file_graph::{Effects, PlainEntry, PlainGraph};
 use log_record::{RecordError, read_record};
 use posix_calls::MAX_INODE;
+use row_tables::{Input, Text, put_record};
 
 /// `graph DATA ..`: the records that the words spell, one each, and the graph after them, which begins with the root alone.
 pub fn tell_graph(input: &mut Input<'_>, out: &mut Text) {

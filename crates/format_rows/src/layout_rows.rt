@@ -1,12 +1,10 @@
 // The structures of the shared media, each by its bytes.
-use crate::data_words::Input;
-use crate::structures::put_reading;
-use crate::words::Text;
 use file_graph::is_inode;
 use layout::{
     BLOCK, DirBlock, ExtentBlock, Geometry, Marks, SLOT_SIZE, Slot, Space, Super, slot_block,
     slot_byte,
 };
+use row_tables::{Input, Text, put_reading};
 use tier_device::Tier;
 
 /// The number that a block has where a row names none.
@@ -92,19 +90,6 @@ fn put_extents(geometry: &Geometry, space: Space, input: &mut Input<'_>, out: &m
 fn space_of(input: &mut Input<'_>) -> Space {
     match input.word() {
         "directory" => Space::Nodes,
-        word => Space::Data(tier_of(word, input)),
-    }
-}
-
-/// The tier that a word names.
-pub fn tier_of(word: &str, input: &mut Input<'_>) -> Tier {
-    match word {
-        "fast" => Tier::Fast,
-        "block" => Tier::Block,
-        "slow" => Tier::Slow,
-        _ => {
-            input.fail();
-            Tier::Fast
-        }
+        word => Space::Data(input.tier(word)),
     }
 }

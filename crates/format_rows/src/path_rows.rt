@@ -1,7 +1,6 @@
 // Readings of paths.
-use crate::data_words::Input;
-use crate::words::Text;
 use posix_calls::Path;
+use row_tables::{Input, Text};
 use script_lines::PathText;
 
 /// `path PATH`, where `%hh` is a byte.

@@ -1,10 +1,10 @@
-// What stands in a row or in a line of a world.
+// What stands in a row's input.
 use layout::Geometry;
 use script_lines::DataText;
 use std::alloc::Global;
 use tier_device::Tier;
 
-/// A text that is read from its front on. What can't be read is kept: the row does not hold.
+/// A row's input, which is read from its front on. What can't be read is kept: the row does not hold.
 #[derive(Clone, Copy)]
 pub struct Input<'a> {
     alloc: Global,
@@ -67,13 +67,18 @@ impl<'a> Input<'a> {
         }
     }
 
-    /// `U,F,B,S`, the units and the data blocks of the tiers.
-    pub fn geometry(&mut self) -> Option<Geometry> {
+    /// `U,F,B,S`, the units and the data blocks of the tiers, where the format allows them.
+    pub fn any_geometry(&mut self) -> Option<Geometry> {
         let units = self.number_before(',');
         let fast = self.number_before(',');
         let block = self.number_before(',');
         let slow = self.number();
-        let found = Geometry::new(units, fast, block, slow);
+        Geometry::new(units, fast, block, slow)
+    }
+
+    /// The same of media that there may be.
+    pub fn geometry(&mut self) -> Option<Geometry> {
+        let found = self.any_geometry();
         if found.is_none() {
             self.fail();
         }
@@ -93,16 +98,34 @@ impl<'a> Input<'a> {
         }
     }
 
-    /// The bytes of runs `hhxN` joined by `+`, in all that is left.
+    /// The bytes of runs `hhxN` joined by `+`, or of `-`, in all words that are left.
     pub fn data(&mut self) -> Vec<u8> {
-        let text = DataText::read(self.rest().as_bytes());
-        let bytes = text.map(|text| text.to_bytes(self.alloc));
-        match bytes {
-            Some(Ok(bytes)) => bytes.into_vec(),
-            _ => {
+        let mut bytes = Vec::new(self.alloc);
+        for word in self.rest().split(' ') {
+            if !add_data(self.alloc, &mut bytes, word) {
                 self.fail();
-                Vec::new(self.alloc)
             }
         }
+        bytes
+    }
+
+    /// The same, with zeros behind it where it is shorter than this.
+    pub fn padded(&mut self, size: usize) -> Vec<u8> {
+        let mut bytes = self.data();
+        if bytes.len() < size && bytes.resize(size, 0).is_err() {
+            self.fail();
+        }
+        bytes
+    }
+}
+
+// Whether a word could be read, and there was memory for its bytes.
+fn add_data(alloc: Global, bytes: &mut Vec<u8>, word: &str) -> bool {
+    match DataText::read(word.as_bytes()) {
+        Some(text) => match text.to_bytes(alloc) {
+            Ok(more) => bytes.extend_from_slice(more.as_slice()).is_ok(),
+            Err(_) => false,
+        },
+        None => false,
     }
 }

@@ -4,10 +4,8 @@ ghost use Rattle.tier_device.specs.declared.media.Tier.{Tier};
 ghost use Rattle.tier_device.specs.Media.{AtRest};
 ghost use Rattle.tier_device.specs.Memory.{IsAtRest};
 
-use crate::data_words::{Input, filled};
-use crate::record_rows::put_record;
-use crate::words::Text;
 use log_record::Record;
+use row_tables::{Input, Text, filled, put_record};
 use std::alloc::{AllocError, Global};
 use tier_device::{Media, MemMedia, Tier};
 use update_log::{HEADER, REGION_SIZE, Region, RegionError, Stage};

@@ -1,5 +1,5 @@
 // The structures of the shared media in words.
-use crate::words::Text;
+use crate::text::Text;
 use layout::{DirBlock, ExtentBlock, Marks, Slot, Super};
 use std::fmt::Display;
 use tier_device::Tier;

@@ -2,9 +2,8 @@
 ghost use Rattle.std.specs.Prelude.{IfOk};
 ghost use Rattle.tier_device.specs.Memory.{IsAtRest};
 
-use crate::data_words::{Input, filled};
-use crate::layout_rows::tier_of;
 use layout::{BLOCK, Geometry};
+use row_tables::{Input, filled, overwrite};
 use std::alloc::{AllocError, Global};
 use tier_device::{MemMedia, Tier};
 use update_log::REGION_SIZE;
@@ -106,21 +105,12 @@ fn region_start(geometry: &Geometry, index: usize) -> usize {
         .saturating_add(REGION_SIZE.saturating_mul(index))
 }
 
-// Whether there is room for it.
-fn overwrite(bytes: &mut [u8], at: usize, text: &[u8]) -> bool {
-    if bytes.len() < at || bytes.len() - at < text.len() {
-        return false;
-    }
-    bytes[at..at + text.len()].copy_from_slice(text);
-    true
-}
-
 // The place that the words in front of a line name.
 fn place_of(geometry: &Geometry, words: &mut Input<'_>) -> usize {
     match words.word() {
         "region" => region_place(geometry, words),
         word => {
-            let tier = tier_of(word, words);
+            let tier = words.tier(word);
             let at = BLOCK.saturating_mul(words.number() as usize);
             tier_start(geometry, tier).saturating_add(at)
         }

@@ -3,18 +3,16 @@ ghost use Rattle.std.specs.Prelude.{◌≤◌};
 ghost use Rattle.tier_device.specs.declared.media.Tier.{Tier};
 ghost use Rattle.tier_device.specs.Media.{AtRest};
 
-use crate::data_words::{Input, filled};
 use crate::journal_rows::read_home;
 use crate::media::{Image, REGIONS};
 use crate::region_rows::{found_in, put_sizes};
-use crate::structures::put_reading;
-use crate::words::Text;
 use batch_journal::{Journal, JournalError};
 use layout::{
     BLOCK, DirBlock, Extent, ExtentBlock, Geometry, MARKS_BLOCK, Marks, SLOT_SIZE, Slot, Space,
     Super, slot_block, slot_byte,
 };
 use posix_calls::MAX_INODE;
+use row_tables::{Input, Text, filled, put_reading};
 use std::alloc::Global;
 use std::fs;
 use tier_device::{Media, Tier};

@@ -3,12 +3,10 @@ ghost use Rattle.std.specs.Prelude.{◌≡◌, ◌<◌, ◌≤◌, length};
 ghost use Rattle.tier_device.specs.declared.media.Tier.{Tier};
 ghost use Rattle.tier_device.specs.Media.{AtRest};
 
-use crate::data_words::{Input, filled};
 use crate::media::Image;
-use crate::structures::put_reading;
-use crate::words::Text;
 use batch_journal::{Journal, JournalError};
 use layout::{BLOCK, Super};
+use row_tables::{Input, Text, filled, put_reading};
 use std::alloc::Global;
 use tier_device::{Media, Tier};
 

@@ -1,6 +1,7 @@
 // What is told of a row.
 ghost use Rattle.std.specs.Prelude.{◌<◌, IfSome, length};
 
+use file_graph::Kind;
 use script_lines::{is_plain, run_len};
 use std::alloc::Global;
 use std::fmt::Display;
@@ -79,6 +80,23 @@ impl Text {
         if bytes.is_empty() {
             self.put("-");
         }
+    }
+
+    /// An entry of a directory.
+    pub fn entry(&mut self, name: &[u8], inode: u32, kind: Kind) {
+        self.put(" ");
+        self.name(name);
+        self.field(" ", &inode);
+        self.kind(" ", kind);
+    }
+
+    /// What a node is, behind some words.
+    pub fn kind(&mut self, words: &str, kind: Kind) {
+        self.put(words);
+        self.put(match kind {
+            Kind::File => "file",
+            Kind::Directory => "directory",
+        });
     }
 
     fn hex(&mut self, words: &str, byte: u8) {
