@@ -5,3 +5,7 @@ pub mod DeviceCalls
 pub mod Options
 pub mod Views
 pub mod Ends
+pub mod Wiping
+pub mod WipeCalls
+pub mod WipeViews
+pub mod Counts

@@ -9,8 +9,12 @@ use Rattle.update_log.specs.declared.stage.Stage.TheVariants as stages
 use Rattle.update_log.specs.Frames.{header, before_gate, behind_gate}
 use Rattle.update_log.specs.Stage.{IsFront, IsStaged, BeforeOrAfter, IsResting, IsBegun, IsKept, IsWhole, FitsItsStage, IsAppending, AtStage, HasRecord, payload_in}
 use Rattle.update_log.specs.Calls.{HasMoved, HasFailed}
-use Rattle.update_log.proofs.Reading.{is_before, is_either, front_push}
+use Rattle.update_log.proofs.Reading.{is_before, is_either, front_push, front_none}
 use Rattle.update_log.proofs.Writes.{torn_shut, written_staged, torn_gate, written_gate}
+
+-- while a region is wiped the front is its header
+stands_header : (end : ℕ) (seen : List ℕ) → length seen ≡ 262144 → take end seen ≡ header seen → IsFront (take end seen)
+stands_header end seen size is = subst IsFront (sym is) (front_none seen (omega (arith, size)))
 
 -- at every stage the front stands
 pub stands_of : (end : ℕ) (stage : Stage) (body seen : List ℕ) (left : List ℕ → Type 0) → FitsItsStage end stage body seen left → IsFront (take end seen)
@@ -21,6 +25,10 @@ stands_of end stages.Written body seen left sound = sound.at_stage.begun.stands
 stands_of end stages.Kept body seen left sound = sound.at_stage.stands
 stands_of end stages.Opened body seen left sound = sound.at_stage.kept.stands
 stands_of end stages.Failed body seen left sound = sound.at_stage.stands
+stands_of end stages.Closing body seen left sound = stands_header end seen sound.size sound.at_stage.is_header
+stands_of end stages.Closed body seen left sound = stands_header end seen sound.size sound.at_stage.is_header
+stands_of end stages.Naming body seen left sound = stands_header end seen sound.size sound.at_stage.is_header
+stands_of end stages.WipeFailed body seen left sound = stands_header end seen sound.size sound.at_stage.is_header
 
 pub length-body : (payload : List ℕ) → length (behind_gate payload) ≡ length payload + 5
 length-body payload =
@@ -53,6 +61,10 @@ module _ (end : ℕ) (body seen : List ℕ) (left : List ℕ → Type 0) where
       let s = sound.at_stage.kept.staged c l in
       either_of sound.at_stage.kept.stands sound.record_begun s.0 sound.at_stage.kept.rest c s.1
   either stages.Failed begun sound c l = absurd begun
+  either stages.Closing begun sound c l = absurd begun
+  either stages.Closed begun sound c l = absurd begun
+  either stages.Naming begun sound c l = absurd begun
+  either stages.WipeFailed begun sound c l = absurd begun
 
   module _ (sized : (d : List ℕ) → left d → length d ≡ length seen) (now : left seen) (seen' : List ℕ) (left' : List ℕ → Type 0) (now' : left' seen') where
     long : end < 262144 → length seen ≡ 262144 → length front ≡ end

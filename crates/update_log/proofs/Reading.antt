@@ -117,14 +117,21 @@ pub front_push : (front payload : List ℕ) → IsFront front → length payload
 front_push front payload stands small is_spelled =
     front_grows front (little_bytes 4 (length payload)) payload stands (length-bytes_low_first 0 4 (length payload)) (λ x. little_number-reads_back 4 (length payload) x (omega (arith, small))) is_spelled
 
--- the header is a front
+-- the header is a front, with no payload before its gate
+behind_header : (content : List ℕ) → 16 ≤ length content → (gate : ℕ) (rest : List ℕ) → payloads (take 16 content ++ gate ∷ rest) ≡ payloads_from 0 (gate ∷ rest)
+behind_header content le gate rest =
+    subst (λ n. payloads_from n (take 16 content ++ gate ∷ rest) ≡ payloads_from 0 (gate ∷ rest)) (length-take-le 16 content le) (payloads_past (take 16 content) (gate ∷ rest))
+
+pub none_in_header : (content : List ℕ) → 16 ≤ length content → before_gate (take 16 content) ≡ []
+none_in_header content le = behind_header content le 0 [] ∙ payloads_shut 0 [] (omega arith)
+
 pub front_none : (content : List ℕ) → 16 ≤ length content → IsFront (take 16 content)
 front_none content le =
-    let long : length (take 16 content) ≡ 16 = length-take-le 16 content le in
-    let each : (gate : ℕ) (rest : List ℕ) → payloads (take 16 content ++ gate ∷ rest) ≡ payloads_from 0 (gate ∷ rest) = λ gate rest.
-    subst (λ n. payloads_from n (take 16 content ++ gate ∷ rest) ≡ payloads_from 0 (gate ∷ rest)) long (payloads_past (take 16 content) (gate ∷ rest)) in
-    let alone : before_gate (take 16 content) ≡ [] = each 0 [] ∙ payloads_shut 0 [] (omega arith) in
-    record { long = omega (arith, long, ap framed alone); ends = λ gate rest. each gate rest ∙ ap (λ l. l ++ payloads_from 0 (gate ∷ rest)) (sym alone) }
+    let alone = none_in_header content le in
+    record {
+      long = omega (arith, length-take-le 16 content le, ap framed alone);
+      ends = λ gate rest. behind_header content le gate rest ∙ ap (λ l. l ++ payloads_from 0 (gate ∷ rest)) (sym alone);
+    }
 
 -- a front of a content, and the whole record that stands behind it
 pub front_more : (content : List ℕ) (end : ℕ) → end < length content → get_or content end 0 ≡ 165 → IsFront (take end content) → is_whole (drop (end + 1) content) ≡ true → Grown (take end content) (payload_of (drop (end + 1) content)) (take (end + 5 + payload_length (drop (end + 1) content)) content)

@@ -16,6 +16,7 @@ use Rattle.update_log.specs.declared.stage.Stage.{Stage}
 use Rattle.update_log.specs.declared.stage.Stage.TheVariants as stages
 use Rattle.update_log.specs.Frames.{payloads, records, header, before_gate, spelled, joined, behind_gate, is_payload}
 use Rattle.update_log.specs.Stage.{IsFront, IsShut, IsWhole, HasRecord, BeforeOrAfter, IsResting, FitsItsStage, AtStage, IsAppending, IsIdle, payload_in, next}
+use Rattle.update_log.specs.Wipe.{IsWiping}
 use Rattle.update_log.specs.View.{begun_in, WithOrWithout}
 use Rattle.update_log.proofs.Reading.{payloads_closed}
 use Rattle.update_log.specs.Calls.{payloads_after}
@@ -58,6 +59,10 @@ begun_appending stages.Written payload h = refl
 begun_appending stages.Kept payload h = refl
 begun_appending stages.Opened payload h = refl
 begun_appending stages.Failed payload h = absurd h
+begun_appending stages.Closing payload h = absurd h
+begun_appending stages.Closed payload h = absurd h
+begun_appending stages.Naming payload h = absurd h
+begun_appending stages.WipeFailed payload h = absurd h
 
 -- where a record is being appended its bytes are whole
 pub whole_at : (stage : Stage) (end : ℕ) (body : List ℕ) → IsAppending stage → HasRecord stage end body → IsWhole end body
@@ -68,6 +73,10 @@ whole_at stages.Written end body h has = has
 whole_at stages.Kept end body h has = has
 whole_at stages.Opened end body h has = has
 whole_at stages.Failed end body h has = absurd h
+whole_at stages.Closing end body h has = absurd h
+whole_at stages.Closed end body h has = absurd h
+whole_at stages.Naming end body h has = absurd h
+whole_at stages.WipeFailed end body h has = absurd h
 
 join_one : (rs : List Record) (o : Option Record) → rs ++ cons_option o [] ≡ joined rs o
 join_one rs None = append-nil rs
@@ -107,6 +116,10 @@ sound_kept end stage body seen seen' left left' same fewer sound =
     fewer_at stages.Kept a = record { stands = a.stands; rest = a.rest; staged = λ c l. a.staged c (fewer c l) }
     fewer_at stages.Opened a = record { kept = record { stands = a.kept.stands; rest = a.kept.rest; staged = λ c l. a.kept.staged c (fewer c l) }; opened = a.opened }
     fewer_at stages.Failed a = record { stands = a.stands; either = λ c l. a.either c (fewer c l) }
+    fewer_at stages.Closing a = record { is_header = a.is_header; shut = a.shut; torn = λ c l. a.torn c (fewer c l) }
+    fewer_at stages.Closed a = record { is_header = a.is_header; shut = a.shut; rest = λ c l. a.rest c (fewer c l) }
+    fewer_at stages.Naming a = record { is_header = a.is_header; shut = a.shut; torn = λ c l. a.torn c (fewer c l) }
+    fewer_at stages.WipeFailed a = record { is_header = a.is_header; either = λ c l. a.either c (fewer c l) }
 
 -- after a read a stop leaves what it left before
 pub same_left : (before now : ℕ) (old new : ℕ → Tier → List ℕ → Type 0) → now ≡ before → Keeps before now old new → (c : List ℕ) → new now Fast c → old before Fast c
@@ -191,15 +204,19 @@ idle_either end stage body seen left sound idle o c l =
     let shown = idle_now end stage body seen left sound idle c l in
     record { header_is = ap header shown.0 ∙ sym (header_front end seen (stands_of end stage body seen left sound)); records_are = inl shown.1 }
 
--- and of any region
-pub either_now : (end : ℕ) (stage : Stage) (body seen : List ℕ) (left : List ℕ → Type 0) → FitsItsStage end stage body seen left → (c : List ℕ) → left c → WithOrWithout (header (take end seen)) (spelled (before_gate (take end seen))) (begun_in stage (payload_in body)) c
-either_now end stages.Resting body seen left sound c l = idle_either end stages.Resting body seen left sound (inl refl) None c l
-either_now end stages.Foreign body seen left sound c l = idle_either end stages.Foreign body seen left sound (inr refl) None c l
-either_now end stages.Begun body seen left sound c l = begun_now end stages.Begun body seen left sound (inl tt) c l
-either_now end stages.Written body seen left sound c l = begun_now end stages.Written body seen left sound (inl tt) c l
-either_now end stages.Kept body seen left sound c l = begun_now end stages.Kept body seen left sound (inl tt) c l
-either_now end stages.Opened body seen left sound c l = begun_now end stages.Opened body seen left sound (inl tt) c l
-either_now end stages.Failed body seen left sound c l = begun_now end stages.Failed body seen left sound (inr refl) c l
+-- and of any region that is not being wiped
+pub either_now : (end : ℕ) (stage : Stage) (body seen : List ℕ) (left : List ℕ → Type 0) → FitsItsStage end stage body seen left → (IsWiping stage → ⊥) → (c : List ℕ) → left c → WithOrWithout (header (take end seen)) (spelled (before_gate (take end seen))) (begun_in stage (payload_in body)) c
+either_now end stages.Resting body seen left sound still c l = idle_either end stages.Resting body seen left sound (inl refl) None c l
+either_now end stages.Foreign body seen left sound still c l = idle_either end stages.Foreign body seen left sound (inr refl) None c l
+either_now end stages.Begun body seen left sound still c l = begun_now end stages.Begun body seen left sound (inl tt) c l
+either_now end stages.Written body seen left sound still c l = begun_now end stages.Written body seen left sound (inl tt) c l
+either_now end stages.Kept body seen left sound still c l = begun_now end stages.Kept body seen left sound (inl tt) c l
+either_now end stages.Opened body seen left sound still c l = begun_now end stages.Opened body seen left sound (inl tt) c l
+either_now end stages.Failed body seen left sound still c l = begun_now end stages.Failed body seen left sound (inr refl) c l
+either_now end stages.Closing body seen left sound still c l = absurd (still tt)
+either_now end stages.Closed body seen left sound still c l = absurd (still tt)
+either_now end stages.Naming body seen left sound still c l = absurd (still tt)
+either_now end stages.WipeFailed body seen left sound still c l = absurd (still tt)
 
 -- the stages that an append passes through, and its end
 pub next_resting : (stage : Stage) → IsAppending stage → next stage ≡ stages.Resting → stage ≡ stages.Opened
@@ -210,6 +227,10 @@ next_resting stages.Written h e = cc
 next_resting stages.Kept h e = cc
 next_resting stages.Opened h e = refl
 next_resting stages.Failed h e = absurd h
+next_resting stages.Closing h e = absurd h
+next_resting stages.Closed h e = absurd h
+next_resting stages.Naming h e = absurd h
+next_resting stages.WipeFailed h e = absurd h
 
 pub next_going : (stage : Stage) → IsAppending stage → next stage ≢ stages.Resting → (ps : List (List ℕ)) (payload : List ℕ) → (payloads_after stage ps payload ≡ ps) × (begun_in (next stage) payload ≡ begun_in stage payload)
 next_going stages.Resting h apart ps payload = absurd h
@@ -219,3 +240,7 @@ next_going stages.Written h apart ps payload = (refl, refl)
 next_going stages.Kept h apart ps payload = (refl, refl)
 next_going stages.Opened h apart ps payload = absurd (apart refl)
 next_going stages.Failed h apart ps payload = absurd h
+next_going stages.Closing h apart ps payload = absurd h
+next_going stages.Closed h apart ps payload = absurd h
+next_going stages.Naming h apart ps payload = absurd h
+next_going stages.WipeFailed h apart ps payload = absurd h

@@ -20,6 +20,10 @@ end_after stages.Written end body = end
 end_after stages.Kept end body = end
 end_after stages.Opened end body = end + length body
 end_after stages.Failed end body = end
+end_after stages.Closing end body = end
+end_after stages.Closed end body = end
+end_after stages.Naming end body = end
+end_after stages.WipeFailed end body = end
 
 -- the payloads after the call: the last one adds the record's
 abbrev pub payloads_after : Stage → List (List ℕ) → List ℕ → List (List ℕ)
@@ -30,6 +34,10 @@ payloads_after stages.Written ps payload = ps
 payloads_after stages.Kept ps payload = ps
 payloads_after stages.Opened ps payload = ps ++ payload ∷ []
 payloads_after stages.Failed ps payload = ps
+payloads_after stages.Closing ps payload = ps
+payloads_after stages.Closed ps payload = ps
+payloads_after stages.Naming ps payload = ps
+payloads_after stages.WipeFailed ps payload = ps
 
 -- the call succeeded
 pub record HasMoved (end : ℕ) (stage : Stage) (body seen seen' : List ℕ) (left' : List ℕ → Type 0) : Type 0 where
@@ -51,6 +59,10 @@ seen_after stages.Written end behind seen = seen
 seen_after stages.Kept end behind seen = overwritten seen end (OPEN ∷ [])
 seen_after stages.Opened end behind seen = seen
 seen_after stages.Failed end behind seen = seen
+seen_after stages.Closing end behind seen = seen
+seen_after stages.Closed end behind seen = seen
+seen_after stages.Naming end behind seen = seen
+seen_after stages.WipeFailed end behind seen = seen
 
 -- The tiers after a device call of an append: what is written are the begun record's length, a payload that spells it, and the next gate, closed.
 pub record ShowsCall (stage : Stage) (end : ℕ) (begun : Option Record) (old new : Tier → List ℕ) : Type 0 where

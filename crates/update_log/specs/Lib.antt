@@ -1,6 +1,9 @@
 pub mod Frames
+pub mod Wiping
 pub mod Stage
 pub mod View
 pub mod Moments
 pub mod Calls
+pub mod Wipe
 pub mod Scan
+pub mod Counting

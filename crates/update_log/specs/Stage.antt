@@ -1,11 +1,13 @@
 -- How far an append has come, and what a read and a stop give of the region then.
 use Rattle.std.specs.Prelude.{◌≡◌, ◌≢◌, ◌≤◌, ◌<◌, ◌⊎◌, ◌-◌, ℕ, ◌+◌, List, [], ◌∷◌, ◌++◌, length, take, drop, true}
-use Rattle.update_log.specs.declared.format.TheConstants.{HEADER, OPEN, REGION_SIZE}
+use Rattle.tier_device.specs.Media.{Torn}
+use Rattle.update_log.specs.declared.format.TheConstants.{HEADER, OPEN, REGION_SIZE, GENERATION_SIZE}
 use Rattle.update_log.specs.declared.stage.Stage.{Stage}
 use Rattle.update_log.specs.declared.stage.Stage.TheVariants as stages
 use Rattle.update_log.specs.declared.stage.Progress.{Progress}
 use Rattle.update_log.specs.declared.stage.Progress.TheVariants.{Going, Appended}
-use Rattle.update_log.specs.Frames.{payloads, payloads_from, before_gate, framed, is_payload, behind_gate}
+use Rattle.update_log.specs.Frames.{payloads, payloads_from, before_gate, framed, header, is_payload, behind_gate}
+use Rattle.update_log.specs.Wiping.{LeftInWipe, records_behind_gate}
 
 -- A header and the bytes of whole records, whatever gate and bytes follow.
 pub record IsFront (front : List ℕ) : Type 0 where
@@ -69,6 +71,29 @@ pub record IsFailed (front payload : List ℕ) (left : List ℕ → Type 0) : Ty
   pub stands : IsFront front
   pub either : (c : List ℕ) → left c → BeforeOrAfter front payload c
 
+-- A wipe has written the first gate closed: a stop may leave any byte there.
+pub record IsGateWritten (front seen : List ℕ) (left : List ℕ → Type 0) : Type 0 where
+  pub is_header : front ≡ header seen
+  pub shut : IsShut front seen
+  pub torn : (c : List ℕ) → left c → Torn HEADER 1 seen c
+
+-- The first gate is kept closed.
+pub record IsGateKept (front seen : List ℕ) (left : List ℕ → Type 0) : Type 0 where
+  pub is_header : front ≡ header seen
+  pub shut : IsShut front seen
+  pub rest : (c : List ℕ) → left c → c ≡ seen
+
+-- And the generation is written: a stop may leave any bytes in its place.
+pub record IsNameWritten (front seen : List ℕ) (left : List ℕ → Type 0) : Type 0 where
+  pub is_header : front ≡ header seen
+  pub shut : IsShut front seen
+  pub torn : (c : List ℕ) → left c → Torn 0 GENERATION_SIZE seen c
+
+-- A device call of a wipe failed.
+pub record IsUnwiped (front seen : List ℕ) (left : List ℕ → Type 0) : Type 0 where
+  pub is_header : front ≡ header seen
+  pub either : (c : List ℕ) → left c → LeftInWipe (header seen) (records_behind_gate seen) c
+
 -- the payload in the bytes behind a gate
 abbrev pub payload_in : List ℕ → List ℕ
 payload_in body = take (length body - 5) (drop 4 body)
@@ -81,6 +106,10 @@ AtStage stages.Written front body seen left = IsWritten front body seen left
 AtStage stages.Kept front body seen left = IsKept front body left
 AtStage stages.Opened front body seen left = IsOpened front body seen left
 AtStage stages.Failed front body seen left = IsFailed front (payload_in body) left
+AtStage stages.Closing front body seen left = IsGateWritten front seen left
+AtStage stages.Closed front body seen left = IsGateKept front seen left
+AtStage stages.Naming front body seen left = IsNameWritten front seen left
+AtStage stages.WipeFailed front body seen left = IsUnwiped front seen left
 
 -- a record that is begun, and has its place
 pub record IsWhole (end : ℕ) (body : List ℕ) : Type 0 where
@@ -96,6 +125,10 @@ HasRecord stages.Written end body = IsWhole end body
 HasRecord stages.Kept end body = IsWhole end body
 HasRecord stages.Opened end body = IsWhole end body
 HasRecord stages.Failed end body = Unit {0}
+HasRecord stages.Closing end body = Unit {0}
+HasRecord stages.Closed end body = Unit {0}
+HasRecord stages.Naming end body = Unit {0}
+HasRecord stages.WipeFailed end body = Unit {0}
 
 -- What holds of a region: its next gate stands at `end`, and what a read and a stop give fits its stage.
 pub record FitsItsStage (end : ℕ) (stage : Stage) (body seen : List ℕ) (left : List ℕ → Type 0) : Type 0 where
@@ -113,6 +146,10 @@ next stages.Written = stages.Kept
 next stages.Kept = stages.Opened
 next stages.Opened = stages.Resting
 next stages.Failed = stages.Failed
+next stages.Closing = stages.Closing
+next stages.Closed = stages.Closed
+next stages.Naming = stages.Naming
+next stages.WipeFailed = stages.WipeFailed
 
 -- what a device call that succeeds has come to: the fourth is the last
 abbrev pub progress : Stage → Progress
@@ -123,6 +160,10 @@ progress stages.Written = Going
 progress stages.Kept = Going
 progress stages.Opened = Appended
 progress stages.Failed = Going
+progress stages.Closing = Going
+progress stages.Closed = Going
+progress stages.Naming = Going
+progress stages.WipeFailed = Going
 
 -- a device call of an append is to be made
 abbrev pub IsAppending : Stage → Type 0
@@ -133,6 +174,10 @@ IsAppending stages.Written = Unit {0}
 IsAppending stages.Kept = Unit {0}
 IsAppending stages.Opened = Unit {0}
 IsAppending stages.Failed = ⊥
+IsAppending stages.Closing = ⊥
+IsAppending stages.Closed = ⊥
+IsAppending stages.Naming = ⊥
+IsAppending stages.WipeFailed = ⊥
 
 -- how many device calls of the append are still to be made
 abbrev pub calls_left : Stage → ℕ
@@ -143,6 +188,10 @@ calls_left stages.Written = 3
 calls_left stages.Kept = 2
 calls_left stages.Opened = 1
 calls_left stages.Failed = 0
+calls_left stages.Closing = 0
+calls_left stages.Closed = 0
+calls_left stages.Naming = 0
+calls_left stages.WipeFailed = 0
 
 -- nothing is begun, and no device call of an append is pending
 abbrev pub IsIdle : Stage → Type 0

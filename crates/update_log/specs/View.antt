@@ -38,6 +38,10 @@ begun_in stages.Written payload = record_of payload
 begun_in stages.Kept payload = record_of payload
 begun_in stages.Opened payload = record_of payload
 begun_in stages.Failed payload = record_of payload
+begun_in stages.Closing payload = None
+begun_in stages.Closed payload = None
+begun_in stages.Naming payload = None
+begun_in stages.WipeFailed payload = None
 
 -- the record that is begun and not appended, if there is one
 abbrev pub begun_of : {M : Type 0} → RegionView M → Option Record

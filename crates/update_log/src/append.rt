@@ -35,7 +35,13 @@ pub fn device_call<M: Media>(
         Stage::Written => media.fence(Tier::Fast),
         Stage::Kept => media.write(Tier::Fast, end, &[OPEN]),
         Stage::Opened => media.fence(Tier::Fast),
-        Stage::Resting | Stage::Foreign | Stage::Failed => unreachable!(),
+        Stage::Resting
+        | Stage::Foreign
+        | Stage::Failed
+        | Stage::Closing
+        | Stage::Closed
+        | Stage::Naming
+        | Stage::WipeFailed => unreachable!(),
     }
 }
 

@@ -1,13 +1,15 @@
-// Reading the first bytes of a region.
-ghost use Rattle.std.specs.Prelude.{◌≡◌, ◌≤◌, ◌<◌, ◌+◌, ◌++◌, ◌∷◌, [], ◌⊎◌, length, take, IfOk, IfErr, IsErrOf};
+// Reading the first bytes of a region, and the generation among them.
+ghost use Rattle.std.specs.Prelude.{◌≡◌, ◌≤◌, ◌<◌, ◌+◌, ◌++◌, ◌∷◌, [], ◌⊎◌, length, take, IfOk, IfErr, IsErrOf, OnOk, OnErr};
 ghost use Rattle.tier_device.specs.declared.media.Tier.{Tier};
 ghost use Rattle.tier_device.specs.declared.media.Tier.TheVariants.{Fast};
 ghost use Rattle.tier_device.specs.Media.{Keeps, Rose};
-ghost use Rattle.update_log.specs.declared.format.TheConstants.{CLOSED};
+ghost use Rattle.update_log.specs.declared.format.TheConstants.{CLOSED, GENERATION_SIZE};
+ghost use Rattle.update_log.specs.Wiping.{generation};
 ghost use Rattle.update_log.specs.declared.error.RegionError.TheVariants.{DeviceFault, Memory};
 
 use crate::error::RegionError;
-use crate::format::CLOSED;
+use crate::format::{CLOSED, GENERATION_SIZE};
+use byteorder::{ByteOrder, LittleEndian};
 use std::alloc::Global;
 use tier_device::{Media, Tier};
 
@@ -58,5 +60,25 @@ pub fn read_before_gate<M: Media>(
     match front.push(CLOSED) {
         Ok(()) => Ok(front),
         Err(_) => Err(RegionError::Memory),
+    }
+}
+
+/// The generation that the header names.
+pub fn read_generation<M: Media>(media: &mut M) -> Result<u64, RegionError>
+    requires { GENERATION_SIZE ≤ length (M.seen media.old Fast) }
+    ensures named { IfOk result (λ g. g ≡ generation (M.seen media.old Fast)) }
+    ensures seen { (t : Tier) → M.seen media.new t ≡ M.seen media.old t }
+    ensures clock { M.moment media.new ≡ M.moment media.old }
+    ensures past { Keeps (M.moment media.old) (M.moment media.new) (M.left media.old) (M.left media.new) }
+    ensures fault { OnErr result (Rose (M.faults media.old) (M.faults media.new)) }
+    ensures only { IfErr result (λ e. e ≡ DeviceFault) }
+    ensures quiet { OnOk result (M.faults media.new ≡ M.faults media.old) }
+    ensures faults { M.faults media.old ≤ M.faults media.new }
+    ensures one_fault { M.faults media.new ≤ M.faults media.old + 1 }
+{
+    let mut name = [0; GENERATION_SIZE];
+    match media.read(Tier::Fast, 0, &mut name) {
+        Ok(()) => Ok(LittleEndian::read_u64(&name)),
+        Err(_) => Err(RegionError::DeviceFault),
     }
 }

@@ -1,11 +1,13 @@
 //! A client's update log: a region of fast memory to which records are appended one device call at a time.
 //!
 //! A stop at any moment of an append leaves the records from before it, with the begun one or without; once the fourth call
-//! has succeeded, every stop leaves it. `Region` says so in its contracts, whatever medium lies beneath.
+//! has succeeded, every stop leaves it. A wipe takes all records out and names another generation; at no moment of it a stop leaves
+//! a record behind a header that is not the old one. `Region` says so in its contracts, whatever medium lies beneath.
 #![tactic(auto)]
 
 mod append;
 mod buffer;
+mod counting;
 mod error;
 mod format;
 mod front;
@@ -13,9 +15,11 @@ mod laws;
 mod region;
 mod scan;
 mod stage;
+mod wipe;
 
+pub use counting::{append_counts_one_more, digest_counts_fewer, wipe_counts_nothing};
 pub use error::RegionError;
-pub use format::{CLOSED, HEADER, OPEN, REGION_SIZE};
+pub use format::{CLOSED, GENERATION_SIZE, HEADER, OPEN, REGION_SIZE};
 pub use laws::region_has_its_numbers;
 pub use region::Region;
-pub use stage::{Progress, Stage};
+pub use stage::{Progress, Stage, WipeProgress};

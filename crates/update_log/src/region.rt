@@ -1,10 +1,10 @@
-ghost use Rattle.std.specs.Prelude.{◌≡◌, ◌≢◌, ◌≤◌, ◌<◌, ◌+◌, ◌⊎◌, ℕ, List, length, IfOk, IfErr, IfSome, IfNone, IsErrOf, IsTrue, ◌↔◌, OnOk, OnErr, Some, None, get_or};
+ghost use Rattle.std.specs.Prelude.{◌≡◌, ◌≢◌, ◌≤◌, ◌<◌, ◌+◌, ◌⊎◌, ℕ, List, [], length, IfOk, IfErr, IfSome, IfNone, IsErrOf, IsTrue, ◌↔◌, OnOk, OnErr, Some, None, get_or};
 ghost use Rattle.log_record.specs.Grammar.{IsRecord, spelling};
 ghost use Rattle.tier_device.specs.declared.media.Tier.{Tier};
 ghost use Rattle.tier_device.specs.declared.media.Tier.TheVariants.{Fast};
-ghost use Rattle.tier_device.specs.Media.{AtRest, LeftSince, Keeps, Rose};
+ghost use Rattle.tier_device.specs.Media.{AtRest, LeftSince, Keeps, Puts, Rose};
 ghost use Rattle.update_log.specs.declared.error.RegionError.TheVariants.{DeviceFault, RegionFull, Damaged, Memory};
-ghost use Rattle.update_log.specs.declared.format.TheConstants.{REGION_SIZE, OPEN};
+ghost use Rattle.update_log.specs.declared.format.TheConstants.{HEADER, REGION_SIZE, OPEN};
 ghost use Rattle.update_log.specs.declared.stage.Stage.TheVariants as stages;
 ghost use Rattle.update_log.specs.Frames.{records, header, joined, end_behind};
 ghost use Rattle.update_log.specs.Stage.{IsAppending, IsIdle, calls_left, next, progress};
@@ -13,11 +13,12 @@ ghost use Rattle.update_log.specs.View.{HasSize};
 use crate::append::{device_call, end_after};
 use crate::buffer::Buffer;
 use crate::error::RegionError;
-use crate::format::REGION_SIZE;
-use crate::front::read_before_gate;
+use crate::format::{HEADER, REGION_SIZE};
+use crate::front::{read_before_gate, read_generation};
 use crate::laws::records_are_as_long;
 use crate::scan::{end_of, records_in, stage_at};
-use crate::stage::{Progress, Stage};
+use crate::stage::{Progress, Stage, WipeProgress};
+use crate::wipe::wipe_call;
 use log_record::{Record, written_is_read};
 use std::alloc::Global;
 use std::marker::Model;
@@ -54,6 +55,8 @@ impl<M: Media> Region<M> {
     ghost use Rattle.update_log.specs.View.{HasSize, WithOrWithout, header_of, records_of, begun_of};
     ghost use Rattle.update_log.specs.Calls.{ShowsCall};
     ghost use Rattle.update_log.specs.Moments.{PastStays};
+    ghost use Rattle.update_log.specs.Wiping.{LeftInWipe, generation, records_behind_gate};
+    ghost use Rattle.update_log.specs.Wipe.{CanWipe, IsWiping, LeftInCall, wipe_next, wipe_progress, seen_wiped, header_wiped};
 
     /// The region that a medium holds, with the records that stand in it. Nothing may be pending on the medium. It makes no
     /// device call but a read, and takes the memory in which later records are spelled.
@@ -276,6 +279,55 @@ impl<M: Media> Region<M> {
         Ok(())
     }
 
+    /// Makes one device call of a wipe to a generation: the first gate is closed, a fence, the generation, a fence. On a region at rest
+    /// whose first gate's byte is 0x00 already, the first two are left out. It takes no memory. The last call that succeeds ends the
+    /// wipe: the region rests then, has no record, and names the generation that was given to the call before. Whoever calls sees to it
+    /// that no record of the region is needed any more.
+    ///
+    /// Where the device fails, the region stays failed until it is reopened.
+    pub fn wipe_step(&mut self, generation: u64) -> Result<WipeProgress, RegionError>
+        requires { CanWipe self.old.stage }
+
+        // At each moment of a call on the first gate a stop leaves the header, and the records behind the gate or none; at each moment of
+        // a call on the generation no record, and the other bytes of the header.
+        ensures any_moment { (c : List ℕ) → LeftSince (M.left self.new.media) (M.moment self.new.media) (M.moment self.old.media) Fast c
+            → LeftInCall (wipe_next self.old.stage (get_or (M.seen self.old.media Fast) HEADER 0)) (header_of M.seen self.old) (records_behind_gate (M.seen self.old.media Fast)) c }
+
+        ensures seen { OnOk result (Puts Fast (seen_wiped self.new.stage generation (M.seen self.old.media Fast)) (M.seen self.old.media) (M.seen self.new.media)) }
+        ensures stage { OnOk result (self.new.stage ≡ wipe_next self.old.stage (get_or (M.seen self.old.media Fast) HEADER 0)) }
+        ensures progress { IfOk result (λ p. p ≡ wipe_progress self.new.stage) }
+        ensures header { OnOk result (header_of M.seen self.new ≡ header_wiped self.new.stage generation (header_of M.seen self.old)) }
+        ensures none { records_of M.seen self.new ≡ [] }
+        ensures nothing_begun { begun_of self.new ≡ None }
+
+        // After the last call every stop leaves what a read gives.
+        ensures wiped { self.new.stage ≡ stages.Resting → (c : List ℕ) → M.left self.new.media (M.moment self.new.media) Fast c → c ≡ M.seen self.new.media Fast }
+
+        ensures one_call { OnOk result (M.moment self.new.media ≡ M.moment self.old.media + 1) }
+        ensures at_most { M.moment self.new.media ≤ M.moment self.old.media + 1 }
+        ensures past { Keeps (M.moment self.old.media) (M.moment self.new.media) (M.left self.old.media) (M.left self.new.media) }
+
+        // It fails only where the device does.
+        ensures only { IfErr result (λ e. e ≡ DeviceFault) }
+        ensures failed { OnErr result (self.new.stage ≡ stages.WipeFailed) }
+        ensures fault { OnErr result (Rose (M.faults self.old.media) (M.faults self.new.media)) }
+        ensures sound { OnOk result (M.faults self.new.media ≡ M.faults self.old.media) }
+        ensures faults { (M.faults self.old.media ≤ M.faults self.new.media) × (M.faults self.new.media ≤ M.faults self.old.media + 1) }
+    {
+        match wipe_call(&mut self.media, self.stage, generation) {
+            Ok(to) => {
+                self.end = HEADER;
+                self.stage = to;
+                Ok(to.wipe_progress())
+            }
+            Err(_) => {
+                self.end = HEADER;
+                self.stage = Stage::WipeFailed;
+                Err(RegionError::DeviceFault)
+            }
+        }
+    }
+
     /// The records that are appended, in their order. It reads them from the medium, and changes nothing.
     pub fn records(&mut self) -> Result<Vec<Record>, RegionError>
         ensures found { IfOk result (λ found. found.items ≡ records_of M.seen self.old) }
@@ -298,10 +350,33 @@ impl<M: Media> Region<M> {
         }
     }
 
+    /// The generation that the header names. It reads it from the medium, and changes nothing.
+    pub fn generation(&mut self) -> Result<u64, RegionError>
+        ensures named { IfOk result (λ g. g ≡ generation (header_of M.seen self.old)) }
+        ensures same { (self.new.end ≡ self.old.end) × (self.new.stage ≡ self.old.stage) × (begun_of self.new ≡ begun_of self.old) }
+        ensures seen { (t : Tier) → M.seen self.new.media t ≡ M.seen self.old.media t }
+        ensures clock { M.moment self.new.media ≡ M.moment self.old.media }
+        ensures past { Keeps (M.moment self.old.media) (M.moment self.new.media) (M.left self.old.media) (M.left self.new.media) }
+        ensures only { IfErr result (λ e. e ≡ DeviceFault) }
+        ensures fault { OnErr result (Rose (M.faults self.old.media) (M.faults self.new.media)) }
+        ensures quiet { OnOk result (M.faults self.new.media ≡ M.faults self.old.media) }
+        ensures faults { M.faults self.old.media ≤ M.faults self.new.media }
+        ensures one_fault { M.faults self.new.media ≤ M.faults self.old.media + 1 }
+    {
+        read_generation(&mut self.media)
+    }
+
     /// What a stop may leave now, between two calls.
     pub fn left_now(&self)
-        ensures either { (c : List ℕ) → M.left self.now.media (M.moment self.now.media) Fast c
+        ensures either { (IsWiping self.now.stage → ⊥) → (c : List ℕ) → M.left self.now.media (M.moment self.now.media) Fast c
             → WithOrWithout (header_of M.seen self.now) (records_of M.seen self.now) (begun_of self.now) c }
+
+        // Between two calls of a wipe it leaves the header and the records behind the first gate, or no record.
+        ensures wiping { IsWiping self.now.stage → (c : List ℕ) → M.left self.now.media (M.moment self.now.media) Fast c
+            → LeftInWipe (header_of M.seen self.now) (records_behind_gate (M.seen self.now.media Fast)) c }
+
+        // Where there are records and nothing is begun, the first gate is open, and those behind it are all.
+        ensures behind { IsIdle self.now.stage → records_of M.seen self.now ≢ [] → records_behind_gate (M.seen self.now.media Fast) ≡ records_of M.seen self.now }
 
         // Where nothing is begun, also behind a foreign gate, it leaves what a read gives.
         ensures idle { IsIdle self.now.stage → (c : List ℕ) → M.left self.now.media (M.moment self.now.media) Fast c

@@ -1,6 +1,6 @@
 ghost use Rattle.std.specs.Prelude.{◌≡◌};
 
-/// How far an append has come.
+/// How far an append or a wipe has come.
 #[derive(Clone, Copy, Debug, PartialEq, Eq)]
 pub enum Stage {
     /// Nothing is begun: the gate behind the records is closed, and nothing is pending on the device.
@@ -17,6 +17,14 @@ pub enum Stage {
     Opened,
     /// A device call of the append failed: only reopening leads on.
     Failed,
+    /// A wipe has written the first gate closed, and is to fence it next.
+    Closing,
+    /// The first gate is kept closed: the wipe is to write the generation next.
+    Closed,
+    /// The generation is written, and the wipe is to fence it next.
+    Naming,
+    /// A device call of the wipe failed: only reopening leads on.
+    WipeFailed,
 }
 
 /// What one device call of an append has come to.
@@ -28,8 +36,18 @@ pub enum Progress {
     Appended,
 }
 
+/// What one device call of a wipe has come to.
+#[derive(Clone, Copy, Debug, PartialEq, Eq)]
+pub enum WipeProgress {
+    /// Further calls are needed.
+    Going,
+    /// The region is wiped, and every stop from now on leaves it so.
+    Wiped,
+}
+
 impl Stage {
     ghost use Rattle.update_log.specs.Stage.{next, progress};
+    ghost use Rattle.update_log.specs.Wipe.{wipe_progress};
 
     // The stage after a device call that succeeds.
     pub(crate) fn next(self) -> Stage
@@ -40,7 +58,13 @@ impl Stage {
             Stage::Written => Stage::Kept,
             Stage::Kept => Stage::Opened,
             Stage::Opened => Stage::Resting,
-            Stage::Resting | Stage::Foreign | Stage::Failed => self,
+            Stage::Resting
+            | Stage::Foreign
+            | Stage::Failed
+            | Stage::Closing
+            | Stage::Closed
+            | Stage::Naming
+            | Stage::WipeFailed => self,
         }
     }
 
@@ -51,6 +75,16 @@ impl Stage {
         match self {
             Stage::Opened => Progress::Appended,
             _ => Progress::Going,
+        }
+    }
+
+    // What the device call of a wipe that leads to this stage has come to.
+    pub(crate) fn wipe_progress(self) -> WipeProgress
+        ensures { result ≡ wipe_progress self }
+    {
+        match self {
+            Stage::Resting => WipeProgress::Wiped,
+            _ => WipeProgress::Going,
         }
     }
 }

@@ -1,12 +1,12 @@
-use Rattle.std.proofs.Common.{◌≡◌, ◌∙◌, List, ℕ, ◌∷◌, [], ◌++◌, take, sym, ap, subst}
+use Rattle.std.proofs.Common.{◌≡◌, ◌≢◌, ◌∙◌, List, ℕ, ◌∷◌, [], ◌++◌, take, sym, ap, subst}
 use Rattle.tier_device.specs.declared.media.Tier.TheVariants.{Fast}
 use Rattle.tier_device.specs.Media.{LeftSince, Puts}
 use Rattle.update_log.specs.declared.stage.Stage.TheVariants as stages
 use Rattle.update_log.specs.Frames.{before_gate, spelled, joined, behind_gate}
-use Rattle.update_log.specs.Stage.{IsAppending, payload_in, BeforeOrAfter}
+use Rattle.update_log.specs.Stage.{IsAppending, next, payload_in, BeforeOrAfter}
 use Rattle.update_log.specs.Calls.{payloads_after, end_after, seen_after, ShowsCall}
 use Rattle.update_log.specs.View.{RegionView, begun_in, WithOrWithout, header_of, records_of, begun_of}
-use Rattle.update_log.proofs.Views.{whole_at, since_one, shows_either, begun_appending, next_resting, spelled_more}
+use Rattle.update_log.proofs.Views.{whole_at, since_one, shows_either, begun_appending, next_resting, next_going, spelled_more}
 use Rattle.update_log.proofs.region.Region.step.Goals as goal
 
 pub returns-in-Ok-clause-any_moment : goal.returns-in-Ok-clause-any_moment
@@ -68,3 +68,21 @@ returns-in-Ok-clause-seen g c =
     let shows : Puts Fast (seen_after s.stage s.end (behind_gate payload) (old Fast)) old new =
     subst (λ (bs : List ℕ). Puts Fast (seen_after s.stage s.end bs (old Fast)) old new) (c.as_slice.ensures ∙ whole.bytes) c.in-Ok.ensures.seen in
     subst (λ (v : RegionView _). ShowsCall v.stage v.end (begun_of v) (m.seen v.media) new) c.self.view_is (record { payload = payload; spells = sym (begun_appending s.stage payload appending); shows = shows })
+
+pub returns-in-Ok-clause-going : goal.returns-in-Ok-clause-going
+returns-in-Ok-clause-going g c apart =
+    let m = g.M.Media in
+    let s = c.self.inside in
+    let seen = m.seen s.media Fast in
+    let seen' = m.seen c.device_call.new.media Fast in
+    let payload = payload_in s.body in
+    let ps = before_gate (take s.end seen) in
+    let appending = subst (λ (v : RegionView _). IsAppending v.stage) (sym c.self.view_is) c.requires in
+    let still : next s.stage ≢ stages.Resting = λ e. apart (c.next-self-inside.ensures ∙ e) in
+    let at_end : c.end_after-self-inside.result ≡ end_after s.stage s.end c.as_slice.result.now =
+    c.end_after-self-inside.ensures ∙ ap (λ (b : List ℕ). end_after s.stage s.end b) (c.as_slice-in-Ok.ensures ∙ sym c.as_slice.ensures) in
+    let same : spelled (before_gate (take c.end_after-self-inside.result seen')) ≡ spelled ps =
+    ap (λ n. spelled (before_gate (take n seen'))) at_end ∙ ap spelled (c.in-Ok.ensures.done.payloads_are ∙ (next_going s.stage appending still ps (payload_in c.as_slice.result.now)).0) in
+    let begun : begun_in c.next-self-inside.result payload ≡ begun_in s.stage payload =
+    ap (λ st. begun_in st payload) c.next-self-inside.ensures ∙ (next_going s.stage appending still ps payload).1 in
+    subst (λ (v : RegionView _). (spelled (before_gate (take c.end_after-self-inside.result seen')) ≡ records_of m.seen v) × (begun_in c.next-self-inside.result payload ≡ begun_of v)) c.self.view_is (same, begun)
