@@ -1,0 +1,9 @@
+mod Parts
+mod Starting
+mod Lists
+mod Runs
+mod Imaging
+mod Uses
+mod Given
+mod Fits
+mod Standing

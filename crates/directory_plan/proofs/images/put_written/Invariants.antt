@@ -1,0 +1,14 @@
+use Rattle.std.proofs.Common.{◌≤◌, ◌+◌, length}
+use Rattle.layout.specs.Places.{Sizes}
+use Rattle.area_batch.specs.Batches.{AreNodes}
+use Rattle.directory_plan.specs.Blocks.{AreNodeBlocks}
+use Rattle.directory_plan.proofs.Imaging.{ImagesTo}
+use Rattle.directory_plan.proofs.images.put_written.Given as goal
+
+abbrev pub invariant-each : goal.invariant-each
+invariant-each l =
+    record {
+      images : ImagesTo l.blocks l.places l.written l.index l.fn.images l.images;
+      nodes : (g : Sizes) → AreNodeBlocks g l.places → AreNodes g l.fn.images → AreNodes g l.images;
+      few : length l.images ≤ length l.fn.images + l.index;
+    }

@@ -1,0 +1,10 @@
+use Rattle.directory_plan.proofs.Standing.{kept, once, all, own_images}
+use Rattle.directory_plan.proofs.laws.planned_blocks_are_kept_or_spare.Goals as goal
+
+pub returns : goal.returns
+returns c = record {
+  kept = λ g s c i touch start x spares old new plan p. kept g s c i touch start x spares old new plan p;
+  once = λ g s c i touch start x spares old new plan p. once g s c i touch start x spares old new plan p;
+  all = λ g s c i touch start x spares old new plan p. all g s c i touch start x spares old new plan p;
+  images = λ g s c i touch start x spares old new plan p. own_images g s c i touch start x spares old new plan p;
+}

@@ -1,0 +1,8 @@
+use Rattle.directory_plan.proofs.Standing.{exact, given}
+use Rattle.directory_plan.proofs.laws.planned_losses_are_exact.Goals as goal
+
+pub returns : goal.returns
+returns c = record {
+  exact = λ g s c i touch start x spares old new plan p. exact g s c i touch start x spares old new plan p;
+  given = λ g s c i touch start x spares old new plan pool p. given g s c i touch start x spares old new plan p pool;
+}

@@ -1,0 +1,5 @@
+pub mod Blocks
+pub mod Started
+pub mod Placed
+pub mod Spare
+pub mod Planned

@@ -1,0 +1,61 @@
+// The images of a changed directory's blocks.
+ghost use Rattle.std.specs.Prelude.{◌≡◌, ◌≤◌, ◌<◌, ◌+◌, true, length, OnOk};
+ghost use Rattle.std.specs.List.{All};
+ghost use Rattle.layout.specs.Places.{Sizes};
+ghost use Rattle.layout.specs.Slot.{is_root};
+ghost use Rattle.layout.specs.declared.extents.TheConstants.{MAX_EXTENTS};
+ghost use Rattle.layout.specs.declared.places.TheConstants.{BLOCK};
+ghost use Rattle.area_batch.specs.Batches.{AreNodes};
+ghost use Rattle.directory_plan.specs.Blocks.{AreApart, AreNodeBlocks};
+ghost use Rattle.directory_plan.specs.Planned.{HaveImages, HasListImage};
+
+use area_batch::NodeImages;
+use area_image::blank_block;
+use layout::{BLOCK, ExtentBlock};
+use std::alloc::AllocError;
+
+/// Puts the images of the blocks that were written, each for the place where it lies.
+pub fn put_written(
+    images: &mut NodeImages,
+    blocks: &[[u8; BLOCK]],
+    places: &[u32],
+    written: &[usize],
+) -> Result<(), AllocError>
+    requires long { length places.now ≡ length blocks.now }
+    requires apart { AreApart places.now }
+    requires inside { All (λ k. k < length blocks.now) written.now }
+    ensures images { OnOk result (HaveImages blocks.now places.now written.now images.old images.new) }
+    ensures nodes { OnOk result ((g : Sizes) → AreNodeBlocks g places.now → AreNodes g images.old → AreNodes g images.new) }
+    ensures few { OnOk result (length images.new ≤ length images.old + length written.now) }
+{
+    'each: for index in 0..written.len() {
+        let number = written[index];
+        images.put(places[number], &blocks[number])?;
+    }
+    Ok(())
+}
+
+/// Puts the image of the block that lists where the others lie, unless it is the old one and stands there as it is to be.
+pub fn put_list(
+    images: &mut NodeImages,
+    old_root: u32,
+    old_list: &[u8],
+    root: u32,
+    list: &ExtentBlock,
+) -> Result<(), AllocError>
+    requires old { length old_list.now ≡ BLOCK }
+    requires few { length list.now.extents ≤ MAX_EXTENTS }
+    ensures image { OnOk result (HasListImage old_root old_list.now root list.now images.old images.new) }
+    ensures nodes { OnOk result ((g : Sizes) → is_root g root ≡ true → AreNodes g images.old → AreNodes g images.new) }
+    ensures few { OnOk result (length images.new ≤ length images.old + 1) }
+{
+    if root == 0 {
+        return Ok(());
+    }
+    let mut bytes = blank_block();
+    list.encode(&mut bytes);
+    if root == old_root && old_list == &bytes[..] {
+        return Ok(());
+    }
+    images.put(root, &bytes)
+}

@@ -1,0 +1,44 @@
+//! What holds of a directory once what was planned of it is written.
+
+ghost use Rattle.std.specs.Prelude.{◌≡◌, ◌≢◌, ◌⊎◌, ◌↔◌, ℕ, List, Option, Some, true};
+ghost use Rattle.std.specs.List.{Contains};
+ghost use Rattle.tier_device.specs.declared.media.Tier.{Tier};
+ghost use Rattle.tier_device.specs.declared.media.Tier.TheVariants.{Fast};
+ghost use Rattle.graph_change.specs.Change.{Change};
+ghost use Rattle.layout.specs.Places.{Sizes};
+ghost use Rattle.batch_journal.specs.Images.{image_for, with_images};
+ghost use Rattle.block_alloc.specs.Runs.{blocks_of};
+ghost use Rattle.block_alloc.specs.Value.{FreeBlocks};
+ghost use Rattle.block_map.specs.Map.{runs_in};
+ghost use Rattle.area_image.specs.Store.{Store, root_of};
+ghost use Rattle.area_image.specs.Spelled.{used};
+ghost use Rattle.area_rewrite.specs.Written.{IsFit, IsListed, block_by};
+ghost use Rattle.area_rewrite.specs.Changed.{IsDirectoryWritten};
+ghost use Rattle.area_move.specs.Given.{AreUsed, IsInUse};
+ghost use Rattle.directory_plan.specs.Started.{use_from};
+ghost use Rattle.directory_plan.specs.Planned.{IsPlannedFrom, StandThere, on_fast};
+ghost use Rattle.directory_plan.specs.declared.started.StartedDirectory.{StartedDirectory};
+ghost use Rattle.directory_plan.specs.declared.changing.ChangedDirectory.{ChangedDirectory};
+ghost use Rattle.directory_plan.specs.declared.plan.DirectoryPlan.{DirectoryPlan};
+
+/// What is planned of a directory keeps the limits of the format, each list stands in its block once the images do, and in every store where they stand the directory is written as the
+/// change makes it.
+pub fn planned_directory_is_written()
+    ensures fit { (g : Sizes) (s : Store) (c : Change) (i touch : ℕ) (start : StartedDirectory) (x : ChangedDirectory) (spares : List ℕ) (old new : List (ℕ × List ℕ)) (plan : DirectoryPlan) → IsPlannedFrom g s c i start x touch spares old new plan → IsFit g plan.slot (on_fast plan.list.extents) }
+    ensures listed { (g : Sizes) (s : Store) (c : Change) (i touch : ℕ) (start : StartedDirectory) (x : ChangedDirectory) (spares : List ℕ) (old new : List (ℕ × List ℕ)) (plan : DirectoryPlan) → IsPlannedFrom g s c i start x touch spares old new plan → (t : Tier) → IsListed (with_images new (s Fast)) i (root_of plan.slot t) (runs_in (on_fast plan.list.extents) t) }
+    ensures written { (g : Sizes) (s : Store) (c : Change) (i touch : ℕ) (start : StartedDirectory) (x : ChangedDirectory) (spares : List ℕ) (old new : List (ℕ × List ℕ)) (plan : DirectoryPlan) → IsPlannedFrom g s c i start x touch spares old new plan → (after : Store) → StandThere new s after (on_fast plan.list.extents) → IsDirectoryWritten g c start.entries x.entries s after i plan.slot (on_fast plan.list.extents) }
+{}
+
+/// Each block of a planned directory is one that it had for the same use, or a spare one, and has one use; each spare block has one; and there are images for its own blocks alone.
+pub fn planned_blocks_are_kept_or_spare()
+    ensures kept { (g : Sizes) (s : Store) (c : Change) (i touch : ℕ) (start : StartedDirectory) (x : ChangedDirectory) (spares : List ℕ) (old new : List (ℕ × List ℕ)) (plan : DirectoryPlan) → IsPlannedFrom g s c i start x touch spares old new plan → (t : Tier) (k : Option ℕ) (b : Tier × ℕ) → block_by plan.slot (on_fast plan.list.extents) t k ≡ Some b → (use_from c.base (used g s (record { inode = i; tier = t; logical = k })) ≡ Some b) ⊎ ((b.0 ≡ Fast) × Contains spares b.1) }
+    ensures once { (g : Sizes) (s : Store) (c : Change) (i touch : ℕ) (start : StartedDirectory) (x : ChangedDirectory) (spares : List ℕ) (old new : List (ℕ × List ℕ)) (plan : DirectoryPlan) → IsPlannedFrom g s c i start x touch spares old new plan → (t u : Tier) (j k : Option ℕ) (b : Tier × ℕ) → block_by plan.slot (on_fast plan.list.extents) t j ≡ Some b → block_by plan.slot (on_fast plan.list.extents) u k ≡ Some b → (t ≡ u) × (j ≡ k) }
+    ensures all { (g : Sizes) (s : Store) (c : Change) (i touch : ℕ) (start : StartedDirectory) (x : ChangedDirectory) (spares : List ℕ) (old new : List (ℕ × List ℕ)) (plan : DirectoryPlan) → IsPlannedFrom g s c i start x touch spares old new plan → (p : ℕ) → Contains spares p → (k : Option ℕ) × (block_by plan.slot (on_fast plan.list.extents) Fast k ≡ Some (Fast, p)) }
+    ensures images { (g : Sizes) (s : Store) (c : Change) (i touch : ℕ) (start : StartedDirectory) (x : ChangedDirectory) (spares : List ℕ) (old new : List (ℕ × List ℕ)) (plan : DirectoryPlan) → IsPlannedFrom g s c i start x touch spares old new plan → (p : ℕ) → ((k : Option ℕ) → block_by plan.slot (on_fast plan.list.extents) Fast k ≢ Some (Fast, p)) → image_for p new ≡ image_for p old }
+{}
+
+/// A planned directory gives up exactly the blocks that it had a use for and has none; they can be given to the pool in which they are in use.
+pub fn planned_losses_are_exact()
+    ensures exact { (g : Sizes) (s : Store) (c : Change) (i touch : ℕ) (start : StartedDirectory) (x : ChangedDirectory) (spares : List ℕ) (old new : List (ℕ × List ℕ)) (plan : DirectoryPlan) → IsPlannedFrom g s c i start x touch spares old new plan → (p : ℕ) → Contains (blocks_of plan.lost.items) p ↔ (((k : Option ℕ) × (use_from c.base (used g s (record { inode = i; tier = Fast; logical = k })) ≡ Some (Fast, p))) × ((k : Option ℕ) → block_by plan.slot (on_fast plan.list.extents) Fast k ≢ Some (Fast, p))) }
+    ensures given { (g : Sizes) (s : Store) (c : Change) (i touch : ℕ) (start : StartedDirectory) (x : ChangedDirectory) (spares : List ℕ) (old new : List (ℕ × List ℕ)) (plan : DirectoryPlan) (p : FreeBlocks) → IsPlannedFrom g s c i start x touch spares old new plan → ((k : Option ℕ) (b : ℕ) → use_from c.base (used g s (record { inode = i; tier = Fast; logical = k })) ≡ Some (Fast, b) → IsInUse p b) → AreUsed p plan.lost.items }
+{}
