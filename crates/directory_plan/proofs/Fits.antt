@@ -1,7 +1,7 @@
 -- The slot and the runs of a planned directory keep the limits of the format.
-use Rattle.std.proofs.Common.{◌≡◌, ◌≢◌, ◌≤◌, ◌<◌, ◌+◌, ◌^◌, ◌∙◌, ◌&&◌, ◌/◌, ℕ, List, [], length, true, Bool, Option, Some, None, refl, sym, ap, subst, arith, inl, inr, ◌⊎◌}
-use Rattle.std.specs.Prelude.{IsSome, is_some, nat_le, nat_lt}
-use Rattle.std.proofs.lemmas.Bool.{and_from, and_parts, le-leb, lt-ltb, leb-true, ltb-true, false≢true, cases_eq}
+use Rattle.std.proofs.Common.{◌≡◌, ◌≤◌, ◌<◌, ◌+◌, ◌^◌, ◌∙◌, ◌&&◌, ℕ, List, [], length, true, Option, Some, None, refl, sym, subst, arith}
+use Rattle.std.specs.Prelude.{IsSome, nat_le, nat_lt}
+use Rattle.std.proofs.lemmas.Bool.{and_from, and_parts, le-leb, lt-ltb, ltb-true, false≢true}
 use Rattle.std.proofs.lemmas.Option.{none-some}
 use Rattle.tier_device.specs.declared.media.Tier.{Tier}
 use Rattle.tier_device.specs.declared.media.Tier.TheVariants.{Fast, Block, Slow}
@@ -16,11 +16,11 @@ use Rattle.extent_nodes.specs.Normal.{IsNormal}
 use Rattle.extent_nodes.specs.Places.{place_of}
 use Rattle.extent_nodes.specs.Spelled.{LiesWithin, IsOneToOne}
 use Rattle.extent_nodes.proofs.Unique.{one-list}
-use Rattle.block_map.specs.Map.{TierRuns, runs_in, lies_at, LieOnce, LieBelow}
+use Rattle.block_map.specs.Map.{runs_in, lies_at, LieBelow}
 use Rattle.area_image.specs.Store.{length_of, space_of}
 use Rattle.block_map.proofs.Runs.{few_below}
 use Rattle.area_rewrite.specs.Written.{IsFit}
-use Rattle.directory_plan.specs.Blocks.{nth_block, AreApart, AreNodeBlocks}
+use Rattle.directory_plan.specs.Blocks.{AreApart, AreNodeBlocks}
 use Rattle.directory_plan.specs.Placed.{ListPlaces}
 use Rattle.directory_plan.specs.Planned.{on_fast}
 use Rattle.directory_plan.proofs.Uses.{lies_at_place}

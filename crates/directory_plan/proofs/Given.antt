@@ -1,9 +1,8 @@
 -- Blocks that are given up, each as a run of its own.
-use Rattle.std.proofs.Common.{◌≡◌, ◌≢◌, ◌≤◌, ◌<◌, ◌+◌, ◌++◌, ◌∷◌, ◌∙◌, ℕ, zero, suc, List, [], length, get_or, map, refl, sym, ap, subst, arith, inl, inr, ◌⊎◌}
+use Rattle.std.proofs.Common.{◌≡◌, ◌≢◌, ◌≤◌, ◌<◌, ◌+◌, ◌∷◌, ◌∙◌, ℕ, zero, suc, List, [], length, get_or, map, refl, sym, ap, subst, arith, inl, inr, ◌⊎◌}
 use Rattle.std.specs.List.{Contains, AllByRecursion}
 use Rattle.std.proofs.lemmas.Bool.{cases_lt}
 use Rattle.std.proofs.lemmas.List.{get_or_default}
-use Rattle.block_alloc.specs.declared.runs.Run.{Run}
 use Rattle.block_alloc.specs.Runs.{blocks_of}
 use Rattle.block_alloc.specs.Value.{FreeBlocks, IsUsed}
 use Rattle.area_move.specs.Given.{AreUsed, IsInUse}

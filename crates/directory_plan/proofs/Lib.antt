@@ -7,3 +7,4 @@ mod Uses
 mod Given
 mod Fits
 mod Standing
+mod Gone

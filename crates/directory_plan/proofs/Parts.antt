@@ -1,6 +1,6 @@
 -- What is known of a directory by its slot and its extents.
-use Rattle.std.proofs.Common.{◌≡◌, ◌≢◌, ◌≤◌, ◌<◌, ◌+◌, ◌/◌, ◌^◌, ◌∙◌, ◌&&◌, ℕ, List, [], length, true, false, refl, sym, ap, subst, arith, Option, Some, None, inl, inr, ◌⊎◌}
-use Rattle.std.specs.Prelude.{unwrap_or, option_map, IfSome, nat_lt, nat_le, ◌==◌, if◌then◌else◌, Bool}
+use Rattle.std.proofs.Common.{◌≡◌, ◌≢◌, ◌≤◌, ◌<◌, ◌+◌, ◌^◌, ◌∙◌, ◌&&◌, ℕ, List, [], length, true, false, refl, sym, ap, subst, arith, Option, Some, None, inl, inr}
+use Rattle.std.specs.Prelude.{option_map, IfSome, nat_lt, nat_le, ◌==◌, if◌then◌else◌, Bool}
 use Rattle.std.proofs.lemmas.Bool.{cases_lt, and_parts, leb-true, lt-ltb, le-ltb, eq-eqb, ne_eqb}
 use Rattle.std.proofs.lemmas.Option.{none-some}
 use Rattle.tier_device.specs.declared.media.Tier.{Tier}
@@ -11,21 +11,22 @@ use Rattle.layout.specs.declared.slot.Slot.{Slot}
 use Rattle.layout.specs.declared.slot.Slot.TheVariants as slots
 use Rattle.layout.specs.declared.geometry.Space.TheVariants as space
 use Rattle.layout.specs.Extents.{ExtentList}
-use Rattle.layout.specs.Places.{Sizes, is_inode, is_node, is_run, node_end}
+use Rattle.layout.specs.Places.{Sizes, is_node, is_run, node_end}
 use Rattle.layout.specs.Slot.{fits_slot, is_root}
 use Rattle.extent_nodes.specs.Places.{place_of}
 use Rattle.extent_nodes.proofs.Spelled.{list-parts, lies-within}
-use Rattle.tree_blocks.specs.Inode.{Blocks, Inode, inode_of, IsDirectory, IsDirectoryBlock, blocks_for}
-use Rattle.area_image.specs.Store.{Store, slot, slot_read, root_of, space_of, length_of, place, logical, inode}
+use Rattle.tree_blocks.specs.Inode.{Blocks, inode_of, IsDirectory, IsDirectoryBlock, blocks_for}
+use Rattle.area_image.specs.Store.{Store, slot, root_of, space_of, length_of, place, logical, inode}
 use Rattle.area_image.specs.Spelled.{Use, used}
 use Rattle.area_image.specs.Checks.{HasFound}
-use Rattle.area_image.specs.Map.{in_tier, extents_in, place_by, IsOwnList}
+use Rattle.area_image.specs.Map.{extents_in, place_by, IsOwnList}
 use Rattle.area_image.specs.declared.inode.InodeParts.{InodeParts}
 use Rattle.area_image.specs.declared.tiers.InodeExtents.{InodeExtents}
-use Rattle.area_image.proofs.Damages.{option_cases, as_directory, blocks_is, length_is, none_read, no_entries, other_place, at_fast}
+use Rattle.area_image.proofs.Damages.{option_cases, as_directory, blocks_is, length_is, none_read, no_entries, other_place}
 use Rattle.area_image.proofs.Parts.{slot_as, extents_all}
 use Rattle.area_image.proofs.Tails.{place_is, place_past}
-use Rattle.directory_plan.specs.Blocks.{nth_block, use_in}
+use Rattle.directory_plan.specs.Blocks.{nth_block, AreApart, AreSound, use_in, use_of}
+use Rattle.directory_plan.specs.declared.blocks.DirectoryBlocks.{DirectoryBlocks}
 use Rattle.directory_plan.specs.Started.{AreDirectoryParts, LieInPool, ArePlacesOf}
 
 -- ---- the block of a root
@@ -184,6 +185,16 @@ module _ (g : Sizes) (s : Store) (i : ℕ) (x : InodeParts) (are : AreDirectoryP
       | inr past ↦ omega (arith, past)
     ]
 
+    -- they are sound
+    pub sound : (blocks : DirectoryBlocks) → blocks.root ≡ root_of x.slot Fast → blocks.places.items ≡ places → AreSound g blocks
+    sound blocks root_is places_are = record {
+      nodes = subst (λ ps. (k : ℕ) → k < length ps → is_node g (nth_block ps k) ≡ true) (sym places_are) nodes;
+      apart = subst AreApart (sym places_are) apart;
+      root_node = subst (λ r. is_root g r ≡ true) (sym root_is) (slot_limits g x.slot (λ k. []) its_slot are.fits).root;
+      root_apart = λ some k lt same. root_apart (λ zero'. some (root_is ∙ zero')) k (subst (λ ps. k < length ps) places_are lt) (ap (λ ps. nth_block ps k) (sym places_are) ∙ same ∙ root_is);
+      rooted = λ none. ap (λ ps. length ps) places_are ∙ rooted (sym root_is ∙ none);
+    }
+
     root_use : (y : Slot) → option_map as_fast (one_or_none (root_of y Fast == 0) (root_of y Fast)) ≡ fast_or_none (root_of y Fast == 0) (root_of y Fast)
     root_use y = sym (root_same (root_of y Fast))
 
@@ -199,6 +210,9 @@ module _ (g : Sizes) (s : Store) (i : ℕ) (x : InodeParts) (are : AreDirectoryP
     uses Fast (Some k) = ap (option_map (λ p. (Fast, p))) (place_use k)
     uses Block k = others Block (λ e. cc) k
     uses Slow k = others Slow (λ e. cc) k
+
+    pub uses_of : (blocks : DirectoryBlocks) → blocks.root ≡ root_of x.slot Fast → blocks.places.items ≡ places → (t : Tier) (k : Option ℕ) → use_of blocks t k ≡ used g s (record { inode = i; tier = t; logical = k })
+    uses_of blocks root_is places_are t k = ap (λ r. use_in r blocks.places.items t k) root_is ∙ ap (λ ps. use_in (root_of x.slot Fast) ps t k) places_are ∙ uses t k
 
 -- the tier that has a block of a directory is the fast one
 pub pool_place : (g : Sizes) (x : InodeExtents) (count : ℕ) → LieInPool g x count → (k : ℕ) → k < count → (t : Tier) (p : ℕ) → place_by x t k ≡ Some p → (place_by x Fast k ≡ Some p) × (is_node g p ≡ true)

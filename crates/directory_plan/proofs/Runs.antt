@@ -1,10 +1,10 @@
 -- Runs of blocks that lie at some places, one more at a time.
-use Rattle.std.proofs.Common.{◌≡◌, ◌≤◌, ◌<◌, ◌+◌, ◌-◌, ◌^◌, ◌++◌, ◌∷◌, ◌∙◌, ℕ, List, [], length, Option, Some, None, true, false, refl, sym, ap, subst, arith, inl, inr}
+use Rattle.std.proofs.Common.{◌≡◌, ◌≤◌, ◌<◌, ◌+◌, ◌-◌, ◌^◌, ◌++◌, ◌∷◌, ◌∙◌, ℕ, List, [], length, Some, None, refl, sym, ap, subst, arith, inl, inr}
 use Rattle.std.specs.Option.{option_or}
 use Rattle.std.proofs.lemmas.Bool.{cases_order}
 use Rattle.layout.specs.declared.extents.Extent.{Extent}
 use Rattle.extent_nodes.specs.Normal.{IsRising, NoneGoesOn, PlacesFit, Joins}
-use Rattle.extent_nodes.specs.Places.{place_of, has}
+use Rattle.extent_nodes.specs.Places.{place_of}
 use Rattle.extent_nodes.proofs.Maps.{has-in, not-has, place_of-append, place-here, place-later}
 use Rattle.extent_nodes.proofs.Rising.{rising-wider}
 use Rattle.directory_plan.specs.Blocks.{nth_block}

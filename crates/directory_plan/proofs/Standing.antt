@@ -1,5 +1,5 @@
 -- What stands on the media once the images of a planned directory do.
-use Rattle.std.proofs.Common.{◌≡◌, ◌≢◌, ◌≤◌, ◌<◌, ◌+◌, ◌++◌, ◌∷◌, ◌∙◌, ◌↔◌, ℕ, zero, suc, List, [], length, Option, Some, None, refl, sym, ap, subst, arith, inl, inr, ◌⊎◌}
+use Rattle.std.proofs.Common.{◌≡◌, ◌≢◌, ◌<◌, ◌∷◌, ◌∙◌, ◌↔◌, ℕ, zero, suc, List, [], length, Option, Some, None, refl, sym, ap, subst, arith, inl, inr, ◌⊎◌}
 use Rattle.std.specs.List.{Contains}
 use Rattle.std.proofs.lemmas.Bool.{cases_lt, cases_eq}
 use Rattle.std.proofs.lemmas.List.Elements.{All-get_or}
@@ -11,15 +11,14 @@ use Rattle.layout.specs.declared.slot.Slot.{Slot}
 use Rattle.layout.specs.declared.slot.Slot.TheVariants as slots
 use Rattle.layout.specs.Places.{Sizes}
 use Rattle.layout.specs.Extents.{extents_spelling}
-use Rattle.batch_journal.specs.Blocks.{Blocks}
 use Rattle.batch_journal.specs.Images.{image_for, or_else, with_images}
 use Rattle.block_map.specs.Map.{runs_in}
 use Rattle.tree_blocks.specs.After.{started, IsDirectoryAfter}
 use Rattle.tree_blocks.specs.Directory.{numbered}
 use Rattle.area_image.specs.Store.{Store, root_of, inode}
 use Rattle.area_rewrite.specs.Written.{IsFit, IsListed, list_of, block_by}
-use Rattle.area_rewrite.specs.Changed.{IsDirectorySlot, IsDirectoryWritten, LiesHeld}
-use Rattle.directory_plan.specs.Blocks.{nth_block, use_in, use_of, use_on_fast, one_block, lost_blocks}
+use Rattle.area_rewrite.specs.Changed.{IsDirectorySlot, IsDirectoryWritten}
+use Rattle.directory_plan.specs.Blocks.{nth_block, use_in, use_of, use_on_fast, lost_blocks}
 use Rattle.area_image.specs.Spelled.{used}
 use Rattle.block_alloc.specs.Runs.{blocks_of}
 use Rattle.block_alloc.specs.Value.{FreeBlocks}
@@ -31,7 +30,7 @@ use Rattle.directory_plan.specs.declared.started.StartedDirectory.{StartedDirect
 use Rattle.directory_plan.specs.declared.changing.ChangedDirectory.{ChangedDirectory}
 use Rattle.directory_plan.specs.declared.plan.DirectoryPlan.{DirectoryPlan}
 use Rattle.directory_plan.proofs.Fits.{is_fit, no_places}
-use Rattle.directory_plan.proofs.Uses.{nth_contained, contains_nth, use_root, use_place, block_is_use, FastUse, fast_use, use_fast, kept_on_fast, once_on_fast, spare_used, lost_was, lost_is, lost_apart}
+use Rattle.directory_plan.proofs.Uses.{nth_contained, contains_nth, use_root, use_place, block_is_use, fast_use, use_fast, kept_on_fast, once_on_fast, spare_used, lost_was, lost_is, lost_apart}
 use Rattle.directory_plan.proofs.Given.{blocks_are, all_used}
 use Rattle.directory_plan.proofs.Lists.{RootCase, NoRoot, OldRoot, NewRoot}
 use Rattle.directory_plan.proofs.Lists as lists

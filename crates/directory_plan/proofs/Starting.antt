@@ -1,22 +1,20 @@
 -- What is read of a directory is what a change of it starts from.
-use Rattle.std.proofs.Common.{◌≡◌, ◌≢◌, ◌≤◌, ◌<◌, ◌∙◌, ℕ, List, [], length, true, Some, refl, sym, ap, subst, arith}
-use Rattle.tier_device.specs.declared.media.Tier.{Tier}
+use Rattle.std.proofs.Common.{◌≡◌, ◌≢◌, ◌≤◌, ◌<◌, ◌∙◌, ℕ, List, [], length, Some, refl, sym, ap, subst}
 use Rattle.tier_device.specs.declared.media.Tier.TheVariants.{Fast}
 use Rattle.graph_change.specs.Net.{Kept}
 use Rattle.layout.specs.declared.slot.Slot.{Slot}
 use Rattle.layout.specs.declared.slot.Slot.TheVariants as slots
-use Rattle.layout.specs.Places.{Sizes, is_node}
+use Rattle.layout.specs.Places.{Sizes}
 use Rattle.posix_calls.specs.declared.limits.TheConstants.{MAX_NAMES}
 use Rattle.tree_blocks.specs.Rewritten.{AreHeldOf}
-use Rattle.layout.specs.Slot.{is_root}
-use Rattle.tree_blocks.specs.Inode.{Blocks, Inode, inode_of, IsDirectory, blocks_for}
-use Rattle.tree_blocks.specs.Directory.{EntryBlocks, IsHeld, numbered}
+use Rattle.tree_blocks.specs.Inode.{Blocks, inode_of, IsDirectory, blocks_for}
+use Rattle.tree_blocks.specs.Directory.{IsHeld, numbered}
 use Rattle.tree_blocks.proofs.Alike.{consistent_by}
 use Rattle.file_graph.specs.declared.effect.Kind.TheVariants as kind
 use Rattle.area_image.specs.Store.{Store, slot, root_of, length_of, logical, inode}
 use Rattle.area_image.specs.declared.inode.InodeParts.{InodeParts}
 use Rattle.area_image.proofs.Damages.{at_fast, blocks_is}
-use Rattle.directory_plan.specs.Blocks.{nth_block, AreApart, AreSound, use_in}
+use Rattle.directory_plan.specs.Blocks.{nth_block, AreSound, use_in}
 use Rattle.directory_plan.specs.Started.{AreDirectoryParts, ArePlacesOf, HoldPlaces, IsStarted, IsSoundStart}
 use Rattle.directory_plan.specs.declared.blocks.DirectoryBlocks.{DirectoryBlocks}
 use Rattle.directory_plan.specs.declared.started.StartedDirectory.{StartedDirectory}
@@ -63,15 +61,6 @@ module _ (g : Sizes) (s : Store) (i : ℕ) (x : InodeParts) (are : AreDirectoryP
   }
 
   module _ (blocks : DirectoryBlocks) (root_is : blocks.root ≡ root_of x.slot Fast) (places_are : blocks.places.items ≡ places) where
-    pub sound_blocks : AreSound g blocks
-    sound_blocks = record {
-      nodes = subst (λ ps. (k : ℕ) → k < length ps → is_node g (nth_block ps k) ≡ true) (sym places_are) (parts.nodes g s i x are places is);
-      apart = subst AreApart (sym places_are) (parts.apart g s i x are places is);
-      root_node = subst (λ r. is_root g r ≡ true) (sym root_is) (parts.slot_limits g x.slot (λ k. []) (parts.its_slot g s i x are) are.fits).root;
-      root_apart = λ some k lt same. parts.root_apart g s i x are places is (λ zero'. some (root_is ∙ zero')) k (subst (λ ps. k < length ps) places_are lt) (ap (λ ps. nth_block ps k) (sym places_are) ∙ same ∙ root_is);
-      rooted = λ none. ap (λ ps. length ps) places_are ∙ parts.rooted g s i x are places is (sym root_is ∙ none);
-    }
-
     module _ (start : StartedDirectory) (names : start.names ≡ (inode_of x.slot (λ k. [])).names) (entries : start.entries ≡ record { owner = i; count = count; blocks = held }) (blocks_are : start.blocks ≡ blocks) (list : start.blocks.root ≢ 0 → start.list ≡ s Fast start.blocks.root) where
       entries_of : AreHeldOf start.entries (inode g s i)
       entries_of = subst (λ d. AreHeldOf d (inode g s i)) (sym entries) (record { count = size_is; blocks = λ k lt. ap (λ (b : Blocks). b k) (blocks_is (slot g s i) (logical g s i) kind.Directory are.kind_is) ∙ sym (block_is k lt) })
@@ -93,6 +82,6 @@ module _ (g : Sizes) (s : Store) (i : ℕ) (x : InodeParts) (are : AreDirectoryP
       pub is_sound : IsSoundStart g start
       is_sound = record {
         names_fit = subst (λ n. n ≤ MAX_NAMES) (sym names) (parts.slot_limits g x.slot (λ k. []) (parts.its_slot g s i x are) are.fits).names;
-        blocks_are = subst (AreSound g) (sym blocks_are) sound_blocks;
+        blocks_are = subst (AreSound g) (sym blocks_are) (parts.sound g s i x are places is blocks root_is places_are);
         long = ap (λ ps. length ps) places_same ∙ sym holds.long ∙ sym (ap (λ d. length d.blocks) entries);
       }

@@ -1,6 +1,6 @@
 -- What a planned directory has a use for, and what it gives up.
-use Rattle.std.proofs.Common.{◌≡◌, ◌≢◌, ◌≤◌, ◌<◌, ◌+◌, ◌-◌, ◌++◌, ◌∷◌, ◌∙◌, ℕ, zero, suc, List, [], length, take, drop, get_or, map, true, false, Bool, Option, Some, None, refl, sym, ap, subst, arith, inl, inr, ◌⊎◌}
-use Rattle.std.specs.Prelude.{◌==◌, option_map, nat_lt, IsSome, if◌then◌else◌}
+use Rattle.std.proofs.Common.{◌≡◌, ◌≢◌, ◌≤◌, ◌<◌, ◌+◌, ◌-◌, ◌∷◌, ◌∙◌, ℕ, zero, suc, List, [], length, drop, Bool, Option, Some, None, refl, sym, ap, subst, arith, inl, inr, ◌⊎◌}
+use Rattle.std.specs.Prelude.{◌==◌, option_map, if◌then◌else◌}
 use Rattle.std.specs.List.{Contains}
 use Rattle.std.proofs.lemmas.Bool.{cases_lt, cases_eq, eq-eqb, ne_eqb, lt-ltb, le-ltb}
 use Rattle.std.proofs.lemmas.Option.{none-some}
@@ -8,13 +8,12 @@ use Rattle.std.proofs.lemmas.List.{length-append, length-drop, get_or-drop, get_
 use Rattle.std.proofs.lemmas.List.Elements.{Contains-append_left, Contains-append_right, Contains-append_cases}
 use Rattle.tier_device.specs.declared.media.Tier.{Tier}
 use Rattle.tier_device.specs.declared.media.Tier.TheVariants.{Fast, Block, Slow}
-use Rattle.layout.specs.declared.slot.Slot.{Slot}
 use Rattle.layout.specs.declared.slot.Slot.TheVariants as slots
 use Rattle.layout.specs.declared.extents.Extent.{Extent}
 use Rattle.layout.specs.Places.{Sizes}
 use Rattle.extent_nodes.specs.Places.{place_of}
 use Rattle.area_rewrite.specs.Written.{block_by}
-use Rattle.directory_plan.specs.Blocks.{nth_block, AreApart, use_on_fast, use_in, use_of, root_blocks, lost_blocks}
+use Rattle.directory_plan.specs.Blocks.{nth_block, AreApart, use_on_fast, use_in, root_blocks, lost_blocks}
 use Rattle.directory_plan.specs.Spare.{CanBeWritten, AreSpares}
 use Rattle.directory_plan.specs.Placed.{ListPlaces}
 use Rattle.directory_plan.specs.Planned.{on_fast}
@@ -37,7 +36,7 @@ nth_contained xs p at = (at.0, at.1, get_or_default xs at.0 0 p at.1 ∙ at.2)
 
 -- ---- uses of a root and places
 
-root_use : (root : ℕ) (places : List ℕ) (p : ℕ) → use_on_fast root places None ≡ Some p → (root ≢ 0) × (root ≡ p)
+pub root_use : (root : ℕ) (places : List ℕ) (p : ℕ) → use_on_fast root places None ≡ Some p → (root ≢ 0) × (root ≡ p)
 root_use root places p is = elim (cases_eq root 0) [
   | inl none ↦ absurd (none-some p (sym (ap (λ (b : Bool). if b then None else Some root) (eq-eqb root 0 none)) ∙ is))
   | inr some ↦ (some, some_is root p (sym (ap (λ (b : Bool). if b then None else Some root) (ne_eqb root 0 some)) ∙ is))
@@ -46,7 +45,7 @@ root_use root places p is = elim (cases_eq root 0) [
 pub use_root : (root : ℕ) (places : List ℕ) → root ≢ 0 → use_on_fast root places None ≡ Some root
 use_root root places some = ap (λ (b : Bool). if b then None else Some root) (ne_eqb root 0 some)
 
-place_use : (root : ℕ) (places : List ℕ) (k p : ℕ) → use_on_fast root places (Some k) ≡ Some p → (k < length places) × (nth_block places k ≡ p)
+pub place_use : (root : ℕ) (places : List ℕ) (k p : ℕ) → use_on_fast root places (Some k) ≡ Some p → (k < length places) × (nth_block places k ≡ p)
 place_use root places k p is = elim (cases_lt k (length places)) [
   | inl lt ↦ (lt, some_is (nth_block places k) p (sym (ap (λ (b : Bool). if b then Some (nth_block places k) else None) (lt-ltb k (length places) lt)) ∙ is))
   | inr past ↦ absurd (none-some p (sym (ap (λ (b : Bool). if b then Some (nth_block places k) else None) (le-ltb k (length places) past)) ∙ is))

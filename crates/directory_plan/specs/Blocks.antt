@@ -1,6 +1,5 @@
 -- The blocks of the node pool that a directory has: one that lists the others, and those that hold its entries.
-use Rattle.std.specs.Prelude.{◌≡◌, ◌≢◌, ◌<◌, ◌+◌, ◌-◌, ◌++◌, ◌==◌, ◌∷◌, not, true, ℕ, List, [], length, take, drop, get_or, map, nat_lt, Option, Some, None, option_map, ◌&&◌, if◌then◌else◌}
-use Rattle.std.specs.List.{Contains}
+use Rattle.std.specs.Prelude.{◌≡◌, ◌≢◌, ◌<◌, ◌+◌, ◌-◌, ◌++◌, ◌==◌, ◌∷◌, not, true, ℕ, List, [], length, take, drop, get_or, nat_lt, Option, Some, None, option_map, ◌&&◌, if◌then◌else◌}
 use Rattle.tier_device.specs.declared.media.Tier.{Tier}
 use Rattle.tier_device.specs.declared.media.Tier.TheVariants as tiers
 use Rattle.layout.specs.Places.{Sizes, is_node}

@@ -1,8 +1,11 @@
 // The blocks of the node pool that a directory has.
-ghost use Rattle.std.specs.Prelude.{◌≡◌, ◌<◌, ℕ, Some, IfOk, OnErr};
+ghost use Rattle.std.specs.Prelude.{◌≡◌, ◌<◌, ℕ, Option, Some, IfOk, OnErr};
 ghost use Rattle.area_image.specs.Store.{Store, root_of, length_of};
 ghost use Rattle.tier_device.specs.declared.media.Tier.TheVariants as tiers;
+ghost use Rattle.tier_device.specs.declared.media.Tier.{Tier};
 ghost use Rattle.area_image.specs.Map.{place_by};
+ghost use Rattle.area_image.specs.Spelled.{used};
+ghost use Rattle.directory_plan.specs.Blocks.{AreSound, use_of};
 ghost use Rattle.directory_plan.specs.Started.{AreDirectoryParts, LieInPool, ArePlacesOf};
 
 use area_image::{InodeExtents, InodeParts, block_number, first_place, length_of, root_of};
@@ -57,6 +60,9 @@ pub fn directory_blocks(
     ensures root { IfOk result (λ x. x.root ≡ root_of parts.now.slot tiers.Fast) }
     ensures places { IfOk result (λ x. ArePlacesOf parts.now.extents (length_of parts.now.slot) x.places.items) }
     ensures memory { OnErr result (0 < length_of parts.now.slot) }
+    ensures sound { (s : Store) (i : ℕ) → AreDirectoryParts geometry.now s i parts.now → IfOk result (AreSound geometry.now) }
+    // It is all that the inode uses.
+    ensures uses { (s : Store) (i : ℕ) → AreDirectoryParts geometry.now s i parts.now → IfOk result (λ x. (t : Tier) (k : Option ℕ) → use_of x t k ≡ used geometry.now s (record { inode = i; tier = t; logical = k })) }
 {
     let places = places_of(alloc, geometry, &parts.extents, length_of(&parts.slot))?;
     let root = root_of(&parts.slot, Tier::Fast);

@@ -1,6 +1,6 @@
 //! What holds of a directory once what was planned of it is written.
 
-ghost use Rattle.std.specs.Prelude.{◌≡◌, ◌≢◌, ◌⊎◌, ◌↔◌, ℕ, List, Option, Some, true};
+ghost use Rattle.std.specs.Prelude.{◌≡◌, ◌≢◌, ◌⊎◌, ◌↔◌, ◌++◌, ℕ, List, map, Option, Some};
 ghost use Rattle.std.specs.List.{Contains};
 ghost use Rattle.tier_device.specs.declared.media.Tier.{Tier};
 ghost use Rattle.tier_device.specs.declared.media.Tier.TheVariants.{Fast};
@@ -15,11 +15,27 @@ ghost use Rattle.area_image.specs.Spelled.{used};
 ghost use Rattle.area_rewrite.specs.Written.{IsFit, IsListed, block_by};
 ghost use Rattle.area_rewrite.specs.Changed.{IsDirectoryWritten};
 ghost use Rattle.area_move.specs.Given.{AreUsed, IsInUse};
-ghost use Rattle.directory_plan.specs.Started.{use_from};
+ghost use Rattle.block_alloc.specs.declared.runs.Run.{Run};
+ghost use Rattle.graph_change.specs.Bounds.{IsBounded};
+ghost use Rattle.directory_plan.specs.Blocks.{AreSound, use_of, root_blocks, one_block};
+ghost use Rattle.directory_plan.specs.Spare.{CanBeWritten};
+ghost use Rattle.directory_plan.specs.Started.{use_from, IsSoundStart, IsChanged};
+ghost use Rattle.directory_plan.specs.declared.blocks.DirectoryBlocks.{DirectoryBlocks};
 ghost use Rattle.directory_plan.specs.Planned.{IsPlannedFrom, StandThere, on_fast};
 ghost use Rattle.directory_plan.specs.declared.started.StartedDirectory.{StartedDirectory};
 ghost use Rattle.directory_plan.specs.declared.changing.ChangedDirectory.{ChangedDirectory};
 ghost use Rattle.directory_plan.specs.declared.plan.DirectoryPlan.{DirectoryPlan};
+
+/// A directory that was sound, and is changed by what tells no number past its limit, can be written.
+pub fn changed_directory_can_be_written()
+    ensures { (g : Sizes) (c : Change) (start : StartedDirectory) (x : ChangedDirectory) → IsBounded c → IsSoundStart g start → IsChanged c start x → CanBeWritten g x }
+{}
+
+/// A directory whose node goes gives up exactly the blocks that it had a use for; they can be given to the pool in which they are in use.
+pub fn gone_directory_gives_all()
+    ensures exact { (x : DirectoryBlocks) (runs : List Run) → runs ≡ map one_block (x.places.items ++ root_blocks x.root) → (p : ℕ) → Contains (blocks_of runs) p ↔ ((k : Option ℕ) × (use_of x Fast k ≡ Some (Fast, p))) }
+    ensures given { (g : Sizes) (x : DirectoryBlocks) (runs : List Run) (pool : FreeBlocks) → AreSound g x → runs ≡ map one_block (x.places.items ++ root_blocks x.root) → ((k : Option ℕ) (b : ℕ) → use_of x Fast k ≡ Some (Fast, b) → IsInUse pool b) → AreUsed pool runs }
+{}
 
 /// What is planned of a directory keeps the limits of the format, each list stands in its block once the images do, and in every store where they stand the directory is written as the
 /// change makes it.

@@ -17,7 +17,8 @@ mod started;
 pub use blocks::{DirectoryBlocks, directory_blocks};
 pub use changing::{ChangedDirectory, change_directory, spares_for};
 pub use laws::{
-    planned_blocks_are_kept_or_spare, planned_directory_is_written, planned_losses_are_exact,
+    changed_directory_can_be_written, gone_directory_gives_all, planned_blocks_are_kept_or_spare,
+    planned_directory_is_written, planned_losses_are_exact,
 };
 pub use lost::give_up;
 pub use plan::{DirectoryPlan, plan_directory};
