@@ -1,0 +1,30 @@
+use area_batch::{ChangedSlot, NodeImages};
+use block_alloc::Run;
+use free_pools::Taken;
+use layout::Marks;
+
+/// Blocks that are given up, as runs: of the node pool, and of the data blocks of each tier.
+#[derive(Debug, Drop)]
+pub struct Lost {
+    pub nodes: Vec<Run>,
+    pub fast: Vec<Run>,
+    pub block: Vec<Run>,
+    pub slow: Vec<Run>,
+}
+
+/// What is to be written of some inodes, in memory: nothing of it is on the media yet.
+#[derive(Debug, Drop)]
+pub struct Rewrite {
+    /// The new slots, by rising inodes.
+    pub slots: Vec<ChangedSlot>,
+    /// New marks, where they change.
+    pub marks: Option<Marks>,
+    /// Images of blocks of the node pool: extent blocks and blocks of directories.
+    pub nodes: NodeImages,
+    /// The blocks that were taken from the pools for it, all of which it uses.
+    pub taken: Taken,
+    /// 4,096 bytes for each data block that was taken, in their order: fastest tier first.
+    pub bytes: Vec<u8>,
+    /// The blocks that the inodes had, and use no more.
+    pub lost: Lost,
+}
