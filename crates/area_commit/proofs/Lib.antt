@@ -6,3 +6,4 @@ pub mod Returned
 pub mod Moments
 pub mod Course
 pub mod Joined
+pub mod Read

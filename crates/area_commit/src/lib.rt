@@ -1,11 +1,14 @@
-//! What a plan over some inodes of the shared media is, and what holds once it is carried out: laws alone, without code.
+//! Where a change of some inodes on the shared media is carried out.
 //!
-//! A change is planned in memory: slots, marks and node blocks, data for blocks that were taken from the pools, and the blocks that are given up. A stop is to leave the media as
-//! they were, or with all of the plan.
+//! A change is planned in memory: slots, marks and node blocks, data for blocks that were taken from the pools, and the blocks that are given up. The data goes to its blocks
+//! first, and each tier that was written is fenced; then one batch of the journal writes all else; then what was given up is free. So a stop at any moment leaves the media as
+//! they were, or with all of the change.
 #![tactic(auto)]
 
+mod giving;
 mod laws;
 mod plan;
+mod writing;
 
 pub use laws::{
     batch_carries_out_the_plan, carried_out_blocks_are_exchanged,
@@ -13,3 +16,4 @@ pub use laws::{
     pools_have_the_free_blocks, runs_lie_apart, taken_blocks_were_free, undone_pools_are_as_before,
 };
 pub use plan::{Lost, Rewrite};
+pub use writing::carry_out;

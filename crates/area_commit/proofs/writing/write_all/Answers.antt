@@ -1,0 +1,50 @@
+use Rattle.std.proofs.Common.{◌≡◌, ◌≤◌, ◌∙◌, ℕ, List, sym, subst, arith}
+use Rattle.layout.specs.Places.{Sizes}
+use Rattle.batch_journal.proofs.Courses.{left_before}
+use Rattle.area_image.specs.Store.{Store, store_of}
+use Rattle.area_image.proofs.Looked.{carried}
+use Rattle.area_batch.specs.declared.slots.ChangedSlot.{ChangedSlot}
+use Rattle.area_batch.specs.Slots.{RiseIn}
+use Rattle.area_commit.specs.Plan.{IsPlan}
+use Rattle.area_commit.proofs.Read.{while_read, then_written, then_done}
+use Rattle.area_commit.proofs.writing.write_all.Goals as goal
+
+pub batch_of-requires-clause-slots : goal.batch_of-requires-clause-slots
+batch_of-requires-clause-slots g c = subst (λ (xs : List ChangedSlot). RiseIn 1 1024 xs) (sym c.deref.ensures.value) c.requires.plan.2.rise
+
+pub batch_of-requires-clause-nodes : goal.batch_of-requires-clause-nodes
+batch_of-requires-clause-nodes g c = c.requires.plan.2.nodes
+
+pub batch_of-requires-clause-few : goal.batch_of-requires-clause-few
+batch_of-requires-clause-few g c = let few = c.requires.plan.2.few in omega (arith, few)
+
+pub write_plan-requires-clause-rests : goal.write_plan-requires-clause-rests
+write_plan-requires-clause-rests g c = λ t x l. (let un = c.batch_of.ensures.looks.unmoved in c.requires.rests t x (left_before un t x l) ∙ sym (un.reads t))
+
+pub write_plan-requires-clause-plan : goal.write_plan-requires-clause-plan
+write_plan-requires-clause-plan g c =
+    let m = g.M.Media in
+    carried m.moment m.seen m.left m.faults (λ (h : Sizes) (s : Store). IsPlan h s c.args.plan.now) c.args.journal.now c.batch_of.new.journal c.batch_of.result c.batch_of.ensures.looks c.requires.plan
+
+pub returns-in-Ok-clause-any_moment : goal.returns-in-Ok-clause-any_moment
+returns-in-Ok-clause-any_moment g c =
+    let m = g.M.Media in
+    then_written m.moment m.seen m.left m.faults g.met.M.Media.sized c.args.plan.now c.args.journal.now c.batch_of.new.journal c.batch_of.result c.batch_of.ensures.looks c.write_plan.new.journal.media
+    (record { sizes = c.left_now.ensures.sizes c.requires.going; journal = c.left_now.ensures.journal c.requires.going; rest = c.requires.rests }) c.write_plan.ensures.any_moment
+
+pub returns-in-Ok-clause-done : goal.returns-in-Ok-clause-done
+returns-in-Ok-clause-done g c =
+    let m = g.M.Media in
+    then_done m.moment m.seen m.left m.faults g.met.M.Media.sized c.args.plan.now c.args.journal.now c.batch_of.new.journal c.batch_of.result c.batch_of.ensures.looks (store_of (m.seen c.write_plan.new.journal.media)) c.in-Ok.ensures.done
+
+pub returns-clause-any_moment : goal.returns-clause-any_moment
+returns-clause-any_moment g c =
+    let m = g.M.Media in
+    then_written m.moment m.seen m.left m.faults g.met.M.Media.sized c.args.plan.now c.args.journal.now c.batch_of.new.journal c.batch_of.result c.batch_of.ensures.looks c.write_plan.new.journal.media
+    (record { sizes = c.left_now.ensures.sizes c.requires.going; journal = c.left_now.ensures.journal c.requires.going; rest = c.requires.rests }) c.write_plan.ensures.any_moment
+
+pub returns-in_err-batch-clause-any_moment : goal.returns-in_err-batch-clause-any_moment
+returns-in_err-batch-clause-any_moment g c =
+    let m = g.M.Media in
+    while_read m.moment m.seen m.left m.faults g.met.M.Media.sized c.args.plan.now c.args.journal.now c.batch_of.new.journal c.batch_of.result c.batch_of.ensures.looks
+    (record { sizes = c.left_now.ensures.sizes c.requires.going; journal = c.left_now.ensures.journal c.requires.going; rest = c.requires.rests })
