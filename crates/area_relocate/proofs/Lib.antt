@@ -1,0 +1,6 @@
+pub mod Basics
+pub mod Imaging
+pub mod Fitting
+pub mod Using
+pub mod Losing
+pub mod Storing

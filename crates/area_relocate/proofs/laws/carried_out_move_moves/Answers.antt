@@ -1,0 +1,37 @@
+use Rattle.std.proofs.Common.{◌≡◌, ◌≤◌, ℕ, Option, true, sym, subst}
+use Rattle.tier_device.specs.declared.media.Tier.{Tier}
+use Rattle.file_graph.specs.Graph.{Graph}
+use Rattle.file_graph.specs.Units.{charge}
+use Rattle.layout.specs.declared.slot.Slot.{Slot}
+use Rattle.block_map.specs.Map.{TierRuns}
+use Rattle.area_image.specs.Store.{Store}
+use Rattle.area_image.proofs.Parts.{slot_as}
+use Rattle.area_rewrite.specs.Moved.{IsMoved}
+use Rattle.area_commit.specs.Plan.{is_changed}
+use Rattle.area_relocate.proofs.Fitting.{is_fit}
+use Rattle.area_relocate.proofs.Using.{changed_is, changed_here}
+use Rattle.area_relocate.proofs.Storing.{is_planned, written_moved, area_moved}
+use Rattle.area_relocate.proofs.laws.carried_out_move_moves.Goals as goal
+
+pub returns : goal.returns
+returns c g s i to f x m plan new allowed opens p out =
+    let planned = is_planned g s i to f x m plan p in
+    let xs : ℕ → Slot = λ _. x in
+    let ms : ℕ → TierRuns = λ _. m in
+    let anew = c.carried_out_inodes_are_written_anew.ensures g s xs ms plan new opens.spelled planned out in
+    let moved : (j : ℕ) → is_changed plan.slots.items j ≡ true → IsMoved g s new j x m = λ j its. subst (λ n. IsMoved g s new n x m) (changed_is g s i to f x m plan p j its) (written_moved g s i to f x m plan p new out) in
+    let law = c.moved_store_spells_the_same_graph.ensures in
+    let same = law.same_graph g (is_changed plan.slots.items) xs ms s new allowed opens.spelled anew moved in
+    let rewrites = law.rewrites g (is_changed plan.slots.items) xs ms s new allowed opens.spelled anew moved in
+    let written = anew.written i (changed_here g s i to f x m plan p) in
+    let fit = is_fit g s i to f x m plan p in
+    let read = c.written_inode_is_read.ensures in
+    record {
+      opens = record {
+        spelled = law.spelled g (is_changed plan.slots.items) xs ms s new allowed opens.spelled anew moved;
+        units = subst (λ (h : Graph). charge h ≤ g.units) (sym same) opens.units;
+      };
+      same_graph = same;
+      same_marks = c.carried_out_marks.ensures.kept g s plan new out p.marks;
+      moved = area_moved g s i to f x m plan p new out (λ t k. read.places g new i x m allowed p.file.number fit written t k) (slot_as g new i x (read.slot_is g new i x m allowed p.file.number fit written)) (λ u other. c.rewritten_inodes_are_spelled.ensures.uses_stay g (is_changed plan.slots.items) s new rewrites u other);
+    }

@@ -1,0 +1,87 @@
+-- What a file is once a run of it is moved, in memory.
+use Rattle.std.specs.Prelude.{◌≡◌, ◌≢◌, ◌≤◌, ◌*◌, ◌⊎◌, ℕ, List, [], ◌∷◌, length, Option, None, Some, IsSome, true}
+use Rattle.std.specs.List.{AllByRecursion}
+use Rattle.tier_device.specs.declared.media.Tier.{Tier}
+use Rattle.layout.specs.declared.places.TheConstants.{BLOCK}
+use Rattle.layout.specs.declared.slot.Slot.{Slot}
+use Rattle.layout.specs.Extents.{ExtentList, extents_spelling}
+use Rattle.layout.specs.Places.{Sizes}
+use Rattle.layout.specs.Slot.{fits_slot}
+use Rattle.block_alloc.specs.declared.runs.Run.{Run}
+use Rattle.block_alloc.specs.Runs.{blocks_of}
+use Rattle.batch_journal.specs.Images.{image_for}
+use Rattle.extent_nodes.specs.Normal.{IsNormal}
+use Rattle.block_map.specs.Map.{TierRuns, runs_in, places_of, HasBlock}
+use Rattle.area_image.specs.Store.{Store, root_of, logical}
+use Rattle.area_image.specs.Map.{in_tier}
+use Rattle.area_image.specs.declared.tiers.InodeExtents.{InodeExtents}
+use Rattle.area_rewrite.specs.Moved.{with_roots}
+use Rattle.area_batch.specs.Batches.{PutsImage}
+use Rattle.area_batch.specs.declared.slots.ChangedSlot.{ChangedSlot}
+use Rattle.free_pools.specs.declared.taking.Taken.{Taken}
+use Rattle.free_pools.specs.Taking.{runs_of}
+use Rattle.area_move.specs.declared.finding.FileRun.{FileRun}
+use Rattle.area_move.specs.Found.{IsFileRun}
+use Rattle.area_move.specs.Lists.{AreListsOf, HasRoots, SpareFits, HoldsRun, roots_left}
+use Rattle.area_move.specs.Placed.{ArePlaced}
+use Rattle.area_commit.specs.declared.plan.Rewrite.{Rewrite}
+use Rattle.area_commit.specs.Plan.{WereFree, lost_in}
+
+-- ---- what is taken
+
+-- the first block of some runs, 0 where there is none
+abbrev pub first_block : List Run → ℕ
+first_block [] = 0
+first_block (r ∷ rs) = r.first
+
+-- One block is taken to list extents where none does, else no block.
+abbrev pub IsSpareFor : ℕ → List Run → Type 0
+IsSpareFor root nodes = ((root ≢ 0) × (nodes ≡ [])) ⊎ ((root ≡ 0) × (blocks_of nodes ≡ first_block nodes ∷ []))
+
+-- Free blocks were taken: as many of the tier as the run has, none of another tier, and one to list extents where none does.
+pub record IsTakenFor (g : Sizes) (s : Store) (f : FileRun) (to : Tier) (taken : Taken) : Type 0 where
+  pub free : WereFree g s taken
+  pub many : length (blocks_of (runs_of taken to)) ≡ f.run.count
+  pub others : (t : Tier) → t ≢ to → blocks_of (runs_of taken t) ≡ []
+  pub spare : IsSpareFor (root_of f.slot to) taken.nodes.items
+
+-- ---- what is made
+
+-- The image of some extents is put, if there are any.
+abbrev pub PutsList : ℕ → Option ExtentList → List (ℕ × List ℕ) → List (ℕ × List ℕ) → Type 0
+PutsList root None old new = new ≡ old
+PutsList root (Some v) old new = PutsImage root (extents_spelling v) old new
+
+-- Each tier's extents have an image, for the block that the slot names, where no two of them name one block; and there is no other image.
+pub record HasImages (x : Slot) (lists : InodeExtents) (images : List (ℕ × List ℕ)) : Type 0 where
+  pub each : ((t u : Tier) → IsSome (in_tier lists t) → IsSome (in_tier lists u) → root_of x t ≡ root_of x u → t ≡ u) → (t : Tier) (v : ExtentList) → in_tier lists t ≡ Some v → image_for (root_of x t) images ≡ Some (extents_spelling v)
+  pub only : (k : ℕ) → IsSome (image_for k images) → (t : Tier) × IsSome (in_tier lists t) × (root_of x t ≡ k)
+  pub few : length images ≤ 3
+
+-- The file has this slot and these runs, once its run lies in the blocks that were taken; its slot, the images of its extents, and the blocks that list none any more are made.
+pub record IsMade (i : ℕ) (f : FileRun) (to : Tier) (taken : Taken) (slots : List ChangedSlot) (nodes : List (ℕ × List ℕ)) (left : List Run) (x : Slot) (m : TierRuns) : Type 0 where
+  pub lists : InodeExtents
+  pub placed : ArePlaced f.run.first to (blocks_of (runs_of taken to)) f.map m
+  pub normal : (t : Tier) → IsNormal (runs_in m t)
+  pub are_lists : AreListsOf i m lists
+  pub roots : HasRoots lists (first_block taken.nodes.items) f.slot x
+  pub slot_is : x ≡ with_roots (root_of x) f.slot
+  pub limits : (g : Sizes) → fits_slot g f.slot ≡ true → SpareFits g f.slot lists (first_block taken.nodes.items) → fits_slot g x ≡ true
+  pub slots_are : slots ≡ record { inode = i; slot = x } ∷ []
+  pub images : HasImages x lists nodes
+  pub left_is : blocks_of left ≡ roots_left f.slot x
+  pub left_some : AllByRecursion HasBlock left
+  pub left_few : length left ≤ 3
+
+-- ---- the whole
+
+-- A run of file i that may be moved is to go to a tier: into the blocks that were taken, with its bytes, and what it leaves is given up.
+pub record IsMovePlan (g : Sizes) (s : Store) (i : ℕ) (to : Tier) (f : FileRun) (x : Slot) (m : TierRuns) (plan : Rewrite) : Type 0 where
+  pub file : IsFileRun g s i f.run.first f.run.count to f
+  pub took : IsTakenFor g s f to plan.taken
+  pub made : IsMade i f to plan.taken plan.slots.items plan.nodes plan.lost.nodes.items x m
+  pub places : (t : Tier) → blocks_of (lost_in plan.lost t) ≡ places_of (runs_in f.map t) f.run.first f.run.count
+  pub some : (t : Tier) → AllByRecursion HasBlock (lost_in plan.lost t)
+  pub holds : HoldsRun (logical g s i) f.run.first f.run.count plan.bytes.items
+  pub size : length plan.bytes.items ≡ BLOCK * f.run.count
+  pub marks : plan.marks ≡ None

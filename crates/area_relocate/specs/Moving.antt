@@ -1,0 +1,56 @@
+-- What a move leaves.
+use Rattle.std.specs.Prelude.{◌≡◌, ◌≤◌, ◌⊎◌, ◌+◌, ℕ, List, true, false, Result, OnOk, IfErr, IsErrOf}
+use Rattle.tier_device.specs.declared.media.Tier.{Tier}
+use Rattle.tier_device.specs.Media.{Left, AtRest, Rose}
+use Rattle.layout.specs.Places.{Sizes}
+use Rattle.batch_journal.specs.Course.{Unmoved}
+use Rattle.batch_journal.specs.View.{JournalView}
+use Rattle.batch_journal.specs.Volume.{IsVolume}
+use Rattle.area_image.specs.Store.{Store, store_of, graph, marks}
+use Rattle.area_image.specs.Reads.{Loose}
+use Rattle.area_image.specs.Spelled.{IsOpenable}
+use Rattle.free_pools.specs.Value.{PoolsView, HasRanges, AreFree}
+use Rattle.area_move.specs.Moving.{IsMoved}
+use Rattle.area_move.specs.declared.error.RelocateError.{RelocateError}
+use Rattle.area_move.specs.declared.error.RelocateError.TheVariants.{DeviceFault, Memory}
+
+-- The media spell a graph, and nothing is pending on them; the pools have the free blocks.
+pub record IsSettled (g : Sizes) (seen : Tier → List ℕ) (may_leave : Tier → List ℕ → Type 0) (pools : PoolsView) : Type 0 where
+  pub opens : IsOpenable g (store_of seen)
+  pub rests : (t : Tier) → AtRest seen may_leave t
+  pub ranges : HasRanges g pools
+  pub free : AreFree g (store_of seen) pools
+
+-- A store in which the run is moved: it can be opened, and spells the same graph and marks.
+pub record IsMovedStore (g : Sizes) (s : Store) (i first count : ℕ) (to : Tier) (new : Store) : Type 0 where
+  pub opens : IsOpenable g new
+  pub same_graph : graph g new ≡ graph g s
+  pub same_marks : marks new ≡ marks s
+  pub moved : IsMoved g s new i first count to
+
+-- Contents from which a journal opens: a store that is as that one but for free blocks, or one in which the run is moved.
+pub record IsMovedOrNot (g : Sizes) (s : Store) (i first count : ℕ) (to : Tier) (content : Tier → List ℕ) : Type 0 where
+  pub volume : IsVolume g content
+  pub store : Loose g s (store_of content) ⊎ IsMovedStore g s i first count to (store_of content)
+
+-- The past stays. At each moment from the old one to the new one a stop leaves such contents.
+pub record Moves (g : Sizes) (s : Store) (i first count : ℕ) (to : Tier) (before now : ℕ) (old new : ℕ → Tier → List ℕ → Type 0) : Type 0 where
+  pub later : before ≤ now
+  pub past : (m : ℕ) (t : Tier) (c : List ℕ) → m ≤ before → new m t c → old m t c
+  pub kept : (m : ℕ) (t : Tier) (c : List ℕ) → m ≤ before → old m t c → new m t c
+  pub any_moment : (m : ℕ) (content : Tier → List ℕ) → before ≤ m → m ≤ now → Left new m content → IsMovedOrNot g s i first count to content
+
+-- How a move ends: at each moment a stop leaves the run where it lay, or moved; after Ok it is moved, and after a want of memory nothing has moved; and all is settled where no
+-- device has failed.
+pub record Ends {M : Type 0} (moment : M → ℕ) (seen : M → Tier → List ℕ) (left : M → ℕ → Tier → List ℕ → Type 0) (faults : M → ℕ) (i first count : ℕ) (to : Tier) (old new : JournalView M) (pools : PoolsView) (result : Result (Unit {0}) RelocateError) : Type 0 where
+  pub any_moment : Moves old.geometry (store_of (seen old.media)) i first count to (moment old.media) (moment new.media) (left old.media) (left new.media)
+  pub moved : OnOk result (IsMovedStore old.geometry (store_of (seen old.media)) i first count to (store_of (seen new.media)))
+  pub settled : new.failed ≡ false → IsSettled old.geometry (seen new.media) (left new.media (moment new.media)) pools
+  pub only : IfErr result (λ e. (e ≡ DeviceFault) ⊎ (e ≡ Memory))
+  pub unmoved : IsErrOf result Memory → Unmoved (moment old.media) (moment new.media) (seen old.media) (seen new.media) (left old.media) (left new.media)
+  pub refused : IsErrOf result Memory → (new.failed ≡ false) × (faults new.media ≡ faults old.media)
+  pub fault : IsErrOf result DeviceFault → (new.failed ≡ true) × Rose (faults old.media) (faults new.media)
+  pub quiet : OnOk result ((new.failed ≡ false) × (faults new.media ≡ faults old.media))
+  pub geometry : new.geometry ≡ old.geometry
+  pub more_faults : faults old.media ≤ faults new.media
+  pub one_fault : faults new.media ≤ faults old.media + 1

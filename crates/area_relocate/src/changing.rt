@@ -1,0 +1,73 @@
+// What a file is once a run of it is moved.
+ghost use Rattle.std.specs.Prelude.{◌≡◌, ◌≤◌, ◌+◌, [], Some, length, IfOk};
+ghost use Rattle.file_graph.specs.declared.effect.Kind.TheVariants as kind;
+ghost use Rattle.layout.specs.declared.slot.Slot.{Slot};
+ghost use Rattle.block_alloc.specs.Runs.{blocks_of};
+ghost use Rattle.block_map.specs.Map.{LieBelow};
+ghost use Rattle.tree_blocks.specs.Inode.{inode_of};
+ghost use Rattle.free_pools.specs.Taking.{runs_of};
+ghost use Rattle.area_move.specs.Placed.{EndsFit};
+ghost use Rattle.area_relocate.specs.Made.{first_block, IsMade};
+
+use crate::images::images_of;
+use area_batch::{ChangedSlot, NodeImages};
+use area_move::{FileRun, extents_of, put_runs, roots_left, slot_for};
+use block_alloc::Run;
+use block_map::few_blocks_are_few_runs;
+use free_pools::Taken;
+use std::alloc::{AllocError, Global};
+use tier_device::Tier;
+
+/// An inode that is written anew: its slot, the images of its extent blocks, and those of them that it gives up.
+#[derive(Drop)]
+pub struct NewInode {
+    pub slots: Vec<ChangedSlot>,
+    pub nodes: NodeImages,
+    pub left: Vec<Run>,
+}
+
+// The runs that were taken of a tier's data blocks.
+fn runs_of(taken: &Taken, tier: Tier) -> &[Run]
+    ensures { result.now ≡ runs_of taken.now tier }
+{
+    match tier {
+        Tier::Fast => &taken.fast,
+        Tier::Block => &taken.block,
+        Tier::Slow => &taken.slow,
+    }
+}
+
+// The block of the node pool that was taken, if there is one.
+fn spare_of(taken: &Taken) -> u32
+    ensures { result ≡ first_block taken.now.nodes.items }
+{
+    if taken.nodes.is_empty() {
+        return 0;
+    }
+    taken.nodes[0].first
+}
+
+/// The file once its run lies in the blocks that were taken. After a refusal nothing is said of where its blocks lie.
+pub fn changed(
+    alloc: Global,
+    inode: u32,
+    file: &mut FileRun,
+    to: Tier,
+    taken: &Taken,
+) -> Result<NewInode, AllocError>
+    requires is_file { (inode_of file.old.slot (λ k. [])).kind ≡ Some kind.File }
+    requires places { EndsFit (runs_of taken.now to) }
+    requires few { file.old.run.first + length (blocks_of (runs_of taken.now to)) ≤ 256 }
+    requires below { LieBelow 256 file.old.map }
+    ensures { IfOk result (λ n. (x : Slot) × IsMade inode file.old to taken.now n.slots.items n.nodes n.left.items x file.new.map) }
+{
+    few_blocks_are_few_runs();
+    put_runs(&mut file.map, file.run.first, to, runs_of(taken, to))?;
+    let lists = extents_of(&file.map, inode)?;
+    let slot = slot_for(&file.slot, &lists, spare_of(taken));
+    let nodes = images_of(alloc, &slot, &lists)?;
+    let left = roots_left(alloc, &file.slot, &slot)?;
+    let mut slots = Vec::new(alloc);
+    slots.push(ChangedSlot { inode, slot })?;
+    Ok(NewInode { slots, nodes, left })
+}
