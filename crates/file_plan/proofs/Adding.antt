@@ -1,19 +1,20 @@
 -- One block more behind the bytes of others.
-use Rattle.std.proofs.Common.{◌≡◌, ◌≤◌, ◌+◌, ◌*◌, ◌∙◌, ℕ, Bool, List, [], ◌++◌, length, take, drop, Option, Some, None, arith, inl, inr, sym, ap, subst, refl}
-use Rattle.std.specs.Prelude.{option_map, unwrap_or}
+use Rattle.std.proofs.Common.{◌≡◌, ◌≤◌, ◌+◌, ◌*◌, ◌∙◌, ◌⊎◌, ℕ, Bool, true, List, [], ◌++◌, length, take, drop, Option, Some, None, arith, inl, inr, sym, ap, subst, refl}
+use Rattle.std.specs.Prelude.{option_map, unwrap_or, replicate}
 use Rattle.std.specs.BTreeMap.{BTreeMap, get}
 use Rattle.std.specs.Ordering.{nat_cmp}
 use Rattle.std.proofs.lemmas.Bool.{cases_lt}
-use Rattle.std.proofs.lemmas.List.{take-append-le, drop-append-le, take_all, length-append, length-drop}
+use Rattle.std.proofs.lemmas.List.{take-append-le, take-append-drop, drop-append-le, take_all, length-append, length-drop, length-replicate}
 use Rattle.std.proofs.Math.Seq.{drop-append_seam}
 use Rattle.batch_journal.specs.Images.{slice}
-use Rattle.graph_change.specs.Change.{Change, Patch, blank, patch_at}
+use Rattle.graph_change.specs.Change.{Change, Patch, IsWhole, blank, patch_at}
 use Rattle.graph_change.specs.View.{patch_of, patches_of}
 use Rattle.graph_change.proofs.Maps.{value_at}
 use Rattle.tree_blocks.specs.Inode.{Blocks}
 use Rattle.std.proofs.lemmas.List.FromFn.{length-map-range_with_len}
 use Rattle.graph_change.specs.Bytes.{Length, byte_after}
-use Rattle.tree_blocks.specs.FileBlock.{put_in, in_block, block_after}
+use Rattle.tree_blocks.specs.FileBlock.{put_in, in_block, block_after, is_cut_off, ReadSame, ReadsAfter}
+use Rattle.tree_blocks.proofs.FileBlocks.{made_of_same, made_whole, made_behind}
 use Rattle.file_plan.specs.Placed.{number_at}
 use Rattle.file_plan.specs.Bytes.{IsAfter, HoldsBlocks}
 
@@ -49,3 +50,27 @@ holds_more c old numbers n bytes block h long after =
 
 pub after_is_a_block : (len : Length) (patch : Patch) (k : ℕ) (old : List ℕ) → length (block_after len patch k old) ≡ 4096
 after_is_a_block len patch k old = length-map-range_with_len (byte_after (in_block len patch k) old) 0 4096
+
+-- what a change makes of a buffer that reads as the old block, or whose bytes make no difference
+pub made_from : (len : Length) (patch put : Patch) (k : ℕ) (old buffer block : List ℕ) → block ≡ block_after len put k buffer → put ≡ patch → ReadSame buffer old → ReadsAfter len patch k old block
+made_from len patch put k old buffer block is same read =
+    subst (ReadsAfter len patch k old) (sym (is ∙ ap (λ (p : Patch). block_after len p k buffer) same)) (made_of_same len patch k old buffer read)
+
+pub made_anyway : (len : Length) (patch put : Patch) (k : ℕ) (old buffer block : List ℕ) → block ≡ block_after len put k buffer → put ≡ patch → (is_cut_off len k ≡ true) ⊎ IsWhole put → ReadsAfter len patch k old block
+made_anyway len patch put k old buffer block is same no_matter =
+    subst (ReadsAfter len patch k old) (sym (is ∙ ap (λ (p : Patch). block_after len p k buffer) same))
+    (elim no_matter [ inl off ↦ made_behind len patch k old buffer off | inr whole ↦ made_whole len patch k old buffer (subst IsWhole same whole) ])
+
+-- a block that is as long as the buffer that it is made in
+pub made_long : (len : Length) (put : Patch) (k : ℕ) (buffer block : List ℕ) → block ≡ block_after len put k buffer → length block ≡ 4096
+made_long len put k buffer block is = ap length is ∙ after_is_a_block len put k buffer
+
+-- a block that is made where zeros stood behind other bytes
+module _ (at size : ℕ) (old zeros new : List ℕ) (here : at ≡ length old) (is : zeros ≡ old ++ replicate size 0) (front : take at new ≡ take at zeros) where
+  pub stands_behind : new ≡ old ++ drop at new
+  stands_behind =
+      sym (take-append-drop at new)
+      ∙ ap (λ (xs : List ℕ). xs ++ drop at new) (front ∙ ap (take at) is ∙ take-append-le at old (replicate size 0) (omega (arith, here)) ∙ take_all at old (omega (arith, here)))
+
+  pub is_long : length new ≡ length zeros → length (drop at new) ≡ size
+  is_long same = omega (arith, length-drop at new, same, ap length is, length-append old (replicate size 0), length-replicate {A = ℕ} size 0, here)

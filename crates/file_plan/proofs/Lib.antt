@@ -1,3 +1,12 @@
 pub mod Adding
-pub mod Below
+pub mod Rising
+pub mod Keys
 pub mod Moves
+pub mod Keyed
+pub mod After
+pub mod Once
+pub mod Left
+pub mod Roots
+pub mod Taking
+pub mod Stores
+pub mod Listed

@@ -25,7 +25,7 @@ later_is_greater low end (suc m) (suc n) (k ∷ ks) r lt last = later_is_greater
 
 -- ---- one block that is put
 
-same_or_other : (t u : Tier) → (t ≡ u) ⊎ (t ≢ u)
+pub same_or_other : (t u : Tier) → (t ≡ u) ⊎ (t ≢ u)
 same_or_other Fast Fast = inl refl
 same_or_other Fast Block = inr (λ e. cc)
 same_or_other Fast Slow = inr (λ e. cc)

@@ -20,6 +20,10 @@ pub record HoldsBlocks (c : Change) (old : Blocks) (numbers : List ℕ) (count :
 abbrev pub AddsBlocks : Change → Blocks → List ℕ → ℕ → List ℕ → List ℕ → Type 0
 AddsBlocks c old numbers count before now = (more : List ℕ) × (now ≡ before ++ more) × HoldsBlocks c old numbers count more
 
+-- What was there stays in front, whatever stands behind it.
+abbrev pub GoesOn : List ℕ → List ℕ → Type 0
+GoesOn before now = (more : List ℕ) × (now ≡ before ++ more)
+
 -- what a change of a file starts from: these blocks, or none where the file is made
 abbrev pub blocks_from : {X : Type 0} → Option X → Blocks → Blocks
 blocks_from None blocks k = []

@@ -19,6 +19,10 @@ pub record ArePlaced (numbers : List ℕ) (places : List Place) (count : ℕ) (o
   pub once : (n : ℕ) (t : Tier) → n < count → t ≢ (nth_place places n).tier → lies_at new t (number_at numbers n) ≡ None
   pub others : (k : ℕ) (t : Tier) → ((n : ℕ) → n < count → number_at numbers n ≢ k) → lies_at new t k ≡ lies_at old t k
 
+-- Each place is small enough for a map.
+abbrev pub PlacesFit : List Place → Type 0
+PlacesFit places = (n : ℕ) → n < length places → (nth_place places n).block + 1 < 2 ^ 32
+
 -- Numbers and places are small enough for a map.
 pub record CanBePlaced (numbers : List ℕ) (places : List Place) : Type 0 where
   pub enough : length numbers ≤ length places

@@ -1,56 +1,75 @@
 // Which blocks of a file are written for a change.
-ghost use Rattle.std.specs.Prelude.{◌≡◌, ◌↔◌, ◌<◌, ◌*◌, ◌/◌, true, ℕ, IsTrue, IfOk, IfSome, IfNone};
-ghost use Rattle.layout.specs.declared.places.TheConstants.{BLOCK};
-ghost use Rattle.graph_change.specs.Bytes.{end};
-ghost use Rattle.graph_change.specs.Change.{cuts_within, writes_block};
-ghost use Rattle.graph_change.specs.Tidy.{IsTidyChange};
+ghost use Rattle.std.specs.Prelude.{◌≡◌, ◌↔◌, ◌<◌, ◌≤◌, ◌⊎◌, true, ℕ, length, slice_index, IfOk, OnOk, IfSome, IfNone};
+ghost use Rattle.std.specs.List.{Contains};
+ghost use Rattle.graph_change.specs.Change.{cuts_within};
 ghost use Rattle.graph_change.specs.View.{change_of, length_of};
-ghost use Rattle.file_plan.specs.Written.{AreNumbers};
+ghost use Rattle.file_plan.specs.Written.{AreNumbers, AreKeys, Rise, HasOneMore};
 
-use graph_change::{NodeChange, NodeLength};
+use graph_change::{BlockChange, NodeChange, NodeLength};
 use layout::BLOCK;
 use std::alloc::{AllocError, Global};
+use std::collections::BTreeMap;
 
-// Whether a file is cut within a block.
-fn cuts_within(len: NodeLength, number: u64) -> bool
-    ensures { result ≡ cuts_within (length_of len) number }
+// The block within which a file is cut, if it is.
+fn cut_block(len: NodeLength) -> Option<u64>
+    ensures some { IfSome result (λ k. (j : ℕ) → (cuts_within (length_of len) j ≡ true) ↔ (j ≡ k)) }
+    ensures none { IfNone result ((j : ℕ) → cuts_within (length_of len) j ≡ true → ⊥) }
 {
-    match len {
-        NodeLength::Grown { .. } => false,
-        NodeLength::Cut { least, .. } => {
-            least % BLOCK as u64 != 0 && least / BLOCK as u64 == number
+    let NodeLength::Cut { least, .. } = len else {
+        return None;
+    };
+    if least % BLOCK as u64 == 0 {
+        return None;
+    }
+    Some(least / BLOCK as u64)
+}
+
+// The numbers of the blocks into which bytes are put.
+fn put_numbers(alloc: Global, blocks: &BTreeMap<u64, BlockChange>) -> Result<Vec<u64>, AllocError>
+    ensures { IfOk result (λ numbers. AreKeys blocks.now numbers.items) }
+{
+    let mut numbers = Vec::new(alloc);
+    'keys: for number in blocks.keys() {
+        numbers.push(*number)?;
+    }
+    Ok(numbers)
+}
+
+// How many of some numbers, which rise, are less than another.
+fn count_below(numbers: &[u64], number: u64) -> usize
+    requires { Rise numbers.now }
+    ensures within { result ≤ length numbers.now }
+    ensures before { (k : ℕ) → k < result → slice_index numbers.now k < number }
+    ensures behind { (k : ℕ) → result ≤ k → k < length numbers.now → number ≤ slice_index numbers.now k }
+{
+    'each: for index in 0..numbers.len() {
+        if number <= numbers[index] {
+            return index;
         }
     }
+    numbers.len()
 }
 
-// Whether a block is written: bytes are put into it, or the file is cut within it.
-fn writes_block(change: &NodeChange, number: u64) -> bool
-    ensures { result ≡ writes_block (change_of change.now) number }
+// Puts a number among others, which rise, where it is not there.
+fn add_number(numbers: &mut Vec<u64>, number: u64) -> Result<(), AllocError>
+    requires { Rise numbers.old.items }
+    ensures { OnOk result (HasOneMore number numbers.old.items numbers.new.items) }
 {
-    change.blocks.contains_key(&number) || cuts_within(change.length, number)
+    let at = count_below(numbers, number);
+    if at < numbers.len() && numbers[at] == number {
+        return Ok(());
+    }
+    numbers.insert(at, number)?;
+    Ok(())
 }
 
-// How many blocks begin before the end that a file is left with.
-fn blocks_before_end(len: NodeLength) -> u64
-    ensures { (k : ℕ) → BLOCK * k < end (length_of len) → k < result }
-{
-    let end = match len {
-        NodeLength::Grown { to } => to,
-        NodeLength::Cut { to, .. } => to,
-    };
-    end / BLOCK as u64 + 1
-}
-
-/// The numbers of the blocks of a file that are written for a change, rising: those into which bytes are put, and the one within which it is cut.
+/// The numbers of the blocks of a file that are written for a change, rising: those into which bytes are put, and the one within which it is cut. No other block is looked at.
 pub fn written_numbers(alloc: Global, change: &NodeChange) -> Result<Vec<u64>, AllocError>
-    requires { IsTidyChange (change_of change.now) }
     ensures { IfOk result (λ written. AreNumbers (change_of change.now) written.items) }
 {
-    let mut written = Vec::new(alloc);
-    'numbers: for number in 0..blocks_before_end(change.length) {
-        if writes_block(change, number) {
-            written.push(number)?;
-        }
+    let mut written = put_numbers(alloc, &change.blocks)?;
+    if let Some(number) = cut_block(change.length) {
+        add_number(&mut written, number)?;
     }
     Ok(written)
 }

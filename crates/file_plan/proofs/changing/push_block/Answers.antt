@@ -1,23 +1,30 @@
-use Rattle.std.proofs.Common.{◌≡◌, ◌∙◌, ℕ, List, length, subst, sym, ap}
-use Rattle.graph_change.specs.Change.{Patch, patch_at}
-use Rattle.graph_change.specs.View.{change_of, length_of, patches_of}
-use Rattle.area_image.specs.Store.{store_of, logical}
-use Rattle.tree_blocks.specs.FileBlock.{block_after}
-use Rattle.tree_blocks.proofs.FileBlocks.{made_of_same}
-use Rattle.file_plan.specs.Bytes.{IsAfter, blocks_from}
-use Rattle.file_plan.proofs.Adding.{put_is, after_is_a_block}
+use Rattle.std.proofs.Common.{◌≡◌, ◌∙◌, ℕ, List, length, drop, sym}
+use Rattle.std.specs.Global.{Vec}
+use Rattle.file_plan.proofs.Adding.{stands_behind, is_long}
 use Rattle.file_plan.proofs.changing.push_block.Goals as goal
 
-pub returns-in-Ok-extend_from_slice-clause-added : goal.returns-in-Ok-extend_from_slice-clause-added
-returns-in-Ok-extend_from_slice-clause-added g c =
-    let change = c.args.change.now in
-    let old = c.args.journal.now in
-    let k = c.args.number in
-    let patch = put_is change.blocks k _ c.get.ensures.value in
-    let made : c.change_block.new.block ≡ block_after (length_of change.length) (patch_at (patches_of change.blocks) k) k c.read_started.new.out = c.change_block.ensures ∙ ap (λ (p : Patch). block_after (length_of change.length) p k c.read_started.new.out) patch in (
-      c.change_block.new.block,
-      c.in-Ok-extend_from_slice.ensures.items,
-      ap (λ (b : List ℕ). length b) made ∙ after_is_a_block (length_of change.length) (patch_at (patches_of change.blocks) k) k c.read_started.new.out,
-      subst (λ (b : List ℕ). IsAfter (change_of change) (blocks_from c.args.found (logical old.geometry (store_of (g.M.Media.seen old.media)) c.args.inode)) k b) (sym made)
-          (made_of_same (length_of change.length) (patch_at (patches_of change.blocks) k) k (blocks_from c.args.found (logical old.geometry (store_of (g.M.Media.seen old.media)) c.args.inode) k) c.read_started.new.out c.in-Ok.ensures.bytes),
+-- the two counts of a vector's elements
+long : (v : Vec ℕ) → v.len ≡ length v.items
+long v = v.ok.0
+
+pub returns-in-Ok-change_last-clause-added : goal.returns-in-Ok-change_last-clause-added
+returns-in-Ok-change_last-clause-added g c =
+    let at : ℕ = c.len-at.result in
+    let old : List ℕ = c.args.out.now.items in
+    let zeros : List ℕ = c.add_zeros.new.out.items in
+    let new : List ℕ = c.change_last.new.out.items in
+    let here : at ≡ length old = c.len-at.ensures ∙ long c.args.out.now in (
+      drop at new,
+      stands_behind at 4096 old zeros new here c.in-Ok.ensures.longer c.in-Ok-change_last.ensures.front,
+      is_long at 4096 old zeros new here c.in-Ok.ensures.longer c.in-Ok-change_last.ensures.front c.in-Ok-change_last.ensures.long,
+      c.in-Ok-change_last.ensures.made,
     )
+
+pub returns-in-Err-change_last-clause-refused : goal.returns-in-Err-change_last-clause-refused
+returns-in-Err-change_last-clause-refused g c =
+    let at : ℕ = c.len-at.result in
+    let old : List ℕ = c.args.out.now.items in
+    let zeros : List ℕ = c.add_zeros.new.out.items in
+    let new : List ℕ = c.change_last.new.out.items in
+    let here : at ≡ length old = c.len-at.ensures ∙ long c.args.out.now in
+    (drop at new, stands_behind at 4096 old zeros new here c.in-Ok.ensures.longer c.in-Err-change_last.ensures.front)

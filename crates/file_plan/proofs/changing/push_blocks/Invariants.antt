@@ -2,7 +2,7 @@ use Rattle.area_image.specs.Store.{store_of, logical}
 use Rattle.area_image.specs.Looks.{Looks, looked}
 use Rattle.graph_change.specs.View.{change_of}
 use Rattle.file_plan.specs.Bytes.{AddsBlocks, blocks_from}
-use Rattle.file_plan.proofs.changing.read_changed.Given as goal
+use Rattle.file_plan.proofs.changing.push_blocks.Given as goal
 
 abbrev pub invariant-each : goal.invariant-each
 invariant-each g l =

@@ -9,7 +9,7 @@ use Rattle.area_image.proofs.Looked.{carried, carried_back, looks_on}
 use Rattle.file_plan.specs.Bytes.{IsAfter, blocks_from}
 use Rattle.file_plan.specs.Placed.{number_at}
 use Rattle.file_plan.proofs.Adding.{holds_more}
-use Rattle.file_plan.proofs.changing.read_changed.Goals as goal
+use Rattle.file_plan.proofs.changing.push_blocks.Goals as goal
 
 pub push_block-requires-clause-found : goal.push_block-requires-clause-found
 push_block-requires-clause-found g c =

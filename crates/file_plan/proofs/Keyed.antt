@@ -1,0 +1,50 @@
+-- The numbers of the blocks that a change writes.
+use Rattle.std.proofs.Common.{◌≡◌, ◌∙◌, ◌↔◌, ◌⊎◌, ◌||◌, ℕ, List, Bool, true, false, inl, inr, sym, ap, refl}
+use Rattle.std.specs.Prelude.{IsSome}
+use Rattle.std.specs.Ordering.{nat_cmp}
+use Rattle.std.specs.BTreeMap.{get}
+use Rattle.std.specs.FinMap as fin
+use Rattle.graph_change.specs.Change.{cuts_within, writes_block}
+use Rattle.graph_change.specs.View.{change_of, length_of, patches_of}
+use Rattle.graph_change.specs.declared.node_change.NodeChange.{NodeChange}
+use Rattle.graph_change.proofs.Making.{has_is}
+use Rattle.graph_change.proofs.Touched.{or_cases}
+use Rattle.file_plan.specs.Written.{AreNumbers, AreKeys, HasOneMore}
+
+or_left : (a b : Bool) → a ≡ true → (a || b) ≡ true
+or_left a b is = ap (λ x. x || b) is
+
+or_right : (a b : Bool) → b ≡ true → (a || b) ≡ true
+or_right true b is = refl
+or_right false b is = is
+
+module _ (c : NodeChange) (keys : List ℕ) (are : AreKeys c.blocks keys) where
+  put_is : (k : ℕ) → IsSome (get nat_cmp c.blocks k) → writes_block (change_of c) k ≡ true
+  put_is k some = or_left (fin.contains_key (patches_of c.blocks) k) (cuts_within (length_of c.length) k) (has_is c.blocks k ∙ some)
+
+  cut_is : (k : ℕ) → cuts_within (length_of c.length) k ≡ true → writes_block (change_of c) k ≡ true
+  cut_is k cut = or_right (fin.contains_key (patches_of c.blocks) k) (cuts_within (length_of c.length) k) cut
+
+  by : (k : ℕ) → writes_block (change_of c) k ≡ true → IsSome (get nat_cmp c.blocks k) ⊎ (cuts_within (length_of c.length) k ≡ true)
+  by k is = elim (or_cases (fin.contains_key (patches_of c.blocks) k) (cuts_within (length_of c.length) k) is) [
+    | inl put ↦ inl (sym (has_is c.blocks k) ∙ put)
+    | inr cut ↦ inr cut
+  ]
+
+  pub with_cut : (new : List ℕ) (number : ℕ) → ((j : ℕ) → (cuts_within (length_of c.length) j ≡ true) ↔ (j ≡ number)) → HasOneMore number keys new → AreNumbers (change_of c) new
+  with_cut new number cuts more = record {
+    rising = more.rising;
+    each = λ k. (
+      λ has. elim ((more.each k).0 has) [ inl key ↦ put_is k ((are.each k).0 key) | inr is ↦ cut_is k ((cuts k).1 is) ],
+      λ is. elim (by k is) [ inl put ↦ (more.each k).1 (inl ((are.each k).1 put)) | inr cut ↦ (more.each k).1 (inr ((cuts k).0 cut)) ],
+    );
+  }
+
+  pub without_cut : ((j : ℕ) → cuts_within (length_of c.length) j ≡ true → ⊥) → AreNumbers (change_of c) keys
+  without_cut none = record {
+    rising = are.rising;
+    each = λ k. (
+      λ has. put_is k ((are.each k).0 has),
+      λ is. elim (by k is) [ inl put ↦ (are.each k).1 put | inr cut ↦ absurd (none k cut) ],
+    );
+  }

@@ -1,0 +1,12 @@
+use Rattle.std.proofs.Common.{refl}
+use Rattle.tree_blocks.specs.After.{started}
+use Rattle.area_image.specs.Store.{inode}
+use Rattle.file_plan.proofs.Stores.{as_changed}
+use Rattle.file_plan.proofs.laws.planned_file_is_written.Goals as goal
+
+pub returns : goal.returns
+returns c g change old new i x before after numbers places bytes is_file slot_is starts once are is enough holds has = record {
+  is_file = is_file;
+  slot_is = slot_is;
+  blocks = as_changed g change old new i before after numbers places bytes (started change.base (inode g old i)).blocks starts once are is enough holds has (λ k. refl);
+}
