@@ -19,7 +19,7 @@ use Rattle.block_map.specs.Map.{TierRuns, runs_in, lies_at, listed, places_of, L
 use Rattle.area_move.specs.Given.{AreUsed, IsInUse}
 use Rattle.area_move.proofs.Given.{cons_cases, cons_here, cons_there, nothing, in_range}
 use Rattle.file_plan.specs.Written.{AreNumbers, Rise}
-use Rattle.file_plan.specs.Mapped.{leaves, AreLeft, below_end, places_below}
+use Rattle.file_plan.specs.Mapped.{leaves, AreLeft, AreAll, below_end, places_below}
 use Rattle.file_plan.proofs.Once.{Once, runs_used}
 
 -- the places of some blocks
@@ -174,3 +174,13 @@ module _ (c : Change) (numbers : List ℕ) (m : TierRuns) (t : Tier) (cut : ℕ)
   pub left_used : (pool : FreeBlocks) (runs : List Run) → blocks_of runs ≡ all_left → AllByRecursion HasBlock runs → IsOneToOne (runs_in m t) → ((k b : ℕ) → lies_at m t k ≡ Some b → IsInUse pool b) → AreUsed pool runs
   left_used pool runs is some apart used =
       runs_used pool runs some (subst Once (sym is) (left_once apart)) (λ p at. (let r = left_of p (subst (λ xs. Contains xs p) is at) in used r.0 p r.2))
+
+-- ---- all of them
+
+pub are_all : (m : TierRuns) (t : Tier) (places : List ℕ) → LieBelow 256 m → places ≡ places_of (runs_in m t) 0 256 → AreAll m t places
+are_all m t places below is p = (
+  λ at. (let r = among (lies_at m t) (range_with_len 0 256) p (subst (λ xs. Contains xs p) is at) in (r.block, r.there)),
+  λ some.
+      (let few : some.0 < 256 = below t some.0 (subst IsSome (sym some.1) refl) in
+      subst (λ xs. Contains xs p) (sym is) (among_back (lies_at m t) (range_with_len 0 256) some.0 p (in_range 0 256 some.0 (omega arith) (omega (arith, few))) some.1)),
+)

@@ -53,6 +53,10 @@ pub record TakesPlace (numbers : List ℕ) (places : List Place) (t : Tier) (k p
 abbrev pub AreLeft : Change → TierRuns → Tier → List ℕ → Type 0
 AreLeft c m t places = (p : ℕ) → Contains places p ↔ ((k : ℕ) × (leaves c k ≡ true) × (lies_at m t k ≡ Some p))
 
+-- These are the places in a tier of all blocks.
+abbrev pub AreAll : TierRuns → Tier → List ℕ → Type 0
+AreAll m t places = (p : ℕ) → Contains places p ↔ ((k : ℕ) × (lies_at m t k ≡ Some p))
+
 -- the place of a block that is less than a number
 abbrev pub below_end : ℕ → (ℕ → Option ℕ) → ℕ → Option ℕ
 below_end end place k = if nat_lt k end then place k else None

@@ -12,9 +12,10 @@ ghost use Rattle.graph_change.specs.Tidy.{IsTidyChange};
 ghost use Rattle.graph_change.specs.View.{change_of};
 ghost use Rattle.area_move.specs.Given.{AreUsed, IsInUse};
 ghost use Rattle.file_plan.specs.Written.{AreNumbers};
-ghost use Rattle.file_plan.specs.Mapped.{AreLeft, places_below};
+ghost use Rattle.file_plan.specs.Mapped.{AreLeft, AreAll, places_below};
 
 use crate::cutting::{FILE_BLOCKS, first_cut};
+use area_move::places_in;
 use block_alloc::Run;
 use block_map::BlockMap;
 use graph_change::NodeChange;
@@ -85,5 +86,20 @@ pub fn places_left(
         count: FILE_BLOCKS - cut,
     };
     map.push_places(tier, behind, &mut runs)?;
+    Ok(runs)
+}
+
+/// All places that blocks have in a tier, as runs: what is given up where the node goes, or a file is made in its stead. Those of a directory, on the fast tier, are of the node
+/// pool.
+pub fn all_places(alloc: Global, map: &BlockMap, tier: Tier) -> Result<Vec<Run>, AllocError>
+    requires { LieBelow FILE_BLOCKS map.now }
+    ensures all { IfOk result (λ runs. AreAll map.now tier (blocks_of runs.items)) }
+    ensures used { (p : FreeBlocks) → IsOneToOne (runs_in map.now tier) → ((k b : ℕ) → lies_at map.now tier k ≡ Some b → IsInUse p b) → IfOk result (λ runs. AreUsed p runs.items) }
+{
+    let blocks = Run {
+        first: 0,
+        count: FILE_BLOCKS,
+    };
+    let runs = places_in(alloc, map, tier, blocks)?;
     Ok(runs)
 }

@@ -20,7 +20,7 @@ pub use laws::{
     changed_map_is_fit, kept_file_starts_from_its_blocks, left_places_are_lost,
     planned_file_is_fit, planned_file_is_written, planned_roots_list_the_runs,
 };
-pub use leaving::places_left;
+pub use leaving::{all_places, places_left};
 pub use numbers::written_numbers;
 pub use placing::change_map;
 pub use planning::{FilePlan, plan_file};
