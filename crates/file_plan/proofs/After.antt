@@ -1,5 +1,5 @@
 -- Where the blocks of a file lie after a change of it.
-use Rattle.std.proofs.Common.{◌≡◌, ◌≢◌, ◌<◌, ◌≤◌, ◌+◌, ◌*◌, ◌/◌, ◌^◌, ◌⊎◌, ◌∙◌, ◌||◌, ℕ, List, [], ◌∷◌, length, get_or, Bool, true, false, Some, None, arith, inl, inr, sym, ap, subst, refl}
+use Rattle.std.proofs.Common.{◌≡◌, ◌≢◌, ◌<◌, ◌≤◌, ◌+◌, ◌/◌, ◌^◌, ◌⊎◌, ◌∙◌, ◌||◌, ℕ, List, [], ◌∷◌, length, Bool, true, false, Some, None, arith, inl, inr, sym, ap, subst, refl}
 use Rattle.std.specs.Prelude.{IsSome, suc}
 use Rattle.std.specs.List.{Contains}
 use Rattle.std.proofs.lemmas.Bool.{cases_Bool, cond-true, cond-false, false≢true}

@@ -1,9 +1,8 @@
 -- The places that the blocks of a changed file leave.
-use Rattle.std.proofs.Common.{◌≡◌, ◌≤◌, ◌<◌, ◌+◌, ◌-◌, ◌||◌, ◌⊎◌, ◌∙◌, ◌↔◌, ℕ, zero, suc, List, [], ◌∷◌, ◌++◌, Bool, true, false, Option, Some, None, arith, inl, inr, sym, ap, subst, refl}
+use Rattle.std.proofs.Common.{◌≡◌, ◌≤◌, ◌<◌, ◌+◌, ◌-◌, ◌||◌, ◌∙◌, ℕ, zero, suc, List, [], ◌∷◌, ◌++◌, Bool, true, false, Option, Some, None, arith, inl, inr, sym, ap, subst, refl}
 use Rattle.std.specs.Prelude.{IsSome, nat_le, nat_lt}
 use Rattle.std.specs.List.{Contains, AllByRecursion, flat_map, range_with_len}
-use Rattle.std.proofs.lemmas.Bool.{cases_Bool, cases_lt, cond-true, cond-false, le-leb, leb-true, lt-ltb, le-ltb, true≢false}
-use Rattle.std.proofs.lemmas.List.{append-nil}
+use Rattle.std.proofs.lemmas.Bool.{cases_Bool, cases_lt, cond-true, cond-false, le-leb, leb-true, lt-ltb, le-ltb}
 use Rattle.std.proofs.lemmas.List.Elements.{Contains-append_left, Contains-append_right, Contains-append_cases}
 use Rattle.std.proofs.lemmas.Option.{none-some}
 use Rattle.tier_device.specs.declared.media.Tier.{Tier}
@@ -18,7 +17,7 @@ use Rattle.tree_blocks.specs.FileBlock.{is_cut_off}
 use Rattle.block_map.specs.Map.{TierRuns, runs_in, lies_at, listed, places_of, LieBelow, HasBlock}
 use Rattle.area_move.specs.Given.{AreUsed, IsInUse}
 use Rattle.area_move.proofs.Given.{cons_cases, cons_here, cons_there, nothing, in_range}
-use Rattle.file_plan.specs.Written.{AreNumbers, Rise}
+use Rattle.file_plan.specs.Written.{AreNumbers}
 use Rattle.file_plan.specs.Mapped.{leaves, AreLeft, AreAll, below_end, places_below}
 use Rattle.file_plan.proofs.Once.{Once, runs_used}
 

@@ -1,11 +1,10 @@
 -- A store in which a changed file stands.
-use Rattle.std.proofs.Common.{◌≡◌, ◌≢◌, ◌<◌, ◌≤◌, ◌+◌, ◌*◌, ◌/◌, ◌∙◌, ℕ, List, length, get_or, Bool, true, false, Option, Some, None, arith, inl, inr, sym, ap, subst, refl}
+use Rattle.std.proofs.Common.{◌≡◌, ◌<◌, ◌≤◌, ◌+◌, ◌*◌, ◌/◌, ◌∙◌, ℕ, List, length, true, false, Option, Some, arith, inl, inr, sym, ap, subst, refl}
 use Rattle.std.proofs.lemmas.Bool.{false≢true}
 use Rattle.std.proofs.lemmas.List.{get_or-map, length-map}
 use Rattle.std.proofs.lemmas.Option.{none-some}
 use Rattle.tier_device.specs.declared.media.Tier.{Tier}
 use Rattle.tier_device.specs.declared.media.Tier.TheVariants.{Fast}
-use Rattle.file_graph.specs.declared.effect.Kind.{Kind}
 use Rattle.file_graph.specs.declared.effect.Kind.TheVariants as kind
 use Rattle.layout.specs.Places.{Sizes}
 use Rattle.layout.specs.declared.slot.Slot.{Slot}
@@ -25,15 +24,15 @@ use Rattle.extent_nodes.specs.Normal.{IsNormal}
 use Rattle.extent_nodes.specs.Spelled.{LiesWithin, IsOneToOne}
 use Rattle.block_map.specs.Map.{TierRuns, runs_in, lies_at, LieOnce, LieBelow}
 use Rattle.block_map.specs.declared.map.Place.{Place}
-use Rattle.area_image.specs.Store.{Store, slot, place, logical, inode, touch_of, root_of}
+use Rattle.area_image.specs.Store.{Store, slot, place, logical, inode}
 use Rattle.area_rewrite.specs.Written.{IsFit, logical_by}
 use Rattle.area_rewrite.specs.Changed.{place_from, LieAsChanged, IsFileSlot}
 use Rattle.area_rewrite.proofs.Places.{by_there}
-use Rattle.file_plan.specs.Placed.{number_at, nth_place}
+use Rattle.file_plan.specs.Placed.{nth_place}
 use Rattle.file_plan.specs.Written.{AreNumbers}
 use Rattle.file_plan.specs.Bytes.{IsAfter, HoldsBlocks}
 use Rattle.file_plan.specs.Mapped.{IsMapAfter, AreFresh, AreData}
-use Rattle.file_plan.specs.Planned.{pair_of, pairs_of, StartsFrom, HasData}
+use Rattle.file_plan.specs.Planned.{pair_of, StartsFrom, HasData}
 use Rattle.file_plan.proofs.After.{stands, written_at, in_place, keeps_or_takes, after_once, after_below, after_apart, after_within}
 
 from_kept : (base : Base) (o : Option ℕ) (p : ℕ) → place_from base o ≡ Some p → o ≡ Some p

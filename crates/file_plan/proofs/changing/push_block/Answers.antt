@@ -1,4 +1,4 @@
-use Rattle.std.proofs.Common.{◌≡◌, ◌∙◌, ℕ, List, length, drop, sym}
+use Rattle.std.proofs.Common.{◌≡◌, ◌∙◌, ℕ, List, length, drop}
 use Rattle.std.specs.Global.{Vec}
 use Rattle.file_plan.proofs.Adding.{stands_behind, is_long}
 use Rattle.file_plan.proofs.changing.push_block.Goals as goal

@@ -1,4 +1,4 @@
-use Rattle.std.proofs.Common.{ℕ, List, Vec, Global, sym, subst}
+use Rattle.std.proofs.Common.{ℕ, Vec, Global, sym, subst}
 use Rattle.graph_change.specs.View.{change_of}
 use Rattle.file_plan.specs.Written.{AreNumbers}
 use Rattle.file_plan.proofs.Keyed.{with_cut, without_cut}

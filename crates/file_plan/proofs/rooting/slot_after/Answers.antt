@@ -1,4 +1,4 @@
-use Rattle.std.proofs.Common.{◌≡◌, ◌∙◌, ◌+◌, ℕ, [], get_or, ap}
+use Rattle.std.proofs.Common.{◌∙◌, ◌+◌, ℕ, [], get_or, ap}
 use Rattle.graph_change.specs.View.{change_of}
 use Rattle.tier_device.specs.declared.media.Tier.TheVariants.{Fast, Block, Slow}
 use Rattle.area_image.specs.Store.{root_of}
