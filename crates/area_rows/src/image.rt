@@ -88,6 +88,19 @@ impl Image {
         }
     }
 
+    /// A medium with these contents.
+    pub fn media(&self) -> Result<MemMedia, AllocError>
+        ensures { IfOk result IsAtRest }
+    {
+        let copy = Image {
+            alloc: self.alloc,
+            fast: self.fast.clone()?,
+            block: self.block.clone()?,
+            slow: self.slow.clone()?,
+        };
+        copy.into_media()
+    }
+
     /// The medium.
     pub fn into_media(self) -> Result<MemMedia, AllocError>
         ensures { IfOk result IsAtRest }

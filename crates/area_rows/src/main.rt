@@ -6,6 +6,8 @@
 
 mod image;
 mod opened;
+mod paths;
+mod shared;
 mod walk;
 
 use opened::tell_opened;

@@ -3,6 +3,7 @@ ghost use Rattle.tier_device.specs.declared.media.Tier.{Tier};
 ghost use Rattle.tier_device.specs.Media.{AtRest};
 
 use crate::image::Image;
+use crate::shared::hold_shared;
 use crate::walk::put_tree;
 use area_image::{AreaError, OpenArea, open_area};
 use batch_journal::{Journal, JournalError};
@@ -31,9 +32,13 @@ fn put_image(rt: &HostRuntime, image: Image, input: &mut Input<'_>, out: &mut Te
         Err(_) => input.fail(),
     }
     put_changes(alloc, &mut image, input);
-    match image.into_media() {
+    match image.media() {
         Ok(media) => put_medium(alloc, media, out),
-        Err(_) => out.field("", &AreaError::Memory),
+        Err(_) => out.cut(),
+    }
+    match image.into_media() {
+        Ok(media) => hold_shared(alloc, media, out),
+        Err(_) => out.cut(),
     }
 }
 
@@ -74,7 +79,8 @@ fn put_area<M: Media + Drop>(alloc: Global, journal: Journal<M>, out: &mut Text)
     }
 }
 
-fn put_damage(what: What, block: u32, out: &mut Text) {
+/// What is damaged, and the block that shows it.
+pub fn put_damage(what: What, block: u32, out: &mut Text) {
     out.put(match what {
         What::Super => "the superblock",
         What::Slot => "a slot",
