@@ -1,0 +1,4 @@
+pub mod Lists
+pub mod Shared
+pub mod Summed
+pub mod Applied
