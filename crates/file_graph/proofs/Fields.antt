@@ -5,6 +5,9 @@ use Rattle.std.proofs.lemmas.List.{take_at, drop_at, take-append-drop, length-ap
 use Rattle.std.proofs.lemmas.Nat.{le_bytes_4, le_bytes_8}
 use Rattle.byteorder.specs.Endian.{little_number, little_bytes}
 use Rattle.byteorder.specs.Numbers.{little_number-reads_back, length-bytes_low_first, little_from-lt}
+use Rattle.file_graph.specs.declared.effect.Kind.{Kind}
+use Rattle.file_graph.specs.declared.effect.Kind.TheVariants as kind
+use Rattle.file_graph.specs.Kinds.{kind_byte, kind_field}
 use Rattle.file_graph.specs.Fields.{◌>>=◌, AreBytes, byte_at, run_at, number_at, u32, u64}
 
 pub AreBytes-drop : (n : ℕ) (bytes : List ℕ) → AreBytes bytes → AreBytes (drop n bytes)
@@ -138,3 +141,20 @@ byte_takes (b ∷ bytes) x are e = subst (λ (y : ℕ × List ℕ). Takes (b ∷
 
 pub one_byte : (b n : ℕ) (bytes : List ℕ) → AreBytes (b ∷ bytes) → eqb b n ≡ true → Takes (b ∷ bytes) (n ∷ []) bytes
 one_byte b n bytes are e = record { parts = ap (λ (k : ℕ). k ∷ bytes) (eqb-true b n e); behind = AreBytes-rest b bytes are }
+
+-- ---- kinds
+
+pub kind_takes : (bytes : List ℕ) (x : Kind × List ℕ) → AreBytes bytes → kind_field bytes ≡ Some x → Takes bytes (kind_byte x.0 ∷ []) x.1
+kind_takes [] x are e = absurd cc
+kind_takes (b ∷ bytes) x are e =
+    let second : Option (Kind × List ℕ) = cond (eqb b 2) (Some (kind.Directory, bytes)) None in
+    elim (chosen (eqb b 1) (Some (kind.File, bytes)) second (Some x) e) [
+      | inl w ↦ subst (λ (y : Kind × List ℕ). Takes (b ∷ bytes) (kind_byte y.0 ∷ []) y.1) (some_is (kind.File, bytes) x w.1) (one_byte b 1 bytes are w.0)
+      | inr w ↦
+          let g = test_some (eqb b 2) (kind.Directory, bytes) x w.1 in
+          subst (λ (y : Kind × List ℕ). Takes (b ∷ bytes) (kind_byte y.0 ∷ []) y.1) g.1 (one_byte b 2 bytes are g.0)
+    ]
+
+pub kind_again : (k : Kind) (rest : List ℕ) → kind_field (kind_byte k ∷ rest) ≡ Some (k, rest)
+kind_again kind.File rest = refl
+kind_again kind.Directory rest = refl

@@ -2,6 +2,7 @@ pub mod Bodies
 pub mod Codes
 pub mod Fields
 pub mod Graph
+pub mod Kinds
 pub mod Numbers
 pub mod Plain
 pub mod Subject

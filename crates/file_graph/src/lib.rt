@@ -6,6 +6,7 @@
 #![tactic(auto)]
 
 mod effect;
+mod kinds;
 mod laws;
 mod node;
 mod numbers;
@@ -13,6 +14,7 @@ mod plain;
 mod reading;
 
 pub use effect::{Child, Effect, Effects, Kind};
+pub use kinds::{DIRECTORY_KIND, FILE_KIND, kind_byte, kinds_have_their_bytes, read_kind};
 pub use laws::{
     apart_effects_commute, charge_rises_by_growth_at_most, effects_change_what_they_touch,
 };

@@ -17,7 +17,8 @@ use Rattle.file_graph.specs.declared.effect.Kind.{Kind}
 use Rattle.layout.specs.declared.directory.DirEntry.{DirEntry}
 use Rattle.layout.specs.Places.{is_inode}
 use Rattle.layout.specs.Bytes.{u32, zeros, filled, with_text, within, all_pairs}
-use Rattle.layout.specs.Directory.{EntryList, kind_byte, entry_text, entries_text, entries_spelling, fits_entry, fits_entries, differ, are_distinct, head_at, entries_at, listed, AreEntries, IsListed, no_entry, entry_of, with_entry_at, with_last, with_target, without_entry, without_last}
+use Rattle.layout.specs.Directory.{EntryList, entry_text, entries_text, entries_spelling, fits_entry, fits_entries, differ, are_distinct, head_at, entries_at, listed, AreEntries, IsListed, no_entry, entry_of, with_entry_at, with_last, with_target, without_entry, without_last}
+use Rattle.file_graph.specs.Kinds.{kind_byte}
 use Rattle.layout.proofs.Limits.{and_parts}
 use Rattle.layout.proofs.Fields.{u32_long}
 use Rattle.layout.proofs.Blocks.{zeros_long, zeros_more, filled_long, written_on, overwritten_then}

@@ -8,7 +8,8 @@ use Rattle.posix_calls.specs.Name.{is_name}
 use Rattle.layout.specs.declared.directory.DirEntry.{DirEntry}
 use Rattle.layout.specs.Places.{is_inode}
 use Rattle.layout.specs.Bytes.{AreBytes, u32, zeros, filled, byte_at, run_at, number_at, text_at, items_at, are_zero, within}
-use Rattle.layout.specs.Directory.{EntryList, kind_byte, entry_text, entries_text, entries_spelling, fits_entry, are_distinct, fits_entries, kind_at, front_of, fields_at, entry_at, head_at, entries_at, entry_list_of}
+use Rattle.layout.specs.Directory.{EntryList, entry_text, entries_text, entries_spelling, fits_entry, are_distinct, fits_entries, front_of, fields_at, entry_at, head_at, entries_at, entry_list_of}
+use Rattle.file_graph.specs.Kinds.{kind_byte, kind_field}
 use Rattle.layout.proofs.Limits.{and_parts}
 use Rattle.layout.proofs.Fields.{Takes, Takes-then, bind_some, test_some, some_is, text_takes, text_again, u32_takes, u32_again, u32_long, byte_takes, run_takes, run_again, kind_takes, kind_again}
 use Rattle.layout.proofs.Blocks.{zeros_are_zero, are_zero_zeros, within_parts, within_again, filled_from, filled_long}
@@ -67,7 +68,7 @@ fields_take : (bytes : List ℕ) (x : DirEntry × List ℕ) → AreBytes bytes �
 unfolding fields_at
 fields_take bytes x are e =
     let i = bind_some (number_at 4 bytes) _ x e in
-    let k = bind_some (kind_at i.0.1) _ x i.2 in
+    let k = bind_some (kind_field i.0.1) _ x i.2 in
     let n = bind_some (byte_at k.0.1) _ x k.2 in
     let z = bind_some (text_at (0 ∷ 0 ∷ []) n.0.1) _ x n.2 in
     let f = bind_some (run_at 64 z.0) _ x z.2 in

@@ -1,14 +1,11 @@
--- A text or a kind that is read is the one that was written, and what was written is read again. The same of numbers and bytes is proved in file_graph.
+-- A text that is read is the one that was written, and what was written is read again. The same of numbers, bytes and kinds is proved in file_graph.
 use Rattle.std.proofs.Common.{◌≡◌, ℕ, List, [], ◌∷◌, ◌++◌, length, drop, Option, Some, None, true, cond, eqb, refl, sym, ap, subst, ◌∙◌, inl, inr}
 use Rattle.std.proofs.lemmas.Bool.{eqb-true}
 use Rattle.std.proofs.lemmas.Bool.Decides.{Decides-eqb}
 use Rattle.std.proofs.lemmas.List.{drop_at}
 use Rattle.std.specs.Prelude.{option_map, MatchOption}
 use Rattle.std.specs.Borrow.{Bor}
-use Rattle.file_graph.specs.declared.effect.Kind.{Kind}
-use Rattle.file_graph.specs.declared.effect.Kind.TheVariants as kind
-pub use Rattle.file_graph.proofs.Fields.{AreBytes-drop, bind_some, chosen, test_some, guard_some, some_is, Takes, Takes-then, TakesRun, u32_takes, u64_takes, u32_small, u64_small, u32_again, u64_again, u32_long, u64_long, run_takes, run_again, byte_takes, one_byte}
-use Rattle.layout.specs.Directory.{kind_byte, kind_at}
+pub use Rattle.file_graph.proofs.Fields.{AreBytes-drop, bind_some, chosen, test_some, guard_some, some_is, Takes, Takes-then, TakesRun, u32_takes, u64_takes, u32_small, u64_small, u32_again, u64_again, u32_long, u64_long, run_takes, run_again, byte_takes, kind_takes, kind_again}
 use Rattle.layout.specs.Bytes.{AreBytes, text_at}
 
 pub eqb-same : (n : ℕ) → eqb n n ≡ true
@@ -41,20 +38,3 @@ never_some None f = refl
 pub text_is : (text bytes : List ℕ) (r : Option (Bor (List ℕ))) → MatchOption r ((rest : List ℕ) → bytes ≡ text ++ rest → ⊥) (λ x. bytes ≡ text ++ x.now) → option_map (λ x. x.now) r ≡ text_at text bytes
 text_is text bytes (Some x) m = sym (ap (text_at text) m ∙ text_again text x.now)
 text_is text bytes None m = sym (never_some (text_at text bytes) (λ rest e. m rest (text_parts text bytes rest e)))
-
--- ---- kinds
-
-pub kind_takes : (bytes : List ℕ) (x : Kind × List ℕ) → AreBytes bytes → kind_at bytes ≡ Some x → Takes bytes (kind_byte x.0 ∷ []) x.1
-kind_takes [] x are e = absurd cc
-kind_takes (b ∷ bytes) x are e =
-    let second : Option (Kind × List ℕ) = cond (eqb b 2) (Some (kind.Directory, bytes)) None in
-    elim (chosen (eqb b 1) (Some (kind.File, bytes)) second (Some x) e) [
-      | inl w ↦ subst (λ (y : Kind × List ℕ). Takes (b ∷ bytes) (kind_byte y.0 ∷ []) y.1) (some_is (kind.File, bytes) x w.1) (one_byte b 1 bytes are w.0)
-      | inr w ↦
-          let g = test_some (eqb b 2) (kind.Directory, bytes) x w.1 in
-          subst (λ (y : Kind × List ℕ). Takes (b ∷ bytes) (kind_byte y.0 ∷ []) y.1) g.1 (one_byte b 2 bytes are g.0)
-    ]
-
-pub kind_again : (k : Kind) (rest : List ℕ) → kind_at (kind_byte k ∷ rest) ≡ Some (k, rest)
-kind_again kind.File rest = refl
-kind_again kind.Directory rest = refl

@@ -6,7 +6,7 @@ use Rattle.posix_calls.specs.declared.limits.TheConstants.{MAX_NAME}
 use Rattle.posix_calls.specs.Name.{is_name}
 use Rattle.layout.specs.declared.places.TheConstants.{BLOCK}
 use Rattle.layout.specs.declared.directory.TheConstants.{MAX_IN_BLOCK, FIRST_ENTRY_AT, HEAD_GAP}
-use Rattle.layout.specs.declared.kinds.TheConstants.{FILE, DIRECTORY}
+use Rattle.file_graph.specs.Kinds.{kind_byte, kind_field}
 use Rattle.file_graph.specs.declared.effect.Kind.{Kind}
 use Rattle.file_graph.specs.declared.effect.Kind.TheVariants as kind
 use Rattle.layout.specs.declared.directory.DirEntry.{DirEntry}
@@ -17,11 +17,6 @@ use Rattle.layout.specs.Bytes.{◌>>=◌, Field, u32, zeros, filled, number_at, 
 pub record EntryList : Type 0 where
   pub owner : ℕ
   pub entries : List DirEntry
-
--- 1 is a file, 2 a directory
-abbrev pub kind_byte : Kind → ℕ
-kind_byte kind.File = FILE
-kind_byte kind.Directory = DIRECTORY
 
 -- the inode, the kind, the length of the name, two zero bytes, and the name filled up with zeros
 abbrev pub entry_text : DirEntry → List ℕ
@@ -51,11 +46,6 @@ are_distinct es = all_pairs differ es
 abbrev pub fits_entries : EntryList → Bool
 fits_entries v = is_inode v.owner && nat_le (length v.entries) MAX_IN_BLOCK && list_all fits_entry v.entries && are_distinct v.entries
 
--- the kind of a node
-abbrev pub kind_at : Field Kind
-kind_at [] = None
-kind_at (b ∷ rest) = if b == FILE then Some (kind.File, rest) else (if b == DIRECTORY then Some (kind.Directory, rest) else None)
-
 -- the text of so many bytes at the front of a field that is zero behind it
 abbrev pub front_of : ℕ → List ℕ → Option (List ℕ)
 front_of n field = if nat_le n (length field) && are_zero (drop n field) then Some (take n field) else None
@@ -64,7 +54,7 @@ front_of n field = if nat_le n (length field) && are_zero (drop n field) then So
 unfoldable pub fields_at : Field DirEntry
 fields_at bytes = do
   inode ← number_at 4 bytes
-  kind ← kind_at inode.1
+  kind ← kind_field inode.1
   count ← byte_at kind.1
   rest ← text_at (0 ∷ 0 ∷ []) count.1
   field ← run_at MAX_NAME rest

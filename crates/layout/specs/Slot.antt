@@ -2,7 +2,7 @@
 use Rattle.std.specs.Prelude.{◌==◌, ◌^◌, ◌&&◌, ◌||◌, not, nat_lt, nat_le, Bool, true, List, ◌++◌, ℕ, Option, Some, None, if◌then◌else◌}
 use Rattle.posix_calls.specs.declared.limits.TheConstants.{MAX_NAMES, MAX_FILE, MAX_ENTRIES}
 use Rattle.layout.specs.declared.places.TheConstants.{SLOT_SIZE}
-use Rattle.layout.specs.declared.kinds.TheConstants.{FILE, DIRECTORY}
+use Rattle.file_graph.specs.declared.kinds.TheConstants.{FILE_KIND, DIRECTORY_KIND}
 use Rattle.layout.specs.declared.slot.Slot.{Slot}
 use Rattle.layout.specs.declared.slot.Slot.TheVariants as slot
 use Rattle.layout.specs.declared.slot_fields.SlotFields.{SlotFields}
@@ -12,8 +12,8 @@ use Rattle.layout.specs.Bytes.{◌>>=◌, Field, u32, u64, filled, number_at, wi
 -- the numbers of a slot: none of a free one, and of a directory the fast root alone
 abbrev pub slot_fields : Slot → SlotFields
 slot_fields slot.Free = record { kind = 0; names = 0; size = 0; touch = 0; fast = 0; block = 0; slow = 0 }
-slot_fields (slot.File names size touch fast block slow) = record { kind = FILE; names = names; size = size; touch = touch; fast = fast; block = block; slow = slow }
-slot_fields (slot.Directory names entries touch root) = record { kind = DIRECTORY; names = names; size = entries; touch = touch; fast = root; block = 0; slow = 0 }
+slot_fields (slot.File names size touch fast block slow) = record { kind = FILE_KIND; names = names; size = size; touch = touch; fast = fast; block = block; slow = slow }
+slot_fields (slot.Directory names entries touch root) = record { kind = DIRECTORY_KIND; names = names; size = entries; touch = touch; fast = root; block = 0; slow = 0 }
 
 -- the numbers in their order; the kind is one byte, and three zero bytes
 abbrev pub slot_text : SlotFields → List ℕ
@@ -55,7 +55,7 @@ is_blank f = (f.kind == 0) && (f.names == 0) && (f.size == 0) && (f.touch == 0) 
 
 -- the slot that has these numbers
 unfoldable pub slot_from : SlotFields → Option Slot
-slot_from f = if is_blank f then Some slot.Free else (if f.kind == FILE then Some (slot.File f.names f.size f.touch f.fast f.block f.slow) else (if (f.kind == DIRECTORY) && (f.block == 0) && (f.slow == 0) then Some (slot.Directory f.names f.size f.touch f.fast) else None))
+slot_from f = if is_blank f then Some slot.Free else (if f.kind == FILE_KIND then Some (slot.File f.names f.size f.touch f.fast f.block f.slow) else (if (f.kind == DIRECTORY_KIND) && (f.block == 0) && (f.slow == 0) then Some (slot.Directory f.names f.size f.touch f.fast) else None))
 
 -- the slot that bytes spell
 unfoldable pub slot_of : Sizes → List ℕ → Option Slot

@@ -4,15 +4,16 @@ ghost use Rattle.std.specs.List.{list_all, position};
 ghost use Rattle.std.specs.Str.{bytes_eq};
 ghost use Rattle.posix_calls.specs.declared.limits.TheConstants.{MAX_NAME};
 ghost use Rattle.layout.specs.Bytes.{u32 as bytes_4, zeros, with_text};
-ghost use Rattle.layout.specs.Directory.{EntryList, AreEntries, listed, are_distinct, kind_byte, entry_text, entries_spelling, fits_entry, fits_entries, entry_of, with_entry_at, with_last, with_target, without_entry, without_last};
+ghost use Rattle.layout.specs.Directory.{EntryList, AreEntries, listed, are_distinct, entry_text, entries_spelling, fits_entry, fits_entries, entry_of, with_entry_at, with_last, with_target, without_entry, without_last};
+ghost use Rattle.file_graph.specs.Kinds.{kind_byte};
 ghost use Rattle.layout.specs.Lent.{owned};
 
 use crate::dir_entries::{head_of, place_of};
 use crate::directory::{ENTRY_SIZE, FIRST_ENTRY_AT, MAX_IN_BLOCK};
-use crate::entry::{EntryRef, kind_byte, put_entry};
+use crate::entry::{EntryRef, put_entry};
 use crate::places::BLOCK;
 use crate::writing::{put, put_u32};
-use file_graph::Kind;
+use file_graph::{Kind, kind_byte};
 
 /// Adds an entry behind those of a block. It must lead to an inode, by a name that none of them has.
 pub fn add_entry(block: &mut [u8], entry: EntryRef<'_>)

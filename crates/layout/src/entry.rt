@@ -1,15 +1,15 @@
 // Entries of a directory, at the front of bytes.
 ghost use Rattle.std.specs.Prelude.{◌≡◌, ◌≤◌, ◌+◌, ◌∷◌, [], length, option_map, IfOk, true};
 ghost use Rattle.layout.specs.Bytes.{zeros, filled, with_text};
-ghost use Rattle.layout.specs.Directory.{kind_byte, kind_at, front_of, fields_at, entry_at, entry_text};
+ghost use Rattle.layout.specs.Directory.{front_of, fields_at, entry_at, entry_text};
+ghost use Rattle.file_graph.specs.Kinds.{kind_byte};
 ghost use Rattle.layout.specs.Lent.{owned};
 ghost use Rattle.posix_calls.specs.Name.{is_name};
 
 use crate::directory::DirEntry;
-use crate::kinds::{DIRECTORY, FILE};
 use crate::reading::{are_zero, text_of};
 use crate::writing::{put, put_u32};
-use file_graph::{Kind, byte_of, is_inode, run_of, u32_of};
+use file_graph::{Kind, byte_of, is_inode, kind_byte, read_kind, run_of, u32_of};
 use posix_calls::{MAX_NAME, Name};
 use std::alloc::{AllocError, Global};
 
@@ -78,26 +78,6 @@ fn put_zeros(block: &mut [u8], at: usize)
     put(block, at, &text);
 }
 
-pub fn kind_byte(kind: Kind) -> u8
-    ensures { result ≡ kind_byte kind }
-{
-    match kind {
-        Kind::File => FILE,
-        Kind::Directory => DIRECTORY,
-    }
-}
-
-fn kind_of(bytes: &[u8]) -> Option<(Kind, &[u8])>
-    ensures { option_map (λ x. (x.0, x.1.now)) result ≡ kind_at bytes.now }
-{
-    let (byte, rest) = byte_of(bytes)?;
-    match byte {
-        FILE => Some((Kind::File, rest)),
-        DIRECTORY => Some((Kind::Directory, rest)),
-        _ => None,
-    }
-}
-
 // The text of so many bytes at the front of a field that is zero behind it.
 fn front_of(count: usize, field: &[u8]) -> Option<&[u8]>
     ensures { option_map (λ x. x.now) result ≡ front_of count field.now }
@@ -117,7 +97,7 @@ pub fn fields_of(bytes: &[u8]) -> Option<(EntryRef<'_>, &[u8])>
     ensures { option_map (λ x. (owned x.0, x.1.now)) result ≡ fields_at bytes.now }
 {
     let (inode, rest) = u32_of(bytes)?;
-    let (kind, rest) = kind_of(rest)?;
+    let (kind, rest) = read_kind(rest)?;
     let (count, rest) = byte_of(rest)?;
     let rest = text_of(&[0, 0], rest)?;
     let (field, rest) = run_of(MAX_NAME, rest)?;

@@ -14,7 +14,6 @@ mod error;
 mod extents;
 mod geometry;
 mod image;
-mod kinds;
 mod laws;
 mod marks;
 mod numbers;

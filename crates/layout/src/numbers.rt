@@ -11,7 +11,8 @@ ghost use Rattle.layout.specs.Super.{super_text};
 ghost use Rattle.layout.specs.Slot.{slot_fields, slot_text, fits_slot};
 ghost use Rattle.layout.specs.Marks.{marks_text};
 ghost use Rattle.layout.specs.Extents.{extents_text};
-ghost use Rattle.layout.specs.Directory.{kind_byte, entries_text, fits_entry};
+ghost use Rattle.layout.specs.Directory.{entries_text, fits_entry};
+ghost use Rattle.file_graph.specs.Kinds.{kind_byte};
 ghost use Rattle.layout.specs.Rows.{some_sizes, a_super, a_file, a_directory, some_marks, some_extents, some_entries};
 
 use crate::directory::{ENTRY_SIZE, FIRST_ENTRY_AT, MAX_IN_BLOCK};

@@ -6,9 +6,9 @@ ghost use Rattle.layout.specs.declared.error.What.TheVariants as what;
 
 use crate::error::{LayoutError, What};
 use crate::geometry::Geometry;
-use crate::kinds::{DIRECTORY, FILE};
 use crate::places::{SLOT_SIZE, slot_block};
 use crate::slot_fields::SlotFields;
+use file_graph::{DIRECTORY_KIND, FILE_KIND};
 use posix_calls::{MAX_ENTRIES, MAX_FILE, MAX_INODE, MAX_NAMES};
 
 /// What the slot of an inode tells. A root is the extent block that maps a tier's blocks, or 0 where there is none.
@@ -80,7 +80,7 @@ impl Slot {
                 block,
                 slow,
             } => SlotFields {
-                kind: FILE as u32,
+                kind: FILE_KIND as u32,
                 names,
                 size,
                 touch,
@@ -94,7 +94,7 @@ impl Slot {
                 touch,
                 root,
             } => SlotFields {
-                kind: DIRECTORY as u32,
+                kind: DIRECTORY_KIND as u32,
                 names,
                 size: entries,
                 touch,
@@ -158,7 +158,7 @@ fn slot_from(fields: SlotFields) -> Option<Slot>
     if fields.is_blank() {
         return Some(Slot::Free);
     }
-    if fields.kind == FILE as u32 {
+    if fields.kind == FILE_KIND as u32 {
         return Some(Slot::File {
             names: fields.names,
             size: fields.size,
@@ -168,7 +168,7 @@ fn slot_from(fields: SlotFields) -> Option<Slot>
             slow: fields.slow,
         });
     }
-    if fields.kind == DIRECTORY as u32 && fields.block == 0 && fields.slow == 0 {
+    if fields.kind == DIRECTORY_KIND as u32 && fields.block == 0 && fields.slow == 0 {
         return Some(Slot::Directory {
             names: fields.names,
             entries: fields.size,

@@ -7,7 +7,8 @@ use Rattle.file_graph.specs.declared.effect.Effect.{Effect}
 use Rattle.file_graph.specs.declared.effect.Effect.TheVariants as effect
 use Rattle.posix_calls.specs.Name.{is_name}
 use Rattle.log_record.specs.declared.format.TheConstants.{MAKE, ENTER, LEAVE, NAMES, SIZE, BYTES, DROP}
-use Rattle.log_record.specs.Grammar.{◌>>=◌, AreBytes, IsInode, Fits, is_inode, is_write, fits, u32, u64, kind_byte, effect_bytes, byte_at, run_at, number_at, kind_at, make_at, enter_at, leave_at, names_at, size_at, bytes_at, dropped_at, fields_at, effect_at}
+use Rattle.log_record.specs.Grammar.{◌>>=◌, AreBytes, IsInode, Fits, is_inode, is_write, fits, u32, u64, effect_bytes, byte_at, run_at, number_at, make_at, enter_at, leave_at, names_at, size_at, bytes_at, dropped_at, fields_at, effect_at}
+use Rattle.file_graph.specs.Kinds.{kind_byte, kind_field}
 use Rattle.log_record.proofs.Fields.{AreBytes-rest, bind_some, chosen, test_some, some_is, Takes, Takes-then, Takes-cons, u32_takes, u64_takes, u32_again, u64_again, run_takes, run_again, byte_takes, kind_takes}
 
 -- ---- the limits, as a test and as a fact
@@ -60,8 +61,8 @@ fits-from_Fits (effect.Drop i) h = inode_fits i h
 make_takes : (bytes : List ℕ) (x : Effect × List ℕ) → AreBytes bytes → make_at bytes ≡ Some x → Takes (MAKE ∷ bytes) (effect_bytes x.0) x.1
 unfolding make_at
 make_takes bytes x are e =
-    let a = bind_some (number_at 4 bytes) (λ i. kind_at i.1 >>= λ k. Some (effect.Make i.0 k.0, k.1)) x e in
-    let b = bind_some (kind_at a.0.1) (λ k. Some (effect.Make a.0.0 k.0, k.1)) x a.2 in
+    let a = bind_some (number_at 4 bytes) (λ i. kind_field i.1 >>= λ k. Some (effect.Make i.0 k.0, k.1)) x e in
+    let b = bind_some (kind_field a.0.1) (λ k. Some (effect.Make a.0.0 k.0, k.1)) x a.2 in
     let t0 = u32_takes bytes a.0 are a.1 in
     let t1 = kind_takes a.0.1 b.0 t0.0.behind b.1 in
     let fields = Takes-then bytes (u32 a.0.0) a.0.1 (kind_byte b.0.0 ∷ []) b.0.1 t0.0 t1 in
@@ -71,9 +72,9 @@ make_takes bytes x are e =
 enter_takes : (bytes : List ℕ) (x : Effect × List ℕ) → AreBytes bytes → enter_at bytes ≡ Some x → Takes (ENTER ∷ bytes) (effect_bytes x.0) x.1
 unfolding enter_at
 enter_takes bytes x are e =
-    let a = bind_some (number_at 4 bytes) (λ d. number_at 4 d.1 >>= λ i. kind_at i.1 >>= λ k. byte_at k.1 >>= λ n. run_at n.0 n.1 >>= λ name. Some (effect.Enter d.0 i.0 k.0 name.0, name.1)) x e in
-    let b = bind_some (number_at 4 a.0.1) (λ i. kind_at i.1 >>= λ k. byte_at k.1 >>= λ n. run_at n.0 n.1 >>= λ name. Some (effect.Enter a.0.0 i.0 k.0 name.0, name.1)) x a.2 in
-    let c = bind_some (kind_at b.0.1) (λ k. byte_at k.1 >>= λ n. run_at n.0 n.1 >>= λ name. Some (effect.Enter a.0.0 b.0.0 k.0 name.0, name.1)) x b.2 in
+    let a = bind_some (number_at 4 bytes) (λ d. number_at 4 d.1 >>= λ i. kind_field i.1 >>= λ k. byte_at k.1 >>= λ n. run_at n.0 n.1 >>= λ name. Some (effect.Enter d.0 i.0 k.0 name.0, name.1)) x e in
+    let b = bind_some (number_at 4 a.0.1) (λ i. kind_field i.1 >>= λ k. byte_at k.1 >>= λ n. run_at n.0 n.1 >>= λ name. Some (effect.Enter a.0.0 i.0 k.0 name.0, name.1)) x a.2 in
+    let c = bind_some (kind_field b.0.1) (λ k. byte_at k.1 >>= λ n. run_at n.0 n.1 >>= λ name. Some (effect.Enter a.0.0 b.0.0 k.0 name.0, name.1)) x b.2 in
     let d = bind_some (byte_at c.0.1) (λ n. run_at n.0 n.1 >>= λ name. Some (effect.Enter a.0.0 b.0.0 c.0.0 name.0, name.1)) x c.2 in
     let f = bind_some (run_at d.0.0 d.0.1) (λ name. Some (effect.Enter a.0.0 b.0.0 c.0.0 name.0, name.1)) x d.2 in
     let t0 = u32_takes bytes a.0 are a.1 in

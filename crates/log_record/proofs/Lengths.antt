@@ -4,7 +4,8 @@ use Rattle.byteorder.specs.Endian.{little_bytes}
 use Rattle.byteorder.specs.Numbers.{length-bytes_low_first}
 use Rattle.file_graph.specs.declared.effect.Effect.{Effect}
 use Rattle.file_graph.specs.declared.effect.Effect.TheVariants as effect
-use Rattle.log_record.specs.Grammar.{u32, u64, kind_byte, effect_bytes}
+use Rattle.log_record.specs.Grammar.{u32, u64, effect_bytes}
+use Rattle.file_graph.specs.Kinds.{kind_byte}
 
 pub length-u32 : (n : ℕ) → length (u32 n) ≡ 4
 unfolding u32

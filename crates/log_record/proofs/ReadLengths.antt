@@ -11,7 +11,8 @@ use Rattle.file_graph.specs.declared.effect.Effect.{Effect}
 use Rattle.file_graph.specs.declared.effect.Effect.TheVariants as effect
 use Rattle.log_record.specs.declared.format.Record.{Record}
 use Rattle.log_record.specs.declared.format.TheConstants.{MAKE, ENTER, LEAVE, NAMES, SIZE, BYTES, DROP}
-use Rattle.log_record.specs.Grammar.{◌>>=◌, fits, u32, u64, kind_byte, effect_bytes, spelling, byte_at, run_at, number_at, kind_at, make_at, enter_at, leave_at, names_at, size_at, bytes_at, dropped_at, fields_at, effect_at, effects_at, header_at, record_at, record_of}
+use Rattle.log_record.specs.Grammar.{◌>>=◌, fits, u32, u64, effect_bytes, spelling, byte_at, run_at, number_at, make_at, enter_at, leave_at, names_at, size_at, bytes_at, dropped_at, fields_at, effect_at, effects_at, header_at, record_at, record_of}
+use Rattle.file_graph.specs.Kinds.{kind_byte, kind_field}
 use Rattle.log_record.proofs.Fields.{bind_some, chosen, test_some, some_is}
 use Rattle.log_record.proofs.Lengths.{length-u32, length-u64}
 
@@ -27,7 +28,7 @@ byte_long : (bytes : List ℕ) (x : ℕ × List ℕ) → byte_at bytes ≡ Some 
 byte_long [] x e = absurd cc
 byte_long (b ∷ rest) x e = omega (arith, ap (λ (y : ℕ × List ℕ). length y.1) (some_is (b, rest) x e))
 
-kind_long : (bytes : List ℕ) (x : Kind × List ℕ) → kind_at bytes ≡ Some x → length bytes ≡ 1 + length x.1
+kind_long : (bytes : List ℕ) (x : Kind × List ℕ) → kind_field bytes ≡ Some x → length bytes ≡ 1 + length x.1
 kind_long [] x e = absurd cc
 kind_long (b ∷ rest) x e =
     let second : Option (Kind × List ℕ) = cond (eqb b 2) (Some (kind.Directory, rest)) None in
@@ -50,8 +51,8 @@ Long bytes x = 1 + length bytes ≡ length (effect_bytes x.0) + length x.1
 make_long : (bytes : List ℕ) (x : Effect × List ℕ) → make_at bytes ≡ Some x → Long bytes x
 unfolding make_at
 make_long bytes x e =
-    let a = bind_some (number_at 4 bytes) (λ i. kind_at i.1 >>= λ k. Some (effect.Make i.0 k.0, k.1)) x e in
-    let b = bind_some (kind_at a.0.1) (λ k. Some (effect.Make a.0.0 k.0, k.1)) x a.2 in
+    let a = bind_some (number_at 4 bytes) (λ i. kind_field i.1 >>= λ k. Some (effect.Make i.0 k.0, k.1)) x e in
+    let b = bind_some (kind_field a.0.1) (λ k. Some (effect.Make a.0.0 k.0, k.1)) x a.2 in
     let made : Effect × List ℕ = (effect.Make a.0.0 b.0.0, b.0.1) in
     subst (Long bytes) (some_is made x b.2)
     (omega (arith, number_long 4 bytes a.0 a.1, kind_long a.0.1 b.0 b.1, length-append (u32 a.0.0) (kind_byte b.0.0 ∷ []), length-u32 a.0.0))
@@ -59,9 +60,9 @@ make_long bytes x e =
 enter_long : (bytes : List ℕ) (x : Effect × List ℕ) → enter_at bytes ≡ Some x → Long bytes x
 unfolding enter_at
 enter_long bytes x e =
-    let a = bind_some (number_at 4 bytes) (λ d. number_at 4 d.1 >>= λ i. kind_at i.1 >>= λ k. byte_at k.1 >>= λ n. run_at n.0 n.1 >>= λ name. Some (effect.Enter d.0 i.0 k.0 name.0, name.1)) x e in
-    let b = bind_some (number_at 4 a.0.1) (λ i. kind_at i.1 >>= λ k. byte_at k.1 >>= λ n. run_at n.0 n.1 >>= λ name. Some (effect.Enter a.0.0 i.0 k.0 name.0, name.1)) x a.2 in
-    let c = bind_some (kind_at b.0.1) (λ k. byte_at k.1 >>= λ n. run_at n.0 n.1 >>= λ name. Some (effect.Enter a.0.0 b.0.0 k.0 name.0, name.1)) x b.2 in
+    let a = bind_some (number_at 4 bytes) (λ d. number_at 4 d.1 >>= λ i. kind_field i.1 >>= λ k. byte_at k.1 >>= λ n. run_at n.0 n.1 >>= λ name. Some (effect.Enter d.0 i.0 k.0 name.0, name.1)) x e in
+    let b = bind_some (number_at 4 a.0.1) (λ i. kind_field i.1 >>= λ k. byte_at k.1 >>= λ n. run_at n.0 n.1 >>= λ name. Some (effect.Enter a.0.0 i.0 k.0 name.0, name.1)) x a.2 in
+    let c = bind_some (kind_field b.0.1) (λ k. byte_at k.1 >>= λ n. run_at n.0 n.1 >>= λ name. Some (effect.Enter a.0.0 b.0.0 k.0 name.0, name.1)) x b.2 in
     let d = bind_some (byte_at c.0.1) (λ n. run_at n.0 n.1 >>= λ name. Some (effect.Enter a.0.0 b.0.0 c.0.0 name.0, name.1)) x c.2 in
     let f = bind_some (run_at d.0.0 d.0.1) (λ name. Some (effect.Enter a.0.0 b.0.0 c.0.0 name.0, name.1)) x d.2 in
     let name = f.0.0 in

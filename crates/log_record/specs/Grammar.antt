@@ -11,7 +11,8 @@ pub use Rattle.file_graph.specs.Numbers.{is_inode}
 pub use Rattle.file_graph.specs.Fields.{◌>>=◌, AreBytes, Field, byte_at, run_at, number_at}
 unfoldable pub use Rattle.file_graph.specs.Fields.{u32, u64}
 use Rattle.log_record.specs.declared.format.Record.{Record}
-use Rattle.log_record.specs.declared.format.TheConstants.{MAX_EFFECTS, MAKE, ENTER, LEAVE, NAMES, SIZE, BYTES, DROP, FILE, DIRECTORY}
+use Rattle.file_graph.specs.Kinds.{kind_byte, kind_field}
+use Rattle.log_record.specs.declared.format.TheConstants.{MAX_EFFECTS, MAKE, ENTER, LEAVE, NAMES, SIZE, BYTES, DROP}
 
 -- ---- what has a spelling
 
@@ -38,11 +39,6 @@ pub record IsRecord (r : Record) : Type 0 where
 
 -- ---- the spelling
 
--- 1 is a file, 2 a directory
-abbrev pub kind_byte : Kind → ℕ
-kind_byte kind.File = FILE
-kind_byte kind.Directory = DIRECTORY
-
 -- a tag, and the fields in their order; a name and bytes stand behind their length
 abbrev pub effect_bytes : Effect → List ℕ
 effect_bytes (effect.Make i k) = MAKE ∷ (u32 i ++ kind_byte k ∷ [])
@@ -59,16 +55,11 @@ spelling r = u32 r.units ++ (length r.effects ∷ flat_map effect_bytes r.effect
 
 -- ---- the reading
 
--- a kind
-abbrev pub kind_at : Field Kind
-kind_at [] = None
-kind_at (b ∷ rest) = if b == FILE then Some (kind.File, rest) else (if b == DIRECTORY then Some (kind.Directory, rest) else None)
-
 -- the fields of a Make: the inode and the kind
 unfoldable pub make_at : Field Effect
 make_at bytes = do
   i ← number_at 4 bytes
-  k ← kind_at i.1
+  k ← kind_field i.1
   Some (effect.Make i.0 k.0, k.1)
 
 -- the fields of an Enter: the directory, the inode, the kind, and the name behind its length
@@ -76,7 +67,7 @@ unfoldable pub enter_at : Field Effect
 enter_at bytes = do
   d ← number_at 4 bytes
   i ← number_at 4 d.1
-  k ← kind_at i.1
+  k ← kind_field i.1
   n ← byte_at k.1
   name ← run_at n.0 n.1
   Some (effect.Enter d.0 i.0 k.0 name.0, name.1)

@@ -29,12 +29,6 @@ pub const BYTES: u8 = 6;
 /// The byte that a Drop begins with.
 pub const DROP: u8 = 7;
 
-/// The byte of the kind of a file.
-pub const FILE: u8 = 1;
-
-/// The byte of the kind of a directory.
-pub const DIRECTORY: u8 = 2;
-
 /// What a client's call changes, as its log keeps it.
 #[derive(Debug, Drop)]
 pub struct Record {

@@ -1,31 +1,20 @@
 ghost use Rattle.std.specs.Prelude.{◌≡◌, IfOk, drop, option_map, is_some};
 ghost use Rattle.log_record.specs.Outcome.{Gives, owned};
-ghost use Rattle.log_record.specs.Grammar.{Begins, NoneBegins, IsRecord, spelling, kind_at, make_at, enter_at, leave_at, names_at, size_at, bytes_at, dropped_at, fields_at, effect_at, effects_at, header_at, record_at, record_of};
+ghost use Rattle.log_record.specs.Grammar.{Begins, NoneBegins, IsRecord, spelling, make_at, enter_at, leave_at, names_at, size_at, bytes_at, dropped_at, fields_at, effect_at, effects_at, header_at, record_at, record_of};
 
 use crate::effect_ref::EffectRef;
 use crate::format::{
-    BYTES, DIRECTORY, DROP, ENTER, FILE, LEAVE, MAKE, MAX_EFFECTS, NAMES, Record, RecordError, SIZE,
+    BYTES, DROP, ENTER, LEAVE, MAKE, MAX_EFFECTS, NAMES, Record, RecordError, SIZE,
 };
-use file_graph::{Effect, Effects, Kind, byte_of, run_of, u32_of, u64_of};
+use file_graph::{Effect, Effects, byte_of, read_kind, run_of, u32_of, u64_of};
 use std::alloc::Global;
-
-fn kind_of(bytes: &[u8]) -> Option<(Kind, &[u8])>
-    ensures { option_map (λ x. (x.0, x.1.now)) result ≡ kind_at bytes.now }
-{
-    let (byte, rest) = byte_of(bytes)?;
-    match byte {
-        FILE => Some((Kind::File, rest)),
-        DIRECTORY => Some((Kind::Directory, rest)),
-        _ => None,
-    }
-}
 
 #[tactic(auto, unfolding(crate::specs::Grammar::make_at))]
 fn make_of(bytes: &[u8]) -> Option<(EffectRef<'_>, &[u8])>
     ensures { option_map (λ x. (owned x.0, x.1.now)) result ≡ make_at bytes.now }
 {
     let (inode, rest) = u32_of(bytes)?;
-    let (kind, rest) = kind_of(rest)?;
+    let (kind, rest) = read_kind(rest)?;
     Some((EffectRef::Make { inode, kind }, rest))
 }
 
@@ -35,7 +24,7 @@ fn enter_of(bytes: &[u8]) -> Option<(EffectRef<'_>, &[u8])>
 {
     let (directory, rest) = u32_of(bytes)?;
     let (inode, rest) = u32_of(rest)?;
-    let (kind, rest) = kind_of(rest)?;
+    let (kind, rest) = read_kind(rest)?;
     let (count, rest) = byte_of(rest)?;
     let (name, rest) = run_of(count as usize, rest)?;
     Some((

@@ -2,14 +2,13 @@ ghost use Rattle.std.specs.Prelude.{◌≡◌, ◌≤◌, ◌↔◌, ◌++◌, �
 ghost use Rattle.std.specs.List.{All, AllByRecursion, flat_map};
 ghost use Rattle.file_graph.specs.declared.effect.Effect.TheVariants as effect;
 ghost use Rattle.log_record.specs.Outcome.{Extends};
-ghost use Rattle.log_record.specs.Grammar.{u32 as bytes_4, u64 as bytes_8, kind_byte, effect_bytes, spelling, Fits, fits, IsRecord};
+ghost use Rattle.log_record.specs.Grammar.{u32 as bytes_4, u64 as bytes_8, effect_bytes, spelling, Fits, fits, IsRecord};
+ghost use Rattle.file_graph.specs.Kinds.{kind_byte};
 
 use crate::effect_ref::lend;
-use crate::format::{
-    BYTES, DIRECTORY, DROP, ENTER, FILE, LEAVE, MAKE, MAX_EFFECTS, NAMES, Record, SIZE,
-};
+use crate::format::{BYTES, DROP, ENTER, LEAVE, MAKE, MAX_EFFECTS, NAMES, Record, SIZE};
 use byteorder::{ByteOrder, LittleEndian};
-use file_graph::{Effect, Kind};
+use file_graph::{Effect, Kind, kind_byte};
 use std::alloc::{AllocError, Global};
 
 impl Record {
@@ -295,13 +294,4 @@ fn push_u64(out: &mut Vec<u8>, n: u64) -> Result<(), AllocError>
     LittleEndian::write_u64(&mut bytes, n);
     out.extend_from_slice(&bytes)?;
     Ok(())
-}
-
-fn kind_byte(kind: Kind) -> u8
-    ensures { result ≡ kind_byte kind }
-{
-    match kind {
-        Kind::File => FILE,
-        Kind::Directory => DIRECTORY,
-    }
 }

@@ -1,7 +1,7 @@
--- The file tree, the files that its clients have open, and what a node costs.
-use Rattle.std.specs.Prelude.{◌≡◌, ℕ, zero, suc, ◌+◌, ◌-◌, List, [], length, count_by, Bool, false, ◌||◌, ◌==◌, Option, Some, None, if◌then◌else◌}
+-- The file tree, and the files that its clients have open.
+use Rattle.std.specs.Prelude.{◌≡◌, ℕ, zero, suc, ◌+◌, ◌-◌, List, [], count_by, Bool, false, ◌||◌, ◌==◌, Option, Some, None, if◌then◌else◌}
 use Rattle.std.specs.FinMap as fin
-use Rattle.posix_calls.specs.Content.{Entries, file_units, directory_units}
+use Rattle.posix_calls.specs.Content.{Entries}
 use Rattle.posix_calls.specs.declared.descriptor.Descriptor.{Descriptor}
 use Rattle.posix_calls.specs.declared.limits.TheConstants.{ROOT, MAX_INODE, MAX_CLIENTS, MAX_DESCRIPTORS}
 
@@ -103,13 +103,3 @@ has_open own i = any_up_to MAX_DESCRIPTORS (λ n. refers_to i (own (n - 1)))
 -- whether some client has an inode open
 unfoldable pub is_open : Descriptors → ℕ → Bool
 is_open held i = any_up_to MAX_CLIENTS (λ c. has_open (held c) i)
-
--- units of what stands at an inode
-abbrev pub units : Option Node → ℕ
-units None = 0
-units (Some (File bytes)) = file_units (length bytes)
-units (Some (Dir entries)) = directory_units (fin.len entries)
-
--- what the whole tree costs
-unfoldable pub charge : Tree → ℕ
-charge t = sum_up_to MAX_INODE (λ i. units (t i))

@@ -1,6 +1,7 @@
 use Rattle.std.proofs.Common.{◌≡◌, ◌∙◌, ◌+◌, ◌*◌, ℕ, [], ◌∷◌, ap, arith, rules, length, refl}
 use Rattle.layout.specs.Bytes.{u32, with_text}
-use Rattle.layout.specs.Directory.{listed, kind_byte, entries_spelling, entry_of, with_target}
+use Rattle.layout.specs.Directory.{listed, entries_spelling, entry_of, with_target}
+use Rattle.file_graph.specs.Kinds.{kind_byte}
 use Rattle.layout.specs.declared.directory.DirEntry.{DirEntry}
 use Rattle.layout.proofs.DirChanges.{listed_now, entries_now, fit_parts, fit_set, names_kept, target_set}
 use Rattle.layout.proofs.dir_changes.set_target.Goals as goal

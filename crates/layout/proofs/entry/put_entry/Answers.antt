@@ -1,6 +1,6 @@
 use Rattle.std.proofs.Common.{◌+◌, ℕ, List, [], ◌∷◌, length, ap, ◌∙◌, arith}
 use Rattle.layout.specs.Bytes.{u32, filled, with_text}
-use Rattle.layout.specs.Directory.{kind_byte}
+use Rattle.file_graph.specs.Kinds.{kind_byte}
 use Rattle.layout.proofs.Fields.{u32_long}
 use Rattle.layout.proofs.Blocks.{overwritten_thrice, filled_long}
 use Rattle.layout.proofs.entry.put_entry.Goals as goal
