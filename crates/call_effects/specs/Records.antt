@@ -1,9 +1,9 @@
 -- The record of an operation, as questions: the effects that it has, and by how many units they may raise the graph.
-use Rattle.std.specs.Prelude.{ℕ, ◌+◌, ◌-◌, ◌==◌, max, min, List, length, Bool, true, Option, Some, None, is_some, if◌then◌else◌}
+use Rattle.std.specs.Prelude.{ℕ, ◌+◌, ◌-◌, ◌==◌, max, min, List, length, Bool, true, Option, Some, None, is_some, option_map, if◌then◌else◌}
 use Rattle.std.specs.FinMap as fin
 use Rattle.posix_calls.specs.Content.{file_units, directory_units}
 use Rattle.posix_calls.specs.Query.{Query, Gives, ◌>>=◌, Part}
-use Rattle.posix_calls.specs.Walk.{entries_at, size_at, names_at}
+use Rattle.posix_calls.specs.Walk.{entries_at, size_at, names_at, names_seen}
 use Rattle.posix_calls.specs.declared.operation.Location.{Location}
 use Rattle.posix_calls.specs.declared.operation.Operation.{Operation}
 use Rattle.posix_calls.specs.declared.operation.Operation.TheVariants.{NewDir, NewFile, Write, Resize, AddName, Move}
@@ -25,6 +25,11 @@ effects_asked new operation = names_if (recounted operation) >>= (λ names. Give
 abbrev pub knows_names : Part → Option ℕ → Bool
 knows_names p None = true
 knows_names p (Some i) = is_some (p.node i)
+
+-- how many names that file is known to have
+abbrev pub names_known : Part → Option ℕ → Option ℕ
+names_known p None = None
+names_known p (Some i) = option_map names_seen (p.node i)
 
 -- the rise of a file from one size to another; a fall is no rise
 abbrev pub file_rise : ℕ → ℕ → ℕ

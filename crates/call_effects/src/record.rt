@@ -1,4 +1,4 @@
-ghost use Rattle.std.specs.Prelude.{◌≡◌, ◌+◌, ◌-◌, ◌^◌, ◌<◌, ◌≤◌, [], ◌∷◌, ◌++◌, length, true, false, None, Ok, IfOk, IfErr, IfSome, OnOk, is_some, vec_len, if◌then◌else◌};
+ghost use Rattle.std.specs.Prelude.{◌≡◌, ◌+◌, ◌-◌, ◌^◌, ◌<◌, ◌≤◌, [], ◌∷◌, ◌++◌, length, true, false, Some, None, Ok, IfOk, IfErr, IfSome, OnOk, is_some, vec_len, if◌then◌else◌};
 ghost use Rattle.std.specs.Vec.{vec_capacity};
 ghost use Rattle.posix_calls.specs.Answers.{Tells};
 ghost use Rattle.posix_calls.specs.declared.operation.Operation.TheVariants.{AddName};
@@ -6,7 +6,7 @@ ghost use Rattle.posix_calls.specs.declared.operation.DecideError.TheVariants.{M
 ghost use Rattle.file_graph.specs.declared.effect.Effect.TheVariants.{Size, Leave, Enter};
 ghost use Rattle.call_effects.specs.Changed.{changes};
 ghost use Rattle.call_effects.specs.Effects.{recounted, kind_if, making, dropping, removing, clearing, effects_by};
-ghost use Rattle.call_effects.specs.Records.{names_if, knows_names, effects_asked};
+ghost use Rattle.call_effects.specs.Records.{names_if, knows_names, names_known, effects_asked};
 ghost use Rattle.call_effects.specs.Recorded.{effects_told, leaving_first, putting_out, made_first};
 
 use crate::changed::has_effects;
@@ -75,6 +75,7 @@ fn names_if<T: TreeAnswers>(tree: &T, inode: Option<u32>) -> Result<u32, DecideE
     ensures fits { IfOk result (λ names. names + 1 < 2 ^ 32) }
     ensures known { IfOk result (λ _. knows_names (T.part tree.now) inode ≡ true) }
     ensures memory { IfErr result (λ why. why ≡ Memory → knows_names (T.part tree.now) inode ≡ true) }
+    ensures full { IfErr result (λ why. why ≡ Memory → names_known (T.part tree.now) inode ≡ Some (2 ^ 32 - 1)) }
 {
     let Some(inode) = inode else {
         return Ok(0);
