@@ -18,7 +18,7 @@ use Rattle.area_batch.specs.Slots.{RiseIn}
 use Rattle.free_pools.specs.Value.{on_tier}
 use Rattle.free_pools.specs.Taking.{taken_data, runs_of}
 use Rattle.free_pools.proofs.Members.{cons_cases, cons_here, cons_there, nothing}
-use Rattle.area_room.specs.Changing.{IsTaken}
+use Rattle.area_room.specs.Changing.{BlockIsTaken}
 use Rattle.area_commit.specs.declared.plan.Rewrite.{Rewrite}
 use Rattle.area_commit.specs.Plan.{is_rewritten}
 use Rattle.area_commit.proofs.Chosen.{changed_has, has_changed, no_use, taken_free, data_has, data_range}
@@ -76,7 +76,7 @@ module _ (g : Sizes) (s : Store) (share : ℕ → Share) (images : ℕ → List 
     place_taken : (p : Tier × ℕ) → Contains (share i).places p → Contains (taken_data plan.taken) p
     place_taken p at = subst (λ (ps : List (Tier × ℕ)). Contains ps p) sum.data_shares (in_piece places_of plan.slots.items chosen.0 p chosen.1 (subst (λ (j : ℕ). Contains (share j).places p) (sym chosen.2) at))
 
-    pub share_taken : (t : Tier) (k : ℕ) → IsShared (share i) t k → IsTaken plan.taken t k
+    pub share_taken : (t : Tier) (k : ℕ) → IsShared (share i) t k → BlockIsTaken plan.taken t k
     share_taken t k (inl node) = inl (node.0, node_taken k node.1)
     share_taken t k (inr place) = inr (data_has plan.taken (t, k) (place_taken (t, k) place))
 
@@ -104,7 +104,7 @@ module _ (g : Sizes) (s : Store) (share : ℕ → Share) (images : ℕ → List 
       let r = piece_of places_of plan.slots.items (t, k) (subst (λ (ps : List (Tier × ℕ)). Contains ps (t, k)) (sym sum.data_shares) at) in
       record { inode = r.0.inode; its = has_changed plan.slots.items r.0 r.1; has = inr r.2 }
 
-  pub taken_share : (t : Tier) (k : ℕ) → IsTaken plan.taken t k → HasShare t k
+  pub taken_share : (t : Tier) (k : ℕ) → BlockIsTaken plan.taken t k → HasShare t k
   taken_share t k (inl node) = let r = node_share k node.1 in record { inode = r.inode; its = r.its; has = inl (node.0, r.has) }
   taken_share t k (inr place) = place_share t k (data_in t k place)
 

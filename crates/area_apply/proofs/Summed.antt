@@ -15,12 +15,12 @@ use Rattle.block_map.specs.Map.{TierRuns, runs_in}
 use Rattle.area_image.specs.Store.{Store, root_of}
 use Rattle.area_image.specs.Spelled.{Use, used, IsSpelled}
 use Rattle.area_rewrite.specs.Written.{IsListed, block_by}
-use Rattle.area_rewrite.specs.Many.{Takes}
+use Rattle.area_rewrite.specs.Many.{HasBlockFor}
 use Rattle.area_batch.specs.declared.slots.ChangedSlot.{ChangedSlot}
 use Rattle.area_batch.specs.Slots.{RiseIn}
 use Rattle.free_pools.specs.Taking.{taken_data}
 use Rattle.free_pools.proofs.Members.{cons_cases, cons_here, cons_there, nothing}
-use Rattle.area_room.specs.Changing.{IsTaken}
+use Rattle.area_room.specs.Changing.{BlockIsTaken}
 use Rattle.area_commit.specs.declared.plan.Rewrite.{Rewrite}
 use Rattle.area_commit.specs.Plan.{IsPlannedInode, Loses, LieApart, IsLost, HoldLost, lost_in, is_rewritten, IsPlanned}
 use Rattle.area_commit.proofs.Chosen.{changed_has, has_changed}
@@ -105,21 +105,21 @@ module _ (g : Sizes) (s : Store) (share : ℕ → Share) (images : ℕ → List 
 
   -- ---- blocks that were taken
 
-  own_share : (i : ℕ) → is_rewritten plan i ≡ true → (t : Tier) (l : Option ℕ) (b : Tier × ℕ) → IsTaken plan.taken b.0 b.1 → block_by (x i) (m i) t l ≡ Some b → IsShared (share i) b.0 b.1
+  own_share : (i : ℕ) → is_rewritten plan i ≡ true → (t : Tier) (l : Option ℕ) (b : Tier × ℕ) → BlockIsTaken plan.taken b.0 b.1 → block_by (x i) (m i) t l ≡ Some b → IsShared (share i) b.0 b.1
   own_share i its t l b took uses =
       let r = taken_share g s share images bytes lost x m plan sum b.0 b.1 took in
       let who = (sum.each r.inode r.its).all b.0 b.1 r.has in
       let same : r.inode ≡ i = same_user r.inode i r.its its who.0 t who.1 l b who.2 uses in
       subst (λ (j : ℕ). IsShared (share j) b.0 b.1) same r.has
 
-  same_use : (u v : Use) (b : Tier × ℕ) → IsTaken plan.taken b.0 b.1 → Takes (is_rewritten plan) x m u b → Takes (is_rewritten plan) x m v b → u ≡ v
+  same_use : (u v : Use) (b : Tier × ℕ) → BlockIsTaken plan.taken b.0 b.1 → HasBlockFor (is_rewritten plan) x m u b → HasBlockFor (is_rewritten plan) x m v b → u ≡ v
   same_use u v b took one two =
       let inode : u.inode ≡ v.inode = same_user u.inode v.inode one.0 two.0 u.tier v.tier u.logical v.logical b one.1 two.1 in
       let there : block_by (x u.inode) (m u.inode) v.tier v.logical ≡ Some b = subst (λ (j : ℕ). block_by (x j) (m j) v.tier v.logical ≡ Some b) (sym inode) two.1 in
       let r = (sum.each u.inode one.0).once u.tier v.tier u.logical v.logical b (own_share u.inode one.0 u.tier u.logical b took one.1) one.1 there in
       ap (λ (i : ℕ). a_use i u.tier u.logical) inode ∙ (ap (λ (t : Tier). a_use v.inode t u.logical) r.0 ∙ ap (λ (l : Option ℕ). a_use v.inode v.tier l) r.1)
 
-  all_used : (t : Tier) (k : ℕ) → IsTaken plan.taken t k → (u : Use) × Takes (is_rewritten plan) x m u (t, k)
+  all_used : (t : Tier) (k : ℕ) → BlockIsTaken plan.taken t k → (u : Use) × HasBlockFor (is_rewritten plan) x m u (t, k)
   all_used t k took =
       let r = taken_share g s share images bytes lost x m plan sum t k took in
       let who = (sum.each r.inode r.its).all t k r.has in

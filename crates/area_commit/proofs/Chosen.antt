@@ -19,7 +19,7 @@ use Rattle.free_pools.specs.Value.{on_tier}
 use Rattle.free_pools.specs.declared.taking.Taken.{Taken}
 use Rattle.free_pools.specs.Taking.{taken_data, runs_of}
 use Rattle.free_pools.proofs.Members.{cons_cases, cons_here, cons_there, nothing}
-use Rattle.area_room.specs.Changing.{IsTaken}
+use Rattle.area_room.specs.Changing.{BlockIsTaken}
 use Rattle.area_commit.specs.Plan.{WereFree, is_changed}
 
 -- ---- inodes
@@ -67,7 +67,7 @@ rising_in low end (x ∷ xs) k is at = elim (cons_cases x xs k at) [
 ]
 
 module _ (g : Sizes) (s : Store) (taken : Taken) (free : WereFree g s taken) where
-  pub taken_free : (t : Tier) (k : ℕ) → IsTaken taken t k → Free g s t k
+  pub taken_free : (t : Tier) (k : ℕ) → BlockIsTaken taken t k → Free g s t k
   taken_free t k (inl at) = subst (λ (u : Tier). Free g s u k) (sym at.0) (free.nodes k at.1).0
   taken_free t k (inr at) = free.per_tier t k at
 

@@ -19,7 +19,7 @@ use Rattle.free_pools.specs.declared.taking.Taken.{Taken}
 use Rattle.free_pools.specs.Taking.{WasTaken, WereTaken, WasGiven, WasUndone, SameBlocks, SameFree, runs_of}
 use Rattle.free_pools.proofs.Departed.{taken_free, taken_apart, taken_left}
 use Rattle.free_pools.proofs.Members.{each_tier}
-use Rattle.area_room.specs.Changing.{Exchanges, IsGivenUp, IsTaken, WereGiven}
+use Rattle.area_room.specs.Changing.{Exchanges, BlockIsGivenUp, BlockIsTaken, WereGiven}
 use Rattle.area_move.specs.Given.{AreUsed, IsInUse, WereAdded}
 use Rattle.area_move.proofs.GivenUp.{run_used}
 use Rattle.area_commit.specs.declared.plan.Rewrite.{Rewrite}
@@ -91,8 +91,8 @@ module _ (g : Sizes) (s : Store) (x : ℕ → Slot) (m : ℕ → TierRuns) (plan
 
 -- What is known of the pools after a change.
 abbrev pub PoolsAfter : Type 0
-PoolsAfter = (g : Sizes) (rewritten : ℕ → Bool) (old new : Store) (before left after : PoolsView) (taken : Taken) → IsSpelled g old → AreInOrder before → AreFree g old before → WereTaken before left taken → Exchanges g rewritten old new (IsTaken taken)
-    → WereGiven g left after (IsGivenUp g rewritten old new) → AreFree g new after
+PoolsAfter = (g : Sizes) (rewritten : ℕ → Bool) (old new : Store) (before left after : PoolsView) (taken : Taken) → IsSpelled g old → AreInOrder before → AreFree g old before → WereTaken before left taken → Exchanges g rewritten old new (BlockIsTaken taken)
+    → WereGiven g left after (BlockIsGivenUp g rewritten old new) → AreFree g new after
 
 joined : {A B C D E F : Type 0} → A ↔ (B ⊎ C) → C ↔ (D × E) → D ↔ F → A ↔ (B ⊎ (F × E))
 joined whole part same = (
@@ -110,8 +110,8 @@ module _ (g : Sizes) (s : Store) (plan : Rewrite) (left after : PoolsView) (read
     end = λ t. (data' t).pool.end ∙ (ready.took.per_tier t).pool.end ∙ ready.ranges.end t;
   }
 
-  pub free_then : PoolsAfter → (x : ℕ → Slot) (m : ℕ → TierRuns) (new : Store) → IsSpelled g s → IsPlanned g s x m plan → Exchanges g (is_rewritten plan) s new (IsTaken plan.taken)
-      → ((t : Tier) (k : ℕ) → IsLost g (is_rewritten plan) s x m t k ↔ IsGivenUp g (is_rewritten plan) s new t k) → AreFree g new after
+  pub free_then : PoolsAfter → (x : ℕ → Slot) (m : ℕ → TierRuns) (new : Store) → IsSpelled g s → IsPlanned g s x m plan → Exchanges g (is_rewritten plan) s new (BlockIsTaken plan.taken)
+      → ((t : Tier) (k : ℕ) → IsLost g (is_rewritten plan) s x m t k ↔ BlockIsGivenUp g (is_rewritten plan) s new t k) → AreFree g new after
   free_then law x m new spelled planned exchanged lost =
       law g (is_rewritten plan) s new ready.before left after plan.taken spelled ready.order ready.free ready.took exchanged (record {
         nodes = λ k. joined (nodes.free k) (planned.lost.nodes k) (lost Fast k);

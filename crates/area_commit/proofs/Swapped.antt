@@ -16,7 +16,7 @@ use Rattle.area_image.proofs.Shown.{slot_limits}
 use Rattle.area_rewrite.specs.Written.{IsWritten, IsFit, block_by}
 use Rattle.area_rewrite.specs.Many.{MayTake, AreWrittenAnew}
 use Rattle.area_rewrite.proofs.Taking.{LieInPools, use_room}
-use Rattle.area_room.specs.Changing.{IsGivenUp, Exchanges, IsTaken}
+use Rattle.area_room.specs.Changing.{BlockIsGivenUp, Exchanges, BlockIsTaken}
 use Rattle.area_commit.specs.declared.plan.Rewrite.{Rewrite}
 use Rattle.area_commit.specs.Plan.{IsLost, is_rewritten, IsPlanned}
 use Rattle.area_commit.proofs.Chosen.{no_use, taken_free}
@@ -54,7 +54,7 @@ module _ (g : Sizes) (s : Store) (x : ℕ → Slot) (m : ℕ → TierRuns) (plan
   uses_now : (u : Use) → is_rewritten plan u.inode ≡ true → used g new u ≡ block_by (x u.inode) (m u.inode) u.tier u.logical
   uses_now u its = read u.inode (x u.inode) (m u.inode) (anew.inodes u.inode its) (anew.fit u.inode its) (anew.written u.inode its) u.tier u.logical
 
-  pub exchanged : Exchanges g (is_rewritten plan) s new (IsTaken plan.taken)
+  pub exchanged : Exchanges g (is_rewritten plan) s new (BlockIsTaken plan.taken)
   exchanged = record {
     others = others_use g (is_rewritten plan) x m s new spelled anew;
     gets = λ i t k its v. (
@@ -65,7 +65,7 @@ module _ (g : Sizes) (s : Store) (x : ℕ → Slot) (m : ℕ → TierRuns) (plan
   }
 
   module _ (t : Tier) (k : ℕ) where
-    given_of : IsLost g (is_rewritten plan) s x m t k → IsGivenUp g (is_rewritten plan) s new t k
+    given_of : IsLost g (is_rewritten plan) s x m t k → BlockIsGivenUp g (is_rewritten plan) s new t k
     given_of (i, its, loses) =
         let one : Use = record { inode = i; tier = loses.tier; logical = loses.logical } in
         record {
@@ -82,7 +82,7 @@ module _ (g : Sizes) (s : Store) (x : ℕ → Slot) (m : ℕ → TierRuns) (plan
               );
         }
 
-    lost_of : IsGivenUp g (is_rewritten plan) s new t k → IsLost g (is_rewritten plan) s x m t k
+    lost_of : BlockIsGivenUp g (is_rewritten plan) s new t k → IsLost g (is_rewritten plan) s x m t k
     lost_of it = (
       it.inode,
       it.its,
@@ -94,5 +94,5 @@ module _ (g : Sizes) (s : Store) (x : ℕ → Slot) (m : ℕ → TierRuns) (plan
       },
     )
 
-    pub lost_given : IsLost g (is_rewritten plan) s x m t k ↔ IsGivenUp g (is_rewritten plan) s new t k
+    pub lost_given : IsLost g (is_rewritten plan) s x m t k ↔ BlockIsGivenUp g (is_rewritten plan) s new t k
     lost_given = (given_of, lost_of)

@@ -15,14 +15,14 @@ use Rattle.area_image.specs.Store.{Store, root_of}
 use Rattle.area_image.specs.Reads.{Free}
 use Rattle.area_image.specs.Spelled.{Use, used}
 use Rattle.area_rewrite.specs.Written.{IsFit, IsListed, block_by}
-use Rattle.area_rewrite.specs.Many.{Takes}
+use Rattle.area_rewrite.specs.Many.{HasBlockFor}
 use Rattle.area_batch.specs.declared.slots.ChangedSlot.{ChangedSlot}
 use Rattle.area_batch.specs.Slots.{RiseIn}
 use Rattle.area_batch.specs.Batches.{AreNodes}
 use Rattle.free_pools.specs.declared.taking.Taken.{Taken}
 use Rattle.free_pools.specs.Taking.{taken_data, runs_of}
-use Rattle.free_pools.specs.Writing.{AreFreeIn, AreApart}
-use Rattle.area_room.specs.Changing.{IsTaken}
+use Rattle.free_pools.specs.Writing.{AreFreeIn, RunsAreNormal}
+use Rattle.area_room.specs.Changing.{BlockIsTaken}
 use Rattle.area_commit.specs.declared.plan.Lost.{Lost}
 use Rattle.area_commit.specs.declared.plan.Rewrite.{Rewrite}
 
@@ -33,7 +33,7 @@ use Rattle.area_commit.specs.declared.plan.Rewrite.{Rewrite}
 pub record IsPlannedInode (g : Sizes) (s : Store) (taken : Taken) (nodes : List (ℕ × List ℕ)) (i : ℕ) (x : Slot) (m : TierRuns) : Type 0 where
   pub fit : IsFit g x m
   pub listed : (t : Tier) → IsListed (with_images nodes (s tiers.Fast)) i (root_of x t) (runs_in m t)
-  pub uses : (t : Tier) (k : Option ℕ) (b : Tier × ℕ) → block_by x m t k ≡ Some b → (used g s (record { inode = i; tier = t; logical = k }) ≡ Some b) ⊎ IsTaken taken b.0 b.1
+  pub uses : (t : Tier) (k : Option ℕ) (b : Tier × ℕ) → block_by x m t k ≡ Some b → (used g s (record { inode = i; tier = t; logical = k }) ≡ Some b) ⊎ BlockIsTaken taken b.0 b.1
 
 -- Inode i had some use for a block, for which it has another one then, or none.
 pub record Loses (g : Sizes) (s : Store) (i : ℕ) (x : Slot) (m : TierRuns) (t : Tier) (k : ℕ) : Type 0 where
@@ -48,7 +48,7 @@ pub record Loses (g : Sizes) (s : Store) (i : ℕ) (x : Slot) (m : TierRuns) (t 
 pub record WereFree (g : Sizes) (s : Store) (taken : Taken) : Type 0 where
   pub nodes : (k : ℕ) → Contains (blocks_of taken.nodes.items) k → Free g s tiers.Fast k × (k < node_end g)
   pub per_tier : (t : Tier) → AreFreeIn g s t (runs_of taken t)
-  pub apart : AreApart g taken
+  pub apart : RunsAreNormal g taken
 
 -- the runs of a tier's data blocks that are given up
 abbrev pub lost_in : Lost → Tier → List Run
@@ -89,10 +89,10 @@ pub record IsPlanned (g : Sizes) (s : Store) (x : ℕ → Slot) (m : ℕ → Tie
   pub slots : (c : ChangedSlot) → Contains plan.slots.items c → c.slot ≡ x c.inode
   pub each : (i : ℕ) → is_rewritten plan i ≡ true → IsPlannedInode g s plan.taken plan.nodes i (x i) (m i)
   pub free : WereFree g s plan.taken
-  pub once : (u v : Use) (t : Tier) (k : ℕ) → IsTaken plan.taken t k → Takes (is_rewritten plan) x m u (t, k) → Takes (is_rewritten plan) x m v (t, k) → u ≡ v
-  pub all : (t : Tier) (k : ℕ) → IsTaken plan.taken t k → (u : Use) × Takes (is_rewritten plan) x m u (t, k)
+  pub once : (u v : Use) (t : Tier) (k : ℕ) → BlockIsTaken plan.taken t k → HasBlockFor (is_rewritten plan) x m u (t, k) → HasBlockFor (is_rewritten plan) x m v (t, k) → u ≡ v
+  pub all : (t : Tier) (k : ℕ) → BlockIsTaken plan.taken t k → (u : Use) × HasBlockFor (is_rewritten plan) x m u (t, k)
   pub imaged : (k : ℕ) → Contains (blocks_of plan.taken.nodes.items) k → IsSome (image_for k plan.nodes)
-  pub images : (k : ℕ) → IsSome (image_for k plan.nodes) → (u : Use) × Takes (is_rewritten plan) x m u (tiers.Fast, k)
+  pub images : (k : ℕ) → IsSome (image_for k plan.nodes) → (u : Use) × HasBlockFor (is_rewritten plan) x m u (tiers.Fast, k)
   pub nodes : AreNodes g plan.nodes
   pub few : min (length plan.slots.items) 32 + length plan.nodes ≤ 255
   pub marks : IfSome plan.marks (λ v. fits_marks v ≡ true)

@@ -20,7 +20,7 @@ ghost use Rattle.free_pools.specs.Value.{PoolsView, data_pool, HasRanges, AreFre
 ghost use Rattle.free_pools.specs.declared.taking.Taken.{Taken};
 ghost use Rattle.free_pools.specs.Taking.{taken_data, WereTaken, WasUndone, SameFree};
 ghost use Rattle.free_pools.specs.Writing.{HoldData};
-ghost use Rattle.area_room.specs.Changing.{Exchanges, IsGivenUp, IsTaken};
+ghost use Rattle.area_room.specs.Changing.{Exchanges, BlockIsGivenUp, BlockIsTaken};
 ghost use Rattle.area_move.specs.Given.{AreUsed, WereAdded};
 ghost use Rattle.area_commit.specs.declared.plan.Rewrite.{Rewrite};
 ghost use Rattle.area_commit.specs.Plan.{WereFree, LieApart, IsLost, lost_in, is_rewritten, IsPlanned};
@@ -60,8 +60,8 @@ pub fn carried_out_marks()
 
 /// The inodes of a plan that is carried out keep blocks, get all that were taken and no other, and give up exactly those that are lost.
 pub fn carried_out_blocks_are_exchanged()
-    ensures exchanged { (g : Sizes) (s : Store) (x : ℕ → Slot) (m : ℕ → TierRuns) (plan : Rewrite) (new : Store) → IsAllowed g → IsSpelled g s → IsPlanned g s x m plan → IsCarriedOut g s plan new → Exchanges g (is_rewritten plan) s new (IsTaken plan.taken) }
-    ensures lost { (g : Sizes) (s : Store) (x : ℕ → Slot) (m : ℕ → TierRuns) (plan : Rewrite) (new : Store) (t : Tier) (k : ℕ) → IsAllowed g → IsSpelled g s → IsPlanned g s x m plan → IsCarriedOut g s plan new → IsLost g (is_rewritten plan) s x m t k ↔ IsGivenUp g (is_rewritten plan) s new t k }
+    ensures exchanged { (g : Sizes) (s : Store) (x : ℕ → Slot) (m : ℕ → TierRuns) (plan : Rewrite) (new : Store) → IsAllowed g → IsSpelled g s → IsPlanned g s x m plan → IsCarriedOut g s plan new → Exchanges g (is_rewritten plan) s new (BlockIsTaken plan.taken) }
+    ensures lost { (g : Sizes) (s : Store) (x : ℕ → Slot) (m : ℕ → TierRuns) (plan : Rewrite) (new : Store) (t : Tier) (k : ℕ) → IsAllowed g → IsSpelled g s → IsPlanned g s x m plan → IsCarriedOut g s plan new → IsLost g (is_rewritten plan) s x m t k ↔ BlockIsGivenUp g (is_rewritten plan) s new t k }
 {
     marks_are_read();
     written_inode_is_read();

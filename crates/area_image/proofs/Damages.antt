@@ -13,7 +13,7 @@ use Rattle.layout.specs.Places.{Sizes, is_inode}
 use Rattle.layout.specs.Directory.{listed}
 use Rattle.layout.specs.declared.places.TheConstants.{BLOCK}
 use Rattle.extent_nodes.specs.Places.{place_of}
-use Rattle.tree_blocks.specs.Inode.{IsConsistent, IsConsistentBy, IsDirectory, IsDirectoryBlock, IsZeroFrom, Inode, inode_of, blocks_for, byte_of, entry_at, Blocks}
+use Rattle.tree_blocks.specs.Inode.{IsConsistent, IsConsistentBy, AreDirectoryBlocks, IsDirectoryBlock, IsZeroFrom, Inode, inode_of, blocks_for, byte_of, entry_at, Blocks}
 use Rattle.area_image.specs.Store.{Store, slot, length_of, extents_by, extents_read, place, at_or, logical, inode}
 use Rattle.area_image.specs.Spelled.{SpellsInode, IsSpelled, KeepsUnits}
 use Rattle.area_image.specs.Damage.{LacksBlock, IsMappedTwice, IsShared, HasTwin, byte_in, IsDamaged}
@@ -22,7 +22,7 @@ pub no_some : {A : Type 0} (o : Option A) → o ≡ None → IsSome o → ⊥
 no_some o none some = false≢true (subst IsSome none some)
 
 -- a directory is consistent as one, and a file is zero behind its size
-pub as_directory : (i : ℕ) (x : Inode) → x.kind ≡ Some kind.Directory → IsConsistent i x → IsDirectory i x.size x.blocks
+pub as_directory : (i : ℕ) (x : Inode) → x.kind ≡ Some kind.Directory → IsConsistent i x → AreDirectoryBlocks i x.size x.blocks
 as_directory i x is consistent = subst (λ k. IsConsistentBy i k x.size x.blocks) is consistent
 
 as_file : (i : ℕ) (x : Inode) → x.kind ≡ Some kind.File → IsConsistent i x → IsZeroFrom x.size x.blocks

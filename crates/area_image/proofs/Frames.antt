@@ -17,7 +17,7 @@ use Rattle.layout.specs.Marks.{marks_of}
 use Rattle.batch_journal.specs.Volume.{Spells}
 use Rattle.tree_blocks.specs.Inode.{IsConsistent, inode_of, node_of}
 use Rattle.area_image.specs.Store.{Store, slot_read, slot, root_of, space_of, length_of, own_extents, extents_by, extents_read, place, at_or, logical, inode, graph, marks}
-use Rattle.area_image.specs.Reads.{Reads, Free, Loose, Untouched}
+use Rattle.area_image.specs.Reads.{InodeReads, Free, Loose, Untouched}
 use Rattle.area_image.specs.Spelled.{SpellsInode, Use, used, IsSpelled}
 
 extents_by-same : (g : Sizes) (new old : Blocks) (i : ℕ) (x : Slot) (t : Tier) → (root_of x t ≢ 0 → new (root_of x t) ≡ old (root_of x t)) → extents_by g new i x t ≡ extents_by g old i x t
@@ -110,7 +110,7 @@ module _ (g : Sizes) (seen left : Store) (loose : Loose g seen left) where
     used-kept : (u : Use) → used g left u ≡ used g seen u
     used-kept u = block_for-kept g seen left u.inode (loose_untouched g seen left loose u.inode) u.tier u.logical
 
-  reads-kept : (i : ℕ) (t : Tier) (k : ℕ) → Reads g left i t k → Reads g seen i t k
+  reads-kept : (i : ℕ) (t : Tier) (k : ℕ) → InodeReads g left i t k → InodeReads g seen i t k
   reads-kept i t k (inl its) = inl its
   reads-kept i t k (inr (inl (u, fast, some, is))) = inr (inl (u, fast, (λ e. some (ap (λ x. root_of x u) (loose_slot i) ∙ e)), is ∙ ap (λ x. root_of x u) (loose_slot i)))
   reads-kept i t k (inr (inr (j, is))) = inr (inr (j, sym (loose_place i t j) ∙ is))

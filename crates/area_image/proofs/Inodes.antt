@@ -10,12 +10,12 @@ use Rattle.layout.specs.declared.error.What.TheVariants as what
 use Rattle.layout.specs.declared.slot.Slot.{Slot}
 use Rattle.layout.specs.declared.slot.Slot.TheVariants as slots
 use Rattle.layout.specs.Places.{Sizes, is_inode}
-use Rattle.layout.specs.Slot.{fits_slot, is_root}
-use Rattle.tree_blocks.specs.Inode.{Blocks, IsConsistent, IsConsistentBy, IsZeroFrom, IsDirectory, inode_of}
+use Rattle.layout.specs.Slot.{fits_slot, is_root_block}
+use Rattle.tree_blocks.specs.Inode.{Blocks, IsConsistent, IsConsistentBy, IsZeroFrom, AreDirectoryBlocks, inode_of}
 use Rattle.area_image.specs.Store.{Store, slot, slot_read, root_of, length_of, extents_read, place, logical, inode}
 use Rattle.area_image.specs.Spelled.{SpellsInode}
 use Rattle.area_image.specs.Map.{IsOnceAt, IsTwiceAt}
-use Rattle.area_image.specs.Checks.{HasFound, IsOnce, IsFile, IsEntries, IsExtentDamageOf, IsTailDamageOf, IsDirectoryDamageOf, IsOwnDamage}
+use Rattle.area_image.specs.Checks.{HasFound, IsOnce, IsFileOfSize, IsEntries, IsExtentDamageOf, IsTailDamageOf, IsDirectoryDamageOf, IsOwnDamage}
 use Rattle.area_image.specs.declared.tiers.InodeExtents.{InodeExtents}
 use Rattle.area_image.proofs.Parts.{slot_as}
 use Rattle.area_image.proofs.Damages.{is_some_at, blocks_is}
@@ -26,12 +26,12 @@ use Rattle.area_image.proofs.Tails.{place_is}
 pub few_entries : (g : Sizes) (names entries touch root : ℕ) → fits_slot g (slots.Directory names entries touch root) ≡ true → entries ≤ 3584
 few_entries g names entries touch root e =
     let p = and_parts (nat_lt touch (2 ^ 64)) _ e in
-    let a = and_parts _ (is_root g root) p.1 in
+    let a = and_parts _ (is_root_block g root) p.1 in
     let q = and_parts _ (nat_le entries 3584) a.0 in
     leb-true entries 3584 q.1
 
 module _ (g : Sizes) (s : Store) (i : ℕ) where
-  pub is_file : (names size touch fast block slow : ℕ) → is_inode i ≡ true → slot_read g s i ≡ Some (slots.File names size touch fast block slow) → IsFile g s i size
+  pub is_file : (names size touch fast block slow : ℕ) → is_inode i ≡ true → slot_read g s i ≡ Some (slots.File names size touch fast block slow) → IsFileOfSize g s i size
   is_file names size touch fast block slow number read =
       let is = slot_as g s i (slots.File names size touch fast block slow) read in
       record {
@@ -54,13 +54,13 @@ module _ (g : Sizes) (s : Store) (i : ℕ) where
   pub free_consistent : slot_read g s i ≡ Some slots.Free → IsConsistent i (inode g s i)
   free_consistent read = subst (λ (x : Slot). IsConsistent i (inode_of x (logical g s i))) (sym (slot_as g s i slots.Free read)) tt
 
-  pub file_consistent : (size : ℕ) → IsFile g s i size → IsZeroFrom size (logical g s i) → IsConsistent i (inode g s i)
+  pub file_consistent : (size : ℕ) → IsFileOfSize g s i size → IsZeroFrom size (logical g s i) → IsConsistent i (inode g s i)
   file_consistent size file zero' =
       let blocks = subst (λ (b : Blocks). IsConsistentBy i (Some kind.File) size b) (sym (blocks_is (slot g s i) (logical g s i) kind.File file.kind_is)) zero' in
       let sized = subst (λ (n : ℕ). IsConsistentBy i (Some kind.File) n (inode g s i).blocks) (sym file.size_is) blocks in
       subst (λ (k : Option Kind). IsConsistentBy i k (inode g s i).size (inode g s i).blocks) (sym file.kind_is) sized
 
-  pub directory_consistent : (entries : ℕ) → IsEntries g s i entries → IsDirectory i entries (logical g s i) → IsConsistent i (inode g s i)
+  pub directory_consistent : (entries : ℕ) → IsEntries g s i entries → AreDirectoryBlocks i entries (logical g s i) → IsConsistent i (inode g s i)
   directory_consistent entries dir whole =
       let blocks = subst (λ (b : Blocks). IsConsistentBy i (Some kind.Directory) entries b) (sym (blocks_is (slot g s i) (logical g s i) kind.Directory dir.kind_is)) whole in
       let sized = subst (λ (n : ℕ). IsConsistentBy i (Some kind.Directory) n (inode g s i).blocks) (sym dir.size_is) blocks in

@@ -8,7 +8,7 @@ use Rattle.tier_device.specs.declared.media.Tier.TheVariants.{Fast}
 use Rattle.layout.specs.Places.{Sizes, is_inode, slot_block}
 use Rattle.batch_journal.specs.Volume.{Spells}
 use Rattle.area_image.specs.Store.{Store, slot, root_of, place, inode}
-use Rattle.area_image.specs.Reads.{Reads, IsRoom, Free, Untouched}
+use Rattle.area_image.specs.Reads.{InodeReads, IsRoom, Free, Untouched}
 use Rattle.area_image.specs.Spelled.{SpellsInode, Use, used, AreUsedOnce, IsSpelled}
 use Rattle.area_image.specs.Rewrites.{Rewrites}
 use Rattle.area_image.proofs.Frames.{inode-kept, spells-kept, block_for-kept}
@@ -91,7 +91,7 @@ use_of_place t u k None is = cc
 use_of_place t u k (Some p) is = (sym (ap tier_in is), ap (λ b. Some (block_in b)) is)
 
 module _ (g : Sizes) (s : Store) (t : Tier) (k : ℕ) where
-  use_reads : (i : ℕ) (u : Tier) (j : Option ℕ) → used g s (record { inode = i; tier = u; logical = j }) ≡ Some (t, k) → Reads g s i t k
+  use_reads : (i : ℕ) (u : Tier) (j : Option ℕ) → used g s (record { inode = i; tier = u; logical = j }) ≡ Some (t, k) → InodeReads g s i t k
   use_reads i u None is =
       let p = use_of_root t k (root_of (slot g s i) u) is in
       inr (inl (u, p.0, p.1.0, p.1.1))
@@ -99,7 +99,7 @@ module _ (g : Sizes) (s : Store) (t : Tier) (k : ℕ) where
       let p = use_of_place t u k (place g s i u j) is in
       inr (inr (j, subst (λ v. place g s i v j ≡ Some k) (sym p.0) p.1))
 
-  unread : IsRoom g t k → ((u : Use) → used g s u ≡ Some (t, k) → ⊥) → (i : ℕ) → Reads g s i t k → ⊥
+  unread : IsRoom g t k → ((u : Use) → used g s u ≡ Some (t, k) → ⊥) → (i : ℕ) → InodeReads g s i t k → ⊥
   unread room none i (inl (number, fast, at)) = no_slot g i k number (subst (λ v. IsRoom g v k) fast room) at
   unread room none i (inr (inl (u, fast, some, at))) = none (record { inode = i; tier = u; logical = None }) (root_use g s i u some ∙ cc)
   unread room none i (inr (inr (j, at))) = none (record { inode = i; tier = t; logical = Some j }) (place_use g s i t j k at)

@@ -14,7 +14,7 @@ use Rattle.area_image.specs.Damage.{IsDamaged, IsShared}
 use Rattle.area_image.specs.Map.{place_by}
 use Rattle.area_image.specs.Checks.{HasFound}
 use Rattle.area_image.specs.Used.{UsedMarks, marks_in, is_marked, IsMarked, Takes, Clashes}
-use Rattle.area_image.specs.Parts.{Part, part_block, part_for, IsOfTier, IsWithin, HasRoomFor}
+use Rattle.area_image.specs.Parts.{InodeUse, part_block, part_for, IsOfTier, IsWithin, HasRoomFor}
 use Rattle.area_image.specs.Whole.{MarksUses}
 use Rattle.area_image.specs.declared.inode.InodeParts.{InodeParts}
 use Rattle.area_image.proofs.Parts.{slot_as}
@@ -41,14 +41,14 @@ module _ (g : Sizes) (s : Store) (i : ℕ) (x : InodeParts) (read : slot_read g 
   slot_here : slot g s i ≡ x.slot
   slot_here = slot_as g s i x.slot read
 
-  abbrev part_use : Part → Use
+  abbrev part_use : InodeUse → Use
   part_use a = record { inode = i; tier = a.0; logical = a.1 }
 
   used_for : (t : Tier) (o : Option ℕ) → used g s (record { inode = i; tier = t; logical = o }) ≡ part_for x t o
   used_for t None = ap (λ (y : Slot). part_for (record { slot = y; extents = x.extents }) t None) slot_here
   used_for t (Some k) = ap (option_map (λ p. (t, p))) (place_is g s i x.extents found t k)
 
-  used_is : (a : Part) → used g s (part_use a) ≡ part_block x a
+  used_is : (a : InodeUse) → used g s (part_use a) ≡ part_block x a
   used_is a = used_for (a.0) (a.1)
 
   -- ---- where they lie
@@ -101,7 +101,7 @@ module _ (g : Sizes) (s : Store) (i : ℕ) (x : InodeParts) (read : slot_read g 
   below_cases : (u : Use) → u.inode < i + 1 → (u.inode < i) ⊎ (u.inode ≡ i)
   below_cases u low = elim (cases_eq u.inode i) [ inl same ↦ inr same | inr other ↦ inl (omega (arith, low, other)) ]
 
-  abbrev part_at : Use → Part
+  abbrev part_at : Use → InodeUse
   part_at u = (u.tier, u.logical)
 
   use_same : (u v : Use) → u.inode ≡ i → v.inode ≡ i → part_at u ≡ part_at v → u ≡ v
@@ -134,13 +134,13 @@ module _ (g : Sizes) (s : Store) (i : ℕ) (x : InodeParts) (read : slot_read g 
 
   -- ---- a block that has another use
 
-  part_same : (a c : Part) → c.0 ≡ a.0 → c.1 ≡ a.1 → c ≡ a
+  part_same : (a c : InodeUse) → c.0 ≡ a.0 → c.1 ≡ a.1 → c ≡ a
   part_same a c one two = λ p. (one p, two p)
 
-  abbrev use_in : Tier → Part → Use
+  abbrev use_in : Tier → InodeUse → Use
   use_in t a = record { inode = i; tier = t; logical = a.1 }
 
-  used_in : (t : Tier) (a : Part) → a.0 ≡ t → used g s (use_in t a) ≡ part_block x a
+  used_in : (t : Tier) (a : InodeUse) → a.0 ≡ t → used g s (use_in t a) ≡ part_block x a
   used_in t a e = ap (λ v. used g s (use_in v a)) (sym e) ∙ used_is a
 
   shared : (old : UsedMarks) (t : Tier) → MarksUses g s i old → (clash : Clashes old (part_block x) (IsOfTier t x)) → IsShared g s i t

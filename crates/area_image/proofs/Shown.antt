@@ -9,11 +9,11 @@ use Rattle.layout.specs.declared.slot.Slot.{Slot}
 use Rattle.layout.specs.declared.slot.Slot.TheVariants as slots
 use Rattle.layout.specs.declared.geometry.Space.{Space}
 use Rattle.layout.specs.Bytes.{◌>>=◌}
-use Rattle.layout.specs.Answers.{answer}
+use Rattle.layout.specs.Answers.{or_damaged}
 use Rattle.layout.specs.declared.error.What.{What}
 use Rattle.layout.specs.Extents.{ExtentList, extents_of}
 use Rattle.layout.specs.Places.{Sizes, is_inode, is_node, slot_block, slot_byte, tier_blocks, node_end}
-use Rattle.layout.specs.Slot.{slot_of, fits_slot, is_root, roots_apart}
+use Rattle.layout.specs.Slot.{slot_of, fits_slot, is_root_block, roots_apart}
 use Rattle.batch_journal.specs.Images.{slice}
 use Rattle.batch_journal.specs.Blocks.{Blocks, home, is_home, ShowsHome}
 use Rattle.area_image.specs.Store.{Store, slot_bytes, slot_read, root_of, space_of, length_of, is_own, own_extents, extents_by}
@@ -43,7 +43,7 @@ slot_is g s i bytes x low high is read = cond-true (is_inode i) _ _ (inode_is i 
 or_right : (a b : Bool) → a ≡ false → (a || b) ≡ true → b ≡ true
 or_right a b not is = ap (λ t. t || b) (sym not) ∙ is
 
-root_node : (g : Sizes) (root : ℕ) → is_root g root ≡ true → root ≢ 0 → is_node g root ≡ true
+root_node : (g : Sizes) (root : ℕ) → is_root_block g root ≡ true → root ≢ 0 → is_node g root ≡ true
 root_node g root is some = or_right (root == 0) (is_node g root) (ne_eqb root 0 some) is
 
 pub record SlotLimits (g : Sizes) (x : Slot) : Type 0 where
@@ -57,25 +57,25 @@ slot_limits g (slots.File names size touch fast block slow) e =
     let a = and_parts _ (roots_apart block slow) p.1 in
     let b = and_parts _ (roots_apart fast slow) a.0 in
     let c = and_parts _ (roots_apart fast block) b.0 in
-    let d = and_parts _ (is_root g slow) c.0 in
-    let f = and_parts _ (is_root g block) d.0 in
-    let h = and_parts _ (is_root g fast) f.0 in
+    let d = and_parts _ (is_root_block g slow) c.0 in
+    let f = and_parts _ (is_root_block g block) d.0 in
+    let h = and_parts _ (is_root_block g fast) f.0 in
     let q = and_parts _ (nat_le size 1048576) h.0 in
     let most : size ≤ 1048576 = leb-true size 1048576 q.1 in
     record { roots = by_tier h.1 f.1 d.1; few = omega (arith, most) }
   where
-    by_tier : is_root g fast ≡ true → is_root g block ≡ true → is_root g slow ≡ true → (t : Tier) → root_of (slots.File names size touch fast block slow) t ≢ 0 → is_node g (root_of (slots.File names size touch fast block slow) t) ≡ true
+    by_tier : is_root_block g fast ≡ true → is_root_block g block ≡ true → is_root_block g slow ≡ true → (t : Tier) → root_of (slots.File names size touch fast block slow) t ≢ 0 → is_node g (root_of (slots.File names size touch fast block slow) t) ≡ true
     by_tier one two three Fast some = root_node g fast one some
     by_tier one two three Block some = root_node g block two some
     by_tier one two three Slow some = root_node g slow three some
 slot_limits g (slots.Directory names entries touch root) e =
     let p = and_parts (nat_lt touch (2 ^ 64)) _ e in
-    let a = and_parts _ (is_root g root) p.1 in
+    let a = and_parts _ (is_root_block g root) p.1 in
     let q = and_parts _ (nat_le entries 3584) a.0 in
     let most : entries ≤ 3584 = leb-true entries 3584 q.1 in
     record { roots = by_tier a.1; few = omega (arith, most) }
   where
-    by_tier : is_root g root ≡ true → (t : Tier) → root_of (slots.Directory names entries touch root) t ≢ 0 → is_node g (root_of (slots.Directory names entries touch root) t) ≡ true
+    by_tier : is_root_block g root ≡ true → (t : Tier) → root_of (slots.Directory names entries touch root) t ≢ 0 → is_node g (root_of (slots.Directory names entries touch root) t) ≡ true
     by_tier one Fast some = root_node g root one some
     by_tier one Block some = absurd (some refl)
     by_tier one Slow some = absurd (some refl)
@@ -114,6 +114,6 @@ extents_some g fast i x t some = cond-false (root_of x t == 0) _ _ (ne_eqb (root
 
 -- ---- answers of a decoder
 
-pub answered : {A : Type 0} (what : What) (block : ℕ) (o : Option A) (x : A) → Ok x ≡ answer what block o → o ≡ Some x
+pub answered : {A : Type 0} (what : What) (block : ℕ) (o : Option A) (x : A) → Ok x ≡ or_damaged what block o → o ≡ Some x
 answered what block None x is = cc
 answered what block (Some y) x is = cc

@@ -15,7 +15,7 @@ use Rattle.area_image.specs.Store.{Store, slot, length_of, place, logical}
 use Rattle.area_image.specs.Reads.{IsPlaced}
 use Rattle.area_image.specs.Damage.{byte_in}
 use Rattle.area_image.specs.Map.{place_by}
-use Rattle.area_image.specs.Checks.{HasFound, IsFile, IsTailDamageOf}
+use Rattle.area_image.specs.Checks.{HasFound, IsFileOfSize, IsTailDamageOf}
 use Rattle.area_image.specs.declared.tiers.InodeExtents.{InodeExtents}
 use Rattle.area_image.proofs.Damages.{option_cases, at_none}
 use Rattle.area_image.proofs.Lists.{place_placed}
@@ -71,7 +71,7 @@ module _ (g : Sizes) (s : Store) (i : ℕ) where
   byte_here at block is = ap (λ b. byte_in b at) is
 
   -- behind the end, a byte stands in the last block or in none
-  module _ (size : ℕ) (file : IsFile g s i size) where
+  module _ (size : ℕ) (file : IsFileOfSize g s i size) where
     last_or_past : (at : ℕ) → size ≤ at → (length_of (slot g s i) ≤ at / 4096) ⊎ ((at / 4096 ≡ size / 4096) × (size % 4096 ≤ at % 4096) × (size % 4096 ≢ 0))
     last_or_past at behind = elim (cases_lt (at / 4096) (length_of (slot g s i))) [
       | inr past ↦ inl past

@@ -9,7 +9,7 @@ use Rattle.batch_journal.specs.Blocks.{Blocks, block_of}
 use Rattle.batch_journal.specs.Course.{OutsideRun}
 use Rattle.batch_journal.proofs.Bytes.{slice_apart}
 use Rattle.area_image.specs.Store.{Store, store_of, content_blocks, root_of}
-use Rattle.area_image.specs.Reads.{Reads, Free, Loose, LooseIn, IsFreeRun}
+use Rattle.area_image.specs.Reads.{InodeReads, Free, Loose, LooseIn, IsFreeRun}
 use Rattle.area_image.proofs.Frames.{loose_slot, loose_place, loose_free}
 
 -- a block that is not free lies outside a free run
@@ -41,7 +41,7 @@ module _ (g : Sizes) (old new : Store) (loose : Loose g old new) where
   pub loose_left : (t : Tier) (blocks : Blocks) → LooseIn g old t blocks → LooseIn g new t blocks
   loose_left t blocks left = λ k taken. let used = λ (free : Free g old t k). taken (loose_free g old new loose t k free) in left k used ∙ sym (loose t k used)
 
-  reads_back : (i : ℕ) (t : Tier) (k : ℕ) → Reads g old i t k → Reads g new i t k
+  reads_back : (i : ℕ) (t : Tier) (k : ℕ) → InodeReads g old i t k → InodeReads g new i t k
   reads_back i t k (inl its) = inl its
   reads_back i t k (inr (inl (u, fast, some, is))) = inr (inl (u, fast, (λ e. some (ap (λ x. root_of x u) (sym (loose_slot g old new loose i)) ∙ e)), is ∙ ap (λ x. root_of x u) (sym (loose_slot g old new loose i))))
   reads_back i t k (inr (inr (j, is))) = inr (inr (j, loose_place g old new loose i t j ∙ is))

@@ -15,12 +15,12 @@ use Rattle.layout.proofs.DirPlaces.{names_differ}
 use Rattle.layout.specs.Bytes.{all_pairs}
 use Rattle.layout.specs.Directory.{EntryList, AreEntries, listed, entry_list_of, entry_of, no_entry, differ, are_distinct}
 use Rattle.layout.specs.declared.directory.DirEntry.{DirEntry}
-use Rattle.layout.specs.Answers.{answer}
+use Rattle.layout.specs.Answers.{or_damaged}
 use Rattle.layout.specs.declared.error.LayoutError.{LayoutError}
 use Rattle.layout.specs.declared.error.What.{What}
 use Rattle.layout.specs.declared.error.What.TheVariants as what
 use Rattle.layout.specs.Places.{Sizes, slot_block}
-use Rattle.tree_blocks.specs.Inode.{Blocks, Entry, IsDirectoryBlock, IsDirectory, AreDistinct, entry_at, entries_in, blocks_for}
+use Rattle.tree_blocks.specs.Inode.{Blocks, Entry, IsDirectoryBlock, AreDirectoryBlocks, AreDistinct, entry_at, entries_in, blocks_for}
 use Rattle.tree_blocks.proofs.Held.{entry_is}
 use Rattle.area_image.specs.Store.{Store, extents_read, place, logical, inode}
 use Rattle.area_image.specs.Reads.{IsRoom}
@@ -35,8 +35,8 @@ entries_read block are = names_differ block (listed_now block are) (fit_parts (l
 err_ok : (r : Result EntryList LayoutError) (e : LayoutError) (v : EntryList) → r ≡ Err e → r ≡ Ok v → ⊥
 err_ok r e v err ok = cc
 
-pub not_read : (w : What) (at : ℕ) (block : List ℕ) (e : LayoutError) → AreEntries block → Err e ≡ answer w at (entry_list_of block) → ⊥
-not_read w at block e are is = err_ok (answer w at (entry_list_of block)) e (listed block) (sym is) (ap (answer w at) (entries_read block are))
+pub not_read : (w : What) (at : ℕ) (block : List ℕ) (e : LayoutError) → AreEntries block → Err e ≡ or_damaged w at (entry_list_of block) → ⊥
+not_read w at block e are is = err_ok (or_damaged w at (entry_list_of block)) e (listed block) (sym is) (ap (or_damaged w at) (entries_read block are))
 
 same_names : (a b : DirEntry) → differ a b ≡ true → a.name ≡ b.name → ⊥
 same_names a b apart same = true≢false (sym ((bytes_eq-Decides a.name b.name).1 same) ∙ flip (bytes_eq a.name b.name) apart) where
@@ -263,7 +263,7 @@ module _ (g : Sizes) (s : Store) (i n : ℕ) where
   }
 
   module _ (k : ℕ) (names : List (List ℕ)) (old : AreFirstParts g s i n k names) where
-    pub first_all : k ≡ blocks_for n → IsDirectory i n (logical g s i)
+    pub first_all : k ≡ blocks_for n → AreDirectoryBlocks i n (logical g s i)
     first_all long = record {
       parts = λ j lt. old.parts j (omega (arith, long, lt));
       distinct = λ e f le lf same. old.distinct e f (omega (arith, long, le)) (omega (arith, long, lf)) same;

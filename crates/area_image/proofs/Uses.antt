@@ -9,24 +9,24 @@ use Rattle.layout.specs.Extents.{ExtentList}
 use Rattle.extent_nodes.specs.Places.{place_of}
 use Rattle.area_image.specs.Map.{place_by, in_tier, extents_in}
 use Rattle.area_image.specs.Used.{UsedMarks, is_marked, HasRoom, Adds, Takes, Clashes}
-use Rattle.area_image.specs.Parts.{Part, part_block, part_for, IsRoot, IsPlace, IsOfTier, IsWithin, HasRoomFor}
+use Rattle.area_image.specs.Parts.{InodeUse, part_block, part_for, IsRoot, IsPlace, IsOfTier, IsWithin, HasRoomFor}
 use Rattle.area_image.specs.declared.inode.InodeParts.{InodeParts}
 use Rattle.area_image.proofs.Takings.{take_one, take_none, take_more, take_same, clash_one, clash_after, clash_more}
 
-abbrev part : Tier → Option ℕ → Part
+abbrev part : Tier → Option ℕ → InodeUse
 part t o = (t, o)
 
 abbrev at_fast : ℕ → Option (Tier × ℕ)
 at_fast n = Some (Fast, n)
 
-part_is : (a : Part) (t : Tier) (o : Option ℕ) → a.0 ≡ t → a.1 ≡ o → a ≡ part t o
+part_is : (a : InodeUse) (t : Tier) (o : Option ℕ) → a.0 ≡ t → a.1 ≡ o → a ≡ part t o
 part_is a t o one two = λ p. (one p, two p)
 
-part_tier : (a : Part) (t : Tier) (o : Option ℕ) → a ≡ part t o → a.0 ≡ t
-part_tier a t o e = ap (λ (x : Part). x.0) e
+part_tier : (a : InodeUse) (t : Tier) (o : Option ℕ) → a ≡ part t o → a.0 ≡ t
+part_tier a t o e = ap (λ (x : InodeUse). x.0) e
 
-part_number : (a : Part) (t : Tier) (o : Option ℕ) → a ≡ part t o → a.1 ≡ o
-part_number a t o e = ap (λ (x : Part). x.1) e
+part_number : (a : InodeUse) (t : Tier) (o : Option ℕ) → a ≡ part t o → a.1 ≡ o
+part_number a t o e = ap (λ (x : InodeUse). x.1) e
 
 some_same : (j k : ℕ) → Some j ≡ Some k → j ≡ k
 some_same j k e = cc
@@ -35,13 +35,13 @@ no_block : {B : Type 0} (o : Option B) (b : B) → o ≡ None → o ≡ Some b �
 no_block o b none some = let e : None ≡ Some b = sym none ∙ some in cc
 
 -- a mark that was set or not
-marked_or_not : (old new : UsedMarks) (x : InodeParts) (these : Part → Type 0) (a : Part) (t : Tier) (k : ℕ) → part_block x a ≡ Some (t, k) → ((c : Part) → (c ≡ a) ↔ these c) → (was : Bool) → was ≡ is_marked old t k → Adds old new (λ u j. (u ≡ t) × (j ≡ k)) → MatchBool was (Clashes old (part_block x) these) (Takes old new (part_block x) these)
+marked_or_not : (old new : UsedMarks) (x : InodeParts) (these : InodeUse → Type 0) (a : InodeUse) (t : Tier) (k : ℕ) → part_block x a ≡ Some (t, k) → ((c : InodeUse) → (c ≡ a) ↔ these c) → (was : Bool) → was ≡ is_marked old t k → Adds old new (λ u j. (u ≡ t) × (j ≡ k)) → MatchBool was (Clashes old (part_block x) these) (Takes old new (part_block x) these)
 marked_or_not old new x these a t k at same true was adds = clash_one (part_block x) old these a t k ((same a).0 refl) at (sym was)
 marked_or_not old new x these a t k at same false was adds = take_same (part_block x) old new (λ c. c ≡ a) these (take_one (part_block x) old new a t k at (sym was) adds) (λ c u j there. same c)
 
 -- ---- the list of extents
 
-root_same : (t : Tier) (c : Part) → (c ≡ part t None) ↔ IsRoot t c
+root_same : (t : Tier) (c : InodeUse) → (c ≡ part t None) ↔ IsRoot t c
 root_same t c = (λ e. (part_tier c t None e, part_number c t None e), λ is. part_is c t None is.0 is.1)
 
 root_at : (x : InodeParts) (t : Tier) → root_of x.slot t ≢ 0 → part_block x (part t None) ≡ Some (Fast, root_of x.slot t)
@@ -56,7 +56,7 @@ root_room m x t r room is some = room (part t None) Fast r (root_there x t r is 
 pub root_marked : (old new : UsedMarks) (x : InodeParts) (t : Tier) (r : ℕ) → r ≡ root_of x.slot t → r ≢ 0 → (was : Bool) → was ≡ is_marked old Fast r → Adds old new (λ u j. (u ≡ Fast) × (j ≡ r)) → MatchBool was (Clashes old (part_block x) (IsRoot t)) (Takes old new (part_block x) (IsRoot t))
 root_marked old new x t r at some was is adds = marked_or_not old new x (IsRoot t) (part t None) Fast r (root_there x t r at some) (root_same t) was is adds
 
-part_of : (x : InodeParts) (a : Part) (t : Tier) (o : Option ℕ) → a.0 ≡ t → a.1 ≡ o → part_block x a ≡ part_for x t o
+part_of : (x : InodeParts) (a : InodeUse) (t : Tier) (o : Option ℕ) → a.0 ≡ t → a.1 ≡ o → part_block x a ≡ part_for x t o
 part_of x a t o one two = ap (λ u. part_for x u a.1) one ∙ ap (part_for x t) two
 
 pub root_none : (m : UsedMarks) (x : InodeParts) (t : Tier) → root_of x.slot t ≡ 0 → Takes m m (part_block x) (IsRoot t)
@@ -77,7 +77,7 @@ place_room old mid x t n room takes k p at = subst (λ (m : ℕ). p < m) (sym (t
 pub places_none : (m : UsedMarks) (x : InodeParts) (t : Tier) → Takes m m (part_block x) (IsPlace t 0)
 places_none m x t = take_none (part_block x) m (IsPlace t 0) (λ a u k is at. let low = is.2 in omega (arith, low))
 
-more_places : (t : Tier) (n : ℕ) (a : Part) → ((IsPlace t n a) ⊎ (a ≡ part t (Some n))) ↔ IsPlace t (n + 1) a
+more_places : (t : Tier) (n : ℕ) (a : InodeUse) → ((IsPlace t n a) ⊎ (a ≡ part t (Some n))) ↔ IsPlace t (n + 1) a
 more_places t n a = (
   λ is. elim is [ inl before ↦ (before.0, before.1, (let low = before.2 in omega (arith, low)), before.3) | inr e ↦ (part_tier a t (Some n) e, n, omega arith, part_number a t (Some n) e) ],
   λ is. elim (cases_eq (is.1) n) [ inl same ↦ inr (part_is a t (Some n) is.0 (is.3 ∙ ap Some same)) | inr other ↦ inl (is.0, is.1, (let low = is.2 in omega (arith, low, other)), is.3) ],
@@ -92,7 +92,7 @@ places_more old mid new x t n p takes at unmarked adds =
 pub places_skip : (old mid : UsedMarks) (x : InodeParts) (t : Tier) (n : ℕ) → Takes old mid (part_block x) (IsPlace t n) → place_by x.extents t n ≡ None → Takes old mid (part_block x) (IsPlace t (n + 1))
 places_skip old mid x t n takes none = take_same (part_block x) old mid (IsPlace t n) (IsPlace t (n + 1)) takes (λ a u k there. (λ is. (more_places t n a).0 (inl is), λ is. elim ((more_places t n a).1 is) [ inl before ↦ before | inr e ↦ absurd (no_block (part_block x a) (u, k) (ap (part_block x) e ∙ ap (option_map (λ p. (t, p))) none) there) ]))
 
-not_before : (t : Tier) (n : ℕ) (a : Part) → IsPlace t n a → a ≡ part t (Some n) → ⊥
+not_before : (t : Tier) (n : ℕ) (a : InodeUse) → IsPlace t n a → a ≡ part t (Some n) → ⊥
 not_before t n a is e = let same = some_same (is.1) n (sym (is.3) ∙ part_number a t (Some n) e) in let low = is.2 in omega (arith, low, same)
 
 pub places_clash : (old mid : UsedMarks) (x : InodeParts) (t : Tier) (n most p : ℕ) → n < most → Takes old mid (part_block x) (IsPlace t n) → place_by x.extents t n ≡ Some p → is_marked mid t p ≡ true → Clashes old (part_block x) (IsPlace t most)
@@ -102,13 +102,13 @@ places_clash old mid x t n most p few takes at marked =
 
 -- ---- a tier, and all of them
 
-pub room_kept : (old mid : UsedMarks) (x : InodeParts) (these : Part → Type 0) → HasRoomFor old x → Takes old mid (part_block x) these → HasRoomFor mid x
+pub room_kept : (old mid : UsedMarks) (x : InodeParts) (these : InodeUse → Type 0) → HasRoomFor old x → Takes old mid (part_block x) these → HasRoomFor mid x
 room_kept old mid x these room takes a t k at = subst (λ (m : ℕ). k < m) (sym (takes.adds.room t)) (room a t k at)
 
 some_none : (k : ℕ) → None ≡ Some k → ⊥
 some_none k e = cc
 
-root_no_place : (t : Tier) (n : ℕ) (a : Part) → IsRoot t a → IsPlace t n a → ⊥
+root_no_place : (t : Tier) (n : ℕ) (a : InodeUse) → IsRoot t a → IsPlace t n a → ⊥
 root_no_place t n a root place = some_none (place.1) (sym (root.1) ∙ place.3)
 
 pub tier_clash : (old : UsedMarks) (x : InodeParts) (t : Tier) → Clashes old (part_block x) (IsRoot t) → Clashes old (part_block x) (IsOfTier t x)
@@ -118,7 +118,7 @@ pub tier_more : (old mid new : UsedMarks) (x : InodeParts) (t : Tier) → Takes 
 tier_more old mid new x t takes true clash = clash_after (part_block x) old mid (IsRoot t) (IsPlace t (length_of x.slot)) (IsOfTier t x) takes clash (root_no_place t (length_of x.slot)) (λ a is. inr is)
 tier_more old mid new x t takes false more = take_more (part_block x) old mid new (IsRoot t) (IsPlace t (length_of x.slot)) takes more
 
-pub tier_of : (x : InodeParts) (t : Tier) (a : Part) → IsOfTier t x a → a.0 ≡ t
+pub tier_of : (x : InodeParts) (t : Tier) (a : InodeUse) → IsOfTier t x a → a.0 ≡ t
 tier_of x t a is = elim is [ inl root ↦ root.0 | inr place ↦ place.0 ]
 
 fast_no_block : Fast ≡ Block → ⊥
@@ -140,18 +140,18 @@ slow_clash old fast block x one two clash =
     (λ a here there. fast_no_slow (sym (tier_of x Fast a here) ∙ tier_of x Slow a there))
     (λ a is. is)
 
-abbrev OfSome : InodeParts → Part → Type 0
+abbrev OfSome : InodeParts → InodeUse → Type 0
 OfSome x a = ((IsOfTier Fast x a) ⊎ (IsOfTier Block x a)) ⊎ (IsOfTier Slow x a)
 
-of_some : (x : InodeParts) (a : Part) (t : Tier) → a.0 ≡ t → IsOfTier t x a → OfSome x a
+of_some : (x : InodeParts) (a : InodeUse) (t : Tier) → a.0 ≡ t → IsOfTier t x a → OfSome x a
 of_some x a Fast e is = inl (inl is)
 of_some x a Block e is = inl (inr is)
 of_some x a Slow e is = inr is
 
-within_tier : (x : InodeParts) (a : Part) (t : Tier) → IsOfTier t x a → IsWithin x a
+within_tier : (x : InodeParts) (a : InodeUse) (t : Tier) → IsOfTier t x a → IsWithin x a
 within_tier x a t is = subst (λ (u : Tier). IsOfTier u x a) (sym (tier_of x t a is)) is
 
-within_some : (x : InodeParts) (a : Part) → OfSome x a ↔ IsWithin x a
+within_some : (x : InodeParts) (a : InodeUse) → OfSome x a ↔ IsWithin x a
 within_some x a = (
   λ is. elim is [ inl upper ↦ elim upper [ inl fast ↦ within_tier x a Fast fast | inr block ↦ within_tier x a Block block ] | inr slow ↦ within_tier x a Slow slow ],
   λ is. of_some x a (a.0) refl is,

@@ -23,7 +23,7 @@ abbrev pub IsOnce : Sizes → Store → ℕ → Type 0
 IsOnce g s i = (t u : Tier) (k : ℕ) → IsSome (place g s i t k) → IsSome (place g s i u k) → t ≡ u
 
 -- Inode i is a file of this size.
-pub record IsFile (g : Sizes) (s : Store) (i size : ℕ) : Type 0 where
+pub record IsFileOfSize (g : Sizes) (s : Store) (i size : ℕ) : Type 0 where
   pub number : is_inode i ≡ true
   pub kind_is : (inode g s i).kind ≡ Some kind.File
   pub size_is : (inode g s i).size ≡ size

@@ -8,8 +8,8 @@ use Rattle.batch_journal.specs.Blocks.{Blocks}
 use Rattle.area_image.specs.Store.{Store, slot_bytes, slot, root_of, place}
 
 -- Inode i reads this block of a tier: the one of its slot, an extent block, or one that holds a logical block.
-abbrev pub Reads : Sizes → Store → ℕ → Tier → ℕ → Type 0
-Reads g s i t k =
+abbrev pub InodeReads : Sizes → Store → ℕ → Tier → ℕ → Type 0
+InodeReads g s i t k =
     ((is_inode i ≡ true) × (t ≡ tiers.Fast) × (k ≡ slot_block i)) ⊎ ((u : Tier) × (t ≡ tiers.Fast) × (root_of (slot g s i) u ≢ 0) × (k ≡ root_of (slot g s i) u))
     ⊎ ((j : ℕ) × (place g s i t j ≡ Some k))
 
@@ -32,7 +32,7 @@ pub record IsPlaced (g : Sizes) (t : Tier) (blocks k at : ℕ) : Type 0 where
 -- The block is of a pool or for data, and no inode reads it.
 pub record Free (g : Sizes) (s : Store) (t : Tier) (k : ℕ) : Type 0 where
   pub room : IsRoom g t k
-  pub unread : (i : ℕ) → Reads g s i t k → ⊥
+  pub unread : (i : ℕ) → InodeReads g s i t k → ⊥
 
 -- The blocks of a tier are as in that store but for blocks that are free in it.
 abbrev pub LooseIn : Sizes → Store → Tier → Blocks → Type 0

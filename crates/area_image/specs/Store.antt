@@ -18,7 +18,7 @@ use Rattle.layout.specs.Slot.{slot_of}
 use Rattle.layout.specs.Extents.{ExtentList, extents_of}
 use Rattle.layout.specs.Marks.{marks_of}
 use Rattle.extent_nodes.specs.Places.{end_of, place_of}
-use Rattle.tree_blocks.specs.Inode.{Inode, inode_of, graph_of}
+use Rattle.tree_blocks.specs.Inode.{Inode, inode_of, graph_of_inodes}
 use Rattle.batch_journal.specs.Images.{slice}
 use Rattle.batch_journal.specs.Blocks.{Blocks, block_of, home}
 
@@ -123,7 +123,7 @@ inode g s i = inode_of (slot g s i) (logical g s i)
 
 -- the graph that a store spells
 abbrev pub graph : Sizes → Store → Graph
-graph g s = graph_of (inode g s)
+graph g s = graph_of_inodes (inode g s)
 
 -- ---- marks
 

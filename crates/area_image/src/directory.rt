@@ -1,7 +1,7 @@
 // A directory, all its blocks.
 ghost use Rattle.std.specs.Prelude.{◌≡◌, ◌≤◌, false, OnOk, IfErr};
 ghost use Rattle.posix_calls.specs.declared.limits.TheConstants.{MAX_ENTRIES};
-ghost use Rattle.tree_blocks.specs.Inode.{IsDirectory};
+ghost use Rattle.tree_blocks.specs.Inode.{AreDirectoryBlocks};
 ghost use Rattle.area_image.specs.Store.{store_of, logical};
 ghost use Rattle.area_image.specs.Damage.{OnDamage};
 ghost use Rattle.area_image.specs.Checks.{IsEntries, HasFound, HasPart, IsDirectoryDamageOf};
@@ -34,7 +34,7 @@ pub fn check_directory<M: Media>(
     requires found { HasFound journal.old.geometry (store_of (M.seen journal.old.media)) inode found.now }
     requires few { entries ≤ MAX_ENTRIES }
     requires going { journal.old.failed ≡ false }
-    ensures directory { OnOk result (IsDirectory inode entries (logical journal.old.geometry (store_of (M.seen journal.old.media)) inode)) }
+    ensures directory { OnOk result (AreDirectoryBlocks inode entries (logical journal.old.geometry (store_of (M.seen journal.old.media)) inode)) }
     ensures damaged { IfErr result (λ e. OnDamage e (IsDirectoryDamageOf journal.old.geometry (store_of (M.seen journal.old.media)) inode)) }
     ensures memory { IfErr result (λ e. e ≡ Memory → HasPart journal.old.geometry (store_of (M.seen journal.old.media)) inode) }
     ensures looks { Looks M.moment M.seen M.left M.faults journal.old journal.new result }

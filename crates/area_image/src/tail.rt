@@ -8,7 +8,7 @@ ghost use Rattle.tree_blocks.specs.Inode.{IsZeroFrom};
 ghost use Rattle.area_image.specs.Store.{store_of, logical};
 ghost use Rattle.area_image.specs.Reads.{IsRoom};
 ghost use Rattle.area_image.specs.Damage.{OnDamage};
-ghost use Rattle.area_image.specs.Checks.{IsFile, HasFound, IsOnce, IsTailDamageOf};
+ghost use Rattle.area_image.specs.Checks.{IsFileOfSize, HasFound, IsOnce, IsTailDamageOf};
 ghost use Rattle.area_image.specs.Looks.{Looks};
 ghost use Rattle.area_image.specs.declared.error.AreaError.TheVariants.{Damaged, Memory};
 
@@ -69,7 +69,7 @@ pub fn check_file<M: Media>(
     found: &InodeExtents,
     size: u64,
 ) -> Result<(), AreaError>
-    requires file { IsFile journal.old.geometry (store_of (M.seen journal.old.media)) inode size }
+    requires file { IsFileOfSize journal.old.geometry (store_of (M.seen journal.old.media)) inode size }
     requires found { HasFound journal.old.geometry (store_of (M.seen journal.old.media)) inode found.now }
     requires once { IsOnce journal.old.geometry (store_of (M.seen journal.old.media)) inode }
     requires going { journal.old.failed ≡ false }

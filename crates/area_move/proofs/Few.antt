@@ -6,15 +6,15 @@ use Rattle.layout.specs.declared.extents.Extent.{Extent}
 use Rattle.extent_nodes.specs.Places.{place_of}
 use Rattle.block_alloc.specs.declared.runs.Run.{Run}
 use Rattle.block_alloc.specs.Runs.{run_blocks, blocks_of}
-use Rattle.block_map.specs.Map.{places_of, listed, HasBlock}
+use Rattle.block_map.specs.Map.{places_of, place_list, HasBlock}
 
-few_listed : (o : Option ℕ) → length (listed o) ≤ 1
+few_listed : (o : Option ℕ) → length (place_list o) ≤ 1
 few_listed None = omega arith
 few_listed (Some p) = omega arith
 
 few_places : (es : List Extent) (first count : ℕ) → length (places_of es first count) ≤ count
 few_places es first zero = omega arith
-few_places es first (suc n) = omega (arith, length-append (listed (place_of es first)) (places_of es (first + 1) n), few_listed (place_of es first), few_places es (first + 1) n)
+few_places es first (suc n) = omega (arith, length-append (place_list (place_of es first)) (places_of es (first + 1) n), few_listed (place_of es first), few_places es (first + 1) n)
 
 few_runs : (runs : List Run) → AllByRecursion HasBlock runs → length runs ≤ length (blocks_of runs)
 few_runs [] some = omega arith

@@ -9,7 +9,7 @@ use Rattle.extent_nodes.specs.Spelled.{IsOneToOne}
 use Rattle.block_alloc.specs.declared.runs.Run.{Run}
 use Rattle.block_alloc.specs.Runs.{run_blocks, blocks_of}
 use Rattle.block_alloc.specs.Value.{FreeBlocks, IsUsed}
-use Rattle.block_map.specs.Map.{places_of, listed, HasBlock}
+use Rattle.block_map.specs.Map.{places_of, place_list, HasBlock}
 use Rattle.area_move.specs.Given.{AreUsed, IsInUse}
 use Rattle.area_move.proofs.Given.{all_from, cons_cases, nothing, in_range}
 
@@ -48,7 +48,7 @@ lies_there es first (suc n) p at = by (place_of es first) refl (λ there. lies_t
     later : LiesThere es (first + 1) n p → LiesThere es first (suc n) p
     later r = let low = r.low in let high = r.high in record { block = r.block; low = omega (arith, low); high = omega (arith, high); there = r.there }
 
-    by : (o : Option ℕ) → place_of es first ≡ o → (Contains (places_of es (first + 1) n) p → LiesThere es (first + 1) n p) → Contains (listed o ++ places_of es (first + 1) n) p → LiesThere es first (suc n) p
+    by : (o : Option ℕ) → place_of es first ≡ o → (Contains (places_of es (first + 1) n) p → LiesThere es (first + 1) n p) → Contains (place_list o ++ places_of es (first + 1) n) p → LiesThere es first (suc n) p
     by None is rest at = later (rest at)
     by (Some q) is rest at = elim (cons_cases q (places_of es (first + 1) n) p at) [
       | inl here ↦ record { block = first; low = omega arith; high = omega arith; there = is ∙ ap Some here }
@@ -59,7 +59,7 @@ pub places_once : (es : List Extent) (first count : ℕ) → IsOneToOne es → O
 places_once es first zero one = tt
 places_once es first (suc n) one = by (place_of es first) refl (places_once es (first + 1) n one)
   where
-    by : (o : Option ℕ) → place_of es first ≡ o → Once (places_of es (first + 1) n) → Once (listed o ++ places_of es (first + 1) n)
+    by : (o : Option ℕ) → place_of es first ≡ o → Once (places_of es (first + 1) n) → Once (place_list o ++ places_of es (first + 1) n)
     by None is rest = rest
     by (Some q) is rest = (
       λ at. (let r = lies_there es (first + 1) n q at in let low = r.low in let same : first ≡ r.block = one first r.block q is r.there in omega (arith, low, same)),

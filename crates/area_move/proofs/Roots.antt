@@ -4,7 +4,7 @@ use Rattle.std.specs.Prelude.{◌==◌, ◌||◌, not, nat_lt, ◌^◌, IsSome}
 use Rattle.std.proofs.lemmas.Bool.{cases_Bool, and_parts, and_from, cond-true, cond-false, eqb-true, eqb-false, false≢true}
 use Rattle.layout.specs.Extents.{ExtentList}
 use Rattle.layout.specs.Places.{Sizes}
-use Rattle.layout.specs.Slot.{is_root, roots_apart, fits_slot}
+use Rattle.layout.specs.Slot.{is_root_block, roots_apart, fits_slot}
 use Rattle.layout.specs.declared.slot.Slot.TheVariants as slots
 use Rattle.tier_device.specs.declared.media.Tier.TheVariants as tiers
 use Rattle.area_image.specs.declared.tiers.InodeExtents.{InodeExtents}
@@ -25,10 +25,10 @@ root_is old (Some v) spare = elim (cases_Bool (old == 0)) [
 
 -- ---- each root
 
-root_fits : (g : Sizes) (old : ℕ) (o : Option ExtentList) (spare n : ℕ) → Root old o spare n → is_root g old ≡ true → is_root g spare ≡ true → is_root g n ≡ true
-root_fits g old o spare n (none is) was node = subst (λ k. is_root g k ≡ true) (sym is) refl
-root_fits g old o spare n (kept some is) was node = subst (λ k. is_root g k ≡ true) (sym is) was
-root_fits g old o spare n (new zero some is) was node = subst (λ k. is_root g k ≡ true) (sym is) node
+root_fits : (g : Sizes) (old : ℕ) (o : Option ExtentList) (spare n : ℕ) → Root old o spare n → is_root_block g old ≡ true → is_root_block g spare ≡ true → is_root_block g n ≡ true
+root_fits g old o spare n (none is) was node = subst (λ k. is_root_block g k ≡ true) (sym is) refl
+root_fits g old o spare n (kept some is) was node = subst (λ k. is_root_block g k ≡ true) (sym is) was
+root_fits g old o spare n (new zero some is) was node = subst (λ k. is_root_block g k ≡ true) (sym is) node
 
 apart_from : (a b : ℕ) → (a ≢ 0 → a ≢ b) → roots_apart a b ≡ true
 apart_from a b differ = elim (cases_Bool (a == 0)) [
@@ -73,10 +73,10 @@ file_fits g x spare names size touch fast block slow was fits =
     let bs = and_parts _ (roots_apart block slow) t.1 in
     let fs = and_parts _ (roots_apart fast slow) bs.0 in
     let fb = and_parts _ (roots_apart fast block) fs.0 in
-    let s = and_parts _ (is_root g slow) fb.0 in
-    let b = and_parts _ (is_root g block) s.0 in
-    let f = and_parts _ (is_root g fast) b.0 in
-    let here = λ (old : ℕ) (o : Option ExtentList) (is : is_root g old ≡ true). root_fits g old o spare (root_for old o spare) (root_is old o spare) is fits.node in
+    let s = and_parts _ (is_root_block g slow) fb.0 in
+    let b = and_parts _ (is_root_block g block) s.0 in
+    let f = and_parts _ (is_root_block g fast) b.0 in
+    let here = λ (old : ℕ) (o : Option ExtentList) (is : is_root_block g old ≡ true). root_fits g old o spare (root_for old o spare) (root_is old o spare) is fits.node in
     let fast_block = stay_apart fast block x.fast x.block spare (apart_parts fast block fb.1) (fits.fresh tiers.Fast) (fits.fresh tiers.Block) (λ z o y q. fast_not_block (fits.one tiers.Fast tiers.Block (z, o) (y, q))) in
     let fast_slow = stay_apart fast slow x.fast x.slow spare (apart_parts fast slow fs.1) (fits.fresh tiers.Fast) (fits.fresh tiers.Slow) (λ z o y q. fast_not_slow (fits.one tiers.Fast tiers.Slow (z, o) (y, q))) in
     let block_slow = stay_apart block slow x.block x.slow spare (apart_parts block slow bs.1) (fits.fresh tiers.Block) (fits.fresh tiers.Slow) (λ z o y q. block_not_slow (fits.one tiers.Block tiers.Slow (z, o) (y, q))) in

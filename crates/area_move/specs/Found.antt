@@ -11,7 +11,7 @@ use Rattle.tree_blocks.specs.Inode.{inode_of}
 use Rattle.area_image.specs.Store.{Store, slot_read, length_of, space_of}
 use Rattle.area_move.specs.Lists.{LieAsIn}
 use Rattle.area_move.specs.Moving.{CanMove}
-use Rattle.area_move.specs.declared.finding.FileRun.{FileRun}
+use Rattle.area_move.specs.declared.finding.MovableRun.{MovableRun}
 
 -- The slot is that of a file, and the run has a block or more, all among those that it takes.
 pub record IsWithinFile (slot : Slot) (first count : ℕ) : Type 0 where
@@ -26,7 +26,7 @@ pub record HasFileRun (g : Sizes) (s : Store) (i first count : ℕ) : Type 0 whe
   pub within : IsWithinFile file first count
 
 -- The run may be moved; these are the slot, and where the blocks lie: once, each in a place of its own, where a file's may.
-pub record IsFileRun (g : Sizes) (s : Store) (i first count : ℕ) (to : Tier) (x : FileRun) : Type 0 where
+pub record IsMovableRun (g : Sizes) (s : Store) (i first count : ℕ) (to : Tier) (x : MovableRun) : Type 0 where
   pub can : CanMove g s i first count to
   pub number : is_inode i ≡ true
   pub slot_is : slot_read g s i ≡ Some x.slot

@@ -6,7 +6,7 @@ use Rattle.layout.specs.declared.places.TheConstants.{BLOCK}
 use Rattle.layout.specs.declared.slot.Slot.{Slot}
 use Rattle.layout.specs.Extents.{ExtentList}
 use Rattle.layout.specs.Places.{Sizes}
-use Rattle.layout.specs.Slot.{is_root}
+use Rattle.layout.specs.Slot.{is_root_block}
 use Rattle.batch_journal.specs.Images.{slice}
 use Rattle.block_map.specs.Map.{TierRuns, runs_in, lies_at}
 use Rattle.tree_blocks.specs.Inode.{Blocks}
@@ -58,7 +58,7 @@ LacksRoot slot x t = (root_of slot t ≡ 0) × IsSome (in_tier x t)
 
 -- The spare block is none or one of the node pool that the slot does not name, and one tier at most lacks one.
 pub record SpareFits (g : Sizes) (slot : Slot) (x : InodeExtents) (spare : ℕ) : Type 0 where
-  pub node : is_root g spare ≡ true
+  pub node : is_root_block g spare ≡ true
   pub fresh : (t : Tier) → root_of slot t ≢ 0 → root_of slot t ≢ spare
   pub one : (t u : Tier) → LacksRoot slot x t → LacksRoot slot x u → t ≡ u
 

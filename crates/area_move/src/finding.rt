@@ -14,7 +14,7 @@ ghost use Rattle.area_image.specs.Looks.{Looks};
 ghost use Rattle.area_image.specs.Map.{HasNoExtents};
 ghost use Rattle.area_move.specs.Lists.{LieAsIn};
 ghost use Rattle.area_move.specs.Moving.{CanMove};
-ghost use Rattle.area_move.specs.Found.{IsWithinFile, IsFileRun, HasFileRun};
+ghost use Rattle.area_move.specs.Found.{IsWithinFile, IsMovableRun, HasFileRun};
 
 use crate::mapping::map_of;
 use crate::testing::lie_above;
@@ -29,7 +29,7 @@ use tier_device::{Media, Tier};
 
 /// A file of which a run is to be moved: its slot, where its blocks lie, and the run.
 #[derive(Drop)]
-pub struct FileRun {
+pub struct MovableRun {
     pub slot: Slot,
     pub map: BlockMap,
     pub run: Run,
@@ -91,13 +91,13 @@ fn find_in<M: Media>(
     slot: Slot,
     run: Run,
     to: Tier,
-) -> Result<Option<FileRun>, AreaError>
+) -> Result<Option<MovableRun>, AreaError>
     requires number { is_inode inode ≡ true }
     requires fits { fits_slot journal.old.geometry slot ≡ true }
     requires slot_is { slot_read journal.old.geometry (store_of (M.seen journal.old.media)) inode ≡ Some slot }
     requires within { IsWithinFile slot run.first run.count }
     requires opens { IsOpenable journal.old.geometry (store_of (M.seen journal.old.media)) }
-    ensures found { IfOk result (λ x. IfSome x (IsFileRun journal.old.geometry (store_of (M.seen journal.old.media)) inode run.first run.count to)) }
+    ensures found { IfOk result (λ x. IfSome x (IsMovableRun journal.old.geometry (store_of (M.seen journal.old.media)) inode run.first run.count to)) }
     ensures none { IfOk result (λ x. x ≡ None → CanMove journal.old.geometry (store_of (M.seen journal.old.media)) inode run.first run.count to → ⊥) }
     ensures only { IfErr result (λ e. OnDamage e (λ _ _. ⊥)) }
     ensures looks { Looks M.moment M.seen M.left M.faults journal.old journal.new result }
@@ -105,7 +105,7 @@ fn find_in<M: Media>(
     match read_map(alloc, journal, inode, &slot) {
         Ok(map) => {
             if lie_above(&map, run, to) {
-                Ok(Some(FileRun { slot, map, run }))
+                Ok(Some(MovableRun { slot, map, run }))
             } else {
                 Ok(None)
             }
@@ -123,9 +123,9 @@ pub fn find_run<M: Media>(
     first: u64,
     count: u32,
     to: Tier,
-) -> Result<Option<FileRun>, AreaError>
+) -> Result<Option<MovableRun>, AreaError>
     requires { journal.old.failed ≡ false → IsOpenable journal.old.geometry (store_of (M.seen journal.old.media)) }
-    ensures found { IfOk result (λ x. IfSome x (IsFileRun journal.old.geometry (store_of (M.seen journal.old.media)) inode first count to)) }
+    ensures found { IfOk result (λ x. IfSome x (IsMovableRun journal.old.geometry (store_of (M.seen journal.old.media)) inode first count to)) }
     ensures none { IfOk result (λ x. x ≡ None → CanMove journal.old.geometry (store_of (M.seen journal.old.media)) inode first count to → ⊥) }
     ensures only { IfErr result (λ e. OnDamage e (λ _ _. ⊥)) }
     ensures memory { IfErr result (λ e. e ≡ Memory → HasFileRun journal.old.geometry (store_of (M.seen journal.old.media)) inode first count) }

@@ -11,7 +11,7 @@ use Rattle.layout.specs.declared.geometry.Space.TheVariants as space
 use Rattle.layout.specs.declared.slot.Slot.{Slot}
 use Rattle.layout.specs.Extents.{ExtentList}
 use Rattle.layout.specs.Places.{Sizes, is_node, node_end, data_first, tier_blocks, is_run}
-use Rattle.layout.specs.Slot.{fits_slot, is_root}
+use Rattle.layout.specs.Slot.{fits_slot, is_root_block}
 use Rattle.block_alloc.specs.Runs.{Rising, blocks_of}
 use Rattle.block_alloc.proofs.Blocks.{normal-rising}
 use Rattle.extent_nodes.specs.Spelled.{LiesWithin}
@@ -22,7 +22,7 @@ use Rattle.area_image.specs.Map.{in_tier}
 use Rattle.area_image.proofs.Parts.{slot_as}
 use Rattle.area_image.proofs.Shown.{slot_limits}
 use Rattle.free_pools.specs.Taking.{runs_of}
-use Rattle.area_move.specs.declared.finding.FileRun.{FileRun}
+use Rattle.area_move.specs.declared.finding.MovableRun.{MovableRun}
 use Rattle.area_move.specs.Lists.{SpareFits, LacksRoot}
 use Rattle.area_move.proofs.Given.{cons_cases, cons_here, nothing}
 use Rattle.area_move.proofs.Fits.{tier_is, placed_once, placed_below, placed_apart, placed_within, placed_elsewhere, elsewhere_within}
@@ -57,7 +57,7 @@ data_within g t k is = let p = and_parts (nat_le (data_first g t) k) (nat_le (k 
 
 -- ---- a move
 
-module _ (g : Sizes) (s : Store) (i : ℕ) (to : Tier) (f : FileRun) (x : Slot) (m : TierRuns) (plan : Rewrite) (p : IsMovePlan g s i to f x m plan) where
+module _ (g : Sizes) (s : Store) (i : ℕ) (to : Tier) (f : MovableRun) (x : Slot) (m : TierRuns) (plan : Rewrite) (p : IsMovePlan g s i to f x m plan) where
   pub slot_here : slot g s i ≡ f.slot
   slot_here = slot_as g s i f.slot p.file.slot_is
 
@@ -73,8 +73,8 @@ module _ (g : Sizes) (s : Store) (i : ℕ) (to : Tier) (f : FileRun) (x : Slot) 
   pub spare_free : (b : ℕ) → Contains (blocks_of plan.taken.nodes.items) b → Free g s tiers.Fast b
   spare_free b at = (p.took.free.nodes b at).0
 
-  spare_node : IsSpareFor (root_of f.slot to) plan.taken.nodes.items → is_root g (first_block plan.taken.nodes.items) ≡ true
-  spare_node (inl (some, none)) = subst (λ rs. is_root g (first_block rs) ≡ true) (sym none) refl
+  spare_node : IsSpareFor (root_of f.slot to) plan.taken.nodes.items → is_root_block g (first_block plan.taken.nodes.items) ≡ true
+  spare_node (inl (some, none)) = subst (λ rs. is_root_block g (first_block rs) ≡ true) (sym none) refl
   spare_node (inr (zero, is)) =
       let b = first_block plan.taken.nodes.items in
       let at : Contains (blocks_of plan.taken.nodes.items) (first_block plan.taken.nodes.items) = subst (λ bs. Contains bs b) (sym is) (cons_here b [] b refl) in

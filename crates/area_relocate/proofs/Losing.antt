@@ -14,11 +14,11 @@ use Rattle.layout.specs.Slot.{fits_slot}
 use Rattle.block_alloc.specs.declared.runs.Run.{Run}
 use Rattle.block_alloc.specs.Runs.{run_blocks, blocks_of}
 use Rattle.extent_nodes.specs.Places.{place_of}
-use Rattle.block_map.specs.Map.{TierRuns, runs_in, lies_at, places_of, listed, HasBlock}
+use Rattle.block_map.specs.Map.{TierRuns, runs_in, lies_at, places_of, place_list, HasBlock}
 use Rattle.area_image.specs.Store.{Store, slot, root_of, place}
 use Rattle.area_image.specs.Spelled.{used}
 use Rattle.free_pools.specs.Taking.{runs_of}
-use Rattle.area_move.specs.declared.finding.FileRun.{FileRun}
+use Rattle.area_move.specs.declared.finding.MovableRun.{MovableRun}
 use Rattle.area_move.specs.Lists.{root_left, roots_left}
 use Rattle.area_move.specs.Placed.{is_faster}
 use Rattle.area_move.proofs.Given.{all_from, cons_here, nothing}
@@ -127,10 +127,10 @@ left_once g old new fits =
 pub place_there : (es : List Extent) (first count b k : ℕ) → first ≤ b → b < first + count → place_of es b ≡ Some k → Contains (places_of es first count) k
 place_there es first zero b k low high at = absurd (omega (arith, low, high))
 place_there es first (suc n) b k low high at = elim (cases_lt first b) [
-  | inl later ↦ Contains-append_right (listed (place_of es first)) (places_of es (first + 1) n) k (place_there es (first + 1) n b k (omega (arith, later)) (omega (arith, high)) at)
+  | inl later ↦ Contains-append_right (place_list (place_of es first)) (places_of es (first + 1) n) k (place_there es (first + 1) n b k (omega (arith, later)) (omega (arith, high)) at)
   | inr here ↦
       let same : b ≡ first = omega (arith, low, here) in
-      Contains-append_left (listed (place_of es first)) (places_of es (first + 1) n) k (subst (λ o. Contains (listed o) k) (sym (ap (place_of es) (sym same) ∙ at)) (cons_here k [] k refl))
+      Contains-append_left (place_list (place_of es first)) (places_of es (first + 1) n) k (subst (λ o. Contains (place_list o) k) (sym (ap (place_of es) (sym same) ∙ at)) (cons_here k [] k refl))
 ]
 
 faster_self : (t : Tier) → is_faster t t ≡ false
@@ -140,7 +140,7 @@ faster_self tiers.Slow = refl
 
 -- ---- a move
 
-module _ (g : Sizes) (s : Store) (i : ℕ) (to : Tier) (f : FileRun) (x : Slot) (m : TierRuns) (plan : Rewrite) (p : IsMovePlan g s i to f x m plan) where
+module _ (g : Sizes) (s : Store) (i : ℕ) (to : Tier) (f : MovableRun) (x : Slot) (m : TierRuns) (plan : Rewrite) (p : IsMovePlan g s i to f x m plan) where
   -- no block of the run lies where it lay
   lies_elsewhere : (t : Tier) (b k : ℕ) → f.run.first ≤ b → b < f.run.first + f.run.count → lies_at f.map t b ≡ Some k → lies_at m t b ≡ Some k → ⊥
   lies_elsewhere t b k low high was is = elim (tier_is t to) [

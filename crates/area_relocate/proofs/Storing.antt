@@ -23,7 +23,7 @@ use Rattle.area_image.specs.Spelled.{Use, used}
 use Rattle.area_image.specs.Map.{in_tier}
 use Rattle.area_image.proofs.Lists.{place_placed}
 use Rattle.area_rewrite.specs.Written.{logical_by}
-use Rattle.area_rewrite.specs.Moved.{with_roots, StaysBlock, IsMoved as IsWrittenMoved}
+use Rattle.area_rewrite.specs.Moved.{with_roots, StaysBlock, StaysInode as IsWrittenMoved}
 use Rattle.area_rewrite.proofs.Places.{by_there, by_same}
 use Rattle.area_batch.specs.declared.slots.ChangedSlot.{ChangedSlot}
 use Rattle.area_batch.specs.Slots.{RiseIn}
@@ -32,7 +32,7 @@ use Rattle.free_pools.specs.Value.{on_tier}
 use Rattle.free_pools.specs.Taking.{taken_data, runs_of}
 use Rattle.free_pools.specs.Writing.{block_at}
 use Rattle.free_pools.proofs.Members.{cons_cases, nothing}
-use Rattle.area_move.specs.declared.finding.FileRun.{FileRun}
+use Rattle.area_move.specs.declared.finding.MovableRun.{MovableRun}
 use Rattle.area_move.specs.Lists.{IsListOf}
 use Rattle.area_move.specs.Moving.{IsMoved}
 use Rattle.area_move.proofs.Fits.{run_cases, there, gone, stays}
@@ -102,7 +102,7 @@ run_outside first count k out = elim (run_cases first count k) [
 
 -- ---- a move
 
-module _ (g : Sizes) (s : Store) (i : ℕ) (to : Tier) (f : FileRun) (x : Slot) (m : TierRuns) (plan : Rewrite) (p : IsMovePlan g s i to f x m plan) where
+module _ (g : Sizes) (s : Store) (i : ℕ) (to : Tier) (f : MovableRun) (x : Slot) (m : TierRuns) (plan : Rewrite) (p : IsMovePlan g s i to f x m plan) where
   data_long : length (taken_data plan.taken) ≡ f.run.count
   data_long = ap length (data_in to plan.taken p.took.others) ∙ length-map (blocks_of (runs_of plan.taken to)) (λ k. (to, k)) ∙ p.took.many
 

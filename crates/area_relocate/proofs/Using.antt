@@ -11,7 +11,7 @@ use Rattle.layout.specs.declared.slot.Slot.{Slot}
 use Rattle.layout.specs.declared.slot.Slot.TheVariants as slots
 use Rattle.layout.specs.Extents.{ExtentList, extents_spelling}
 use Rattle.layout.specs.Places.{Sizes, is_node, node_end}
-use Rattle.layout.specs.Slot.{fits_slot, is_root, roots_apart}
+use Rattle.layout.specs.Slot.{fits_slot, is_root_block, roots_apart}
 use Rattle.block_alloc.specs.declared.runs.Run.{Run}
 use Rattle.block_alloc.specs.Runs.{blocks_of}
 use Rattle.batch_journal.specs.Images.{image_for, or_else, with_images}
@@ -20,15 +20,15 @@ use Rattle.area_image.specs.Store.{Store, slot, root_of, place}
 use Rattle.area_image.specs.Spelled.{Use, used}
 use Rattle.area_image.specs.Map.{in_tier}
 use Rattle.free_pools.specs.Taking.{runs_of}
-use Rattle.area_move.specs.declared.finding.FileRun.{FileRun}
+use Rattle.area_move.specs.declared.finding.MovableRun.{MovableRun}
 use Rattle.area_move.specs.Lists.{IsListOf, root_for}
 use Rattle.area_move.proofs.Given.{cons_here, nothing}
 use Rattle.area_move.proofs.Fits.{tier_is, run_cases, there, gone, stays}
 use Rattle.area_move.proofs.Roots.{apart_parts}
 use Rattle.area_rewrite.specs.Written.{IsListed, list_of, block_by}
-use Rattle.area_rewrite.specs.Many.{Takes}
+use Rattle.area_rewrite.specs.Many.{HasBlockFor}
 use Rattle.area_batch.specs.declared.slots.ChangedSlot.{ChangedSlot}
-use Rattle.area_room.specs.Changing.{IsTaken}
+use Rattle.area_room.specs.Changing.{BlockIsTaken}
 use Rattle.area_commit.specs.declared.plan.Rewrite.{Rewrite}
 use Rattle.area_commit.specs.Plan.{is_changed}
 use Rattle.area_relocate.specs.Made.{first_block, IsSpareFor, IsMovePlan}
@@ -101,15 +101,15 @@ roots_differ g (slots.Directory names entries touch root) fits tiers.Fast tiers.
 roots_differ g (slots.Directory names entries touch root) fits tiers.Block u some same = absurd (some refl)
 roots_differ g (slots.Directory names entries touch root) fits tiers.Slow u some same = absurd (some refl)
 roots_differ g (slots.File names size touch fast block slow) fits t u some same =
-    let inner = and_parts (nat_lt touch (2 ^ 64)) (nat_le names 1000 && nat_le size 1048576 && is_root g fast && is_root g block && is_root g slow && roots_apart fast block && roots_apart fast slow && roots_apart block slow) fits in
-    let bs = and_parts (nat_le names 1000 && nat_le size 1048576 && is_root g fast && is_root g block && is_root g slow && roots_apart fast block && roots_apart fast slow) (roots_apart block slow) inner.1 in
-    let fs = and_parts (nat_le names 1000 && nat_le size 1048576 && is_root g fast && is_root g block && is_root g slow && roots_apart fast block) (roots_apart fast slow) bs.0 in
-    let fb = and_parts (nat_le names 1000 && nat_le size 1048576 && is_root g fast && is_root g block && is_root g slow) (roots_apart fast block) fs.0 in
+    let inner = and_parts (nat_lt touch (2 ^ 64)) (nat_le names 1000 && nat_le size 1048576 && is_root_block g fast && is_root_block g block && is_root_block g slow && roots_apart fast block && roots_apart fast slow && roots_apart block slow) fits in
+    let bs = and_parts (nat_le names 1000 && nat_le size 1048576 && is_root_block g fast && is_root_block g block && is_root_block g slow && roots_apart fast block && roots_apart fast slow) (roots_apart block slow) inner.1 in
+    let fs = and_parts (nat_le names 1000 && nat_le size 1048576 && is_root_block g fast && is_root_block g block && is_root_block g slow && roots_apart fast block) (roots_apart fast slow) bs.0 in
+    let fb = and_parts (nat_le names 1000 && nat_le size 1048576 && is_root_block g fast && is_root_block g block && is_root_block g slow) (roots_apart fast block) fs.0 in
     file_differ names size touch fast block slow fb.1 fs.1 bs.1 t u some same
 
 -- ---- a move
 
-module _ (g : Sizes) (s : Store) (i : ℕ) (to : Tier) (f : FileRun) (x : Slot) (m : TierRuns) (plan : Rewrite) (p : IsMovePlan g s i to f x m plan) where
+module _ (g : Sizes) (s : Store) (i : ℕ) (to : Tier) (f : MovableRun) (x : Slot) (m : TierRuns) (plan : Rewrite) (p : IsMovePlan g s i to f x m plan) where
   pub changed_is : (j : ℕ) → is_changed plan.slots.items j ≡ true → i ≡ j
   changed_is j is = elim (cases_Bool (i == j)) [
     | inl same ↦ eqb-true i j same
@@ -205,20 +205,20 @@ module _ (g : Sizes) (s : Store) (i : ℕ) (to : Tier) (f : FileRun) (x : Slot) 
 
   -- ---- uses
 
-  use_root : (t : Tier) (b : Tier × ℕ) → Root t → (tiers.Fast, root_of x t) ≡ b → (used g s (record { inode = i; tier = t; logical = None }) ≡ Some b) ⊎ IsTaken plan.taken b.0 b.1
+  use_root : (t : Tier) (b : Tier × ℕ) → Root t → (tiers.Fast, root_of x t) ≡ b → (used g s (record { inode = i; tier = t; logical = None }) ≡ Some b) ⊎ BlockIsTaken plan.taken b.0 b.1
   use_root t b (is_kept some is) at = inl (
       ap (λ (y : Slot). root_use (root_of y t)) (slot_here g s i to f x m plan p) ∙ block_root (root_of f.slot t) some
       ∙ ap (λ n. Some (tiers.Fast, n)) (sym is) ∙ ap Some at
       )
-  use_root t b (is_new here none is there) at = inr (subst (λ (c : Tier × ℕ). IsTaken plan.taken c.0 c.1) at (inl (refl, subst (Contains (blocks_of plan.taken.nodes.items)) (sym is) there)))
+  use_root t b (is_new here none is there) at = inr (subst (λ (c : Tier × ℕ). BlockIsTaken plan.taken c.0 c.1) at (inl (refl, subst (Contains (blocks_of plan.taken.nodes.items)) (sym is) there)))
 
-  pub uses : (t : Tier) (k : Option ℕ) (b : Tier × ℕ) → block_by x m t k ≡ Some b → (used g s (record { inode = i; tier = t; logical = k }) ≡ Some b) ⊎ IsTaken plan.taken b.0 b.1
+  pub uses : (t : Tier) (k : Option ℕ) (b : Tier × ℕ) → block_by x m t k ≡ Some b → (used g s (record { inode = i; tier = t; logical = k }) ≡ Some b) ⊎ BlockIsTaken plan.taken b.0 b.1
   uses t None b at = let r = root_block (root_of x t) b at in use_root t b (root_cases t (root_some t r.0)) r.1
   uses t (Some k) b at =
       let r = place_block t (lies_at m t k) b at in
       elim (lay t k r.0 r.1) [
         | inl was ↦ inl (block_place t (place g s i t k) r.0 (sym (p.file.places t k) ∙ was) ∙ ap Some r.2)
-        | inr taken ↦ inr (subst (λ (c : Tier × ℕ). IsTaken plan.taken c.0 c.1) r.2 (inr taken))
+        | inr taken ↦ inr (subst (λ (c : Tier × ℕ). BlockIsTaken plan.taken c.0 c.1) r.2 (inr taken))
       ]
 
   -- no block of the pools has two uses
@@ -248,12 +248,12 @@ module _ (g : Sizes) (s : Store) (i : ℕ) (to : Tier) (f : FileRun) (x : Slot) 
       let block : a.0 ≡ c.0 = ap (λ (d : Tier × ℕ). d.1) same in
       (tier, ap Some ((is_fit g s i to f x m plan p).apart t j k a.0 a.1 (subst (λ (w : Tier). lies_at m w k ≡ Some a.0) (sym tier) (c.1 ∙ ap Some (sym block)))))
 
-  pub once : (u v : Use) (b : Tier × ℕ) → Takes (is_changed plan.slots.items) (λ _. x) (λ _. m) u b → Takes (is_changed plan.slots.items) (λ _. x) (λ _. m) v b → u ≡ v
+  pub once : (u v : Use) (b : Tier × ℕ) → HasBlockFor (is_changed plan.slots.items) (λ _. x) (λ _. m) u b → HasBlockFor (is_changed plan.slots.items) (λ _. x) (λ _. m) v b → u ≡ v
   once u v b one two =
       let r = once_by u.tier v.tier u.logical v.logical b one.1 two.1 in
       ap (λ n. use_at n u.tier u.logical) (sym (changed_is u.inode one.0) ∙ changed_is v.inode two.0) ∙ use_same v.inode u.tier v.tier u.logical v.logical r.0 r.1
 
-  takes_root : (t : Tier) → root_of x t ≢ 0 → (u : Use) × Takes (is_changed plan.slots.items) (λ _. x) (λ _. m) u (tiers.Fast, root_of x t)
+  takes_root : (t : Tier) → root_of x t ≢ 0 → (u : Use) × HasBlockFor (is_changed plan.slots.items) (λ _. x) (λ _. m) u (tiers.Fast, root_of x t)
   takes_root t some = (record { inode = i; tier = t; logical = None }, (changed_here, block_root (root_of x t) some))
 
   new_root : Root to → root_of f.slot to ≡ 0 → root_of x to ≡ first_block plan.taken.nodes.items
@@ -268,17 +268,17 @@ module _ (g : Sizes) (s : Store) (i : ℕ) (to : Tier) (f : FileRun) (x : Slot) 
       by (inl (some, none)) = absurd (nothing k (subst (λ rs. Contains (blocks_of rs) k) none at))
       by (inr (zero, is)) = new_root (root_cases to to_list) zero ∙ sym (one_block k (first_block plan.taken.nodes.items) (subst (λ bs. Contains bs k) is at))
 
-  pub all : (t : Tier) (k : ℕ) → IsTaken plan.taken t k → (u : Use) × Takes (is_changed plan.slots.items) (λ _. x) (λ _. m) u (t, k)
-  all t k (inl (fast, at)) = subst (λ (c : Tier × ℕ). (u : Use) × Takes (is_changed plan.slots.items) (λ _. x) (λ _. m) u c) (pair fast (spare_is k at)) (takes_root to (some_root to to_list))
+  pub all : (t : Tier) (k : ℕ) → BlockIsTaken plan.taken t k → (u : Use) × HasBlockFor (is_changed plan.slots.items) (λ _. x) (λ _. m) u (t, k)
+  all t k (inl (fast, at)) = subst (λ (c : Tier × ℕ). (u : Use) × HasBlockFor (is_changed plan.slots.items) (λ _. x) (λ _. m) u c) (pair fast (spare_is k at)) (takes_root to (some_root to to_list))
     where
       pair : t ≡ tiers.Fast → root_of x to ≡ k → block_in tiers.Fast (root_of x to) ≡ block_in t k
       pair fast same = ap (λ (a : Tier). block_in a (root_of x to)) (sym fast) ∙ ap (block_in t) same
   all t k (inr at) = elim (tier_is t to) [
-    | inl same ↦ subst (λ (w : Tier). (u : Use) × Takes (is_changed plan.slots.items) (λ _. x) (λ _. m) u (w, k)) (sym same) (here (subst (λ (w : Tier). Contains (blocks_of (runs_of plan.taken w)) k) same at))
+    | inl same ↦ subst (λ (w : Tier). (u : Use) × HasBlockFor (is_changed plan.slots.items) (λ _. x) (λ _. m) u (w, k)) (sym same) (here (subst (λ (w : Tier). Contains (blocks_of (runs_of plan.taken w)) k) same at))
     | inr other ↦ absurd (nothing k (subst (λ bs. Contains bs k) (p.took.others t other) at))
   ]
     where
-      here : Contains (blocks_of (runs_of plan.taken to)) k → (u : Use) × Takes (is_changed plan.slots.items) (λ _. x) (λ _. m) u (to, k)
+      here : Contains (blocks_of (runs_of plan.taken to)) k → (u : Use) × HasBlockFor (is_changed plan.slots.items) (λ _. x) (λ _. m) u (to, k)
       here at =
           let r = contains_at (blocks_of (runs_of plan.taken to)) k at in
           let many = p.took.many in
@@ -290,10 +290,10 @@ module _ (g : Sizes) (s : Store) (i : ℕ) (to : Tier) (f : FileRun) (x : Slot) 
       let v = some_value (in_tier p.made.lists to) to_list in
       subst (λ n. IsSome (image_for n plan.nodes)) (spare_is k at) (subst IsSome (sym (image_at to v.0 v.1)) refl)
 
-  pub images : (k : ℕ) → IsSome (image_for k plan.nodes) → (u : Use) × Takes (is_changed plan.slots.items) (λ _. x) (λ _. m) u (tiers.Fast, k)
+  pub images : (k : ℕ) → IsSome (image_for k plan.nodes) → (u : Use) × HasBlockFor (is_changed plan.slots.items) (λ _. x) (λ _. m) u (tiers.Fast, k)
   images k some =
       let r = p.made.images.only k some in
-      subst (λ n. (u : Use) × Takes (is_changed plan.slots.items) (λ _. x) (λ _. m) u (tiers.Fast, n)) r.2 (takes_root r.0 (some_root r.0 r.1))
+      subst (λ n. (u : Use) × HasBlockFor (is_changed plan.slots.items) (λ _. x) (λ _. m) u (tiers.Fast, n)) r.2 (takes_root r.0 (some_root r.0 r.1))
 
   pub image_node : (k : ℕ) → IsSome (image_for k plan.nodes) → is_node g k ≡ true
   image_node k some =

@@ -20,8 +20,8 @@ use Rattle.area_batch.specs.Batches.{PutsImage}
 use Rattle.area_batch.specs.declared.slots.ChangedSlot.{ChangedSlot}
 use Rattle.free_pools.specs.declared.taking.Taken.{Taken}
 use Rattle.free_pools.specs.Taking.{runs_of}
-use Rattle.area_move.specs.declared.finding.FileRun.{FileRun}
-use Rattle.area_move.specs.Found.{IsFileRun}
+use Rattle.area_move.specs.declared.finding.MovableRun.{MovableRun}
+use Rattle.area_move.specs.Found.{IsMovableRun}
 use Rattle.area_move.specs.Lists.{AreListsOf, HasRoots, SpareFits, HoldsRun, roots_left}
 use Rattle.area_move.specs.Placed.{ArePlaced}
 use Rattle.area_commit.specs.declared.plan.Rewrite.{Rewrite}
@@ -39,7 +39,7 @@ abbrev pub IsSpareFor : ℕ → List Run → Type 0
 IsSpareFor root nodes = ((root ≢ 0) × (nodes ≡ [])) ⊎ ((root ≡ 0) × (blocks_of nodes ≡ first_block nodes ∷ []))
 
 -- Free blocks were taken: as many of the tier as the run has, none of another tier, and one to list extents where none does.
-pub record IsTakenFor (g : Sizes) (s : Store) (f : FileRun) (to : Tier) (taken : Taken) : Type 0 where
+pub record IsTakenFor (g : Sizes) (s : Store) (f : MovableRun) (to : Tier) (taken : Taken) : Type 0 where
   pub free : WereFree g s taken
   pub many : length (blocks_of (runs_of taken to)) ≡ f.run.count
   pub others : (t : Tier) → t ≢ to → blocks_of (runs_of taken t) ≡ []
@@ -59,7 +59,7 @@ pub record HasImages (x : Slot) (lists : InodeExtents) (images : List (ℕ × Li
   pub few : length images ≤ 3
 
 -- The file has this slot and these runs, once its run lies in the blocks that were taken; its slot, the images of its extents, and the blocks that list none any more are made.
-pub record IsMade (i : ℕ) (f : FileRun) (to : Tier) (taken : Taken) (slots : List ChangedSlot) (nodes : List (ℕ × List ℕ)) (left : List Run) (x : Slot) (m : TierRuns) : Type 0 where
+pub record IsMade (i : ℕ) (f : MovableRun) (to : Tier) (taken : Taken) (slots : List ChangedSlot) (nodes : List (ℕ × List ℕ)) (left : List Run) (x : Slot) (m : TierRuns) : Type 0 where
   pub lists : InodeExtents
   pub placed : ArePlaced f.run.first to (blocks_of (runs_of taken to)) f.map m
   pub normal : (t : Tier) → IsNormal (runs_in m t)
@@ -76,8 +76,8 @@ pub record IsMade (i : ℕ) (f : FileRun) (to : Tier) (taken : Taken) (slots : L
 -- ---- the whole
 
 -- A run of file i that may be moved is to go to a tier: into the blocks that were taken, with its bytes, and what it leaves is given up.
-pub record IsMovePlan (g : Sizes) (s : Store) (i : ℕ) (to : Tier) (f : FileRun) (x : Slot) (m : TierRuns) (plan : Rewrite) : Type 0 where
-  pub file : IsFileRun g s i f.run.first f.run.count to f
+pub record IsMovePlan (g : Sizes) (s : Store) (i : ℕ) (to : Tier) (f : MovableRun) (x : Slot) (m : TierRuns) (plan : Rewrite) : Type 0 where
+  pub file : IsMovableRun g s i f.run.first f.run.count to f
   pub took : IsTakenFor g s f to plan.taken
   pub made : IsMade i f to plan.taken plan.slots.items plan.nodes plan.lost.nodes.items x m
   pub places : (t : Tier) → blocks_of (lost_in plan.lost t) ≡ places_of (runs_in f.map t) f.run.first f.run.count

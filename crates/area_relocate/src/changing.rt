@@ -11,7 +11,7 @@ ghost use Rattle.area_relocate.specs.Made.{first_block, IsMade};
 
 use crate::images::images_of;
 use area_batch::{ChangedSlot, NodeImages};
-use area_move::{FileRun, extents_of, put_runs, roots_left, slot_for};
+use area_move::{MovableRun, extents_of, put_runs, roots_left, slot_for};
 use block_alloc::Run;
 use block_map::few_blocks_are_few_runs;
 use free_pools::Taken;
@@ -51,7 +51,7 @@ fn spare_of(taken: &Taken) -> u32
 pub fn changed(
     alloc: Global,
     inode: u32,
-    file: &mut FileRun,
+    file: &mut MovableRun,
     to: Tier,
     taken: &Taken,
 ) -> Result<NewInode, AllocError>

@@ -7,7 +7,7 @@ ghost use Rattle.layout.specs.Places.{Sizes, IsAllowed};
 ghost use Rattle.block_map.specs.Map.{TierRuns};
 ghost use Rattle.area_image.specs.Store.{Store};
 ghost use Rattle.area_image.specs.Spelled.{IsOpenable};
-ghost use Rattle.area_move.specs.declared.finding.FileRun.{FileRun};
+ghost use Rattle.area_move.specs.declared.finding.MovableRun.{MovableRun};
 ghost use Rattle.area_commit.specs.declared.plan.Rewrite.{Rewrite};
 ghost use Rattle.area_commit.specs.Plan.{IsPlanned};
 ghost use Rattle.area_commit.specs.Done.{IsCarriedOut};
@@ -20,12 +20,12 @@ use area_rewrite::{moved_store_spells_the_same_graph, written_inode_is_read};
 
 /// What is made of a run that may be moved, of the blocks that were taken for it and of its bytes, is a plan that can be carried out.
 pub fn move_is_planned()
-    ensures { (g : Sizes) (s : Store) (i : ℕ) (to : Tier) (f : FileRun) (x : Slot) (m : TierRuns) (plan : Rewrite) → IsMovePlan g s i to f x m plan → IsPlanned g s (λ _. x) (λ _. m) plan }
+    ensures { (g : Sizes) (s : Store) (i : ℕ) (to : Tier) (f : MovableRun) (x : Slot) (m : TierRuns) (plan : Rewrite) → IsMovePlan g s i to f x m plan → IsPlanned g s (λ _. x) (λ _. m) plan }
 {}
 
 /// Where such a plan is carried out, the run lies in the tier, and the store spells the same graph and marks.
 pub fn carried_out_move_moves()
-    ensures { (g : Sizes) (s : Store) (i : ℕ) (to : Tier) (f : FileRun) (x : Slot) (m : TierRuns) (plan : Rewrite) (new : Store) → IsAllowed g → IsOpenable g s → IsMovePlan g s i to f x m plan → IsCarriedOut g s plan new → IsMovedStore g s i f.run.first f.run.count to new }
+    ensures { (g : Sizes) (s : Store) (i : ℕ) (to : Tier) (f : MovableRun) (x : Slot) (m : TierRuns) (plan : Rewrite) (new : Store) → IsAllowed g → IsOpenable g s → IsMovePlan g s i to f x m plan → IsCarriedOut g s plan new → IsMovedStore g s i f.run.first f.run.count to new }
 {
     carried_out_inodes_are_written_anew();
     carried_out_marks();

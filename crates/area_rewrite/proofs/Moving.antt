@@ -11,7 +11,7 @@ use Rattle.block_map.specs.Map.{TierRuns, LieBelow}
 use Rattle.area_image.specs.Store.{Store, slot, root_of, length_of, place, logical, inode}
 use Rattle.area_image.specs.Reads.{IsPlaced}
 use Rattle.area_rewrite.specs.Written.{logical_by}
-use Rattle.area_rewrite.specs.Moved.{with_roots, StaysBlock, IsMoved}
+use Rattle.area_rewrite.specs.Moved.{with_roots, StaysBlock, StaysInode}
 use Rattle.area_rewrite.proofs.Places.{by_nowhere, read_nowhere, none_past}
 
 -- blocks read the same below the length, and there are none from there on
@@ -37,7 +37,7 @@ length_kept slots.Free roots = refl
 length_kept (slots.File names size touch fast block slow) roots = refl
 length_kept (slots.Directory names entries touch root) roots = refl
 
-pub moved_alike : (g : Sizes) (old new : Store) (i : ℕ) (x : Slot) (m : TierRuns) → ((t : Tier) (k at : ℕ) → place g old i t k ≡ Some at → IsPlaced g t (length_of (slot g old i)) k at) → LieBelow (length_of x) m → IsMoved g old new i x m → AreAlike (inode g old i) (inode_of x (logical_by new m))
+pub moved_alike : (g : Sizes) (old new : Store) (i : ℕ) (x : Slot) (m : TierRuns) → ((t : Tier) (k at : ℕ) → place g old i t k ≡ Some at → IsPlaced g t (length_of (slot g old i)) k at) → LieBelow (length_of x) m → StaysInode g old new i x m → AreAlike (inode g old i) (inode_of x (logical_by new m))
 moved_alike g old new i x m placed below moved = subst (λ (z : Slot). StayBlocks z (logical g old i) (logical_by new m) → AreAlike (inode g old i) (inode_of z (logical_by new m))) (sym moved.slot_is) (alike_roots (slot g old i) (root_of x) (logical g old i) (logical_by new m)) stay
   where
     long : length_of x ≡ length_of (slot g old i)

@@ -18,7 +18,7 @@ use Rattle.area_image.specs.Reads.{IsRoom, IsPlaced, Free}
 use Rattle.area_image.specs.Spelled.{Use, used, SpellsInode, AreUsedOnce}
 use Rattle.area_image.specs.Rewrites.{Rewrites}
 use Rattle.area_rewrite.specs.Written.{block_by}
-use Rattle.area_rewrite.specs.Many.{MayTake, Takes, TakeOnce, KeepOrTakeFree, TakeFreeOnce, AreWrittenAnew}
+use Rattle.area_rewrite.specs.Many.{MayTake, HasBlockFor, TakeOnce, KeepOrTakeFree, TakeFreeOnce, AreWrittenAnew}
 
 -- ---- blocks in use lie in a pool or among a tier's data
 
@@ -78,7 +78,7 @@ module _ (g : Sizes) (rewritten : ℕ → Bool) (s : Store) (x : ℕ → Slot) (
     | inr free ↦ free_once u v b free one two
   ]
 
-  pub kept_taken : KeepOrTakeFree g rewritten s x m → (u : Use) (b : Tier × ℕ) → Takes rewritten x m u b → MayTake g rewritten s b
+  pub kept_taken : KeepOrTakeFree g rewritten s x m → (u : Use) (b : Tier × ℕ) → HasBlockFor rewritten x m u b → MayTake g rewritten s b
   kept_taken keep u b one = elim (keep u b one) [ inl mine ↦ inr (u, one.0, mine) | inr free ↦ inl free ]
 
 -- ---- all that are written anew
@@ -101,7 +101,7 @@ module _ (g : Sizes) (rewritten : ℕ → Bool) (x : ℕ → Slot) (m : ℕ → 
     takes = λ u v b one other here there. not_others g rewritten old unused once v b other there (anew.takes u b (taken u b one here));
   }
     where
-      taken : (u : Use) (b : Tier × ℕ) → rewritten u.inode ≡ true → used g new u ≡ Some b → Takes rewritten x m u b
+      taken : (u : Use) (b : Tier × ℕ) → rewritten u.inode ≡ true → used g new u ≡ Some b → HasBlockFor rewritten x m u b
       taken u b its at = (its, sym (uses u.inode its u.tier u.logical) ∙ at)
 
 -- ---- what is free then

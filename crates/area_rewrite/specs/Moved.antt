@@ -23,6 +23,6 @@ StaysBlock (slots.File names size touch fast block slow) old new = ReadSame new 
 StaysBlock (slots.Directory names entries touch root) old new = new ≡ old
 
 -- The slot differs in the extent blocks alone, and each logical block reads the same.
-pub record IsMoved (g : Sizes) (old new : Store) (i : ℕ) (x : Slot) (m : TierRuns) : Type 0 where
+pub record StaysInode (g : Sizes) (old new : Store) (i : ℕ) (x : Slot) (m : TierRuns) : Type 0 where
   pub slot_is : x ≡ with_roots (root_of x) (slot g old i)
   pub blocks : (k : ℕ) → k < length_of x → StaysBlock x (logical g old i k) (logical_by new m k)

@@ -13,7 +13,7 @@ ghost use Rattle.area_image.specs.Store.{Store, inode, graph};
 ghost use Rattle.area_image.specs.Reads.{Free};
 ghost use Rattle.area_image.specs.Spelled.{IsSpelled, Use, used};
 ghost use Rattle.area_image.specs.Rewrites.{Rewrites};
-ghost use Rattle.area_rewrite.specs.Many.{MayTake, Takes, TakeOnce, KeepOrTakeFree, TakeFreeOnce, AreWrittenAnew};
+ghost use Rattle.area_rewrite.specs.Many.{MayTake, HasBlockFor, TakeOnce, KeepOrTakeFree, TakeFreeOnce, AreWrittenAnew};
 
 use crate::written::{written_inode_is_read, written_inode_is_spelled};
 use area_image::{free_blocks_have_no_use, places_are_in_pools, rewritten_inodes_are_spelled};
@@ -34,7 +34,7 @@ pub fn written_inodes_are_rewritten()
 /// Where each use is one that was there before, or of a block that was free and has no other, no block has two uses, and none of another inode is taken.
 pub fn kept_and_free_blocks_lie_apart()
     ensures once { (g : Sizes) (rewritten : ℕ → Bool) (s : Store) (x : ℕ → Slot) (m : ℕ → TierRuns) → IsSpelled g s → KeepOrTakeFree g rewritten s x m → TakeFreeOnce g rewritten s x m → TakeOnce rewritten x m }
-    ensures takes { (g : Sizes) (rewritten : ℕ → Bool) (s : Store) (x : ℕ → Slot) (m : ℕ → TierRuns) → KeepOrTakeFree g rewritten s x m → (u : Use) (b : Tier × ℕ) → Takes rewritten x m u b → MayTake g rewritten s b }
+    ensures takes { (g : Sizes) (rewritten : ℕ → Bool) (s : Store) (x : ℕ → Slot) (m : ℕ → TierRuns) → KeepOrTakeFree g rewritten s x m → (u : Use) (b : Tier × ℕ) → HasBlockFor rewritten x m u b → MayTake g rewritten s b }
 {
     free_blocks_have_no_use();
 }

@@ -8,7 +8,7 @@ ghost use Rattle.block_map.specs.Map.{TierRuns};
 ghost use Rattle.area_image.specs.Store.{Store, inode};
 ghost use Rattle.area_image.specs.Spelled.{SpellsInode};
 ghost use Rattle.area_rewrite.specs.Written.{IsWritten, IsFit};
-ghost use Rattle.area_rewrite.specs.Moved.{IsMoved};
+ghost use Rattle.area_rewrite.specs.Moved.{StaysInode};
 
 use crate::written::{written_inode_is_read, written_inode_is_spelled};
 use area_image::places_are_in_pools;
@@ -16,9 +16,9 @@ use tree_blocks::alike_inodes_are_one_node;
 
 /// An inode of which blocks are moved reads as it did, so it is the same node; and it is spelled as it was.
 pub fn moved_inode_is_alike()
-    ensures alike { (g : Sizes) (old new : Store) (i : ℕ) (x : Slot) (m : TierRuns) → IsAllowed g → is_inode i ≡ true → IsFit g x m → IsWritten new i x m → IsMoved g old new i x m → AreAlike (inode g old i) (inode g new i) }
-    ensures node { (g : Sizes) (old new : Store) (i : ℕ) (x : Slot) (m : TierRuns) → IsAllowed g → is_inode i ≡ true → IsFit g x m → IsWritten new i x m → IsMoved g old new i x m → node_of (inode g new i) ≡ node_of (inode g old i) }
-    ensures spelled { (g : Sizes) (old new : Store) (i : ℕ) (x : Slot) (m : TierRuns) → IsAllowed g → is_inode i ≡ true → IsFit g x m → IsWritten new i x m → IsMoved g old new i x m → SpellsInode g old i → SpellsInode g new i }
+    ensures alike { (g : Sizes) (old new : Store) (i : ℕ) (x : Slot) (m : TierRuns) → IsAllowed g → is_inode i ≡ true → IsFit g x m → IsWritten new i x m → StaysInode g old new i x m → AreAlike (inode g old i) (inode g new i) }
+    ensures node { (g : Sizes) (old new : Store) (i : ℕ) (x : Slot) (m : TierRuns) → IsAllowed g → is_inode i ≡ true → IsFit g x m → IsWritten new i x m → StaysInode g old new i x m → node_of (inode g new i) ≡ node_of (inode g old i) }
+    ensures spelled { (g : Sizes) (old new : Store) (i : ℕ) (x : Slot) (m : TierRuns) → IsAllowed g → is_inode i ≡ true → IsFit g x m → IsWritten new i x m → StaysInode g old new i x m → SpellsInode g old i → SpellsInode g new i }
 {
     written_inode_is_read();
     written_inode_is_spelled();

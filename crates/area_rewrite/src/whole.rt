@@ -10,7 +10,7 @@ ghost use Rattle.block_map.specs.Map.{TierRuns};
 ghost use Rattle.area_image.specs.Store.{Store, inode, graph};
 ghost use Rattle.area_image.specs.Spelled.{IsSpelled};
 ghost use Rattle.area_image.specs.Rewrites.{Rewrites};
-ghost use Rattle.area_rewrite.specs.Moved.{IsMoved};
+ghost use Rattle.area_rewrite.specs.Moved.{StaysInode};
 ghost use Rattle.area_rewrite.specs.Many.{AreWrittenAnew};
 
 use crate::many::{
@@ -22,9 +22,9 @@ use tree_blocks::{alike_inodes_are_one_node, inode_after_is_node_after};
 
 /// Where inodes are written anew of which blocks are moved, the store spells the graph that it spelled before.
 pub fn moved_store_spells_the_same_graph()
-    ensures rewrites { (g : Sizes) (rewritten : ℕ → Bool) (x : ℕ → Slot) (m : ℕ → TierRuns) (old new : Store) → IsAllowed g → IsSpelled g old → AreWrittenAnew g rewritten x m old new → ((i : ℕ) → rewritten i ≡ true → IsMoved g old new i (x i) (m i)) → Rewrites g rewritten old new }
-    ensures spelled { (g : Sizes) (rewritten : ℕ → Bool) (x : ℕ → Slot) (m : ℕ → TierRuns) (old new : Store) → IsAllowed g → IsSpelled g old → AreWrittenAnew g rewritten x m old new → ((i : ℕ) → rewritten i ≡ true → IsMoved g old new i (x i) (m i)) → IsSpelled g new }
-    ensures same_graph { (g : Sizes) (rewritten : ℕ → Bool) (x : ℕ → Slot) (m : ℕ → TierRuns) (old new : Store) → IsAllowed g → IsSpelled g old → AreWrittenAnew g rewritten x m old new → ((i : ℕ) → rewritten i ≡ true → IsMoved g old new i (x i) (m i)) → graph g new ≡ graph g old }
+    ensures rewrites { (g : Sizes) (rewritten : ℕ → Bool) (x : ℕ → Slot) (m : ℕ → TierRuns) (old new : Store) → IsAllowed g → IsSpelled g old → AreWrittenAnew g rewritten x m old new → ((i : ℕ) → rewritten i ≡ true → StaysInode g old new i (x i) (m i)) → Rewrites g rewritten old new }
+    ensures spelled { (g : Sizes) (rewritten : ℕ → Bool) (x : ℕ → Slot) (m : ℕ → TierRuns) (old new : Store) → IsAllowed g → IsSpelled g old → AreWrittenAnew g rewritten x m old new → ((i : ℕ) → rewritten i ≡ true → StaysInode g old new i (x i) (m i)) → IsSpelled g new }
+    ensures same_graph { (g : Sizes) (rewritten : ℕ → Bool) (x : ℕ → Slot) (m : ℕ → TierRuns) (old new : Store) → IsAllowed g → IsSpelled g old → AreWrittenAnew g rewritten x m old new → ((i : ℕ) → rewritten i ≡ true → StaysInode g old new i (x i) (m i)) → graph g new ≡ graph g old }
 {
     moved_inode_is_alike();
     alike_inodes_are_one_node();

@@ -8,7 +8,7 @@ use Rattle.tier_device.specs.declared.media.Tier.TheVariants.{Fast, Block, Slow}
 use Rattle.file_graph.specs.Units.{charge}
 use Rattle.layout.specs.Places.{Sizes, is_inode, slot_block, node_end, data_first, data_blocks, tier_blocks}
 use Rattle.area_image.specs.Store.{Store, slot, root_of, graph}
-use Rattle.area_image.specs.Reads.{Reads, IsRoom}
+use Rattle.area_image.specs.Reads.{InodeReads, IsRoom}
 use Rattle.area_image.specs.Spelled.{IsSpelled, KeepsUnits}
 use Rattle.free_pools.specs.Value.{PoolsView, data_pool, on_tier, free_data, AreFree}
 use Rattle.area_room.proofs.Counting.{in_or_not, covers}
@@ -25,7 +25,7 @@ pub slot_low : (i : ℕ) → is_inode i ≡ true → slot_block i < 292
 slot_low i number = let last : i ≤ 1024 = (inode_low i number).1 in omega (arith, last)
 
 module _ (g : Sizes) (s : Store) (spelled : IsSpelled g s) where
-  unread : (t : Tier) (k : ℕ) → data_first g t ≤ k → (Contains (held g s spelled t) k → ⊥) → (i : ℕ) → Reads g s i t k → ⊥
+  unread : (t : Tier) (k : ℕ) → data_first g t ≤ k → (Contains (held g s spelled t) k → ⊥) → (i : ℕ) → InodeReads g s i t k → ⊥
   unread t k low none i (inl (number, fast, at)) =
       let after : node_end g ≤ k = subst (λ (u : Tier). data_first g u ≤ k) fast low in
       let before : slot_block i < 292 = slot_low i number in

@@ -19,7 +19,7 @@ use Rattle.free_pools.specs.declared.taking.Taken.{Taken}
 use Rattle.free_pools.specs.Taking.{WereTaken, runs_of}
 use Rattle.free_pools.proofs.Departed.{taken_left}
 use Rattle.free_pools.proofs.Members.{each_tier}
-use Rattle.area_room.specs.Changing.{Exchanges, IsGivenUp, IsTaken, WereGiven, HaveExchanged}
+use Rattle.area_room.specs.Changing.{Exchanges, BlockIsGivenUp, BlockIsTaken, WereGiven, HaveExchanged}
 use Rattle.area_room.proofs.Counting.{in_or_not}
 use Rattle.area_room.proofs.Held.{root_within}
 
@@ -62,10 +62,10 @@ use_room g s u t k is = part_room g s u.inode u.tier u.logical t k is
 no_use : (g : Sizes) (s : Store) (t : Tier) (k : ℕ) → Free g s t k → (u : Use) → used g s u ≡ Some (t, k) → ⊥
 no_use g s t k free = ((free_unused g s t k).0 free).1
 
-pub given_used : (g : Sizes) (rewritten : ℕ → Bool) (old new : Store) (t : Tier) (k : ℕ) → IsGivenUp g rewritten old new t k → Free g old t k → ⊥
+pub given_used : (g : Sizes) (rewritten : ℕ → Bool) (old new : Store) (t : Tier) (k : ℕ) → BlockIsGivenUp g rewritten old new t k → Free g old t k → ⊥
 given_used g rewritten old new t k it free = no_use g old t k free it.was.0 it.was.2
 
-pub given_room : (g : Sizes) (rewritten : ℕ → Bool) (old new : Store) (t : Tier) (k : ℕ) → IsGivenUp g rewritten old new t k → IsRoom g t k
+pub given_room : (g : Sizes) (rewritten : ℕ → Bool) (old new : Store) (t : Tier) (k : ℕ) → BlockIsGivenUp g rewritten old new t k → IsRoom g t k
 given_room g rewritten old new t k it = use_room g old it.was.0 t k it.was.2
 
 module _ (g : Sizes) (rewritten : ℕ → Bool) (old new : Store) (taken : Tier → ℕ → Type 0) (is : Exchanges g rewritten old new taken) where
@@ -79,7 +79,7 @@ module _ (g : Sizes) (rewritten : ℕ → Bool) (old new : Store) (taken : Tier 
   )
 
   module _ (once : AreUsedOnce g old) (were_free : (t : Tier) (k : ℕ) → taken t k → Free g old t k) where
-    given_free : (t : Tier) (k : ℕ) → IsGivenUp g rewritten old new t k → Free g new t k
+    given_free : (t : Tier) (k : ℕ) → BlockIsGivenUp g rewritten old new t k → Free g new t k
     given_free t k it = (free_unused g new t k).1 (
       given_room g rewritten old new t k it,
       λ v there. elim (cases_Bool (rewritten v.inode)) [
@@ -95,10 +95,10 @@ module _ (g : Sizes) (rewritten : ℕ → Bool) (old new : Store) (taken : Tier 
     )
 
   -- what is free now was so before and is not taken, or is given up
-  back : (t : Tier) (k : ℕ) (P : Type 0) → Free g new t k → (Free g old t k → (taken t k → ⊥) → P) → (IsGivenUp g rewritten old new t k → P) → P ⊎ (P → ⊥) → P
+  back : (t : Tier) (k : ℕ) (P : Type 0) → Free g new t k → (Free g old t k → (taken t k → ⊥) → P) → (BlockIsGivenUp g rewritten old new t k → P) → P ⊎ (P → ⊥) → P
   back t k P free stays gives (inl known) = known
   back t k P free stays gives (inr none) =
-      let ungiven : IsGivenUp g rewritten old new t k → ⊥ = λ it. none (gives it) in
+      let ungiven : BlockIsGivenUp g rewritten old new t k → ⊥ = λ it. none (gives it) in
       let was : Free g old t k = (free_unused g old t k).1 (
         free.room,
         λ u at. elim (cases_Bool (rewritten u.inode)) [
@@ -109,7 +109,7 @@ module _ (g : Sizes) (rewritten : ℕ → Bool) (old new : Store) (taken : Tier 
       let untaken : taken t k → ⊥ = λ it. (let v = is.all t k it in no_use g new t k free v.0 v.1) in
       absurd (none (stays was untaken))
 
-pub sets_free : (g : Sizes) (rewritten : ℕ → Bool) (old new : Store) (before after : PoolsView) (taken : Tier → ℕ → Type 0) → IsSpelled g old → Exchanges g rewritten old new taken → ((t : Tier) (k : ℕ) → taken t k → Free g old t k) → AreFree g old before → HaveExchanged g before after taken (IsGivenUp g rewritten old new) → AreFree g new after
+pub sets_free : (g : Sizes) (rewritten : ℕ → Bool) (old new : Store) (before after : PoolsView) (taken : Tier → ℕ → Type 0) → IsSpelled g old → Exchanges g rewritten old new taken → ((t : Tier) (k : ℕ) → taken t k → Free g old t k) → AreFree g old before → HaveExchanged g before after taken (BlockIsGivenUp g rewritten old new) → AreFree g new after
 sets_free g rewritten old new before after taken spelled is were_free free have = record {
   nodes = λ k. (
     λ at. elim ((have.nodes k).0 at) [
@@ -136,14 +136,14 @@ module _ (g : Sizes) (old : Store) (before left : PoolsView) (taken : Taken) (or
   of_data : (t : Tier) (k : ℕ) → Contains (blocks_of (runs_of taken t)) k → Free g old t k × (data_first g t ≤ k)
   of_data t k at = (free.per_tier t k).0 (subst (λ (xs : List ℕ). Contains xs k) (took.per_tier t).front (Contains-append_left (blocks_of (runs_of taken t)) (data_pool left t).free k at))
 
-  pub taken_were_free : (t : Tier) (k : ℕ) → IsTaken taken t k → Free g old t k
+  pub taken_were_free : (t : Tier) (k : ℕ) → BlockIsTaken taken t k → Free g old t k
   taken_were_free t k (inl (fast, at)) = subst (λ (u : Tier). Free g old u k) (sym fast) (of_nodes k at).0
   taken_were_free t k (inr at) = (of_data t k at).0
 
   data_order : (t : Tier) → InOrder (data_pool before t)
   data_order t = each_tier (λ u. InOrder (data_pool before u)) order.fast order.block order.slow t
 
-  nodes_left : (k : ℕ) → Contains left.nodes.free k ↔ (Contains before.nodes.free k × (IsTaken taken Fast k → ⊥))
+  nodes_left : (k : ℕ) → Contains left.nodes.free k ↔ (Contains before.nodes.free k × (BlockIsTaken taken Fast k → ⊥))
   nodes_left k = (
     λ at. (let p = (taken_left before.nodes left.nodes taken.nodes.items order.nodes took.nodes k).0 at in (
       p.0,
@@ -155,7 +155,7 @@ module _ (g : Sizes) (old : Store) (before left : PoolsView) (taken : Taken) (or
     λ p. (taken_left before.nodes left.nodes taken.nodes.items order.nodes took.nodes k).1 (p.0, λ at. p.1 (inl (refl, at))),
   )
 
-  data_left : (t : Tier) (k : ℕ) → Contains (data_pool left t).free k ↔ (Contains (data_pool before t).free k × (IsTaken taken t k → ⊥))
+  data_left : (t : Tier) (k : ℕ) → Contains (data_pool left t).free k ↔ (Contains (data_pool before t).free k × (BlockIsTaken taken t k → ⊥))
   data_left t k = (
     λ at. (let p = (taken_left (data_pool before t) (data_pool left t) (runs_of taken t) (data_order t) (took.per_tier t) k).0 at in (
       p.0,
@@ -173,18 +173,18 @@ module _ (g : Sizes) (old : Store) (before left : PoolsView) (taken : Taken) (or
     λ e. elim e [ inl d ↦ whole.1 (inl (part.1 d)) | inr c ↦ whole.1 (inr c) ],
   )
 
-  pub have_exchanged : (after : PoolsView) (given : Tier → ℕ → Type 0) → WereGiven g left after given → HaveExchanged g before after (IsTaken taken) given
+  pub have_exchanged : (after : PoolsView) (given : Tier → ℕ → Type 0) → WereGiven g left after given → HaveExchanged g before after (BlockIsTaken taken) given
   have_exchanged after given gave = record { nodes = λ k. through (gave.nodes k) (nodes_left k); per_tier = λ t k. through (gave.per_tier t k) (data_left t k) }
 
-pub runs_free : (g : Sizes) (rewritten : ℕ → Bool) (old new : Store) (before left after : PoolsView) (taken : Taken) → IsSpelled g old → AreInOrder before → AreFree g old before → WereTaken before left taken → Exchanges g rewritten old new (IsTaken taken) → WereGiven g left after (IsGivenUp g rewritten old new) → AreFree g new after
+pub runs_free : (g : Sizes) (rewritten : ℕ → Bool) (old new : Store) (before left after : PoolsView) (taken : Taken) → IsSpelled g old → AreInOrder before → AreFree g old before → WereTaken before left taken → Exchanges g rewritten old new (BlockIsTaken taken) → WereGiven g left after (BlockIsGivenUp g rewritten old new) → AreFree g new after
 runs_free g rewritten old new before left after taken spelled order free took is gave =
-    sets_free g rewritten old new before after (IsTaken taken) spelled is (taken_were_free g old before left taken order free took) free (have_exchanged g old before left taken order free took after (IsGivenUp g rewritten old new) gave)
+    sets_free g rewritten old new before after (BlockIsTaken taken) spelled is (taken_were_free g old before left taken order free took) free (have_exchanged g old before left taken order free took after (BlockIsGivenUp g rewritten old new) gave)
 
-pub lists_free : (g : Sizes) (rewritten : ℕ → Bool) (old new : Store) (before after : PoolsView) (taken : Tier → List ℕ) → IsSpelled g old → Exchanges g rewritten old new (λ t. Contains (taken t)) → ((t : Tier) (k : ℕ) → Contains (taken t) k → Free g old t k) → AreFree g old before → HaveExchanged g before after (λ t. Contains (taken t)) (IsGivenUp g rewritten old new) → AreFree g new after
+pub lists_free : (g : Sizes) (rewritten : ℕ → Bool) (old new : Store) (before after : PoolsView) (taken : Tier → List ℕ) → IsSpelled g old → Exchanges g rewritten old new (λ t. Contains (taken t)) → ((t : Tier) (k : ℕ) → Contains (taken t) k → Free g old t k) → AreFree g old before → HaveExchanged g before after (λ t. Contains (taken t)) (BlockIsGivenUp g rewritten old new) → AreFree g new after
 lists_free g rewritten old new before after taken = sets_free g rewritten old new before after (λ t. Contains (taken t))
 
-pub given_no_node : (g : Sizes) (rewritten : ℕ → Bool) (old new : Store) (pools : PoolsView) → AreFree g old pools → (k : ℕ) → IsGivenUp g rewritten old new Fast k → Contains pools.nodes.free k → ⊥
+pub given_no_node : (g : Sizes) (rewritten : ℕ → Bool) (old new : Store) (pools : PoolsView) → AreFree g old pools → (k : ℕ) → BlockIsGivenUp g rewritten old new Fast k → Contains pools.nodes.free k → ⊥
 given_no_node g rewritten old new pools free k it at = given_used g rewritten old new Fast k it ((free.nodes k).0 at).0
 
-pub given_no_data : (g : Sizes) (rewritten : ℕ → Bool) (old new : Store) (pools : PoolsView) → AreFree g old pools → (t : Tier) (k : ℕ) → IsGivenUp g rewritten old new t k → Contains (data_pool pools t).free k → ⊥
+pub given_no_data : (g : Sizes) (rewritten : ℕ → Bool) (old new : Store) (pools : PoolsView) → AreFree g old pools → (t : Tier) (k : ℕ) → BlockIsGivenUp g rewritten old new t k → Contains (data_pool pools t).free k → ⊥
 given_no_data g rewritten old new pools free t k it at = given_used g rewritten old new t k it ((free.per_tier t k).0 at).0

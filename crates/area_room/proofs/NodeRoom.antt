@@ -13,7 +13,7 @@ use Rattle.layout.specs.declared.slot.Slot.{Slot}
 use Rattle.layout.specs.declared.slot.Slot.TheVariants as slots
 use Rattle.layout.specs.Places.{Sizes, is_inode, slot_block, node_blocks, node_end}
 use Rattle.area_image.specs.Store.{Store, slot, root_of, length_of, space_of, place, graph}
-use Rattle.area_image.specs.Reads.{Reads}
+use Rattle.area_image.specs.Reads.{InodeReads}
 use Rattle.area_image.specs.Spelled.{IsSpelled, KeepsUnits}
 use Rattle.area_image.specs.Units.{slot_units}
 use Rattle.area_image.proofs.Complete.{root_inode}
@@ -72,7 +72,7 @@ module _ (g : Sizes) (s : Store) (spelled : IsSpelled g s) where
   here : (i k : ℕ) → is_inode i ≡ true → Contains (of_inode i) k → Contains held_nodes k
   here i k number at = in_pieces 1024 of_inode i k (inode_low i number).0 (inode_low i number).1 at
 
-  unread : (k : ℕ) → 292 ≤ k → k < node_end g → (Contains held_nodes k → ⊥) → (i : ℕ) → Reads g s i Fast k → ⊥
+  unread : (k : ℕ) → 292 ≤ k → k < node_end g → (Contains held_nodes k → ⊥) → (i : ℕ) → InodeReads g s i Fast k → ⊥
   unread k low high none i (inl (number, fast, at)) = let before : slot_block i < 292 = slot_low i number in omega (arith, low, before, at)
   unread k low high none i (inr (inl (t, fast, some, at))) = none (here i k (root_inode g s i t some) (Contains-append_left (roots_in (slot g s i)) (entries_in (slot g s i) (place g s i Fast)) k (in_roots (slot g s i) t k some at)))
   unread k low high none i (inr (inr (j, at))) =

@@ -22,7 +22,7 @@ abbrev pub Uses : Sizes → Store → ℕ → Tier → ℕ → Type 0
 Uses g s i t k = (u : Use) × (u.inode ≡ i) × (used g s u ≡ Some (t, k))
 
 -- An inode that is rewritten had a use for a block, and has none now.
-pub record IsGivenUp (g : Sizes) (rewritten : ℕ → Bool) (old new : Store) (t : Tier) (k : ℕ) : Type 0 where
+pub record BlockIsGivenUp (g : Sizes) (rewritten : ℕ → Bool) (old new : Store) (t : Tier) (k : ℕ) : Type 0 where
   pub inode : ℕ
   pub its : rewritten inode ≡ true
   pub was : Uses g old inode t k
@@ -35,8 +35,8 @@ pub record Exchanges (g : Sizes) (rewritten : ℕ → Bool) (old new : Store) (t
   pub all : (t : Tier) (k : ℕ) → taken t k → (u : Use) × (used g new u ≡ Some (t, k))
 
 -- The block was taken of the node pool or of a tier's data blocks.
-abbrev pub IsTaken : Taken → Tier → ℕ → Type 0
-IsTaken taken t k = ((t ≡ Fast) × Contains (blocks_of taken.nodes.items) k) ⊎ Contains (blocks_of (runs_of taken t)) k
+abbrev pub BlockIsTaken : Taken → Tier → ℕ → Type 0
+BlockIsTaken taken t k = ((t ≡ Fast) × Contains (blocks_of taken.nodes.items) k) ⊎ Contains (blocks_of (runs_of taken t)) k
 
 -- The blocks that are given stand in their pools beside those that were there.
 pub record WereGiven (g : Sizes) (old new : PoolsView) (given : Tier → ℕ → Type 0) : Type 0 where

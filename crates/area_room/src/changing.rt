@@ -11,19 +11,19 @@ ghost use Rattle.area_image.specs.Spelled.{IsSpelled};
 ghost use Rattle.free_pools.specs.Value.{PoolsView, data_pool, AreInOrder, AreFree};
 ghost use Rattle.free_pools.specs.declared.taking.Taken.{Taken};
 ghost use Rattle.free_pools.specs.Taking.{WereTaken};
-ghost use Rattle.area_room.specs.Changing.{Exchanges, IsGivenUp, IsTaken, HaveExchanged, WereGiven};
+ghost use Rattle.area_room.specs.Changing.{Exchanges, BlockIsGivenUp, BlockIsTaken, HaveExchanged, WereGiven};
 
 /// Where inodes are rewritten over blocks of their own and blocks that were taken, and what they use no more is given back, the pools have exactly the free blocks of the
 /// new store, as they had those of the old one.
 pub fn pools_after_change()
-    ensures lists { (g : Sizes) (rewritten : ℕ → Bool) (old new : Store) (before after : PoolsView) (taken : Tier → List ℕ) → IsSpelled g old → Exchanges g rewritten old new (λ t. Contains (taken t)) → ((t : Tier) (k : ℕ) → Contains (taken t) k → Free g old t k) → AreFree g old before → HaveExchanged g before after (λ t. Contains (taken t)) (IsGivenUp g rewritten old new) → AreFree g new after }
-    ensures runs { (g : Sizes) (rewritten : ℕ → Bool) (old new : Store) (before left after : PoolsView) (taken : Taken) → IsSpelled g old → AreInOrder before → AreFree g old before → WereTaken before left taken → Exchanges g rewritten old new (IsTaken taken) → WereGiven g left after (IsGivenUp g rewritten old new) → AreFree g new after }
+    ensures lists { (g : Sizes) (rewritten : ℕ → Bool) (old new : Store) (before after : PoolsView) (taken : Tier → List ℕ) → IsSpelled g old → Exchanges g rewritten old new (λ t. Contains (taken t)) → ((t : Tier) (k : ℕ) → Contains (taken t) k → Free g old t k) → AreFree g old before → HaveExchanged g before after (λ t. Contains (taken t)) (BlockIsGivenUp g rewritten old new) → AreFree g new after }
+    ensures runs { (g : Sizes) (rewritten : ℕ → Bool) (old new : Store) (before left after : PoolsView) (taken : Taken) → IsSpelled g old → AreInOrder before → AreFree g old before → WereTaken before left taken → Exchanges g rewritten old new (BlockIsTaken taken) → WereGiven g left after (BlockIsGivenUp g rewritten old new) → AreFree g new after }
 {}
 
 /// No block that is given up was free before the change, so it is in no pool.
 pub fn given_blocks_are_used()
-    ensures free { (g : Sizes) (rewritten : ℕ → Bool) (old new : Store) (t : Tier) (k : ℕ) → IsGivenUp g rewritten old new t k → Free g old t k → ⊥ }
-    ensures room { (g : Sizes) (rewritten : ℕ → Bool) (old new : Store) (t : Tier) (k : ℕ) → IsGivenUp g rewritten old new t k → IsRoom g t k }
-    ensures nodes { (g : Sizes) (rewritten : ℕ → Bool) (old new : Store) (pools : PoolsView) → AreFree g old pools → (k : ℕ) → IsGivenUp g rewritten old new Fast k → Contains pools.nodes.free k → ⊥ }
-    ensures per_tier { (g : Sizes) (rewritten : ℕ → Bool) (old new : Store) (pools : PoolsView) → AreFree g old pools → (t : Tier) (k : ℕ) → IsGivenUp g rewritten old new t k → Contains (data_pool pools t).free k → ⊥ }
+    ensures free { (g : Sizes) (rewritten : ℕ → Bool) (old new : Store) (t : Tier) (k : ℕ) → BlockIsGivenUp g rewritten old new t k → Free g old t k → ⊥ }
+    ensures room { (g : Sizes) (rewritten : ℕ → Bool) (old new : Store) (t : Tier) (k : ℕ) → BlockIsGivenUp g rewritten old new t k → IsRoom g t k }
+    ensures nodes { (g : Sizes) (rewritten : ℕ → Bool) (old new : Store) (pools : PoolsView) → AreFree g old pools → (k : ℕ) → BlockIsGivenUp g rewritten old new Fast k → Contains pools.nodes.free k → ⊥ }
+    ensures per_tier { (g : Sizes) (rewritten : ℕ → Bool) (old new : Store) (pools : PoolsView) → AreFree g old pools → (t : Tier) (k : ℕ) → BlockIsGivenUp g rewritten old new t k → Contains (data_pool pools t).free k → ⊥ }
 {}

@@ -7,9 +7,9 @@ use Rattle.tier_device.specs.Media.{Rose}
 use Rattle.layout.specs.declared.error.What.{What}
 use Rattle.batch_journal.specs.declared.error.JournalError.{JournalError}
 use Rattle.batch_journal.specs.declared.error.JournalError.TheVariants as errors
-use Rattle.batch_journal.specs.Damage.{OnDamage}
+use Rattle.batch_journal.specs.Damage.{OnJournalDamage}
 use Rattle.batch_journal.specs.Course.{Since, Unmoved, TornFrom, BesideFrom}
-use Rattle.batch_journal.specs.Images.{target_at, count_of, images_of}
+use Rattle.batch_journal.specs.Images.{target_at, image_count, images_of}
 use Rattle.batch_journal.specs.Blocks.{is_home}
 use Rattle.batch_journal.proofs.Images.{found, torn_beside, beside_on}
 
@@ -72,11 +72,11 @@ rose_later a b c le more (inl lt) = inl (omega (arith, le, lt))
 rose_later a b c le more (inr top) = inr top
 
 -- an image more, torn
-pub one_torn : (bytes : List ℕ) (p n a b c : ℕ) (L M N : ℕ → Tier → List ℕ → Type 0) → p < n → n ≡ count_of bytes → is_home (target_at bytes p) ≡ true
+pub one_torn : (bytes : List ℕ) (p n a b c : ℕ) (L M N : ℕ → Tier → List ℕ → Type 0) → p < n → n ≡ image_count bytes → is_home (target_at bytes p) ≡ true
     → Since Fast (BesideFrom (L a Fast) (images_of bytes)) a b L M → Since Fast (TornFrom (M b Fast) (4096 * target_at bytes p) 4096) b c M N → Since Fast (BesideFrom (L a Fast) (images_of bytes)) a c L N
 one_torn bytes p n a b c L M N lt count at_home first second =
     let images = images_of bytes in
-    let named = found bytes (count_of bytes) 0 p (omega arith) (omega (arith, lt, count)) in
+    let named = found bytes (image_count bytes) 0 p (omega arith) (omega (arith, lt, count)) in
     and_then first second (λ x l. l) (λ x torn.
     let from = first.all b torn.0 first.later (omega arith) torn.1 in
     (from.0, from.1, beside_on images from.0 torn.0 x from.2 (torn_beside images (target_at bytes p) torn.0 x at_home named torn.2)))
@@ -119,7 +119,7 @@ tiers_same s s' reads = λ i t. reads t i
 
 -- ---- refusals for damage
 
-pub on_damage : {P Q : What → ℕ → Type 0} (e : JournalError) → ((w : What) (block : ℕ) → P w block → Q w block) → OnDamage e P → OnDamage e Q
+pub on_damage : {P Q : What → ℕ → Type 0} (e : JournalError) → ((w : What) (block : ℕ) → P w block → Q w block) → OnJournalDamage e P → OnJournalDamage e Q
 on_damage errors.DeviceFault f p = tt
 on_damage errors.BatchTooLarge f p = tt
 on_damage (errors.Damaged w block) f p = f w block p

@@ -9,7 +9,7 @@ use Rattle.byteorder.specs.Endian.{little_number}
 use Rattle.tier_device.specs.declared.media.Tier.TheVariants.{Fast}
 use Rattle.layout.specs.Places.{Sizes, is_journaled, tier_blocks}
 use Rattle.batch_journal.specs.Course.{Doing, IsPut, Beside}
-use Rattle.batch_journal.specs.Images.{slice, count_of, target_at, image_at, images_from, images_of, image_for, or_else, with_images, Rises}
+use Rattle.batch_journal.specs.Images.{slice, image_count, target_at, image_at, images_from, images_of, image_for, or_else, with_images, Rises}
 use Rattle.batch_journal.specs.Blocks.{Blocks, block_of, gate_of, area_of, is_home, Fit, RisesJournaled, AreJournaled, rest_of_gate}
 use Rattle.batch_journal.proofs.Bytes.{slice_apart, slice_written}
 
@@ -81,9 +81,9 @@ beside_on images d e c first second = record {
 
 -- ---- one more image is written
 
-pub doing_first : (bytes first : List ℕ) (n : ℕ) → n ≡ count_of bytes → Fit (length first) (images_of bytes) → Doing bytes 0 (n - 0) first first
+pub doing_first : (bytes first : List ℕ) (n : ℕ) → n ≡ image_count bytes → Fit (length first) (images_of bytes) → Doing bytes 0 (n - 0) first first
 doing_first bytes first n count fit =
-    let whole : count_of bytes ≡ n - 0 = omega (arith, count) in
+    let whole : image_count bytes ≡ n - 0 = omega (arith, count) in
     subst (λ k. Doing bytes 0 k first first) whole (record { beside = beside_same (images_of bytes) first; to_do = λ k at_home. refl; fit = fit })
 
 doing_suc : (bytes first seen : List ℕ) (p n : ℕ) → p < n → Doing bytes p (n - p) first seen → Doing bytes p (suc (n - (p + 1))) first seen
@@ -93,7 +93,7 @@ pub doing_fits : (bytes first seen : List ℕ) (p n : ℕ) → p < n → Doing b
 doing_fits bytes first seen p n lt doing =
     let fit = (doing_suc bytes first seen p n lt doing).fit in (fit.0, fit.1)
 
-pub doing_more : (bytes first seen new : List ℕ) (p n : ℕ) → p < n → n ≡ count_of bytes → 4096 * n + 4096 ≤ length bytes → Doing bytes p (n - p) first seen
+pub doing_more : (bytes first seen new : List ℕ) (p n : ℕ) → p < n → n ≡ image_count bytes → 4096 * n + 4096 ≤ length bytes → Doing bytes p (n - p) first seen
     → new ≡ overwritten seen (4096 * target_at bytes p) (image_at bytes p) → Doing bytes (p + 1) (n - (p + 1)) first new
 doing_more bytes first seen new p n lt count long before is =
     let doing = doing_suc bytes first seen p n lt before in
@@ -105,7 +105,7 @@ doing_more bytes first seen new p n lt count long before is =
     let kept : length new ≡ length seen = ap length is ∙ length-overwritten seen (4096 * t) image le in
     let torn : Torn (4096 * t) 4096 seen new =
     subst (λ (x : List ℕ). Torn (4096 * t) 4096 seen x) (sym is) (subst (λ m. Torn (4096 * t) m seen (overwritten seen (4096 * t) image)) size (torn_overwritten seen (4096 * t) image le)) in
-    let named : image_for t (images_of bytes) ≡ None → ⊥ = found bytes (count_of bytes) 0 p (omega arith) (omega (arith, lt, count)) in
+    let named : image_for t (images_of bytes) ≡ None → ⊥ = found bytes (image_count bytes) 0 p (omega arith) (omega (arith, lt, count)) in
     let here : block_of new t ≡ image = ap (slice (4096 * t) 4096) is ∙ slice_written seen (4096 * t) image 4096 (sym size) (omega (arith, le)) in
     record {
       beside = beside_on (images_of bytes) first seen new doing.beside (torn_beside (images_of bytes) t seen new doing.fit.0 named torn);
@@ -132,8 +132,8 @@ length-images_from : (bytes : List ℕ) (p n : ℕ) → length (images_from byte
 length-images_from bytes p zero = refl
 length-images_from bytes p (suc n) = ap suc (length-images_from bytes (p + 1) n)
 
-pub length-images_of : (bytes : List ℕ) → length (images_of bytes) ≡ count_of bytes
-length-images_of bytes = length-images_from bytes 0 (count_of bytes)
+pub length-images_of : (bytes : List ℕ) → length (images_of bytes) ≡ image_count bytes
+length-images_of bytes = length-images_from bytes 0 (image_count bytes)
 
 -- ---- numbers that rise
 

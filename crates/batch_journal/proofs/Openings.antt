@@ -6,11 +6,11 @@ use Rattle.layout.specs.declared.superblock.Super.{Super}
 use Rattle.layout.specs.Places.{Sizes, tier_blocks}
 use Rattle.tier_device.specs.declared.media.Tier.{Tier}
 use Rattle.tier_device.specs.declared.media.Tier.TheVariants.{Fast}
-use Rattle.batch_journal.specs.Images.{count_of, target_at, image_at, images_of, images_from, image_for, or_else, Rises}
+use Rattle.batch_journal.specs.Images.{image_count, target_at, image_at, images_of, images_from, image_for, or_else, Rises}
 use Rattle.layout.specs.Bytes.{are_zero}
-use Rattle.batch_journal.specs.Blocks.{area_of, rest_of_gate, block_of, is_open, home, Fit}
+use Rattle.batch_journal.specs.Blocks.{area_of, rest_of_gate, block_of, is_gate_open, home, Fit}
 use Rattle.batch_journal.specs.Volume.{Spells, HasSizes, IsHead, IsJournal, IsVolume}
-use Rattle.batch_journal.specs.Reading.{IsRead, first_block}
+use Rattle.batch_journal.specs.Reading.{IsBatchRead, first_block}
 use Rattle.batch_journal.proofs.Images.{rising_rises, rising_fit, none_below}
 use Rattle.batch_journal.proofs.Meaning.{head_alike, home_over, home_shut}
 
@@ -34,17 +34,17 @@ first_image (suc n) bytes x some rises =
     ]
 
 -- under an open gate with a head whose numbers rise, home block 0 is the first image, or the block in its place
-pub first_home : (bytes c : List ℕ) → is_open c ≡ true → IsRead c bytes → Rises 0 (images_of bytes) → home c 0 ≡ first_block bytes c
+pub first_home : (bytes c : List ℕ) → is_gate_open c ≡ true → IsBatchRead c bytes → Rises 0 (images_of bytes) → home c 0 ≡ first_block bytes c
 first_home bytes c opened read rises =
-    home_over (images_of bytes) c 0 refl opened read.staged ∙ first_image (count_of bytes) bytes (block_of c 0) read.some rises
+    home_over (images_of bytes) c 0 refl opened read.staged ∙ first_image (image_count bytes) bytes (block_of c 0) read.some rises
 
-pub head_read : (g : Sizes) (c bytes : List ℕ) → IsRead c bytes → IsHead g (area_of c) → IsHead g bytes
+pub head_read : (g : Sizes) (c bytes : List ℕ) → IsBatchRead c bytes → IsHead g (area_of c) → IsHead g bytes
 head_read g c bytes read head = head_alike g bytes (area_of c) (record { images = sym read.staged; rest = sym read.rest }) head
 
-head_there : (g : Sizes) (c bytes : List ℕ) → IsRead c bytes → IsHead g bytes → IsHead g (area_of c)
+head_there : (g : Sizes) (c bytes : List ℕ) → IsBatchRead c bytes → IsHead g bytes → IsHead g (area_of c)
 head_there g c bytes read head = head_alike g (area_of c) bytes (record { images = read.staged; rest = read.rest }) head
 
-pub first_spells : (g : Sizes) (bytes c : List ℕ) → is_open c ≡ true → IsRead c bytes → IsJournal g c → Spells g (first_block bytes c)
+pub first_spells : (g : Sizes) (bytes c : List ℕ) → is_gate_open c ≡ true → IsBatchRead c bytes → IsJournal g c → Spells g (first_block bytes c)
 first_spells g bytes c opened read journal =
     let rises = rising_rises g 0 (images_of bytes) (head_read g c bytes read (journal.head opened)).rising in
     subst (λ (b : List ℕ). Spells g b) (first_home bytes c opened read rises) journal.superblock
@@ -57,7 +57,7 @@ pub spells_one : (g h : Sizes) (b : List ℕ) → Spells g b → Spells h b → 
 unfolding geometry_or
 spells_one g h b first second = ap (geometry_or g) (sym first ∙ second)
 
-pub open_volume : (g : Sizes) (seen : Tier → List ℕ) (bytes : List ℕ) → is_open (seen Fast) ≡ true → IsRead (seen Fast) bytes → are_zero (rest_of_gate (seen Fast)) ≡ true → HasSizes g seen
+pub open_volume : (g : Sizes) (seen : Tier → List ℕ) (bytes : List ℕ) → is_gate_open (seen Fast) ≡ true → IsBatchRead (seen Fast) bytes → are_zero (rest_of_gate (seen Fast)) ≡ true → HasSizes g seen
     → Spells g (first_block bytes (seen Fast)) → IsHead g bytes → IsVolume g seen
 open_volume g seen bytes opened read rest sizes spells head = record {
   sizes = sizes;
@@ -69,7 +69,7 @@ open_volume g seen bytes opened read rest sizes spells head = record {
   };
 }
 
-pub shut_volume : (g : Sizes) (seen : Tier → List ℕ) → is_open (seen Fast) ≡ false → are_zero (rest_of_gate (seen Fast)) ≡ true → HasSizes g seen → Spells g (block_of (seen Fast) 0) → IsVolume g seen
+pub shut_volume : (g : Sizes) (seen : Tier → List ℕ) → is_gate_open (seen Fast) ≡ false → are_zero (rest_of_gate (seen Fast)) ≡ true → HasSizes g seen → Spells g (block_of (seen Fast) 0) → IsVolume g seen
 shut_volume g seen closed rest sizes spells = record {
   sizes = sizes;
   journal = record {

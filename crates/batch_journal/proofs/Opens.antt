@@ -11,13 +11,13 @@ use Rattle.layout.specs.declared.error.What.{What}
 use Rattle.layout.specs.declared.error.What.TheVariants as what
 use Rattle.batch_journal.specs.declared.error.JournalError.{JournalError}
 use Rattle.batch_journal.specs.declared.error.JournalError.TheVariants as errors
-use Rattle.batch_journal.specs.Images.{slice, count_of, target_at, image_at, images_of, images_from, rest_of_head, Rises}
-use Rattle.batch_journal.specs.Blocks.{home, area_of, block_of, is_open, IsShutGate, rest_of_gate, calls_of, Fit, RisesJournaled}
+use Rattle.batch_journal.specs.Images.{slice, image_count, target_at, image_at, images_of, images_from, rest_of_head, Rises}
+use Rattle.batch_journal.specs.Blocks.{home, area_of, block_of, is_gate_open, IsShutGate, rest_of_gate, opening_calls, Fit, RisesJournaled}
 use Rattle.batch_journal.specs.Volume.{Spells, HasSizes, IsHead, IsVolume, SameJournal}
 use Rattle.batch_journal.specs.Course.{Since, Unmoved, SameLengths}
-use Rattle.batch_journal.specs.Reading.{IsRead, TellsFaults, IsOfReading, first_block}
-use Rattle.batch_journal.specs.Damage.{OnDamage, Names, IsGateDamage, IsHeadDamage, IsSuperDamage, TellsNone, AwaitsReplay, super_block}
-use Rattle.batch_journal.specs.Opening.{Opens, IsOpened, IsRefused}
+use Rattle.batch_journal.specs.Reading.{IsBatchRead, TellsFaults, IsOfReading, first_block}
+use Rattle.batch_journal.specs.Damage.{OnJournalDamage, NamesDamage, IsGateDamage, IsHeadDamage, IsSuperDamage, TellsNone, AwaitsReplay, super_block}
+use Rattle.batch_journal.specs.Opening.{Opens, IsOpened, IsOpeningRefused}
 use Rattle.batch_journal.proofs.Courses.{still, unmoved_on, then_calls, weaker, left_before, tiers_same, on_damage}
 use Rattle.batch_journal.proofs.Meaning.{same_refl, same_on, home_over, home_shut, slice_slice}
 use Rattle.batch_journal.proofs.Bytes.{take_shorter}
@@ -45,17 +45,17 @@ tells_on a m b r same told = subst (λ k. TellsFaults k b r) same told
 
 -- ---- calls of an opening
 
-pub calls_open : (c : List ℕ) → is_open c ≡ true → calls_of c ≡ count_of (area_of c) + 3
-calls_open c opened = ap (λ b. cond b (count_of (area_of c) + 3) 0) opened
+pub calls_open : (c : List ℕ) → is_gate_open c ≡ true → opening_calls c ≡ image_count (area_of c) + 3
+calls_open c opened = ap (λ b. cond b (image_count (area_of c) + 3) 0) opened
 
-pub calls_shut : (c : List ℕ) → is_open c ≡ false → calls_of c ≡ 0
-calls_shut c closed = ap (λ b. cond b (count_of (area_of c) + 3) 0) closed
+pub calls_shut : (c : List ℕ) → is_gate_open c ≡ false → opening_calls c ≡ 0
+calls_shut c closed = ap (λ b. cond b (image_count (area_of c) + 3) 0) closed
 
 module _ {s s' : Tier → List ℕ} {a b : ℕ} {L N : ℕ → Tier → List ℕ → Type 0} (f f' : ℕ) (un : Unmoved a b s s' L N) (rest : AtRest s (L a) Fast) where
   same : (x : List ℕ) → L a Fast x → SameJournal (s Fast) x
   same x l = same_refl (s Fast) x (rest x l)
 
-  pub opens_err : (e : JournalError) → TellsFaults {T = Sizes} f f' (Err e) → OnDamage e (Names s) → (e ≡ errors.Memory → AwaitsReplay s) → e ≢ errors.BatchTooLarge → Opens s s' a b L N f f' (Err e)
+  pub opens_err : (e : JournalError) → TellsFaults {T = Sizes} f f' (Err e) → OnJournalDamage e (NamesDamage s) → (e ≡ errors.Memory → AwaitsReplay s) → e ≢ errors.BatchTooLarge → Opens s s' a b L N f f' (Err e)
   opens_err e told named memory only = record {
     course = still Fast un same;
     lengths = λ t. ap length (un.reads t);
@@ -65,7 +65,7 @@ module _ {s s' : Tier → List ℕ} {a b : ℕ} {L N : ℕ → Tier → List ℕ
     refused = record { named = named; memory = memory; untouched = λ other. un; only = only };
   }
 
-  pub opens_shut : (g : Sizes) → TellsFaults f f' (Ok g) → is_open (s Fast) ≡ false → IsVolume g s → Opens s s' a b L N f f' (Ok g)
+  pub opens_shut : (g : Sizes) → TellsFaults f f' (Ok g) → is_gate_open (s Fast) ≡ false → IsVolume g s → Opens s s' a b L N f f' (Ok g)
   opens_shut g told closed volume = record {
     course = still Fast un same;
     lengths = λ t. ap length (un.reads t);
@@ -74,7 +74,7 @@ module _ {s s' : Tier → List ℕ} {a b : ℕ} {L N : ℕ → Tier → List ℕ
     opened = record {
       volume = volume;
       rests = λ x l. rest x (left_before un Fast x l) ∙ sym (un.reads Fast);
-      closed = subst (λ (c : List ℕ). is_open c ≡ false) (sym (un.reads Fast)) closed;
+      closed = subst (λ (c : List ℕ). is_gate_open c ≡ false) (sym (un.reads Fast)) closed;
       others = λ t other. un.reads t;
       calls = omega (arith, un.clock, calls_shut (s Fast) closed);
       gate_byte = λ o. absurd (false≢true (sym closed ∙ o));
@@ -98,10 +98,10 @@ opens_after {s = s} {t = t} {u = u} {a = a} {b = b} {c = c} {L = L} {M = M} {N =
     }
   where
     opened_after : (r : Result Sizes JournalError) → IfOk r (IsOpened s u b c (N c)) → IfOk r (IsOpened s u a c (N c))
-    opened_after (Ok x) o = record { volume = o.volume; rests = o.rests; closed = o.closed; others = o.others; calls = o.calls ∙ ap (λ k. k + calls_of (s Fast)) un.clock; gate_byte = o.gate_byte }
+    opened_after (Ok x) o = record { volume = o.volume; rests = o.rests; closed = o.closed; others = o.others; calls = o.calls ∙ ap (λ k. k + opening_calls (s Fast)) un.clock; gate_byte = o.gate_byte }
     opened_after (Err e) o = tt
 
-    refused_after : (r : Result Sizes JournalError) → IfErr r (IsRefused s u b c M N) → IfErr r (IsRefused s u a c L N)
+    refused_after : (r : Result Sizes JournalError) → IfErr r (IsOpeningRefused s u b c M N) → IfErr r (IsOpeningRefused s u a c L N)
     refused_after (Ok x) o = tt
     refused_after (Err e) o =
         let tiers : t ≡ s = tiers_same s t un.reads in
@@ -118,20 +118,20 @@ rising_numbers g low x y p (suc n) same rising =
     subst (λ (k : ℕ). (low ≤ k) × (is_journaled g k ≡ true) × RisesJournaled g (k + 1) (images_from y (p + 1) n)) here (rising.0, rising.1, rest)
 
 record SameHead (x y : List ℕ) : Type 0 where
-  count : count_of x ≡ count_of y
-  numbers : (q : ℕ) → q < count_of x → target_at x q ≡ target_at y q
+  count : image_count x ≡ image_count y
+  numbers : (q : ℕ) → q < image_count x → target_at x q ≡ target_at y q
   rest : rest_of_head x ≡ rest_of_head y
 
 heads_alike : (g : Sizes) (x y : List ℕ) → SameHead x y → IsHead g x → IsHead g y
 heads_alike g x y same head = record {
   some = omega (arith, same.count, head.some);
   few = omega (arith, same.count, head.few);
-  rising = subst (λ (n : ℕ). RisesJournaled g 0 (images_from y 0 n)) same.count (rising_numbers g 0 x y 0 (count_of x) (λ q lo hi. same.numbers q (omega (arith, hi))) head.rising);
+  rising = subst (λ (n : ℕ). RisesJournaled g 0 (images_from y 0 n)) same.count (rising_numbers g 0 x y 0 (image_count x) (λ q lo hi. same.numbers q (omega (arith, hi))) head.rising);
   rest = ap are_zero (sym same.rest) ∙ head.rest;
 }
 
 module _ (c head : List ℕ) (size : 1196032 ≤ length c) (is : head ≡ slice 143360 4096 c) where
-  pub head_count : count_of head ≡ count_of (area_of c)
+  pub head_count : image_count head ≡ image_count (area_of c)
   head_count =
       let long : length head ≡ 4096 = ap length is ∙ slice_long 143360 4096 c (omega (arith, size)) in
       sym (front_count (area_of c) head 4096 (take_shorter 4096 1052672 (drop 143360 c) (omega arith) ∙ sym is) (omega (arith, long)))
@@ -142,10 +142,10 @@ module _ (c head : List ℕ) (size : 1196032 ≤ length c) (is : head ≡ slice 
       ∙ ap (little_number 4) (ap (slice (4 + 4 * p) 4) is ∙ slice_slice (4 + 4 * p) 4 143360 4096 c (omega (arith, lt)) ∙ sym (slice_slice (4 + 4 * p) 4 143360 1052672 c (omega (arith, lt))))
       ∙ sym (number_slice (area_of c) p)
 
-  module _ (few : count_of (area_of c) ≤ 256) where
+  module _ (few : image_count (area_of c) ≤ 256) where
     head_rest : rest_of_head head ≡ rest_of_head (area_of c)
     head_rest =
-        let n : ℕ = count_of (area_of c) in
+        let n : ℕ = image_count (area_of c) in
         ap (λ (k : ℕ). slice (4 + 4 * k) (4092 - 4 * k) head) head_count
         ∙ ap (slice (4 + 4 * n) (4092 - 4 * n)) is
         ∙ slice_slice (4 + 4 * n) (4092 - 4 * n) 143360 4096 c (omega (arith, few))
@@ -158,7 +158,7 @@ module _ (c head : List ℕ) (size : 1196032 ≤ length c) (is : head ≡ slice 
     head_back g = heads_alike g (area_of c) head (record { count = sym head_count; numbers = λ q lt. sym (head_number q (omega (arith, lt, few))); rest = sym head_rest })
 
   -- where the superblock stands
-  pub super_there : is_open c ≡ true → slice (cond (target_at head 0 == 0) 147456 0) 4096 c ≡ super_block c
+  pub super_there : is_gate_open c ≡ true → slice (cond (target_at head 0 == 0) 147456 0) 4096 c ≡ super_block c
   super_there opened =
       let first : target_at head 0 ≡ target_at (area_of c) 0 = head_number 0 (omega arith) in
       let image : slice 147456 4096 c ≡ image_at (area_of c) 0 = sym (slice_slice 4096 4096 143360 1052672 c (omega arith)) in
@@ -169,12 +169,12 @@ module _ (c head : List ℕ) (size : 1196032 ≤ length c) (is : head ≡ slice 
 
 -- ---- a medium that holds a journal
 
-first_home : (c : List ℕ) → is_open c ≡ true → 1 ≤ count_of (area_of c) → Rises 0 (images_of (area_of c)) → home c 0 ≡ super_block c
+first_home : (c : List ℕ) → is_gate_open c ≡ true → 1 ≤ image_count (area_of c) → Rises 0 (images_of (area_of c)) → home c 0 ≡ super_block c
 first_home c opened some rises =
-    home_over (images_of (area_of c)) c 0 refl opened refl ∙ first_image (count_of (area_of c)) (area_of c) (block_of c 0) some rises
+    home_over (images_of (area_of c)) c 0 refl opened refl ∙ first_image (image_count (area_of c)) (area_of c) (block_of c 0) some rises
     ∙ sym (ap (λ b. cond b (first_block (area_of c) c) (block_of c 0)) opened)
 
-pub open_volume : (g : Sizes) (seen : Tier → List ℕ) → is_open (seen Fast) ≡ true → are_zero (rest_of_gate (seen Fast)) ≡ true → HasSizes g seen → Spells g (super_block (seen Fast)) → IsHead g (area_of (seen Fast)) → IsVolume g seen
+pub open_volume : (g : Sizes) (seen : Tier → List ℕ) → is_gate_open (seen Fast) ≡ true → are_zero (rest_of_gate (seen Fast)) ≡ true → HasSizes g seen → Spells g (super_block (seen Fast)) → IsHead g (area_of (seen Fast)) → IsVolume g seen
 open_volume g seen opened rest sizes spells head =
     let c : List ℕ = seen Fast in
     record {
@@ -191,7 +191,7 @@ volume_spells : (g : Sizes) (seen : Tier → List ℕ) → IsVolume g seen → S
 volume_spells g seen volume =
     let c : List ℕ = seen Fast in
     let journal = volume.journal in
-    elim (cases_Bool (is_open c)) [
+    elim (cases_Bool (is_gate_open c)) [
       | inl opened ↦
           let head = journal.head opened in
           subst (λ (b : List ℕ). Spells g b) (first_home c opened head.some (rising_rises g 0 (images_of (area_of c)) head.rising)) journal.superblock
@@ -202,7 +202,7 @@ volume_long : (g : Sizes) (seen : Tier → List ℕ) → IsVolume g seen → 119
 volume_long g seen volume = let is = volume.sizes Fast in omega (arith, is)
 
 -- what is damaged holds no journal
-pub no_volume : (seen : Tier → List ℕ) (w : What) (block : ℕ) → Names seen w block → (g : Sizes) → IsVolume g seen → ⊥
+pub no_volume : (seen : Tier → List ℕ) (w : What) (block : ℕ) → NamesDamage seen w block → (g : Sizes) → IsVolume g seen → ⊥
 no_volume seen w block (inl gate) g volume = false≢true (sym gate.rest ∙ volume.journal.rest)
 no_volume seen w block (inr (inl head)) g volume =
     let there = volume.journal.head head.opened in
@@ -225,16 +225,16 @@ no_volume seen w block (inr (inr super)) g volume =
 pub record BatchThere (c : List ℕ) (g : Sizes) (n : ℕ) (bytes : List ℕ) : Type 0 where
   pub some : 1 ≤ n
   pub few : n ≤ 256
-  pub count : n ≡ count_of bytes
+  pub count : n ≡ image_count bytes
   pub long : 4096 * n + 4096 ≤ length bytes
-  pub read : IsRead c bytes
+  pub read : IsBatchRead c bytes
   pub fit : (c' : List ℕ) → c' ≡ c → Fit (length c') (images_of bytes)
 
 -- how many images are to be read
-pub few_images : (g : Sizes) (s : Tier → List ℕ) (n : ℕ) → IsVolume g s → is_open (s Fast) ≡ true → n ≡ count_of (area_of (s Fast)) → (1 ≤ n) × (n ≤ 256)
+pub few_images : (g : Sizes) (s : Tier → List ℕ) (n : ℕ) → IsVolume g s → is_gate_open (s Fast) ≡ true → n ≡ image_count (area_of (s Fast)) → (1 ≤ n) × (n ≤ 256)
 few_images g s n volume opened count = let head = volume.journal.head opened in (omega (arith, head.some, count), omega (arith, head.few, count))
 
-pub batch_there : (g : Sizes) (s : Tier → List ℕ) (n : ℕ) (bytes : List ℕ) → IsVolume g s → is_open (s Fast) ≡ true → n ≡ count_of (area_of (s Fast)) → bytes ≡ slice 143360 (4096 * n + 4096) (s Fast) → BatchThere (s Fast) g n bytes
+pub batch_there : (g : Sizes) (s : Tier → List ℕ) (n : ℕ) (bytes : List ℕ) → IsVolume g s → is_gate_open (s Fast) ≡ true → n ≡ image_count (area_of (s Fast)) → bytes ≡ slice 143360 (4096 * n + 4096) (s Fast) → BatchThere (s Fast) g n bytes
 batch_there g s n bytes volume opened count is =
     let c : List ℕ = s Fast in
     let size = volume_long g s volume in
@@ -251,7 +251,7 @@ batch_there g s n bytes volume opened count is =
     }
 
 -- reads, and then the replay
-module _ {s t : Tier → List ℕ} {a m b : ℕ} {L M N : ℕ → Tier → List ℕ → Type 0} (f f' n : ℕ) (un : Unmoved a m s t L M) (rest : AtRest s (L a) Fast) (opened : is_open (s Fast) ≡ true) (count : n ≡ count_of (area_of (s Fast)))
+module _ {s t : Tier → List ℕ} {a m b : ℕ} {L M N : ℕ → Tier → List ℕ → Type 0} (f f' n : ℕ) (un : Unmoved a m s t L M) (rest : AtRest s (L a) Fast) (opened : is_gate_open (s Fast) ≡ true) (count : n ≡ image_count (area_of (s Fast)))
     (course : Since Fast (SameJournal (t Fast)) m b M N) where
   pub opens_failed : (u : Tier → List ℕ) → SameLengths t u → b ≤ m + n + 3 → TellsFaults {T = Sizes} f f' (Err errors.DeviceFault) → Opens s u a b L N f f' (Err errors.DeviceFault)
   opens_failed u lengths at_most told = record {
@@ -263,7 +263,7 @@ module _ {s t : Tier → List ℕ} {a m b : ℕ} {L M N : ℕ → Tier → List 
     refused = record { named = tt; memory = λ is. absurd cc; untouched = λ other. absurd (other refl); only = λ is. absurd cc };
   }
 
-  pub opens_replayed : (u : Tier → List ℕ) → SameLengths t u → (g : Sizes) → b ≡ m + n + 3 → TellsFaults f f' (Ok g) → IsVolume g s → AtRest u (N b) Fast → is_open (u Fast) ≡ false → ((x : Tier) → x ≢ Fast → u x ≡ t x) → IsShutGate (u Fast) → Opens s u a b L N f f' (Ok g)
+  pub opens_replayed : (u : Tier → List ℕ) → SameLengths t u → (g : Sizes) → b ≡ m + n + 3 → TellsFaults f f' (Ok g) → IsVolume g s → AtRest u (N b) Fast → is_gate_open (u Fast) ≡ false → ((x : Tier) → x ≢ Fast → u x ≡ t x) → IsShutGate (u Fast) → Opens s u a b L N f f' (Ok g)
   opens_replayed u lengths g calls told volume rests closed others gate = record {
     course = then_calls Fast un (weaker course (λ x l. same_on (s Fast) (t Fast) x (same_refl (s Fast) (t Fast) (un.reads Fast)) l)) (λ x l. same_refl (s Fast) x (rest x l));
     lengths = λ x. lengths x ∙ ap length (un.reads x);
@@ -284,7 +284,7 @@ module _ {s t : Tier → List ℕ} {a m b : ℕ} {L M N : ℕ → Tier → List 
 abbrev pub IsOfRun : JournalError → Type 0
 IsOfRun e = (e ≡ errors.DeviceFault) ⊎ (e ≡ errors.Memory)
 
-pub run_names : (e : JournalError) (P : What → ℕ → Type 0) → IsOfRun e → OnDamage e P
+pub run_names : (e : JournalError) (P : What → ℕ → Type 0) → IsOfRun e → OnJournalDamage e P
 run_names errors.DeviceFault P either = tt
 run_names errors.BatchTooLarge P either = tt
 run_names errors.Memory P either = tt
@@ -297,8 +297,8 @@ pub unmoved_same : (a : ℕ) (s : Tier → List ℕ) (L : ℕ → Tier → List 
 unmoved_same a s L = record { clock = refl; reads = λ t. refl; past = λ m t c le l. l; kept = λ m t c le l. l }
 
 -- reads, and then the superblock of a closed gate
-pub opens_geometry : {s t : Tier → List ℕ} {a b : ℕ} {L N : ℕ → Tier → List ℕ → Type 0} (f f' : ℕ) (r : Result Sizes JournalError) → Unmoved a b s t L N → AtRest s (L a) Fast → is_open (s Fast) ≡ false → are_zero (rest_of_gate (s Fast)) ≡ true
-    → TellsFaults f f' r → IfOk r (λ g. Spells g (block_of (s Fast) 0)) → IfOk r (λ g. HasSizes g s) → IfErr r (λ e. OnDamage e (λ w block. (w ≡ what.Super) × (block ≡ 0) × TellsNone (block_of (s Fast) 0) s)) → IfErr r IsOfReading → Opens s t a b L N f f' r
+pub opens_geometry : {s t : Tier → List ℕ} {a b : ℕ} {L N : ℕ → Tier → List ℕ → Type 0} (f f' : ℕ) (r : Result Sizes JournalError) → Unmoved a b s t L N → AtRest s (L a) Fast → is_gate_open (s Fast) ≡ false → are_zero (rest_of_gate (s Fast)) ≡ true
+    → TellsFaults f f' r → IfOk r (λ g. Spells g (block_of (s Fast) 0)) → IfOk r (λ g. HasSizes g s) → IfErr r (λ e. OnJournalDamage e (λ w block. (w ≡ what.Super) × (block ≡ 0) × TellsNone (block_of (s Fast) 0) s)) → IfErr r IsOfReading → Opens s t a b L N f f' r
 opens_geometry {s = s} f f' (Ok g) un rest closed gate told spells sizes damaged only = opens_shut f f' un rest g told closed (shut_volume g s closed gate sizes spells)
 opens_geometry {s = s} f f' (Err e) un rest closed gate told spells sizes damaged only =
     let super : block_of (s Fast) 0 ≡ super_block (s Fast) = sym (ap (λ b. cond b (first_block (area_of (s Fast)) (s Fast)) (block_of (s Fast) 0)) closed) in
@@ -334,7 +334,7 @@ head_super seen w v k l head super =
           ]
     ]
 
-pub one_name : (seen : Tier → List ℕ) (w v : What) (k l : ℕ) → Names seen w k → Names seen v l → (w ≡ v) × (k ≡ l)
+pub one_name : (seen : Tier → List ℕ) (w v : What) (k l : ℕ) → NamesDamage seen w k → NamesDamage seen v l → (w ≡ v) × (k ≡ l)
 one_name seen w v k l (inl a) (inl b) = (a.structure ∙ sym b.structure, a.place ∙ sym b.place)
 one_name seen w v k l (inl a) (inr (inl b)) = absurd (gate_head seen w v k l a b)
 one_name seen w v k l (inl a) (inr (inr b)) = absurd (gate_super seen w v k l a b)

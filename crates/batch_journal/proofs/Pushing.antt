@@ -9,7 +9,7 @@ use Rattle.byteorder.specs.Endian.{little_number, little_bytes}
 use Rattle.byteorder.specs.Numbers.{little_from-take, little_number-reads_back, length-bytes_low_first}
 use Rattle.tier_device.specs.Media.{overwritten, Torn}
 use Rattle.tier_device.specs.RecordLaws.{torn_overwritten}
-use Rattle.batch_journal.specs.Images.{slice, count_of, target_at, image_at, images_from, images_of, rest_of_head, image_for, Rises, next_from, next_of}
+use Rattle.batch_journal.specs.Images.{slice, image_count, target_at, image_at, images_from, images_of, rest_of_head, image_for, Rises, next_from, next_of}
 use Rattle.layout.specs.Bytes.{are_zero}
 use Rattle.batch_journal.specs.View.{IsBatch}
 use Rattle.batch_journal.proofs.Bytes.{slice_behind, slice_apart, slice_written}
@@ -38,8 +38,8 @@ images_each b c p (suc n) numbers images =
 word_reads : (x : ℕ) → x < 2 ^ 32 → little_number 4 (little_bytes 4 x) ≡ x
 word_reads x small = ap (little_number 4) (sym (append-nil (little_bytes 4 x))) ∙ little_number-reads_back 4 x [] (omega (arith, small))
 
-count_written : (b : List ℕ) (x : ℕ) → x < 2 ^ 32 → count_of (overwritten b 0 (little_bytes 4 x)) ≡ x
-unfolding count_of
+count_written : (b : List ℕ) (x : ℕ) → x < 2 ^ 32 → image_count (overwritten b 0 (little_bytes 4 x)) ≡ x
+unfolding image_count
 count_written b x small = little_number-reads_back 4 x (drop (0 + length (little_bytes 4 x)) b) (omega (arith, small))
 
 -- ---- bytes that are zero
@@ -62,8 +62,8 @@ zero_zeros (suc n) = zero_zeros n
 
 pub zeros_rest : (n : ℕ) (b : List ℕ) → b ≡ replicate n 0 → are_zero (rest_of_head b) ≡ true
 zeros_rest n b is =
-    let at = 4 + 4 * count_of b in
-    let size = 4092 - 4 * count_of b in
+    let at = 4 + 4 * image_count b in
+    let size = 4092 - 4 * image_count b in
     zero_take size (drop at b) (zero_drop at b (ap are_zero is ∙ zero_zeros n))
 
 -- ---- numbers that rise
@@ -117,16 +117,16 @@ module _ (bytes image : List ℕ) (n next number : ℕ) (is : IsBatch n next byt
   last_image : image_at b3 n ≡ image
   last_image = images_kept n ∙ ap (take 4096) (drop_at bytes image (4096 * n + 4096) (sym is.long)) ∙ take_all 4096 image (omega (arith, size))
 
-  count3 : count_of b3 ≡ n + 1
+  count3 : image_count b3 ≡ n + 1
   count3 = count_written b2 (n + 1) (omega (arith, few))
 
-  count3_suc : count_of b3 ≡ suc n
+  count3_suc : image_count b3 ≡ suc n
   count3_suc = omega (arith, count3)
 
-  at_rest : 4 + 4 * count_of b3 ≡ 8 + 4 * n
+  at_rest : 4 + 4 * image_count b3 ≡ 8 + 4 * n
   at_rest = omega (arith, count3)
 
-  size_rest : 4092 - 4 * count_of b3 ≡ 4088 - 4 * n
+  size_rest : 4092 - 4 * image_count b3 ≡ 4088 - 4 * n
   size_rest = omega (arith, count3)
 
   split_drop : (k : ℕ) (l : List ℕ) → drop (4 + k) l ≡ drop 4 (drop k l)
@@ -174,8 +174,8 @@ zero_at zero k = refl
 zero_at (suc n) zero = refl
 zero_at (suc n) (suc k) = zero_at n k
 
-pub zeros_count : (n : ℕ) (b : List ℕ) → b ≡ replicate n 0 → count_of b ≡ 0
-unfolding count_of
+pub zeros_count : (n : ℕ) (b : List ℕ) → b ≡ replicate n 0 → image_count b ≡ 0
+unfolding image_count
 zeros_count n b is = ap (little_number 4) is ∙ omega (arith, zero_at n 0, zero_at n 1, zero_at n 2, zero_at n 3)
 
 -- ---- blocks that a batch may write

@@ -2,20 +2,20 @@
 use Rattle.std.proofs.Common.{◌≡◌, ◌≤◌, ◌+◌, ◌*◌, inl, inr, ℕ, List, [], ◌∷◌, length, get_or, ◌==◌, true, false, sym, ◌∙◌, ap, subst, arith}
 use Rattle.tier_device.specs.Media.{Torn, overwritten}
 use Rattle.tier_device.specs.RecordLaws.{torn_overwritten}
-use Rattle.batch_journal.specs.Images.{count_of, images_of}
-use Rattle.batch_journal.specs.Blocks.{area_of, gate_of, is_open}
+use Rattle.batch_journal.specs.Images.{image_count, images_of}
+use Rattle.batch_journal.specs.Blocks.{area_of, gate_of, is_gate_open}
 use Rattle.batch_journal.specs.Volume.{SameJournal, IsAfter}
 use Rattle.batch_journal.specs.Course.{SameOrAfter}
 use Rattle.batch_journal.proofs.Meaning.{Staged, staging_closed, staging_alike, staged_written, written_gate, opening_either, opened_after}
 
 -- Head and images are written behind the closed gate.
 pub record IsStaged (bytes seen seen' : List ℕ) : Type 0 where
-  pub closed : is_open seen' ≡ false
+  pub closed : is_gate_open seen' ≡ false
   pub alike : SameJournal seen seen'
   pub staged : Staged bytes (area_of seen')
   pub long : 139265 ≤ length seen'
 
-pub staged_by : (bytes seen seen' : List ℕ) → count_of bytes ≤ 256 → 4096 * count_of bytes + 4096 ≡ length bytes → 1196032 ≤ length seen → is_open seen ≡ false → seen' ≡ overwritten seen 143360 bytes → IsStaged bytes seen seen'
+pub staged_by : (bytes seen seen' : List ℕ) → image_count bytes ≤ 256 → 4096 * image_count bytes + 4096 ≡ length bytes → 1196032 ≤ length seen → is_gate_open seen ≡ false → seen' ≡ overwritten seen 143360 bytes → IsStaged bytes seen seen'
 staged_by bytes seen seen' few long size closed is =
     let n = length bytes in
     let high : 143360 + n ≤ 1196032 = omega (arith, few, long) in
@@ -33,15 +33,15 @@ gate_torn byte s s' le is = subst (λ (x : List ℕ). Torn 139264 1 s x) (sym is
 pub gate_byte : (byte : ℕ) (s s' : List ℕ) → 139265 ≤ length s → s' ≡ overwritten s 139264 (byte ∷ []) → gate_of s' ≡ byte ∷ []
 gate_byte byte s s' le is = ap gate_of is ∙ written_gate s byte le
 
-pub gate_now : (byte : ℕ) (s s' : List ℕ) → 139265 ≤ length s → s' ≡ overwritten s 139264 (byte ∷ []) → is_open s' ≡ (byte == 165)
+pub gate_now : (byte : ℕ) (s s' : List ℕ) → 139265 ≤ length s → s' ≡ overwritten s 139264 (byte ∷ []) → is_gate_open s' ≡ (byte == 165)
 gate_now byte s s' le is =
     let here : gate_of s' ≡ byte ∷ [] = ap gate_of is ∙ written_gate s byte le in
     ap (λ (b : List ℕ). get_or b 0 0 == 165) here
 
 -- and then the gate is opened
-pub opened_by : (bytes seen d s : List ℕ) → IsStaged bytes seen d → s ≡ overwritten d 139264 (165 ∷ []) → (is_open s ≡ true) × IsAfter bytes seen s × (images_of (area_of s) ≡ images_of bytes)
+pub opened_by : (bytes seen d s : List ℕ) → IsStaged bytes seen d → s ≡ overwritten d 139264 (165 ∷ []) → (is_gate_open s ≡ true) × IsAfter bytes seen s × (images_of (area_of s) ≡ images_of bytes)
 opened_by bytes seen d s st is =
-    let opened : is_open s ≡ true = gate_now 165 d s st.long is in
+    let opened : is_gate_open s ≡ true = gate_now 165 d s st.long is in
     let after = opened_after bytes seen d s st.alike st.closed st.staged (gate_torn 165 d s st.long is) opened in
     (opened, after.0, after.1)
 

@@ -7,7 +7,7 @@ use Rattle.tier_device.specs.declared.media.Tier.TheVariants.{Fast}
 use Rattle.tier_device.specs.Media.{Torn, overwritten}
 use Rattle.tier_device.specs.RecordLaws.{torn_overwritten}
 use Rattle.batch_journal.specs.Images.{images_of}
-use Rattle.batch_journal.specs.Blocks.{home, is_open, AreJournaled}
+use Rattle.batch_journal.specs.Blocks.{home, is_gate_open, AreJournaled}
 use Rattle.batch_journal.specs.Volume.{IsHead, IsJournal, KeepsGeometry, IsAfter}
 use Rattle.batch_journal.specs.Course.{Since, SameLengths, TornFrom, SameOrAfter, BeforeOrAfter, OutsideRun, OutsideRunFrom}
 use Rattle.batch_journal.specs.View.{IsShut, IsBatch}
@@ -34,10 +34,10 @@ module _ (g : Sizes) (seen : Tier → List ℕ) (left : List ℕ → Type 0) (sh
 
   -- and after it
   pub shut_after : (bytes : List ℕ) (seen' : Tier → List ℕ) (left' : List ℕ → Type 0) → IsHead g bytes → KeepsGeometry g (images_of bytes) → SameLengths seen seen'
-      → IsAfter bytes (seen Fast) (seen' Fast) → is_open (seen' Fast) ≡ false → ((x : List ℕ) → left' x → x ≡ seen' Fast) → IsShut g seen' left'
+      → IsAfter bytes (seen Fast) (seen' Fast) → is_gate_open (seen' Fast) ≡ false → ((x : List ℕ) → left' x → x ≡ seen' Fast) → IsShut g seen' left'
   shut_after bytes seen' left' head keeps lengths after closed rest = record {
     sizes = λ t. lengths t ∙ shut.sizes t;
-    closed = λ x l. subst (λ (s : List ℕ). is_open s ≡ false) (sym (rest x l)) closed;
+    closed = λ x l. subst (λ (s : List ℕ). is_gate_open s ≡ false) (sym (rest x l)) closed;
     journal = λ x l. subst (λ (s : List ℕ). IsJournal g s) (sym (rest x l)) (after.journal g (shut.journal (seen Fast) now) head keeps);
   }
 
@@ -98,7 +98,7 @@ module _ (g : Sizes) (seen : Tier → List ℕ) (left : List ℕ → Type 0) (sh
   wrote_run x (inl torn) = run_torn g seen left shut now first n (in_pool torn.0) x torn.1
   wrote_run x (inr l) = run_elsewhere g seen left shut now first n x l
 
-  wrote_shut : (x : List ℕ) → ((tier ≡ Fast) × TornFrom left (4096 * first) n x) ⊎ left x → is_open x ≡ false
+  wrote_shut : (x : List ℕ) → ((tier ≡ Fast) × TornFrom left (4096 * first) n x) ⊎ left x → is_gate_open x ≡ false
   wrote_shut x (inl torn) = run_closed (4096 * first) n torn.1.0 x (omega (arith, in_pool torn.0)) (shut.closed torn.1.0 torn.1.1) torn.1.2
   wrote_shut x (inr l) = shut.closed x l
 

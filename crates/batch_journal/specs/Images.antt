@@ -7,8 +7,8 @@ abbrev pub slice : ℕ → ℕ → List ℕ → List ℕ
 slice at n c = take n (drop at c)
 
 -- how many images there are: the head's first number
-unfoldable pub count_of : List ℕ → ℕ
-count_of bytes = little_number 4 bytes
+unfoldable pub image_count : List ℕ → ℕ
+image_count bytes = little_number 4 bytes
 
 -- the block that the image at a place is for
 unfoldable pub target_at : List ℕ → ℕ → ℕ
@@ -25,11 +25,11 @@ images_from bytes p (suc n) = (target_at bytes p, image_at bytes p) ∷ images_f
 
 -- all images, each with its block's number
 abbrev pub images_of : List ℕ → List (ℕ × List ℕ)
-images_of bytes = images_from bytes 0 (count_of bytes)
+images_of bytes = images_from bytes 0 (image_count bytes)
 
 -- the head block's bytes behind the numbers
 abbrev pub rest_of_head : List ℕ → List ℕ
-rest_of_head bytes = slice (4 + 4 * count_of bytes) (4092 - 4 * count_of bytes) bytes
+rest_of_head bytes = slice (4 + 4 * image_count bytes) (4092 - 4 * image_count bytes) bytes
 
 -- the image for a block, if there is one
 abbrev pub image_for : ℕ → List (ℕ × List ℕ) → Option (List ℕ)

@@ -3,13 +3,13 @@ use Rattle.std.specs.Prelude.{◌≡◌, ◌≢◌, ℕ, ◌+◌, ◌*◌, ◌�
 use Rattle.tier_device.specs.Media.{Rose}
 use Rattle.batch_journal.specs.declared.error.JournalError.{JournalError}
 use Rattle.batch_journal.specs.declared.error.JournalError.TheVariants as errors
-use Rattle.batch_journal.specs.Images.{count_of, target_at, image_at, images_of, rest_of_head}
+use Rattle.batch_journal.specs.Images.{image_count, target_at, image_at, images_of, rest_of_head}
 use Rattle.batch_journal.specs.Blocks.{area_of, block_of}
 
-pub record IsRead (c bytes : List ℕ) : Type 0 where
-  pub some : 1 ≤ count_of bytes
-  pub few : count_of bytes ≤ 256
-  pub long : 4096 * count_of bytes + 4096 ≡ length bytes
+pub record IsBatchRead (c bytes : List ℕ) : Type 0 where
+  pub some : 1 ≤ image_count bytes
+  pub few : image_count bytes ≤ 256
+  pub long : 4096 * image_count bytes + 4096 ≡ length bytes
   pub staged : images_of (area_of c) ≡ images_of bytes
   pub rest : rest_of_head (area_of c) ≡ rest_of_head bytes
 

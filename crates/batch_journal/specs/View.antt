@@ -2,9 +2,9 @@
 use Rattle.std.specs.Prelude.{Bool, ℕ, List, ◌≡◌, ◌≤◌, ◌+◌, ◌*◌, length, true, false}
 use Rattle.tier_device.specs.declared.media.Tier.{Tier}
 use Rattle.layout.specs.Places.{Sizes}
-use Rattle.batch_journal.specs.Images.{images_of, count_of, rest_of_head, Rises, next_of}
+use Rattle.batch_journal.specs.Images.{images_of, image_count, rest_of_head, Rises, next_of}
 use Rattle.layout.specs.Bytes.{are_zero}
-use Rattle.batch_journal.specs.Blocks.{is_open}
+use Rattle.batch_journal.specs.Blocks.{is_gate_open}
 use Rattle.batch_journal.specs.Volume.{IsJournal, HasSizes}
 
 pub record JournalView (M : Type 0) : Type 0 where
@@ -15,7 +15,7 @@ pub record JournalView (M : Type 0) : Type 0 where
 
 -- the bytes are a head and its images
 pub record IsBatch (count next : ℕ) (bytes : List ℕ) : Type 0 where
-  pub counts : count ≡ count_of bytes
+  pub counts : count ≡ image_count bytes
   pub long : 4096 * count + 4096 ≡ length bytes
   pub few : count ≤ 1023
   pub rises : Rises 0 (images_of bytes)
@@ -25,5 +25,5 @@ pub record IsBatch (count next : ℕ) (bytes : List ℕ) : Type 0 where
 -- Whatever a stop leaves is a journal of this geometry, with a closed gate.
 pub record IsShut (g : Sizes) (seen : Tier → List ℕ) (left : List ℕ → Type 0) : Type 0 where
   pub sizes : HasSizes g seen
-  pub closed : (c : List ℕ) → left c → is_open c ≡ false
+  pub closed : (c : List ℕ) → left c → is_gate_open c ≡ false
   pub journal : (c : List ℕ) → left c → IsJournal g c

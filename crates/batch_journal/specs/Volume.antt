@@ -4,9 +4,9 @@ use Rattle.tier_device.specs.declared.media.Tier.{Tier}
 use Rattle.tier_device.specs.declared.media.Tier.TheVariants.{Fast}
 use Rattle.layout.specs.Places.{Sizes, tier_blocks}
 use Rattle.layout.specs.Super.{super_of}
-use Rattle.batch_journal.specs.Images.{count_of, images_of, image_for, rest_of_head}
+use Rattle.batch_journal.specs.Images.{image_count, images_of, image_for, rest_of_head}
 use Rattle.layout.specs.Bytes.{are_zero}
-use Rattle.batch_journal.specs.Blocks.{home, is_open, area_of, rest_of_gate, after_batch, RisesJournaled}
+use Rattle.batch_journal.specs.Blocks.{home, is_gate_open, area_of, rest_of_gate, after_batch, RisesJournaled}
 
 -- The block spells the superblock of this geometry.
 abbrev pub Spells : Sizes → List ℕ → Type 0
@@ -18,8 +18,8 @@ HasSizes g seen = (t : Tier) → length (seen t) ≡ 4096 * tier_blocks g t
 
 -- The bytes begin with a head: a count of 1 to 256, and that many numbers, which rise and name blocks that a batch may write.
 pub record IsHead (g : Sizes) (bytes : List ℕ) : Type 0 where
-  pub some : 1 ≤ count_of bytes
-  pub few : count_of bytes ≤ 256
+  pub some : 1 ≤ image_count bytes
+  pub few : image_count bytes ≤ 256
   pub rising : RisesJournaled g 0 (images_of bytes)
   pub rest : are_zero (rest_of_head bytes) ≡ true
 
@@ -28,7 +28,7 @@ pub record IsJournal (g : Sizes) (c : List ℕ) : Type 0 where
   pub size : length c ≡ 4096 * tier_blocks g Fast
   pub rest : are_zero (rest_of_gate c) ≡ true
   pub superblock : Spells g (home c 0)
-  pub head : is_open c ≡ true → IsHead g (area_of c)
+  pub head : is_gate_open c ≡ true → IsHead g (area_of c)
 
 -- A medium of this geometry.
 pub record IsVolume (g : Sizes) (seen : Tier → List ℕ) : Type 0 where

@@ -1,7 +1,7 @@
 // What the bytes of a head say.
 ghost use Rattle.std.specs.Prelude.{◌≡◌, ◌<◌, ◌≤◌, ◌+◌, ◌*◌, ◌^◌, ℕ, List, length, true, IsTrue, ◌↔◌};
 ghost use Rattle.layout.specs.Places.{is_journaled};
-ghost use Rattle.batch_journal.specs.Images.{count_of, target_at, images_of, rest_of_head, Rises};
+ghost use Rattle.batch_journal.specs.Images.{image_count, target_at, images_of, rest_of_head, Rises};
 ghost use Rattle.layout.specs.Bytes.{are_zero};
 ghost use Rattle.batch_journal.specs.Blocks.{RisesJournaled};
 ghost use Rattle.batch_journal.specs.Volume.{IsHead, Spells, KeepsGeometry};
@@ -19,7 +19,7 @@ pub fn number_in(bytes: &[u8], place: usize) -> u32
 
 /// Whether the bytes are a head of this geometry.
 pub fn is_head(bytes: &[u8], count: usize, geometry: &Geometry) -> bool
-    requires count { count ≡ count_of bytes.now }
+    requires count { count ≡ image_count bytes.now }
     requires some { 1 ≤ count }
     requires few { count ≤ 256 }
     requires long { 4096 ≤ length bytes.now }
@@ -29,7 +29,7 @@ pub fn is_head(bytes: &[u8], count: usize, geometry: &Geometry) -> bool
 }
 
 fn ends_in_zeros(bytes: &[u8], count: usize) -> bool
-    requires count { count ≡ count_of bytes.now }
+    requires count { count ≡ image_count bytes.now }
     requires few { count ≤ 256 }
     requires long { 4096 ≤ length bytes.now }
     ensures { result ≡ are_zero (rest_of_head bytes.now) }
@@ -39,7 +39,7 @@ fn ends_in_zeros(bytes: &[u8], count: usize) -> bool
 
 /// Whether the numbers rise and name blocks that a batch may write.
 pub fn is_rising(bytes: &[u8], count: usize, geometry: &Geometry) -> bool
-    requires count { count ≡ count_of bytes.now }
+    requires count { count ≡ image_count bytes.now }
     requires few { count ≤ 1023 }
     requires long { 4096 ≤ length bytes.now }
     ensures { IsTrue result ↔ RisesJournaled geometry.now 0 (images_of bytes.now) }
@@ -65,7 +65,7 @@ fn may_follow(number: u32, low: u64, geometry: &Geometry) -> bool
 
 /// Whether an image for block 0 spells this geometry, if there is one: it is the first.
 pub fn keeps_geometry(bytes: &[u8], count: usize, geometry: &Geometry) -> bool
-    requires count { count ≡ count_of bytes.now }
+    requires count { count ≡ image_count bytes.now }
     requires few { count ≤ 1023 }
     requires long { 4096 * count + 4096 ≤ length bytes.now }
     requires rises { Rises 0 (images_of bytes.now) }

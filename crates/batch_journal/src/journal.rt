@@ -4,11 +4,11 @@ ghost use Rattle.tier_device.specs.declared.media.Tier.{Tier};
 ghost use Rattle.tier_device.specs.declared.media.Tier.TheVariants.{Fast};
 ghost use Rattle.tier_device.specs.Media.{AtRest, LeftSince, Puts, Rose, overwritten};
 ghost use Rattle.batch_journal.specs.Images.{slice};
-ghost use Rattle.batch_journal.specs.Blocks.{home, after_batch, block_of, is_home, is_open, IsShutGate, AreJournaled, calls_of, ShowsHome};
+ghost use Rattle.batch_journal.specs.Blocks.{home, after_batch, block_of, is_home, is_gate_open, IsShutGate, AreJournaled, opening_calls, ShowsHome};
 ghost use Rattle.batch_journal.specs.Volume.{IsJournal, IsVolume, KeepsGeometry, SameJournal};
 ghost use Rattle.batch_journal.specs.Course.{Since, Unmoved, SameLengths, TornFrom, BeforeOrAfter, OutsideRun, OutsideRunFrom};
 ghost use Rattle.batch_journal.specs.declared.error.JournalError.TheVariants.{DeviceFault, BatchTooLarge, Memory};
-ghost use Rattle.batch_journal.specs.Damage.{OnDamage, Names, AwaitsReplay};
+ghost use Rattle.batch_journal.specs.Damage.{OnJournalDamage, NamesDamage, AwaitsReplay};
 
 use crate::Batch;
 use crate::calls::{fetch, put, settle};
@@ -66,19 +66,19 @@ impl<M: Media> Journal<M> {
         ensures blocks { IfOk result (λ j. home (M.seen j.media Fast) ≡ home (M.seen media Fast)) }
         ensures others { IfOk result (λ j. (t : Tier) → t ≢ Fast → M.seen j.media t ≡ M.seen media t) }
         ensures rests { IfOk result (λ j. AtRest (M.seen j.media) (M.left j.media (M.moment j.media)) Fast) }
-        ensures calls { IfOk result (λ j. M.moment j.media ≡ M.moment media + calls_of (M.seen media Fast)) }
-        ensures gate_byte { IfOk result (λ j. is_open (M.seen media Fast) ≡ true → IsShutGate (M.seen j.media Fast)) }
+        ensures calls { IfOk result (λ j. M.moment j.media ≡ M.moment media + opening_calls (M.seen media Fast)) }
+        ensures gate_byte { IfOk result (λ j. is_gate_open (M.seen media Fast) ≡ true → IsShutGate (M.seen j.media Fast)) }
         ensures unfailed { IfOk result (λ j. j.failed ≡ false) }
         ensures lengths { IfOk result (λ j. SameLengths (M.seen media) (M.seen j.media)) }
         ensures quiet { IfOk result (λ j. M.faults j.media ≡ M.faults media) }
 
-        ensures damaged { IfErr result (λ e. OnDamage e.0 (λ _ _. (g : Sizes) → IsVolume g (M.seen media) → ⊥)) }
-        ensures named { IfErr result (λ e. OnDamage e.0 (Names (M.seen media))) }
+        ensures damaged { IfErr result (λ e. OnJournalDamage e.0 (λ _ _. (g : Sizes) → IsVolume g (M.seen media) → ⊥)) }
+        ensures named { IfErr result (λ e. OnJournalDamage e.0 (NamesDamage (M.seen media))) }
         ensures memory { IfErr result (λ e. e.0 ≡ Memory → AwaitsReplay (M.seen media)) }
         ensures untouched { IfErr result (λ e. e.0 ≢ DeviceFault → Unmoved (M.moment media) (M.moment e.1) (M.seen media) (M.seen e.1) (M.left media) (M.left e.1)) }
         ensures fault { IfErr result (λ e. e.0 ≡ DeviceFault → Rose (M.faults media) (M.faults e.1)) }
         ensures quiet_refused { IfErr result (λ e. e.0 ≢ DeviceFault → M.faults e.1 ≡ M.faults media) }
-        ensures at_most { IfErr result (λ e. M.moment e.1 ≤ M.moment media + calls_of (M.seen media Fast)) }
+        ensures at_most { IfErr result (λ e. M.moment e.1 ≤ M.moment media + opening_calls (M.seen media Fast)) }
         ensures only { IfErr result (λ e. e.0 ≢ BatchTooLarge) }
         ensures lengths_refused { IfErr result (λ e. SameLengths (M.seen media) (M.seen e.1)) }
         ensures faults_refused { IfErr result (λ e. M.faults media ≤ M.faults e.1) }

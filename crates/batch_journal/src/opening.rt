@@ -3,12 +3,12 @@ ghost use Rattle.std.specs.Prelude.{◌≡◌, ◌≤◌, length, true, IfOk, If
 ghost use Rattle.tier_device.specs.declared.media.Tier.TheVariants.{Fast};
 ghost use Rattle.tier_device.specs.Media.{AtRest};
 ghost use Rattle.layout.specs.Bytes.{are_zero};
-ghost use Rattle.batch_journal.specs.Images.{count_of};
-ghost use Rattle.batch_journal.specs.Blocks.{area_of, is_open, rest_of_gate};
+ghost use Rattle.batch_journal.specs.Images.{image_count};
+ghost use Rattle.batch_journal.specs.Blocks.{area_of, is_gate_open, rest_of_gate};
 ghost use Rattle.batch_journal.specs.Volume.{IsVolume};
 ghost use Rattle.batch_journal.specs.Course.{Unmoved};
 ghost use Rattle.batch_journal.specs.Reading.{TellsFaults, IsOfReading};
-ghost use Rattle.batch_journal.specs.Damage.{OnDamage, Names};
+ghost use Rattle.batch_journal.specs.Damage.{OnJournalDamage, NamesDamage};
 ghost use Rattle.batch_journal.specs.Opening.{Opens};
 
 use crate::error::JournalError;
@@ -22,11 +22,11 @@ use tier_device::{Media, Tier};
 /// The geometry of a medium with an open gate, and how many images are to be replayed. It takes no memory.
 fn read_volume<M: Media>(media: &mut M) -> Result<(Geometry, usize), JournalError>
     requires size { 1196032 ≤ length (M.seen media.old Fast) }
-    requires opened { is_open (M.seen media.old Fast) ≡ true }
+    requires opened { is_gate_open (M.seen media.old Fast) ≡ true }
     requires gate { are_zero (rest_of_gate (M.seen media.old Fast)) ≡ true }
     ensures is { IfOk result (λ x. IsVolume x.0 (M.seen media.old)) }
-    ensures count { IfOk result (λ x. x.1 ≡ count_of (area_of (M.seen media.old Fast))) }
-    ensures named { IfErr result (λ e. OnDamage e (Names (M.seen media.old))) }
+    ensures count { IfOk result (λ x. x.1 ≡ image_count (area_of (M.seen media.old Fast))) }
+    ensures named { IfErr result (λ e. OnJournalDamage e (NamesDamage (M.seen media.old))) }
     ensures unmoved { Unmoved (M.moment media.old) (M.moment media.new) (M.seen media.old) (M.seen media.new) (M.left media.old) (M.left media.new) }
     ensures faults { TellsFaults (M.faults media.old) (M.faults media.new) result }
     ensures only { IfErr result IsOfReading }
@@ -54,7 +54,7 @@ fn read_volume<M: Media>(media: &mut M) -> Result<(Geometry, usize), JournalErro
 fn open_replayed<M: Media>(alloc: Global, media: &mut M) -> Result<Geometry, JournalError>
     requires size { 1196032 ≤ length (M.seen media.old Fast) }
     requires rest { AtRest (M.seen media.old) (M.left media.old (M.moment media.old)) Fast }
-    requires opened { is_open (M.seen media.old Fast) ≡ true }
+    requires opened { is_gate_open (M.seen media.old Fast) ≡ true }
     requires gate { are_zero (rest_of_gate (M.seen media.old Fast)) ≡ true }
     ensures { Opens (M.seen media.old) (M.seen media.new) (M.moment media.old) (M.moment media.new) (M.left media.old) (M.left media.new) (M.faults media.old) (M.faults media.new) result }
 {

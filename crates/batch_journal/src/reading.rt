@@ -5,13 +5,13 @@ ghost use Rattle.layout.specs.Places.{tier_blocks};
 ghost use Rattle.layout.specs.Bytes.{are_zero};
 ghost use Rattle.layout.specs.declared.places.TheConstants.{BLOCK};
 ghost use Rattle.layout.specs.declared.error.What.TheVariants as what;
-ghost use Rattle.batch_journal.specs.Images.{slice, count_of, target_at};
-ghost use Rattle.batch_journal.specs.Blocks.{area_of, is_open, rest_of_gate};
+ghost use Rattle.batch_journal.specs.Images.{slice, image_count, target_at};
+ghost use Rattle.batch_journal.specs.Blocks.{area_of, is_gate_open, rest_of_gate};
 ghost use Rattle.batch_journal.specs.Volume.{Spells, HasSizes};
 ghost use Rattle.batch_journal.specs.Course.{Unmoved};
 ghost use Rattle.batch_journal.specs.Reading.{TellsFaults, IsOfReading};
 ghost use Rattle.batch_journal.specs.declared.error.JournalError.TheVariants.{DeviceFault, Memory};
-ghost use Rattle.batch_journal.specs.Damage.{OnDamage, IsGateDamage, TellsNone};
+ghost use Rattle.batch_journal.specs.Damage.{OnJournalDamage, IsGateDamage, TellsNone};
 
 use crate::calls::fetch;
 use crate::error::JournalError;
@@ -52,12 +52,12 @@ pub fn blank() -> [u8; BLOCK] {
 /// Whether the gate is open. `Damaged` where the rest of its block is not zero.
 pub fn read_gate<M: Media>(media: &mut M) -> Result<bool, JournalError>
     requires { 1196032 ≤ length (M.seen media.old Fast) }
-    ensures gate { IfOk result (λ gate. gate ≡ is_open (M.seen media.old Fast)) }
+    ensures gate { IfOk result (λ gate. gate ≡ is_gate_open (M.seen media.old Fast)) }
     ensures rest { IfOk result (λ gate. are_zero (rest_of_gate (M.seen media.old Fast)) ≡ true) }
     ensures unmoved { Unmoved (M.moment media.old) (M.moment media.new) (M.seen media.old) (M.seen media.new) (M.left media.old) (M.left media.new) }
     ensures faults { TellsFaults (M.faults media.old) (M.faults media.new) result }
     ensures only { IfErr result IsOfReading }
-    ensures damaged { IfErr result (λ e. OnDamage e (IsGateDamage (M.seen media.old Fast))) }
+    ensures damaged { IfErr result (λ e. OnJournalDamage e (IsGateDamage (M.seen media.old Fast))) }
 {
     let mut block = blank();
     match fetch(media, Tier::Fast, GATE, &mut block) {
@@ -75,7 +75,7 @@ pub fn read_gate<M: Media>(media: &mut M) -> Result<bool, JournalError>
 // Whether the gate is open, by the bytes of its block; `None` where the rest of the block is not zero.
 fn gate_in(block: &[u8]) -> Option<bool>
     requires { 1 ≤ length block.now }
-    ensures gate { IfSome result (λ is_open. is_open ≡ (get_or block.now 0 0 == 165)) }
+    ensures gate { IfSome result (λ is_gate_open. is_gate_open ≡ (get_or block.now 0 0 == 165)) }
     ensures rest { OnSome result (are_zero (drop 1 block.now) ≡ true) }
     ensures damaged { IfNone result (are_zero (drop 1 block.now) ≡ false) }
 {
@@ -90,7 +90,7 @@ pub fn read_geometry<M: Media>(media: &mut M, at: usize) -> Result<Geometry, Jou
     requires { at + BLOCK ≤ length (M.seen media.old Fast) }
     ensures spells { IfOk result (λ g. Spells g (slice at 4096 (M.seen media.old Fast))) }
     ensures sizes { IfOk result (λ g. HasSizes g (M.seen media.old)) }
-    ensures damaged { IfErr result (λ e. OnDamage e (λ w block. (w ≡ what.Super) × (block ≡ 0) × TellsNone (slice at 4096 (M.seen media.old Fast)) (M.seen media.old))) }
+    ensures damaged { IfErr result (λ e. OnJournalDamage e (λ w block. (w ≡ what.Super) × (block ≡ 0) × TellsNone (slice at 4096 (M.seen media.old Fast)) (M.seen media.old))) }
     ensures unmoved { Unmoved (M.moment media.old) (M.moment media.new) (M.seen media.old) (M.seen media.new) (M.left media.old) (M.left media.new) }
     ensures faults { TellsFaults (M.faults media.old) (M.faults media.new) result }
     ensures only { IfErr result IsOfReading }
@@ -145,10 +145,10 @@ pub fn read_head<M: Media>(media: &mut M, head: &mut [u8]) -> Result<usize, Jour
     requires size { 1196032 ≤ length (M.seen media.old Fast) }
     requires long { length head.old ≡ BLOCK }
     ensures head { IfOk result (λ count. head.new ≡ slice 143360 4096 (M.seen media.old Fast)) }
-    ensures count { IfOk result (λ count. count ≡ count_of (area_of (M.seen media.old Fast))) }
+    ensures count { IfOk result (λ count. count ≡ image_count (area_of (M.seen media.old Fast))) }
     ensures some { IfOk result (λ count. 1 ≤ count) }
     ensures few { IfOk result (λ count. count ≤ 256) }
-    ensures damaged { IfErr result (λ e. OnDamage e (λ w block. (w ≡ what.JournalHead) × (block ≡ 35) × ((count_of (area_of (M.seen media.old Fast)) < 1) ⊎ (256 < count_of (area_of (M.seen media.old Fast)))))) }
+    ensures damaged { IfErr result (λ e. OnJournalDamage e (λ w block. (w ≡ what.JournalHead) × (block ≡ 35) × ((image_count (area_of (M.seen media.old Fast)) < 1) ⊎ (256 < image_count (area_of (M.seen media.old Fast)))))) }
     ensures unmoved { Unmoved (M.moment media.old) (M.moment media.new) (M.seen media.old) (M.seen media.new) (M.left media.old) (M.left media.new) }
     ensures faults { TellsFaults (M.faults media.old) (M.faults media.new) result }
     ensures only { IfErr result IsOfReading }

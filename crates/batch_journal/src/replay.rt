@@ -3,8 +3,8 @@ ghost use Rattle.std.specs.Prelude.{◌≡◌, ◌≢◌, ◌≤◌, ◌<◌, �
 ghost use Rattle.tier_device.specs.declared.media.Tier.{Tier};
 ghost use Rattle.tier_device.specs.declared.media.Tier.TheVariants.{Fast};
 ghost use Rattle.tier_device.specs.Media.{AtRest, Rose};
-ghost use Rattle.batch_journal.specs.Images.{count_of, images_of, rest_of_head};
-ghost use Rattle.batch_journal.specs.Blocks.{area_of, is_open, IsShutGate, home, after_batch, Fit};
+ghost use Rattle.batch_journal.specs.Images.{image_count, images_of, rest_of_head};
+ghost use Rattle.batch_journal.specs.Blocks.{area_of, is_gate_open, IsShutGate, home, after_batch, Fit};
 ghost use Rattle.batch_journal.specs.Volume.{SameJournal, IsAfter};
 ghost use Rattle.batch_journal.specs.Course.{Since, BesideFrom, SameOrAfter, IsPut, SameLengths};
 
@@ -28,7 +28,7 @@ pub const CLOSED: u8 = 0x00;
 
 /// The n writes in place. They are not kept yet.
 fn put_images<M: Media>(media: &mut M, bytes: &[u8], count: usize) -> Result<(), Failed>
-    requires count { count ≡ count_of bytes.now }
+    requires count { count ≡ image_count bytes.now }
     requires few { count ≤ 256 }
     requires long { 4096 * count + 4096 ≤ length bytes.now }
     requires fit { Fit (length (M.seen media.old Fast)) (images_of bytes.now) }
@@ -54,7 +54,7 @@ fn put_images<M: Media>(media: &mut M, bytes: &[u8], count: usize) -> Result<(),
 }
 
 fn put_images_kept<M: Media>(media: &mut M, bytes: &[u8], count: usize) -> Result<(), Failed>
-    requires count { count ≡ count_of bytes.now }
+    requires count { count ≡ image_count bytes.now }
     requires few { count ≤ 256 }
     requires long { 4096 * count + 4096 ≤ length bytes.now }
     requires fit { Fit (length (M.seen media.old Fast)) (images_of bytes.now) }
@@ -78,17 +78,17 @@ fn put_images_kept<M: Media>(media: &mut M, bytes: &[u8], count: usize) -> Resul
 
 /// Replays the open journal, whose head and images these bytes are, and closes it.
 pub fn replay<M: Media>(media: &mut M, bytes: &[u8], count: usize) -> Result<(), Failed>
-    requires count { count ≡ count_of bytes.now }
+    requires count { count ≡ image_count bytes.now }
     requires few { count ≤ 256 }
     requires long { 4096 * count + 4096 ≤ length bytes.now }
     requires fit { Fit (length (M.seen media.old Fast)) (images_of bytes.now) }
     requires size { 1196032 ≤ length (M.seen media.old Fast) }
     requires rest { AtRest (M.seen media.old) (M.left media.old (M.moment media.old)) Fast }
-    requires opened { is_open (M.seen media.old Fast) ≡ true }
+    requires opened { is_gate_open (M.seen media.old Fast) ≡ true }
     requires staged { images_of (area_of (M.seen media.old Fast)) ≡ images_of bytes.now }
     ensures course { Since Fast (SameJournal (M.seen media.old Fast)) (M.moment media.old) (M.moment media.new) (M.left media.old) (M.left media.new) }
     ensures rest { OnOk result (AtRest (M.seen media.new) (M.left media.new (M.moment media.new)) Fast) }
-    ensures closed { OnOk result (is_open (M.seen media.new Fast) ≡ false) }
+    ensures closed { OnOk result (is_gate_open (M.seen media.new Fast) ≡ false) }
     ensures others { OnOk result ((t : Tier) → t ≢ Fast → M.seen media.new t ≡ M.seen media.old t) }
     ensures lengths { SameLengths (M.seen media.old) (M.seen media.new) }
     ensures calls { OnOk result (M.moment media.new ≡ M.moment media.old + count + 3) }
@@ -107,13 +107,13 @@ pub fn replay<M: Media>(media: &mut M, bytes: &[u8], count: usize) -> Result<(),
 
 /// Writes head and images behind the closed gate, and opens it.
 fn open_batch<M: Media>(media: &mut M, bytes: &[u8]) -> Result<(), Failed>
-    requires few { count_of bytes.now ≤ 256 }
-    requires long { 4096 * count_of bytes.now + 4096 ≡ length bytes.now }
+    requires few { image_count bytes.now ≤ 256 }
+    requires long { 4096 * image_count bytes.now + 4096 ≡ length bytes.now }
     requires size { 1196032 ≤ length (M.seen media.old Fast) }
-    requires closed { (c : List ℕ) → M.left media.old (M.moment media.old) Fast c → is_open c ≡ false }
+    requires closed { (c : List ℕ) → M.left media.old (M.moment media.old) Fast c → is_gate_open c ≡ false }
     ensures course { Since Fast (SameOrAfter (M.left media.old (M.moment media.old) Fast) bytes.now (M.seen media.old Fast)) (M.moment media.old) (M.moment media.new) (M.left media.old) (M.left media.new) }
     ensures rest { OnOk result (AtRest (M.seen media.new) (M.left media.new (M.moment media.new)) Fast) }
-    ensures opened { OnOk result (is_open (M.seen media.new Fast) ≡ true) }
+    ensures opened { OnOk result (is_gate_open (M.seen media.new Fast) ≡ true) }
     ensures staged { OnOk result (images_of (area_of (M.seen media.new Fast)) ≡ images_of bytes.now) }
     ensures after { OnOk result (IsAfter bytes.now (M.seen media.old Fast) (M.seen media.new Fast)) }
     ensures others { OnOk result ((t : Tier) → t ≢ Fast → M.seen media.new t ≡ M.seen media.old t) }
@@ -133,15 +133,15 @@ fn open_batch<M: Media>(media: &mut M, bytes: &[u8]) -> Result<(), Failed>
 
 /// A batch of at least one image, whole or not at all.
 pub fn write_batch<M: Media>(media: &mut M, bytes: &[u8], count: usize) -> Result<(), Failed>
-    requires count { count ≡ count_of bytes.now }
+    requires count { count ≡ image_count bytes.now }
     requires few { count ≤ 256 }
     requires long { 4096 * count + 4096 ≡ length bytes.now }
     requires fit { Fit (length (M.seen media.old Fast)) (images_of bytes.now) }
     requires size { 1196032 ≤ length (M.seen media.old Fast) }
-    requires closed { (c : List ℕ) → M.left media.old (M.moment media.old) Fast c → is_open c ≡ false }
+    requires closed { (c : List ℕ) → M.left media.old (M.moment media.old) Fast c → is_gate_open c ≡ false }
     ensures course { Since Fast (SameOrAfter (M.left media.old (M.moment media.old) Fast) bytes.now (M.seen media.old Fast)) (M.moment media.old) (M.moment media.new) (M.left media.old) (M.left media.new) }
     ensures rest { OnOk result (AtRest (M.seen media.new) (M.left media.new (M.moment media.new)) Fast) }
-    ensures closed { OnOk result (is_open (M.seen media.new Fast) ≡ false) }
+    ensures closed { OnOk result (is_gate_open (M.seen media.new Fast) ≡ false) }
     ensures after { OnOk result (IsAfter bytes.now (M.seen media.old Fast) (M.seen media.new Fast)) }
     ensures others { OnOk result ((t : Tier) → t ≢ Fast → M.seen media.new t ≡ M.seen media.old t) }
     ensures lengths { SameLengths (M.seen media.old) (M.seen media.new) }

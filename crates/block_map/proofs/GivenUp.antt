@@ -6,7 +6,7 @@ use Rattle.block_alloc.specs.declared.runs.Run.{Run}
 use Rattle.block_alloc.specs.Runs.{run_blocks, blocks_of}
 use Rattle.layout.specs.declared.extents.Extent.{Extent}
 use Rattle.extent_nodes.specs.Places.{place_of}
-use Rattle.block_map.specs.Map.{stop_of, listed, places_of, HasBlock}
+use Rattle.block_map.specs.Map.{run_end, place_list, places_of, HasBlock}
 
 range_more : (a n : ℕ) → range_with_len a (n + 1) ≡ range_with_len a n ++ (a + n) ∷ []
 range_more a zero = let e : a ≡ a + 0 = omega arith in ap (λ x. x ∷ []) e
@@ -20,14 +20,14 @@ abbrev longer : Run → Run
 longer r = record { first = r.first; count = r.count + 1 }
 
 -- the last of some runs with one block more
-pub lengthened : (rs : List Run) (k : ℕ) (d : Run) → k + 1 ≡ length rs → blocks_of (set rs k (longer (get_or rs k d))) ≡ blocks_of rs ++ stop_of (get_or rs k d) ∷ []
+pub lengthened : (rs : List Run) (k : ℕ) (d : Run) → k + 1 ≡ length rs → blocks_of (set rs k (longer (get_or rs k d))) ≡ blocks_of rs ++ run_end (get_or rs k d) ∷ []
 lengthened [] k d is = absurd (omega (arith, is))
 lengthened (r ∷ []) zero d is =
-    append-nil (run_blocks (longer r)) ∙ range_more r.first r.count ∙ ap (λ xs. xs ++ stop_of r ∷ []) (sym (append-nil (run_blocks r)))
+    append-nil (run_blocks (longer r)) ∙ range_more r.first r.count ∙ ap (λ xs. xs ++ run_end r ∷ []) (sym (append-nil (run_blocks r)))
 lengthened (r ∷ s ∷ rs) zero d is = absurd (omega (arith, is))
 lengthened (r ∷ rs) (suc k) d is =
     ap (λ xs. run_blocks r ++ xs) (lengthened rs k d (omega (arith, is)))
-    ∙ sym (append_assoc (run_blocks r) (blocks_of rs) (stop_of (get_or rs k d) ∷ []))
+    ∙ sym (append_assoc (run_blocks r) (blocks_of rs) (run_end (get_or rs k d) ∷ []))
 
 -- no run is empty, with one more of one block ..
 pub pushed_some : (rs : List Run) (block : ℕ) → AllByRecursion HasBlock rs → AllByRecursion HasBlock (rs ++ record { first = block; count = 1 } ∷ [])
@@ -41,20 +41,20 @@ longer_some (r ∷ rs) zero d all = (omega arith, all.1)
 longer_some (r ∷ rs) (suc k) d all = (all.0, longer_some rs k d all.1)
 
 -- the places of some blocks: that of the first, and those of the rest
-places_from : (es : List Extent) (b stop : ℕ) → b < stop → places_of es b (stop - b) ≡ listed (place_of es b) ++ places_of es (b + 1) (stop - (b + 1))
+places_from : (es : List Extent) (b stop : ℕ) → b < stop → places_of es b (stop - b) ≡ place_list (place_of es b) ++ places_of es (b + 1) (stop - (b + 1))
 places_from es b stop lt = let one : stop - b ≡ suc (stop - (b + 1)) = omega (arith, lt) in ap (places_of es b) one
 
 -- what has come, and the places of what is left, are all that they were when one has come that is mapped ..
 pub step_some : (es : List Extent) (b stop p : ℕ) (xs ys all : List ℕ) → b < stop → place_of es b ≡ Some p → ys ≡ xs ++ p ∷ [] → xs ++ places_of es b (stop - b) ≡ all → ys ++ places_of es (b + 1) (stop - (b + 1)) ≡ all
 step_some es b stop p xs ys all lt is now before =
     let rest = places_of es (b + 1) (stop - (b + 1)) in
-    ap (λ v. v ++ rest) now ∙ append_assoc xs (p ∷ []) rest ∙ ap (λ v. xs ++ v) (sym (places_from es b stop lt ∙ ap (λ o. listed o ++ rest) is)) ∙ before
+    ap (λ v. v ++ rest) now ∙ append_assoc xs (p ∷ []) rest ∙ ap (λ v. xs ++ v) (sym (places_from es b stop lt ∙ ap (λ o. place_list o ++ rest) is)) ∙ before
 
 -- .. or one that is not
 pub step_none : (es : List Extent) (b stop : ℕ) (xs all : List ℕ) → b < stop → place_of es b ≡ None → xs ++ places_of es b (stop - b) ≡ all → xs ++ places_of es (b + 1) (stop - (b + 1)) ≡ all
 step_none es b stop xs all lt is before =
     let rest = places_of es (b + 1) (stop - (b + 1)) in
-    ap (λ v. xs ++ v) (sym (places_from es b stop lt ∙ ap (λ o. listed o ++ rest) is)) ∙ before
+    ap (λ v. xs ++ v) (sym (places_from es b stop lt ∙ ap (λ o. place_list o ++ rest) is)) ∙ before
 
 pub none_left : (es : List Extent) (b stop : ℕ) → stop ≤ b → places_of es b (stop - b) ≡ []
 none_left es b stop le = let zero_left : stop - b ≡ 0 = omega (arith, le) in ap (places_of es b) zero_left

@@ -41,21 +41,21 @@ abbrev pub AreCut : ℕ → TierRuns → TierRuns → Type 0
 AreCut from old new = (t : Tier) (k : ℕ) → lies_at new t k ≡ (if nat_le from k then None else lies_at old t k)
 
 -- a place, where there is one
-abbrev pub listed : Option ℕ → List ℕ
-listed None = []
-listed (Some p) = p ∷ []
+abbrev pub place_list : Option ℕ → List ℕ
+place_list None = []
+place_list (Some p) = p ∷ []
 
 -- the places of so many blocks from a first one on, of those that some runs map
 abbrev pub places_of : List Extent → ℕ → ℕ → List ℕ
-places_of es first count = flat_map (λ k. listed (place_of es k)) (range_with_len first count)
+places_of es first count = flat_map (λ k. place_list (place_of es k)) (range_with_len first count)
 
 -- it has a block or more
 abbrev pub HasBlock : Run → Type 0
 HasBlock r = 0 < r.count
 
 -- the block behind a run
-abbrev pub stop_of : Run → ℕ
-stop_of r = r.first + r.count
+abbrev pub run_end : Run → ℕ
+run_end r = r.first + r.count
 
 -- the last of some runs
 abbrev pub last_of : List Run → Run
@@ -63,5 +63,5 @@ last_of runs = slice_index_or runs (length runs - 1) (record { first = 0; count 
 
 -- the run ends before a block, and can be one longer
 pub record EndsAt (block : ℕ) (r : Run) : Type 0 where
-  pub stop : stop_of r ≡ block
+  pub stop : run_end r ≡ block
   pub room : r.count < 2 ^ 32 - 1

@@ -3,7 +3,7 @@ ghost use Rattle.std.specs.Prelude.{◌≡◌, ◌+◌, ◌-◌, ◌^◌, ◌<�
 ghost use Rattle.std.specs.List.{AllByRecursion};
 ghost use Rattle.extent_nodes.specs.Places.{place_of};
 ghost use Rattle.block_alloc.specs.Runs.{blocks_of};
-ghost use Rattle.block_map.specs.Map.{places_of, last_of, stop_of, EndsAt, HasBlock};
+ghost use Rattle.block_map.specs.Map.{places_of, last_of, run_end, EndsAt, HasBlock};
 
 use block_alloc::Run;
 use extent_tree::Extents;
@@ -60,7 +60,7 @@ fn goes_on(runs: &[Run], block: u32) -> bool
 fn lengthen(runs: &mut Vec<Run>)
     requires some { 0 < length runs.old.items }
     requires room { (last_of runs.old.items).count < 2 ^ 32 - 1 }
-    ensures blocks { blocks_of runs.new.items ≡ blocks_of runs.old.items ++ stop_of (last_of runs.old.items) ∷ [] }
+    ensures blocks { blocks_of runs.new.items ≡ blocks_of runs.old.items ++ run_end (last_of runs.old.items) ∷ [] }
     ensures some { AllByRecursion HasBlock runs.old.items → AllByRecursion HasBlock runs.new.items }
 {
     let at = runs.len() - 1;

@@ -5,7 +5,7 @@ use Rattle.std.proofs.Math.Seq.{drop-nil}
 use Rattle.std.proofs.lemmas.List.{take-take, drop-drop, drop-take}
 use Rattle.posix_calls.specs.Content.{resized, written, range}
 use Rattle.posix_calls.specs.Query.{blocks_touched}
-use Rattle.call_effects.specs.Blocks.{block_of, followed, joined, range_by, block_resized, block_written}
+use Rattle.call_effects.specs.Blocks.{block_of, followed, blocks_joined, range_by, block_resized, block_written}
 
 -- ---- bytes cut and grown, and bytes put over others, element by element
 
@@ -160,10 +160,10 @@ both_known (Some bytes) (Some more) all e = record { bytes = bytes; more = more;
 next_block : (b : ℕ) → 4096 * b + 4096 ≡ 4096 * (b + 1)
 next_block b = omega arith
 
-joined_is : (blocks : ℕ → Option (List ℕ)) (bytes : List ℕ) → AreBlocksOf blocks bytes → (first count : ℕ) (all : List ℕ) → joined blocks first count ≡ Some all → all ≡ take (4096 * count) (drop (4096 * first) bytes)
+joined_is : (blocks : ℕ → Option (List ℕ)) (bytes : List ℕ) → AreBlocksOf blocks bytes → (first count : ℕ) (all : List ℕ) → blocks_joined blocks first count ≡ Some all → all ≡ take (4096 * count) (drop (4096 * first) bytes)
 joined_is blocks bytes known first zero all e = let same : [] ≡ all = cc in sym same
 joined_is blocks bytes known first (suc count) all e =
-    let f = both_known (blocks first) (joined blocks (first + 1) count) all e in
+    let f = both_known (blocks first) (blocks_joined blocks (first + 1) count) all e in
     let here : f.bytes ≡ take 4096 (drop (4096 * first) bytes) = sym (known first f.bytes f.first_is) in
     let there : f.more ≡ take (4096 * count) (drop 4096 (drop (4096 * first) bytes)) =
     joined_is blocks bytes known (first + 1) count f.more f.rest_is
@@ -204,7 +204,7 @@ range_is blocks bytes known at (suc count) found e =
     let first = at / 4096 in
     let skipped = at - 4096 * first in
     let within = touched at count in
-    let all = mapped (range skipped (suc count)) (joined blocks first (blocks_touched at (suc count))) found e in
+    let all = mapped (range skipped (suc count)) (blocks_joined blocks first (blocks_touched at (suc count))) found e in
     let from = drop (4096 * first) bytes in
     let is : all.0 ≡ take (skipped + (suc count + within.rest)) from = joined_is blocks bytes known first (blocks_touched at (suc count)) all.0 all.1 ∙ ap (λ k. take k from) within.blocks in
     sym (sym all.2

@@ -24,7 +24,7 @@ use Rattle.file_graph.specs.Graph.{Graph}
 use Rattle.file_graph.specs.declared.effect.Kind.TheVariants as kind
 use Rattle.call_effects.specs.Effects.{kind_if}
 use Rattle.call_effects.specs.Wholes.{without_kinds, kind_of, tree_of, kept, graph_view}
-use Rattle.call_effects.specs.Fits.{IsEntry, IsUsedFile, IsEmptyDir, IsClear, IsNumber, Fits, FitsReplaced}
+use Rattle.call_effects.specs.Fits.{IsEntry, IsUsedFile, IsEmptyDir, IsClear, IsNumber, OperationFits, FitsReplaced}
 use Rattle.call_effects.proofs.Asked.{bind_ok, not_refused, given, looked}
 use Rattle.call_effects.proofs.Inodes.{no_inodes}
 use Rattle.call_effects.proofs.Changes.{IsFair}
@@ -46,10 +46,10 @@ nothing_there : (o : Option ℕ) → is_there o ≡ false → o ≡ None
 nothing_there None e = refl
 nothing_there (Some i) e = absurd (cc)
 
-fits_as : (g : Graph) (d : Descriptors) (own : Own) (x y : Operation) → x ≡ y → Fits g d own x → Fits g d own y
-fits_as g d own x y e = subst (Fits g d own) e
+fits_as : (g : Graph) (d : Descriptors) (own : Own) (x y : Operation) → x ≡ y → OperationFits g d own x → OperationFits g d own y
+fits_as g d own x y e = subst (OperationFits g d own) e
 
-mkdir_fits : (g : Graph) (d : Descriptors) (own : Own) (path : List ℕ) (operation : Operation) → IsFair g d → run (graph_view g d) (mkdir path) ≡ Ok operation → Fits g d own operation
+mkdir_fits : (g : Graph) (d : Descriptors) (own : Own) (path : List ℕ) (operation : Operation) → IsFair g d → run (graph_view g d) (mkdir path) ≡ Ok operation → OperationFits g d own operation
 unfolding mkdir
 mkdir_fits g d own path operation sound e =
     let v = graph_view g d in
@@ -91,7 +91,7 @@ named_file g d place i b sound at is e no_dir =
           absurd (let clash : true ≡ false = sym yes ∙ no_dir in cc)
     ] refl
 
-unlink_fits : (g : Graph) (d : Descriptors) (own : Own) (path : List ℕ) (operation : Operation) → IsFair g d → run (graph_view g d) (unlink path) ≡ Ok operation → Fits g d own operation
+unlink_fits : (g : Graph) (d : Descriptors) (own : Own) (path : List ℕ) (operation : Operation) → IsFair g d → run (graph_view g d) (unlink path) ≡ Ok operation → OperationFits g d own operation
 unfolding unlink
 unlink_fits g d own path operation sound e =
     let v = graph_view g d in
@@ -121,11 +121,11 @@ open_file g d c n x i sound is same =
       and_false true = refl
       and_false false = refl
 
-write_fits : (g : Graph) (d : Descriptors) (own : Own) (i at : ℕ) (bytes : List ℕ) (operation : Operation) → IsUsedFile g d i → run (graph_view g d) (write_at i at bytes) ≡ Ok operation → Fits g d own operation
+write_fits : (g : Graph) (d : Descriptors) (own : Own) (i at : ℕ) (bytes : List ℕ) (operation : Operation) → IsUsedFile g d i → run (graph_view g d) (write_at i at bytes) ≡ Ok operation → OperationFits g d own operation
 write_fits g d own i at [] operation is e = fits_as g d own _ operation (given (graph_view g d) e) tt
 write_fits g d own i at (b ∷ bytes) operation is e = let big = bind_ok (graph_view g d) _ _ _ e in fits_as g d own _ operation (given (graph_view g d) big.2) is
 
-pwrite_fits : (g : Graph) (d : Descriptors) (own : Own) (client number at : ℕ) (bytes : List ℕ) (operation : Operation) → IsFair g d → run (graph_view g d) (pwrite (d client) number at bytes) ≡ Ok operation → Fits g d own operation
+pwrite_fits : (g : Graph) (d : Descriptors) (own : Own) (client number at : ℕ) (bytes : List ℕ) (operation : Operation) → IsFair g d → run (graph_view g d) (pwrite (d client) number at bytes) ≡ Ok operation → OperationFits g d own operation
 unfolding pwrite
 pwrite_fits g d own client number at bytes operation sound e =
     let v = graph_view g d in
@@ -146,7 +146,7 @@ file_beyond g d names place i b sound (inl end) is e no_dir =
     absurd (let clash : true ≡ false = sym yes ∙ no_dir in cc)
 file_beyond g d names place i b sound (inr at) is e no_dir = (named_file g d place i b sound at is e no_dir).1
 
-truncate_fits : (g : Graph) (d : Descriptors) (own : Own) (path : List ℕ) (len : ℕ) (operation : Operation) → IsFair g d → run (graph_view g d) (truncate path len) ≡ Ok operation → Fits g d own operation
+truncate_fits : (g : Graph) (d : Descriptors) (own : Own) (path : List ℕ) (len : ℕ) (operation : Operation) → IsFair g d → run (graph_view g d) (truncate path len) ≡ Ok operation → OperationFits g d own operation
 unfolding truncate
 truncate_fits g d own path len operation sound e =
     let v = graph_view g d in
@@ -158,9 +158,9 @@ truncate_fits g d own path len operation sound e =
     let big = bind_ok v _ _ _ refused.2 in
     let seen = bind_ok v _ _ _ big.2 in
     let node = file_beyond g d names.0 place.0 i.0 is_dir.0 sound (place_of g d names.0 place.0 sound place.1) (there_is v place.0.inode i.0 i.1) is_dir.1 (not_refused v errno.IsDirectory _ _ refused.1) in
-    fits_as g d own _ operation (given v seen.2) (elim (seen.0 == len) as (λ b. Fits g d own (cond b (Tell replies.Done) (Resize i.0 len))) [ true ↦ tt | false ↦ node ])
+    fits_as g d own _ operation (given v seen.2) (elim (seen.0 == len) as (λ b. OperationFits g d own (cond b (Tell replies.Done) (Resize i.0 len))) [ true ↦ tt | false ↦ node ])
 
-link_fits : (g : Graph) (d : Descriptors) (own : Own) (old new : List ℕ) (operation : Operation) → IsFair g d → run (graph_view g d) (link old new) ≡ Ok operation → Fits g d own operation
+link_fits : (g : Graph) (d : Descriptors) (own : Own) (old new : List ℕ) (operation : Operation) → IsFair g d → run (graph_view g d) (link old new) ≡ Ok operation → OperationFits g d own operation
 unfolding link
 link_fits g d own old new operation sound e =
     let v = graph_view g d in
@@ -215,7 +215,7 @@ not_not : (b : Bool) → not b ≡ false → b ≡ true
 not_not true e = refl
 not_not false e = absurd (cc)
 
-rmdir_fits : (g : Graph) (d : Descriptors) (own : Own) (path : List ℕ) (operation : Operation) → IsFair g d → run (graph_view g d) (rmdir path) ≡ Ok operation → Fits g d own operation
+rmdir_fits : (g : Graph) (d : Descriptors) (own : Own) (path : List ℕ) (operation : Operation) → IsFair g d → run (graph_view g d) (rmdir path) ≡ Ok operation → OperationFits g d own operation
 unfolding rmdir
 rmdir_fits g d own path operation sound e =
     let v = graph_view g d in
@@ -256,7 +256,7 @@ replaced_fits g d own from to i old_dir (Some j) replaced sound at is other e =
           subst (FitsReplaced g d to.location i) (given v rest) (apart, file.0, file.1)
     ] refl no_file.2
 
-renamed_fits : (g : Graph) (d : Descriptors) (own : Own) (from to : Place) (i : ℕ) (operation : Operation) → IsFair g d → IsPlace g from → from.inode ≡ Some i → IsPlace g to → IsClear (tree_of (kept g d)) i to.location.parent → is_inode i to.inode ≡ false → run (graph_view g d) (renamed from to i) ≡ Ok operation → Fits g d own operation
+renamed_fits : (g : Graph) (d : Descriptors) (own : Own) (from to : Place) (i : ℕ) (operation : Operation) → IsFair g d → IsPlace g from → from.inode ≡ Some i → IsPlace g to → IsClear (tree_of (kept g d)) i to.location.parent → is_inode i to.inode ≡ false → run (graph_view g d) (renamed from to i) ≡ Ok operation → OperationFits g d own operation
 renamed_fits g d own from to i operation sound at is at_to clear other e =
     let v = graph_view g d in
     let old_dir = bind_ok v _ _ _ e in
@@ -269,7 +269,7 @@ clear_of_walk : (g : Graph) (d : Descriptors) (i : ℕ) (names : List (List ℕ)
 clear_of_walk g d i [] place sound busy e clear = absurd (cc)
 clear_of_walk g d i (name ∷ names) place sound busy e clear = clear_walk g d i name names place sound.typed.root e clear
 
-rename_fits : (g : Graph) (d : Descriptors) (own : Own) (old new : List ℕ) (operation : Operation) → IsFair g d → run (graph_view g d) (rename old new) ≡ Ok operation → Fits g d own operation
+rename_fits : (g : Graph) (d : Descriptors) (own : Own) (old new : List ℕ) (operation : Operation) → IsFair g d → run (graph_view g d) (rename old new) ≡ Ok operation → OperationFits g d own operation
 unfolding rename
 rename_fits g d own old new operation sound e =
     let v = graph_view g d in
@@ -283,7 +283,7 @@ rename_fits g d own old new operation sound e =
     let roots = or_left (is_root old_names.0) (is_root new_names.0) (not_refused v errno.Busy _ _ busy.1) in
     let at = beyond g old_names.0 from.0 (place_of g d old_names.0 from.0 sound from.1) roots.0 in
     let at_to = beyond g new_names.0 to.0 (place_of g d new_names.0 to.0 sound to.1) roots.1 in
-    elim (is_inode i.0 to.0.inode) as (λ b. is_inode i.0 to.0.inode ≡ b → run v (cond b (Gives (Tell replies.Done)) (renamed from.0 to.0 i.0)) ≡ Ok operation → Fits g d own operation) [
+    elim (is_inode i.0 to.0.inode) as (λ b. is_inode i.0 to.0.inode ≡ b → run v (cond b (Gives (Tell replies.Done)) (renamed from.0 to.0 i.0)) ≡ Ok operation → OperationFits g d own operation) [
       | true ↦ λ same done. fits_as g d own _ operation (given v done) tt
       | false ↦ λ other rest. renamed_fits g d own from.0 to.0 i.0 operation sound at (there_is v from.0.inode i.0 i.1) at_to (clear_of_walk g d i.0 new_names.0 to.0 sound roots.1 to.1 (not_refused v errno.Invalid _ _ under.1)) other rest
     ] refl under.2
@@ -310,7 +310,7 @@ number_is : (v : View) (own : Own) (number : ℕ) → run v (number_or (lowest_f
 number_is v own number e = number_some v own (lowest_free own 0 32) number refl e
 
 open_there_fits : (g : Graph) (d : Descriptors) (own : Own) (names : List (List ℕ)) (place : Place) (number : ℕ) (f : Flags) (b : Bool) (o : Option ℕ) (operation : Operation) → IsFair g d → Leads g names place → place.inode ≡ o → run (graph_view g d) (kind_at place.inode) ≡ Ok b → b ≡ false
-    → IsNumber own number → run (graph_view g d) (open_there place number f o) ≡ Ok operation → Fits g d own operation
+    → IsNumber own number → run (graph_view g d) (open_there place number f o) ≡ Ok operation → OperationFits g d own operation
 open_there_fits g d own names place number f b (Some i) operation sound at is asked no_dir num e =
     let seen = bind_ok (graph_view g d) _ _ _ e in
     fits_as g d own _ operation (given (graph_view g d) seen.2) (file_beyond g d names place i b sound at is asked no_dir, num)
@@ -319,7 +319,7 @@ open_there_fits g d own names place number f b None operation sound at is asked 
     let full = bind_ok (graph_view g d) _ _ _ missing.2 in
     fits_as g d own _ operation (given (graph_view g d) full.2) (room_at g place (unmade g names place at (ap is_there is)) is, num)
 
-open_fits : (g : Graph) (d : Descriptors) (own : Own) (path : List ℕ) (f : Flags) (operation : Operation) → IsFair g d → run (graph_view g d) (open_path own path f) ≡ Ok operation → Fits g d own operation
+open_fits : (g : Graph) (d : Descriptors) (own : Own) (path : List ℕ) (f : Flags) (operation : Operation) → IsFair g d → run (graph_view g d) (open_path own path f) ≡ Ok operation → OperationFits g d own operation
 unfolding open_path
 open_fits g d own path f operation sound e =
     let v = graph_view g d in
@@ -334,7 +334,7 @@ open_fits g d own path f operation sound e =
 
 -- ---- what changes no tree
 
-close_fits : (g : Graph) (d : Descriptors) (client number : ℕ) (operation : Operation) → IsFair g d → run (graph_view g d) (close (d client) number) ≡ Ok operation → Fits g d (d client) operation
+close_fits : (g : Graph) (d : Descriptors) (client number : ℕ) (operation : Operation) → IsFair g d → run (graph_view g d) (close (d client) number) ≡ Ok operation → OperationFits g d (d client) operation
 unfolding close
 close_fits g d client number operation sound e =
     let v = graph_view g d in
@@ -342,7 +342,7 @@ close_fits g d client number operation sound e =
     let x = opened_is v (λ o. true) (d client number) i.0 i.1 in
     fits_as g d (d client) _ operation (given v i.2) (open_file g d client number x.0 i.0 sound x.1 x.2, record { what = x.0; is = x.1; inode = x.2 })
 
-pread_fits : (g : Graph) (d : Descriptors) (own : Own) (number at count : ℕ) (operation : Operation) → run (graph_view g d) (pread own number at count) ≡ Ok operation → Fits g d own operation
+pread_fits : (g : Graph) (d : Descriptors) (own : Own) (number at count : ℕ) (operation : Operation) → run (graph_view g d) (pread own number at count) ≡ Ok operation → OperationFits g d own operation
 unfolding pread
 pread_fits g d own number at count operation e =
     let v = graph_view g d in
@@ -352,7 +352,7 @@ pread_fits g d own number at count operation e =
     let bytes = bind_ok v _ _ _ size.2 in
     fits_as g d own _ operation (given v bytes.2) tt
 
-list_fits : (g : Graph) (d : Descriptors) (own : Own) (path : List ℕ) (operation : Operation) → run (graph_view g d) (list_path path) ≡ Ok operation → Fits g d own operation
+list_fits : (g : Graph) (d : Descriptors) (own : Own) (path : List ℕ) (operation : Operation) → run (graph_view g d) (list_path path) ≡ Ok operation → OperationFits g d own operation
 unfolding list_path
 list_fits g d own path operation e =
     let v = graph_view g d in
@@ -364,7 +364,7 @@ list_fits g d own path operation e =
     let entries = bind_ok v _ _ _ refused.2 in
     fits_as g d own _ operation (given v entries.2) tt
 
-described_fits : (g : Graph) (d : Descriptors) (own : Own) (v : View) (s : Option Seen) (operation : Operation) → run v (described s) ≡ Ok operation → Fits g d own operation
+described_fits : (g : Graph) (d : Descriptors) (own : Own) (v : View) (s : Option Seen) (operation : Operation) → run v (described s) ≡ Ok operation → OperationFits g d own operation
 unfolding run
 described_fits g d own v None operation e = absurd (cc)
 described_fits g d own v (Some (File names size)) operation e = fits_as g d own _ operation (given v e) tt
@@ -374,7 +374,7 @@ node_described : (v : View) (i : ℕ) (operation : Operation) → run v (Look i 
 unfolding run
 node_described v i operation e = e
 
-stat_fits : (g : Graph) (d : Descriptors) (own : Own) (path : List ℕ) (operation : Operation) → run (graph_view g d) (stat path) ≡ Ok operation → Fits g d own operation
+stat_fits : (g : Graph) (d : Descriptors) (own : Own) (path : List ℕ) (operation : Operation) → run (graph_view g d) (stat path) ≡ Ok operation → OperationFits g d own operation
 unfolding stat
 stat_fits g d own path operation e =
     let v = graph_view g d in
@@ -384,7 +384,7 @@ stat_fits g d own path operation e =
     described_fits g d own v (v.node i.0) operation (node_described v i.0 operation i.2)
 
 -- every call
-pub decide_fits : (g : Graph) (d : Descriptors) (client : ℕ) (c : Call) (operation : Operation) → IsFair g d → run (graph_view g d) (decide (d client) c) ≡ Ok operation → Fits g d (d client) operation
+pub decide_fits : (g : Graph) (d : Descriptors) (client : ℕ) (c : Call) (operation : Operation) → IsFair g d → run (graph_view g d) (decide (d client) c) ≡ Ok operation → OperationFits g d (d client) operation
 decide_fits g d client (call.Open path flags) operation sound e = open_fits g d (d client) path flags operation sound e
 decide_fits g d client (call.Close number) operation sound e = close_fits g d client number operation sound e
 decide_fits g d client (call.Pread number at count) operation sound e = pread_fits g d (d client) number at count operation e

@@ -27,7 +27,7 @@ use Rattle.file_graph.specs.declared.effect.Effect.TheVariants as effect
 use Rattle.call_effects.specs.Effects.{stored, making, removing, kind_if, effects_of}
 use Rattle.call_effects.specs.Records.{growth_asked, entry_rise, file_rise, move_rise}
 use Rattle.call_effects.specs.Wholes.{IsSound, without_kinds, graph_view, kind_of}
-use Rattle.call_effects.specs.Fits.{IsNew, IsRoom, IsEntry, IsUsedFile, IsEmptyDir, Fits}
+use Rattle.call_effects.specs.Fits.{IsNew, IsRoom, IsEntry, IsUsedFile, IsEmptyDir, OperationFits}
 use Rattle.call_effects.proofs.Puts.{put, put_there, put_other}
 use Rattle.call_effects.proofs.Changes.{fair_of, file, dir, enter_is, leave_is, one_subject}
 use Rattle.call_effects.proofs.Edges.{write_is, size_is}
@@ -257,7 +257,7 @@ module _ (g : Graph) (d : Descriptors) (sound : IsSound g d) where
   emptied_rises : (i : ℕ) (f : IsUsedFile g d i) → growth g (effect.Size i 0 ∷ []) ≡ 0
   emptied_rises i f = resized_rises i 0 f ∙ (let least = units_of_none (length f.bytes) in omega (arith, least))
 
-  pub growth_as_asked : (own : Own) (new : ℕ) (operation : Operation) → (makes operation ≡ true → IsNew g new) → Fits g d own operation → run (graph_view g d) (growth_asked operation) ≡ Ok (growth g (effects_of g new operation))
+  pub growth_as_asked : (own : Own) (new : ℕ) (operation : Operation) → (makes operation ≡ true → IsNew g new) → OperationFits g d own operation → run (graph_view g d) (growth_asked operation) ≡ Ok (growth g (effects_of g new operation))
   growth_as_asked own new (Tell answer) free fits = gives (graph_view g d) 0 ∙ ap (λ n. Ok n) (sym nothing_rises)
   growth_as_asked own new (NewDir at) free room =
       rise_asked g d at.parent room.names room.entries (directory_units 0) room.is ∙ ap (λ n. Ok (n + room_rise at room)) (sym empty_cost) ∙ ap (λ n. Ok n) (sym (made_rises new kind.Directory at (free refl) room))

@@ -15,7 +15,7 @@ use Rattle.file_graph.specs.Graph.{Graph, Node, after_effects}
 use Rattle.file_graph.specs.declared.effect.Kind.TheVariants as kind
 use Rattle.call_effects.specs.Effects.{effects_of, stored}
 use Rattle.call_effects.specs.Wholes.{tree_of, tree_node, keep, kept, kind_of}
-use Rattle.call_effects.specs.Fits.{IsNew, IsUsedFile, IsNumber, IsHeld, Fits}
+use Rattle.call_effects.specs.Fits.{IsNew, IsUsedFile, IsNumber, IsHeld, OperationFits}
 use Rattle.call_effects.proofs.Puts.{put, put_there, put_same, put_through}
 use Rattle.call_effects.proofs.Changes.{IsFair, file}
 use Rattle.call_effects.proofs.Views.{file_count}
@@ -139,12 +139,12 @@ pub record IsDone (g : Graph) (d e : Descriptors) (new : ℕ) (operation : Opera
   pub tree : tree_of (kept (graph_after g new operation) e) ≡ tree_after e new (tree_of (kept g d)) operation
   pub fair : IsFair (graph_after g new operation) e
 
-done_same : (g : Graph) (d : Descriptors) (client new : ℕ) (operation : Operation) → Stays operation → IsFair g d → (makes operation ≡ true → IsNew g new) → Fits g d (d client) operation → IsDone g d (with_own d client (d client)) new operation
+done_same : (g : Graph) (d : Descriptors) (client new : ℕ) (operation : Operation) → Stays operation → IsFair g d → (makes operation ≡ true → IsNew g new) → OperationFits g d (d client) operation → IsDone g d (with_own d client (d client)) new operation
 done_same g d client new operation st fair free fits =
     let b = after_operation g d (d client) new operation st fair free fits in
     subst (λ e. IsDone g d e new operation) (sym (with_same d client)) (record { tree = b.tree; fair = b.fair })
 
-pub done : (g : Graph) (d : Descriptors) (client new : ℕ) (operation : Operation) → 1 ≤ client → client ≤ 8 → IsFair g d → (makes operation ≡ true → IsNew g new) → Fits g d (d client) operation → IsDone g d (held_after client new d operation) new operation
+pub done : (g : Graph) (d : Descriptors) (client new : ℕ) (operation : Operation) → 1 ≤ client → client ≤ 8 → IsFair g d → (makes operation ≡ true → IsNew g new) → OperationFits g d (d client) operation → IsDone g d (held_after client new d operation) new operation
 done g d client new (CloseFile i number) low high fair free (f, h) = record {
   tree = tree_closed g d client number i fair h f;
   fair = fair_now g d client number i None (near_old d client number i h) (λ o no_one. absurd (cc)) fair;

@@ -21,7 +21,7 @@ use Rattle.call_effects.specs.Effects.{effects_by, effects_of, making, stored_at
 use Rattle.call_effects.specs.Wholes.{IsSound}
 use Rattle.call_effects.specs.Blocks.{block_of}
 use Rattle.call_effects.specs.NodeView.{NodeView, view_at, view_of_node, view_acted, view_after, empty_view, in_entries}
-use Rattle.call_effects.specs.Fits.{Fits, IsNew, IsRoom, IsEntry, IsUsedFile}
+use Rattle.call_effects.specs.Fits.{OperationFits, IsNew, IsRoom, IsEntry, IsUsedFile}
 use Rattle.call_effects.specs.Known.{Knowledge, Agrees, IsGone, IsPutBack, IsPlanned, knows_after, knows_made, with_copy}
 use Rattle.call_effects.proofs.KnownTold.{both_hold}
 use Rattle.call_effects.proofs.KnownSteps.{planned_answer}
@@ -114,7 +114,7 @@ module _ (g : Graph) (d : Descriptors) (own : Own) (new : ℕ) where
   of_file : (operation : Operation) (i : ℕ) → IsUsedFile g d i → IsMade operation i
   of_file operation i f = stands operation i _ f.is
 
-  touched_stands : (operation : Operation) → Fits g d own operation → Each (touches (effects_of g new operation)) (IsMade operation)
+  touched_stands : (operation : Operation) → OperationFits g d own operation → Each (touches (effects_of g new operation)) (IsMade operation)
   touched_stands (Tell answer) fits = tt
   touched_stands (NewDir at) room = ((λ none. (refl, refl)), (of_room (NewDir at) at room, ((λ none. (refl, refl)), tt)))
   touched_stands (NewFile at number reads writes) fits = ((λ none. (refl, refl)), (of_room (NewFile at number reads writes) at fits.0, ((λ none. (refl, refl)), tt)))

@@ -8,13 +8,13 @@ use Rattle.posix_calls.specs.declared.operation.Operation.TheVariants.{Tell, New
 use Rattle.posix_calls.specs.declared.operation.Replaced.{Replaced}
 use Rattle.posix_calls.specs.declared.operation.Replaced.TheVariants.{Nothing, OldFile, OldDir}
 use Rattle.posix_calls.specs.Query.{Gives, ◌>>=◌, Part, run}
-use Rattle.posix_calls.specs.Query.{whole}
+use Rattle.posix_calls.specs.Query.{whole_part}
 use Rattle.posix_calls.specs.Walk.{names_seen, size_at}
 use Rattle.file_graph.specs.Graph.{Graph}
 use Rattle.call_effects.specs.Effects.{stored, stored_at, recounted, replaced_file, effects_by, effects_of}
 use Rattle.call_effects.specs.Records.{names_if, effects_asked, file_rise, entry_rise, move_rise, growth_asked}
 use Rattle.call_effects.specs.Wholes.{kind_of, graph_view}
-use Rattle.call_effects.specs.Fits.{IsRoom, IsUsedFile, Fits, FitsReplaced}
+use Rattle.call_effects.specs.Fits.{IsRoom, IsUsedFile, OperationFits, FitsReplaced}
 use Rattle.call_effects.proofs.KnownAsking.{query_then, query_gives, query_look, query_entries}
 use Rattle.call_effects.proofs.Changes.{IsFair}
 use Rattle.call_effects.proofs.Facts.{view_file}
@@ -26,7 +26,7 @@ replaced_used g d to i j Nothing fits is = absurd (cc)
 replaced_used g d to i j (OldFile x) fits is = let same : x ≡ j = cc in subst (IsUsedFile g d) same fits.2
 replaced_used g d to i j (OldDir x) fits is = absurd (cc)
 
-recounted_used : (g : Graph) (d : Descriptors) (own : Own) (operation : Operation) (j : ℕ) → Fits g d own operation → recounted operation ≡ Some j → IsUsedFile g d j
+recounted_used : (g : Graph) (d : Descriptors) (own : Own) (operation : Operation) (j : ℕ) → OperationFits g d own operation → recounted operation ≡ Some j → IsUsedFile g d j
 recounted_used g d own (AddName at i) j fits is = let same : i ≡ j = cc in subst (IsUsedFile g d) same fits.1
 recounted_used g d own (DropName at i) j fits is = let same : i ≡ j = cc in subst (IsUsedFile g d) same fits.1
 recounted_used g d own (Move from to i is_dir replaced) j fits is = replaced_used g d to i j replaced fits.2 is
@@ -47,14 +47,14 @@ effects_by_names g d new operation (Some i) used =
     let f = used i refl in
     ap (λ n. Ok (effects_by n new operation)) (ap names_seen (view_file g d i f.names f.bytes f.is f.used) ∙ sym (ap stored f.is))
 
-pub effects_are : (g : Graph) (d : Descriptors) (own : Own) (new : ℕ) (operation : Operation) → Fits g d own operation → run (graph_view g d) (effects_asked new operation) ≡ Ok (effects_of g new operation)
+pub effects_are : (g : Graph) (d : Descriptors) (own : Own) (new : ℕ) (operation : Operation) → OperationFits g d own operation → run (graph_view g d) (effects_asked new operation) ≡ Ok (effects_of g new operation)
 effects_are g d own new operation fits = effects_by_names g d new operation (recounted operation) (λ i is. recounted_used g d own operation i fits is)
 
 -- ---- what is asked for meets no file that is gone
 
 module _ (g : Graph) (d : Descriptors) (own : Own) (fair : IsFair g d) where
   abbrev p : Part
-  p = whole (graph_view g d)
+  p = whole_part (graph_view g d)
 
   abbrev Kept : ℕ → Type 0
   Kept i = Stays g d fair i
@@ -69,7 +69,7 @@ module _ (g : Graph) (d : Descriptors) (own : Own) (fair : IsFair g d) where
   query_count None used = gives 0
   query_count (Some i) used = query_look p Kept Kept KeptRange i _ (used_stays g d fair i (used i refl)) (λ s. gives _)
 
-  pub query_effects : (new : ℕ) (operation : Operation) → Fits g d own operation → QueryKept g d fair (effects_asked new operation)
+  pub query_effects : (new : ℕ) (operation : Operation) → OperationFits g d own operation → QueryKept g d fair (effects_asked new operation)
   query_effects new operation fits = query_then p Kept Kept KeptRange _ _ (query_count (recounted operation) (λ i is. recounted_used g d own operation i fits is)) (λ n e. gives _)
 
   query_rise : (at : Location) → IsRoom g at → QueryKept g d fair (entry_rise at.parent)
@@ -83,7 +83,7 @@ module _ (g : Graph) (d : Descriptors) (own : Own) (fair : IsFair g d) where
   query_size : (i : ℕ) (f : ℕ → ℕ) → IsUsedFile g d i → QueryKept g d fair (size_at i >>= (λ old. Gives (f old)))
   query_size i f used = query_then p Kept Kept KeptRange _ _ (query_look p Kept Kept KeptRange i _ (used_stays g d fair i used) (λ s. gives _)) (λ old e. gives _)
 
-  pub query_growth : (operation : Operation) → Fits g d own operation → QueryKept g d fair (growth_asked operation)
+  pub query_growth : (operation : Operation) → OperationFits g d own operation → QueryKept g d fair (growth_asked operation)
   query_growth (NewDir at) room = query_then p Kept Kept KeptRange _ _ (query_rise at room) (λ rise e. gives _)
   query_growth (NewFile at number reads writes) fits = query_then p Kept Kept KeptRange _ _ (query_rise at fits.0) (λ rise e. gives _)
   query_growth (Write i at bytes) used = query_size i (λ old. file_rise old (max old (at + length bytes))) used

@@ -9,7 +9,7 @@ use Rattle.posix_calls.specs.declared.call.Call.{Call}
 use Rattle.posix_calls.specs.declared.operation.Missing.{Missing}
 use Rattle.posix_calls.specs.declared.operation.Missing.TheVariants as missing
 use Rattle.posix_calls.specs.Query.{Query, Gives, Refuses, IsDir, Look, Range, View, Part, Found, Known, Unknown, blocks_of, IsPart, run, run_part}
-use Rattle.posix_calls.specs.Query.{whole}
+use Rattle.posix_calls.specs.Query.{whole_part}
 use Rattle.posix_calls.specs.Walk.{entries_seen, entries_at}
 use Rattle.posix_calls.specs.Decide.{decide}
 use Rattle.posix_calls.proofs.Counts.{order}
@@ -41,7 +41,7 @@ abbrev pub AsksOf : {A : Type 0} → Part → (ℕ → Type 0) → Query A → T
 AsksOf p Passes q = QueryAll p Passes Passes (λ i at count. Passes i) q
 
 -- come to the same
-run_alike : {A : Type 0} (v w : View) (Passes : ℕ → Type 0) (q : Query A) → AnswersAlike v w Passes → AsksOf (whole v) Passes q → run v q ≡ run w q
+run_alike : {A : Type 0} (v w : View) (Passes : ℕ → Type 0) (q : Query A) → AnswersAlike v w Passes → AsksOf (whole_part v) Passes q → run v q ≡ run w q
 unfolding QueryAll run
 run_alike v w Passes (Gives x) same asks = refl
 run_alike v w Passes (Refuses e) same asks = refl
@@ -55,7 +55,7 @@ MissingOf Passes (missing.Node i) = Passes i
 MissingOf Passes (missing.Blocks i first count) = Passes i
 
 -- and what a part of the other lacks is of what is asked of
-missing_asked : {A : Type 0} (p : Part) (v w : View) (Passes : ℕ → Type 0) (q : Query A) (what : Missing) → AnswersAlike v w Passes → IsPart p w → AsksOf (whole v) Passes q → run_part p q ≡ Unknown what → MissingOf Passes what
+missing_asked : {A : Type 0} (p : Part) (v w : View) (Passes : ℕ → Type 0) (q : Query A) (what : Missing) → AnswersAlike v w Passes → IsPart p w → AsksOf (whole_part v) Passes q → run_part p q ≡ Unknown what → MissingOf Passes what
 unfolding QueryAll run_part
 missing_asked p v w Passes (Gives x) what same part asks e = absurd (cc)
 missing_asked p v w Passes (Refuses x) what same part asks e = absurd (cc)
@@ -110,7 +110,7 @@ module _ (g : Graph) (d : Descriptors) (fair : IsFair g d) where
   v = graph_view g d
 
   abbrev pub QueryKept : {A : Type 0} → Query A → Type 0
-  QueryKept q = AsksOf (whole v) Stays q
+  QueryKept q = AsksOf (whole_part v) Stays q
 
   pub dir_stays : (i : ℕ) → kind_of (g i) ≡ Some kind.Directory → Stays i
   dir_stays i is = let f = has_dir g i is in record { node = record { names = f.names; body = DirBody f.entries }; stored = f.is; kept = ap (keep (is_open d i)) f.is }
@@ -125,9 +125,9 @@ module _ (g : Graph) (d : Descriptors) (fair : IsFair g d) where
       let f = has_file g i (fair.typed.kinds at n es name (i, kind.File) is there) in
       used_stays i (record { names = f.names; bytes = f.bytes; is = f.is; used = used_by_name g d (record { parent = at; name = name }) i f.names f.bytes kind.File fair (record { names = n; entries = es; is = is; there = there }) f.is })
 
-  named_stays : (at i : ℕ) (name : List ℕ) (entries : Entries ℕ) → run_part (whole v) (entries_at at) ≡ Known (Ok entries) → fin.get entries name ≡ Some i → Stays i × Stays i
+  named_stays : (at i : ℕ) (name : List ℕ) (entries : Entries ℕ) → run_part (whole_part v) (entries_at at) ≡ Known (Ok entries) → fin.get entries name ≡ Some i → Stays i × Stays i
   named_stays at i name entries e there =
-      let r = read_known (whole v) at entries_seen entries e in
+      let r = read_known (whole_part v) at entries_seen entries e in
       let seen : v.node at ≡ r.0 = let some : Some (v.node at) ≡ Some r.0 = r.1 in cc in
       let f = entry_kept (is_open d at) (g at) name i (ap (λ s. fin.get (entries_seen s) name) seen ∙ ap (λ m. fin.get m name) r.2 ∙ there) in
       let k = some_first (fin.get f.entries name) i (sym f.there ∙ get_inodes f.entries name) in
@@ -139,7 +139,7 @@ module _ (g : Graph) (d : Descriptors) (fair : IsFair g d) where
   open_stays client number x is = used_stays x.inode (open_file g d client number x x.inode fair is refl)
 
   pub call_asks_kept : (client : ℕ) (c : Call) → QueryKept (decide (d client) c)
-  call_asks_kept client c = let root = dir_stays 1 fair.typed.root in query_call (whole v) Stays Stays (λ i at count. Stays i) (d client) (root, root) named_stays (open_stays client) (λ number x size at count is seen few most. open_stays client number x is) c
+  call_asks_kept client c = let root = dir_stays 1 fair.typed.root in query_call (whole_part v) Stays Stays (λ i at count. Stays i) (d client) (root, root) named_stays (open_stays client) (λ number x size at count is seen few most. open_stays client number x is) c
 
   -- where files are put back that are gone, what is kept is the same
   module _ (back : Graph) (put_back : IsPutBack g back) where

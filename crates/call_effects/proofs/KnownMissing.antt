@@ -12,7 +12,7 @@ use Rattle.posix_calls.proofs.Sums.{any_is, any_there}
 use Rattle.file_graph.specs.Graph.{Graph}
 use Rattle.file_graph.specs.declared.effect.Kind.{Kind}
 use Rattle.file_graph.specs.declared.effect.Kind.TheVariants as kind
-use Rattle.call_effects.specs.Blocks.{joined}
+use Rattle.call_effects.specs.Blocks.{blocks_joined}
 use Rattle.call_effects.specs.NodeView.{NodeView, view_seen}
 use Rattle.call_effects.specs.Wholes.{node_is_dir}
 use Rattle.call_effects.specs.Known.{Knowledge, Agrees, HasCopies, with_copy, with_blocks, in_run, copied, tells, is_told, is_dir_by, part_of}
@@ -48,7 +48,7 @@ pub missing_no_copy : {A : Type 0} (k : Knowledge) (q : Query A) (i : ℕ) → r
 missing_no_copy k q i e = let left = missing_is_left (part_of k) q (missing.Node i) e in node_beyond k i left.rest left.beyond
 
 -- blocks that are missing are not all known
-blocks_beyond : {A : Type 0} (k : Knowledge) (i first count : ℕ) (q : Query A) → IsBeyond (part_of k) (missing.Blocks i first count) q → joined (k.blocks i) first count ≡ None
+blocks_beyond : {A : Type 0} (k : Knowledge) (i first count : ℕ) (q : Query A) → IsBeyond (part_of k) (missing.Blocks i first count) q → blocks_joined (k.blocks i) first count ≡ None
 blocks_beyond k i first count (Gives x) at = absurd at
 blocks_beyond k i first count (Refuses e) at = absurd at
 blocks_beyond k i first count (IsDir j next) at = absurd (let clash : missing.Node j ≡ missing.Blocks i first count = at.0 in cc)
@@ -58,7 +58,7 @@ blocks_beyond k i first count (Range j from many next) at =
     let here : blocks_of j from many ≡ missing.Blocks i first count = at.0 in
     cc
 
-pub missing_not_joined : {A : Type 0} (k : Knowledge) (q : Query A) (i first count : ℕ) → run_part (part_of k) q ≡ Unknown (missing.Blocks i first count) → joined (k.blocks i) first count ≡ None
+pub missing_not_joined : {A : Type 0} (k : Knowledge) (q : Query A) (i first count : ℕ) → run_part (part_of k) q ≡ Unknown (missing.Blocks i first count) → blocks_joined (k.blocks i) first count ≡ None
 missing_not_joined k q i first count e = let left = missing_is_left (part_of k) q (missing.Blocks i first count) e in blocks_beyond k i first count left.rest left.beyond
 
 -- ---- what is served

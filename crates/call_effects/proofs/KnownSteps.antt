@@ -19,7 +19,7 @@ use Rattle.call_effects.specs.Calls.{answer_over}
 use Rattle.call_effects.specs.Effects.{effects_of}
 use Rattle.call_effects.specs.Records.{effects_asked, growth_asked}
 use Rattle.call_effects.specs.Wholes.{IsSound, state_of, graph_view, kept}
-use Rattle.call_effects.specs.Fits.{Fits}
+use Rattle.call_effects.specs.Fits.{OperationFits}
 use Rattle.call_effects.specs.Known.{Knowledge, Agrees, IsPlanned, part_of, stored_view}
 use Rattle.call_effects.proofs.Changes.{IsFair, fair_of}
 use Rattle.call_effects.proofs.Steps.{answer_fits, call_done, call_sound, call_refused}
@@ -36,14 +36,14 @@ answer_known k g d c r sound agrees known =
     ∙ ap (λ own. run (stored_view agrees.back) (decide own c)) own_is
     ∙ known_is_run (part_of k) (stored_view agrees.back) (part_is k g d fair agrees) (decide k.own c) r known
 
-pub effects_known : (k : Knowledge) (g : Graph) (d : Descriptors) (own : Own) (new : ℕ) (operation : Operation) (es : List Effect) → IsSound g d → Agrees k g d → Fits g d own operation → run_part (part_of k) (effects_asked new operation) ≡ Known (Ok es) → effects_of g new operation ≡ es
+pub effects_known : (k : Knowledge) (g : Graph) (d : Descriptors) (own : Own) (new : ℕ) (operation : Operation) (es : List Effect) → IsSound g d → Agrees k g d → OperationFits g d own operation → run_part (part_of k) (effects_asked new operation) ≡ Known (Ok es) → effects_of g new operation ≡ es
 effects_known k g d own new operation es sound agrees fits known =
     let fair = fair_of g d sound in
     let by_part = known_is_run (part_of k) (stored_view agrees.back) (part_is k g d fair agrees) (effects_asked new operation) (Ok es) known in
     let same : Ok (effects_of g new operation) ≡ Ok es = sym (effects_are g d own new operation fits) ∙ stored_alike g d fair agrees.back agrees.put_back (effects_asked new operation) (query_effects g d own fair new operation fits) ∙ by_part in
     cc
 
-pub growth_known : (k : Knowledge) (g : Graph) (d : Descriptors) (own : Own) (operation : Operation) (units : ℕ) → IsSound g d → Agrees k g d → Fits g d own operation → run_part (part_of k) (growth_asked operation) ≡ Known (Ok units) → run (graph_view g d) (growth_asked operation) ≡ Ok units
+pub growth_known : (k : Knowledge) (g : Graph) (d : Descriptors) (own : Own) (operation : Operation) (units : ℕ) → IsSound g d → Agrees k g d → OperationFits g d own operation → run_part (part_of k) (growth_asked operation) ≡ Known (Ok units) → run (graph_view g d) (growth_asked operation) ≡ Ok units
 growth_known k g d own operation units sound agrees fits known =
     let fair = fair_of g d sound in
     stored_alike g d fair agrees.back agrees.put_back (growth_asked operation) (query_growth g d own fair operation fits)
@@ -94,12 +94,12 @@ missing_there k g d c i sound agrees e = some_kept g d (fair_of g d sound) i (ca
 pub blocks_missing_there : (k : Knowledge) (g : Graph) (d : Descriptors) (c : Call) (i first count : ℕ) → IsSound g d → Agrees k g d → run_part (part_of k) (decide k.own c) ≡ Unknown (missing.Blocks i first count) → IsSome (kept g d i)
 blocks_missing_there k g d c i first count sound agrees e = some_kept g d (fair_of g d sound) i (call_missing_of k g d c (missing.Blocks i first count) sound agrees e)
 
-pub effects_missing_there : (k : Knowledge) (g : Graph) (d : Descriptors) (new : ℕ) (operation : Operation) (i : ℕ) → IsSound g d → Agrees k g d → Fits g d (d k.client) operation → run_part (part_of k) (effects_asked new operation) ≡ Unknown (missing.Node i) → IsSome (kept g d i)
+pub effects_missing_there : (k : Knowledge) (g : Graph) (d : Descriptors) (new : ℕ) (operation : Operation) (i : ℕ) → IsSound g d → Agrees k g d → OperationFits g d (d k.client) operation → run_part (part_of k) (effects_asked new operation) ≡ Unknown (missing.Node i) → IsSome (kept g d i)
 effects_missing_there k g d new operation i sound agrees fits e =
     let fair = fair_of g d sound in
     some_kept g d fair i (missing_kept g d fair agrees.back agrees.put_back (part_of k) (effects_asked new operation) (missing.Node i) (part_is k g d fair agrees) (query_effects g d (d k.client) fair new operation fits) e)
 
-pub growth_missing_there : (k : Knowledge) (g : Graph) (d : Descriptors) (operation : Operation) (i : ℕ) → IsSound g d → Agrees k g d → Fits g d (d k.client) operation → run_part (part_of k) (growth_asked operation) ≡ Unknown (missing.Node i) → IsSome (kept g d i)
+pub growth_missing_there : (k : Knowledge) (g : Graph) (d : Descriptors) (operation : Operation) (i : ℕ) → IsSound g d → Agrees k g d → OperationFits g d (d k.client) operation → run_part (part_of k) (growth_asked operation) ≡ Unknown (missing.Node i) → IsSome (kept g d i)
 growth_missing_there k g d operation i sound agrees fits e =
     let fair = fair_of g d sound in
     some_kept g d fair i (missing_kept g d fair agrees.back agrees.put_back (part_of k) (growth_asked operation) (missing.Node i) (part_is k g d fair agrees) (query_growth g d (d k.client) fair operation fits) e)

@@ -20,7 +20,7 @@ use Rattle.file_graph.specs.declared.effect.Effect.{Effect}
 use Rattle.file_graph.specs.declared.effect.Effect.TheVariants as effect
 use Rattle.call_effects.specs.Effects.{effects_of, clearing, replaced_file, dropping, kind_if, stored, stored_at}
 use Rattle.call_effects.specs.Wholes.{kept, tree_of}
-use Rattle.call_effects.specs.Fits.{IsNew, IsRoom, IsEntry, IsUsedFile, IsEmptyDir, Fits}
+use Rattle.call_effects.specs.Fits.{IsNew, IsRoom, IsEntry, IsUsedFile, IsEmptyDir, OperationFits}
 use Rattle.call_effects.proofs.Puts.{put, put_there, put_other}
 use Rattle.call_effects.proofs.Changes.{IsFair, file, dir, same_dir}
 use Rattle.call_effects.proofs.NewNodes.{sound_made, tree_made}
@@ -128,7 +128,7 @@ abbrev pub Stays : Operation → Type 0
 Stays (CloseFile i number) = ⊥
 Stays operation = Unit {0}
 
-pub after_operation : (g : Graph) (d : Descriptors) (own : Own) (new : ℕ) (operation : Operation) → Stays operation → IsFair g d → (makes operation ≡ true → IsNew g new) → Fits g d own operation → IsAfterOperation g d new operation
+pub after_operation : (g : Graph) (d : Descriptors) (own : Own) (new : ℕ) (operation : Operation) → Stays operation → IsFair g d → (makes operation ≡ true → IsNew g new) → OperationFits g d own operation → IsAfterOperation g d new operation
 after_operation g d own new (Tell answer) st fair free fits = record { tree = refl; fair = fair }
 after_operation g d own new (CloseFile i number) st fair free fits = absurd st
 after_operation g d own new (NewDir at) st fair free room = record { tree = tree_made g d new kind.Directory at fair (free refl) room; fair = sound_made g d new kind.Directory at fair (free refl) room }

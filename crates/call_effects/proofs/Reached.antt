@@ -19,7 +19,7 @@ use Rattle.file_graph.specs.declared.effect.Kind.{Kind}
 use Rattle.file_graph.specs.declared.effect.Kind.TheVariants as kind
 use Rattle.call_effects.specs.Effects.{kind_if}
 use Rattle.call_effects.specs.Wholes.{IsSound, tree_of, tree_node, tree_body, keep, kept, state_of, without_kinds}
-use Rattle.call_effects.specs.Fits.{IsNew, IsRoom, IsEntry, IsUsedFile, IsEmptyDir, Fits}
+use Rattle.call_effects.specs.Fits.{IsNew, IsRoom, IsEntry, IsUsedFile, IsEmptyDir, OperationFits}
 use Rattle.call_effects.proofs.Inodes.{get_inodes, inodes_empty}
 use Rattle.call_effects.proofs.Changes.{fair_of, sound_fair, tree_dir}
 use Rattle.call_effects.proofs.Edges.{tree_used}
@@ -148,7 +148,7 @@ ready_unused held t from to i j other from_dir there to_dir old file clear reach
 
 -- ---- every operation
 
-reached_after : (g : Graph) (d e : Descriptors) (client new : ℕ) (operation : Operation) → (makes operation ≡ true → IsNew g new) → Fits g d (d client) operation → way.AreReached (tree_of (kept g d)) → way.AreReached (tree_after e new (tree_of (kept g d)) operation)
+reached_after : (g : Graph) (d e : Descriptors) (client new : ℕ) (operation : Operation) → (makes operation ≡ true → IsNew g new) → OperationFits g d (d client) operation → way.AreReached (tree_of (kept g d)) → way.AreReached (tree_after e new (tree_of (kept g d)) operation)
 reached_after g d e client new (Tell answer) free fits reached = reached
 reached_after g d e client new (NewDir at) free room reached = reached_made (t g d) at new (none_new g d new (free refl)) (room_parent g d at room) (room_none g d at room) reached
 reached_after g d e client new (NewFile at number r w) free (room, num) reached = reached_new_file (t g d) at new (none_new g d new (free refl)) (room_parent g d at room) (room_none g d at room) reached
@@ -178,7 +178,7 @@ reached_after g d e client new (Move from to i b (OldDir j)) free (entry, clear,
     moved (set_node (left (t g d) to) j None) from to i
     (ready_removed (t g d) from to i j old.0 (entry_parent g d from (i, kind_if b) entry) (entry_there g d from (i, kind_if b) entry) (entry_parent g d to (j, kind.Directory) old.1) (entry_there g d to (j, kind.Directory) old.1) (bare_empty g d j old.2) (clear_of (t g d) i to.parent clear) reached)
 
-pub sound_after : (g : Graph) (d : Descriptors) (client new : ℕ) (operation : Operation) → 1 ≤ client → client ≤ 8 → IsSound g d → (makes operation ≡ true → IsNew g new) → Fits g d (d client) operation → IsSound (graph_after g new operation) (held_after client new d operation)
+pub sound_after : (g : Graph) (d : Descriptors) (client new : ℕ) (operation : Operation) → 1 ≤ client → client ≤ 8 → IsSound g d → (makes operation ≡ true → IsNew g new) → OperationFits g d (d client) operation → IsSound (graph_after g new operation) (held_after client new d operation)
 sound_after g d client new operation low high sound free fits =
     let e = held_after client new d operation in
     let is = done g d client new operation low high (fair_of g d sound) free fits in
@@ -186,7 +186,7 @@ sound_after g d client new operation low high sound free fits =
     let after = reached_after g d e client new operation free fits before in
     sound_fair (graph_after g new operation) e is.fair (paths (tree_of (graph_after g new operation)) (reached_whole (graph_after g new operation) e (subst way.AreReached (sym is.tree) after)))
 
-pub state_is : (g : Graph) (d : Descriptors) (client new : ℕ) (operation : Operation) → 1 ≤ client → client ≤ 8 → IsSound g d → (makes operation ≡ true → IsNew g new) → Fits g d (d client) operation → state_of (graph_after g new operation) (held_after client new d operation) ≡ state_after client new (state_of g d) operation
+pub state_is : (g : Graph) (d : Descriptors) (client new : ℕ) (operation : Operation) → 1 ≤ client → client ≤ 8 → IsSound g d → (makes operation ≡ true → IsNew g new) → OperationFits g d (d client) operation → state_of (graph_after g new operation) (held_after client new d operation) ≡ state_after client new (state_of g d) operation
 state_is g d client new operation low high sound free fits =
     let is = done g d client new operation low high (fair_of g d sound) free fits in
     λ x. record { tree = is.tree x; descriptors = held_after client new d operation }

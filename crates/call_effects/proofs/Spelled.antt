@@ -29,7 +29,7 @@ use Rattle.call_effects.specs.Calls.{answer_over}
 use Rattle.call_effects.specs.Changed.{changes}
 use Rattle.call_effects.specs.Effects.{stored, effects_of}
 use Rattle.call_effects.specs.Wholes.{IsSound, state_of, tree_of, kept, kind_of, graph_view}
-use Rattle.call_effects.specs.Fits.{IsNew, IsRoom, IsEntry, IsUsedFile, Fits}
+use Rattle.call_effects.specs.Fits.{IsNew, IsRoom, IsEntry, IsUsedFile, OperationFits}
 use Rattle.call_effects.proofs.Changes.{fair_of, tree_dir}
 use Rattle.call_effects.proofs.GrowthAsked.{growth_as_asked}
 use Rattle.call_effects.proofs.Inodes.{get_inodes}
@@ -107,7 +107,7 @@ module _ (g : Graph) (d : Descriptors) (sound : IsSound g d) where
     moved_fits from to i b k entry parent valid = (leaves from (i, k) entry, ((parent, named_inode from (i, k) entry, valid), tt))
 
     -- a rename, whatever it puts out of its place
-    move_spelled : (own : Own) (new : ℕ) (from to : Location) (i : ℕ) (b : Bool) (replaced : Replaced) → Fits g d own (Move from to i b replaced) → is_name to.name ≡ true → IsSpelled (effects_of g new (Move from to i b replaced))
+    move_spelled : (own : Own) (new : ℕ) (from to : Location) (i : ℕ) (b : Bool) (replaced : Replaced) → OperationFits g d own (Move from to i b replaced) → is_name to.name ≡ true → IsSpelled (effects_of g new (Move from to i b replaced))
     move_spelled own new from to i b Nothing (entry, clear, room) valid = record { some = omega arith; few = omega arith; fit = moved_fits from to i b _ entry (room_inode to room) valid }
     move_spelled own new from to i b (OldFile j) (entry, clear, old) valid = record {
       some = omega arith;
@@ -120,7 +120,7 @@ module _ (g : Graph) (d : Descriptors) (sound : IsSound g d) where
       fit = (leaves to (j, kind.Directory) old.1, (named_inode to (j, kind.Directory) old.1, moved_fits from to i b _ entry (entry_inode to (j, kind.Directory) old.1) valid));
     }
 
-    spelled : (own : Own) (new : ℕ) (operation : Operation) → (makes operation ≡ true → IsNew g new) → Fits g d own operation → Able t operation → HasBytes operation → changes operation ≡ true → IsSpelled (effects_of g new operation)
+    spelled : (own : Own) (new : ℕ) (operation : Operation) → (makes operation ≡ true → IsNew g new) → OperationFits g d own operation → Able t operation → HasBytes operation → changes operation ≡ true → IsSpelled (effects_of g new operation)
     spelled own new (Tell answer) free fits able bytes e = absurd cc
     spelled own new (NewDir at) free room able bytes e = record { some = omega arith; few = omega arith; fit = (new_inode new (free refl), ((room_inode at room, new_inode new (free refl), able.valid), ((new_inode new (free refl), omega arith), tt))) }
     spelled own new (NewFile at number reads writes) free (room, num) able bytes e = record { some = omega arith; few = omega arith; fit = (new_inode new (free refl), ((room_inode at room, new_inode new (free refl), able.valid), ((new_inode new (free refl), omega arith), tt))) }

@@ -13,7 +13,7 @@ use Rattle.posix_calls.specs.declared.call.Call.{Call}
 use Rattle.posix_calls.specs.declared.call.Reply.TheVariants as reply
 use Rattle.file_graph.specs.Graph.{Graph}
 use Rattle.call_effects.specs.Wholes.{IsSound, state_of, graph_view, tree_node, keep}
-use Rattle.call_effects.specs.Fits.{IsNew, Fits}
+use Rattle.call_effects.specs.Fits.{IsNew, OperationFits}
 use Rattle.call_effects.specs.Calls.{answer_over}
 use Rattle.call_effects.proofs.Changes.{fair_of}
 use Rattle.call_effects.proofs.Views.{views_same}
@@ -41,7 +41,7 @@ clients g d client c operation e = elim (is_client client) as (λ b. is_client c
   | false ↦ λ is comes. absurd (cc)
 ] refl e
 
-pub answer_fits : (g : Graph) (d : Descriptors) (client : ℕ) (c : Call) (operation : Operation) → IsSound g d → answer_over g d client c ≡ Ok operation → Fits g d (d client) operation
+pub answer_fits : (g : Graph) (d : Descriptors) (client : ℕ) (c : Call) (operation : Operation) → IsSound g d → answer_over g d client c ≡ Ok operation → OperationFits g d (d client) operation
 answer_fits g d client c operation sound e = decide_fits g d client c operation (fair_of g d sound) ((clients g d client c operation e).comes)
 
 pub call_done : (g : Graph) (d : Descriptors) (client new : ℕ) (c : Call) (operation : Operation) → IsSound g d → answer_over g d client c ≡ Ok operation → (makes operation ≡ true → IsNew g new)

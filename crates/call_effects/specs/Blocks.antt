@@ -27,13 +27,13 @@ followed None rest = None
 followed (Some bytes) rest = option_map (λ more. bytes ++ more) rest
 
 -- so many blocks from a first one on, put one behind the other, where all of them are known
-abbrev pub joined : (ℕ → Option (List ℕ)) → ℕ → ℕ → Option (List ℕ)
-joined blocks first zero = Some []
-joined blocks first (suc count) = followed (blocks first) (joined blocks (first + 1) count)
+abbrev pub blocks_joined : (ℕ → Option (List ℕ)) → ℕ → ℕ → Option (List ℕ)
+blocks_joined blocks first zero = Some []
+blocks_joined blocks first (suc count) = followed (blocks first) (blocks_joined blocks (first + 1) count)
 
 -- a range of a file's bytes, where all the blocks that it touches are known
 abbrev pub range_by : (ℕ → Option (List ℕ)) → ℕ → ℕ → Option (List ℕ)
-range_by blocks at count = option_map (range (at - UNIT_BYTES * (at / UNIT_BYTES)) count) (joined blocks (at / UNIT_BYTES) (blocks_touched at count))
+range_by blocks at count = option_map (range (at - UNIT_BYTES * (at / UNIT_BYTES)) count) (blocks_joined blocks (at / UNIT_BYTES) (blocks_touched at count))
 
 -- ---- what effects make of a block
 

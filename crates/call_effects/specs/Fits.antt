@@ -81,15 +81,15 @@ pub record IsHeld (own : Own) (number i : ℕ) : Type 0 where
   pub inode : what.inode ≡ i
 
 -- an operation of a client with these descriptors is possible as it stands
-abbrev pub Fits : Graph → Descriptors → Own → Operation → Type 0
-Fits g held own (Tell answer) = Unit {0}
-Fits g held own (NewDir at) = IsRoom g at
-Fits g held own (NewFile at number reads writes) = IsRoom g at × IsNumber own number
-Fits g held own (OpenFile i empties number reads writes) = IsUsedFile g held i × IsNumber own number
-Fits g held own (CloseFile i number) = IsUsedFile g held i × IsHeld own number i
-Fits g held own (Write i at bytes) = IsUsedFile g held i
-Fits g held own (Resize i len) = IsUsedFile g held i
-Fits g held own (RemoveDir at i) = IsEntry g at (i, kind.Directory) × IsEmptyDir g i
-Fits g held own (AddName at i) = IsRoom g at × IsUsedFile g held i
-Fits g held own (DropName at i) = IsEntry g at (i, kind.File) × IsUsedFile g held i
-Fits g held own (Move from to i is_dir replaced) = IsEntry g from (i, kind_if is_dir) × IsClear ((state_of g held).tree) i to.parent × FitsReplaced g held to i replaced
+abbrev pub OperationFits : Graph → Descriptors → Own → Operation → Type 0
+OperationFits g held own (Tell answer) = Unit {0}
+OperationFits g held own (NewDir at) = IsRoom g at
+OperationFits g held own (NewFile at number reads writes) = IsRoom g at × IsNumber own number
+OperationFits g held own (OpenFile i empties number reads writes) = IsUsedFile g held i × IsNumber own number
+OperationFits g held own (CloseFile i number) = IsUsedFile g held i × IsHeld own number i
+OperationFits g held own (Write i at bytes) = IsUsedFile g held i
+OperationFits g held own (Resize i len) = IsUsedFile g held i
+OperationFits g held own (RemoveDir at i) = IsEntry g at (i, kind.Directory) × IsEmptyDir g i
+OperationFits g held own (AddName at i) = IsRoom g at × IsUsedFile g held i
+OperationFits g held own (DropName at i) = IsEntry g at (i, kind.File) × IsUsedFile g held i
+OperationFits g held own (Move from to i is_dir replaced) = IsEntry g from (i, kind_if is_dir) × IsClear ((state_of g held).tree) i to.parent × FitsReplaced g held to i replaced

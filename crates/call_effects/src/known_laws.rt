@@ -26,7 +26,7 @@ ghost use Rattle.call_effects.specs.NodeView.{NodeView, view_at, view_after};
 ghost use Rattle.call_effects.specs.Blocks.{block_of, block_at, block_after};
 ghost use Rattle.call_effects.specs.Records.{effects_asked, growth_asked, units_asked};
 ghost use Rattle.call_effects.specs.Wholes.{IsSound, state_of, graph_view, kept};
-ghost use Rattle.call_effects.specs.Fits.{Fits, IsNew, IsUnusedFile};
+ghost use Rattle.call_effects.specs.Fits.{OperationFits, IsNew, IsUnusedFile};
 ghost use Rattle.call_effects.specs.Known.{Knowledge, Agrees, IsPutBack, HasCopies, IsForgetful, IsLookedAtNext, IsReadNext, IsNodeMissing, AreBlocksMissing, IsPlanned, IsCopiedEntry, knows_after, knows_made, part_of, stored_view, with_blocks, with_copy, with_granted};
 
 /// No call meets a file that is gone, which is one that has no name and that nobody has open: it comes to the same over the
@@ -54,8 +54,8 @@ pub fn part_is_of_the_whole()
 /// that fits, and its growth.
 pub fn known_answer_is_of_the_whole()
     ensures call { (k : Knowledge) (g : Graph) (held : Descriptors) (call : Call) (result : Result Operation Errno) → IsSound g held → Agrees k g held → run_part (part_of k) (decide k.own call) ≡ Known result → answer_over g held k.client call ≡ result }
-    ensures effects { (k : Knowledge) (g : Graph) (held : Descriptors) (new : ℕ) (operation : Operation) (es : List Effect) → IsSound g held → Agrees k g held → Fits g held (held k.client) operation → run_part (part_of k) (effects_asked new operation) ≡ Known (Ok es) → effects_of g new operation ≡ es }
-    ensures growth { (k : Knowledge) (g : Graph) (held : Descriptors) (operation : Operation) (units : ℕ) → IsSound g held → Agrees k g held → Fits g held (held k.client) operation → run_part (part_of k) (growth_asked operation) ≡ Known (Ok units) → run (graph_view g held) (growth_asked operation) ≡ Ok units }
+    ensures effects { (k : Knowledge) (g : Graph) (held : Descriptors) (new : ℕ) (operation : Operation) (es : List Effect) → IsSound g held → Agrees k g held → OperationFits g held (held k.client) operation → run_part (part_of k) (effects_asked new operation) ≡ Known (Ok es) → effects_of g new operation ≡ es }
+    ensures growth { (k : Knowledge) (g : Graph) (held : Descriptors) (operation : Operation) (units : ℕ) → IsSound g held → Agrees k g held → OperationFits g held (held k.client) operation → run_part (part_of k) (growth_asked operation) ≡ Known (Ok units) → run (graph_view g held) (growth_asked operation) ≡ Ok units }
 {}
 
 /// A call that a client decides by what it knows is one step of the file tree, in every sound whole that agrees: where it
@@ -97,9 +97,9 @@ pub fn missing_is_asked_next()
     ensures no_copy { (k : Knowledge) (call : Call) (i : ℕ) → run_part (part_of k) (decide k.own call) ≡ Unknown (Node i) → k.copies i ≡ None }
     ensures blocks { (k : Knowledge) (call : Call) (i first count : ℕ) → run_part (part_of k) (decide k.own call) ≡ Unknown (Blocks i first count) → AreBlocksMissing k i first count }
     ensures few_blocks { (k : Knowledge) (call : Call) (i first count : ℕ) → run_part (part_of k) (decide k.own call) ≡ Unknown (Blocks i first count) → count ≤ MAX_TRANSFER / UNIT_BYTES + 1 }
-    ensures effects_there { (k : Knowledge) (g : Graph) (held : Descriptors) (new : ℕ) (operation : Operation) (i : ℕ) → IsSound g held → Agrees k g held → Fits g held (held k.client) operation → run_part (part_of k) (effects_asked new operation) ≡ Unknown (Node i) → IsSome (kept g held i) }
+    ensures effects_there { (k : Knowledge) (g : Graph) (held : Descriptors) (new : ℕ) (operation : Operation) (i : ℕ) → IsSound g held → Agrees k g held → OperationFits g held (held k.client) operation → run_part (part_of k) (effects_asked new operation) ≡ Unknown (Node i) → IsSome (kept g held i) }
     ensures effects { (k : Knowledge) (new : ℕ) (operation : Operation) (what : Missing) → run_part (part_of k) (effects_asked new operation) ≡ Unknown what → IsNodeMissing k what }
-    ensures growth_there { (k : Knowledge) (g : Graph) (held : Descriptors) (operation : Operation) (i : ℕ) → IsSound g held → Agrees k g held → Fits g held (held k.client) operation → run_part (part_of k) (growth_asked operation) ≡ Unknown (Node i) → IsSome (kept g held i) }
+    ensures growth_there { (k : Knowledge) (g : Graph) (held : Descriptors) (operation : Operation) (i : ℕ) → IsSound g held → Agrees k g held → OperationFits g held (held k.client) operation → run_part (part_of k) (growth_asked operation) ≡ Unknown (Node i) → IsSome (kept g held i) }
     ensures growth { (k : Knowledge) (operation : Operation) (what : Missing) → run_part (part_of k) (growth_asked operation) ≡ Unknown what → IsNodeMissing k what }
 {}
 

@@ -14,7 +14,7 @@ ghost use Rattle.file_graph.specs.Graph.{Graph, fresh, after_effects, set_node};
 ghost use Rattle.call_effects.specs.Calls.{answer_over};
 ghost use Rattle.call_effects.specs.Effects.{stored, effects_of};
 ghost use Rattle.call_effects.specs.Wholes.{IsSound, state_of, tree_of, graph_view};
-ghost use Rattle.call_effects.specs.Fits.{IsNew, IsUnusedFile, Fits};
+ghost use Rattle.call_effects.specs.Fits.{IsNew, IsUnusedFile, OperationFits};
 
 /// The graph of a root alone, of which nothing is open, is sound, and stands for the empty tree.
 pub fn fresh_graph_stands_for_the_opening()
@@ -35,14 +35,14 @@ pub fn stored_counts_are_the_counted_names()
 /// An operation that fits a sound graph is its effects: the graph after them is sound, and stands, with the descriptors after the
 /// operation, for the state after it.
 pub fn operation_is_its_effects()
-    ensures state { (g : Graph) (held : Descriptors) (client new : ℕ) (operation : Operation) → 1 ≤ client → client ≤ MAX_CLIENTS → IsSound g held → (makes operation ≡ true → IsNew g new) → Fits g held (held client) operation → state_of (after_effects g (effects_of g new operation)) (held_after client new held operation) ≡ state_after client new (state_of g held) operation }
-    ensures sound { (g : Graph) (held : Descriptors) (client new : ℕ) (operation : Operation) → 1 ≤ client → client ≤ MAX_CLIENTS → IsSound g held → (makes operation ≡ true → IsNew g new) → Fits g held (held client) operation → IsSound (after_effects g (effects_of g new operation)) (held_after client new held operation) }
+    ensures state { (g : Graph) (held : Descriptors) (client new : ℕ) (operation : Operation) → 1 ≤ client → client ≤ MAX_CLIENTS → IsSound g held → (makes operation ≡ true → IsNew g new) → OperationFits g held (held client) operation → state_of (after_effects g (effects_of g new operation)) (held_after client new held operation) ≡ state_after client new (state_of g held) operation }
+    ensures sound { (g : Graph) (held : Descriptors) (client new : ℕ) (operation : Operation) → 1 ≤ client → client ≤ MAX_CLIENTS → IsSound g held → (makes operation ≡ true → IsNew g new) → OperationFits g held (held client) operation → IsSound (after_effects g (effects_of g new operation)) (held_after client new held operation) }
 {}
 
 /// What a call comes to over a sound graph fits it: no operation is asked of a file that isn't there, of a name that is taken, or
 /// of a directory that would become its own ancestor.
 pub fn answered_operation_fits()
-    ensures { (g : Graph) (held : Descriptors) (client : ℕ) (call : Call) (operation : Operation) → IsSound g held → answer_over g held client call ≡ Ok operation → Fits g held (held client) operation }
+    ensures { (g : Graph) (held : Descriptors) (client : ℕ) (call : Call) (operation : Operation) → IsSound g held → answer_over g held client call ≡ Ok operation → OperationFits g held (held client) operation }
 {}
 
 /// Every call over a sound graph is one step of the file tree that the graph and the descriptors stand for. Where it comes to

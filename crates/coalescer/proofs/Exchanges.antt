@@ -15,7 +15,7 @@ use Rattle.graph_change.specs.Change.{Change, Changes, blank, new_in, new_change
 use Rattle.graph_change.proofs.Bytes.{tidy_nothing, nothing_after}
 use Rattle.graph_change.proofs.Entries.{no_entries}
 use Rattle.graph_change.proofs.Law.{AreTidy, tidy_with, empty_at, more_effects, coalesced_law}
-use Rattle.coalescer.specs.Exchange.{Place, node_entries, child_at, entered, exchanged, each, front, rest}
+use Rattle.coalescer.specs.Exchange.{EntryPlace, node_entries, child_of_place, exchanged_if, exchanged, each, front, rest}
 
 -- ---- the change of each inode
 
@@ -96,21 +96,21 @@ enter_past cs d i k name g = λ t j. (
     either_way true j = enter_node (change_at cs j) d i k name (g j)
     either_way false j = refl
 
-entered_past : (cs : Changes) (p q : Place) (x y : Option Child) (g : Graph) → entered p q x y (changed (each rest cs) g) ≡ changed (each rest cs) (entered p q x y g)
+entered_past : (cs : Changes) (p q : EntryPlace) (x y : Option Child) (g : Graph) → exchanged_if p q x y (changed (each rest cs) g) ≡ changed (each rest cs) (exchanged_if p q x y g)
 entered_past cs p q (Some x) (Some y) g =
     ap (λ h. after_effect h (effect.Enter q.0 x.0 x.1 q.1)) (enter_past cs p.0 y.0 y.1 p.1 g)
     ∙ enter_past cs q.0 x.0 x.1 q.1 (after_effect g (effect.Enter p.0 y.0 y.1 p.1))
 entered_past cs p q (Some x) None g = refl
 entered_past cs p q None y g = refl
 
-child_stays : (cs : Changes) (p : Place) (g : Graph) → child_at (changed (each rest cs) g) p ≡ child_at g p
+child_stays : (cs : Changes) (p : EntryPlace) (g : Graph) → child_of_place (changed (each rest cs) g) p ≡ child_of_place g p
 child_stays cs p g = ap (λ es. fin.get es p.1) (ap node_entries (rest_at cs g p.0) ∙ rest_entries (change_at cs p.0) (g p.0))
 
-rest_past : (cs : Changes) (p q : Place) (g : Graph) → exchanged p q (changed (each rest cs) g) ≡ changed (each rest cs) (exchanged p q g)
+rest_past : (cs : Changes) (p q : EntryPlace) (g : Graph) → exchanged p q (changed (each rest cs) g) ≡ changed (each rest cs) (exchanged p q g)
 rest_past cs p q g =
-    ap (λ x. entered p q x (child_at (changed (each rest cs) g) q) (changed (each rest cs) g)) (child_stays cs p g)
-    ∙ ap (λ y. entered p q (child_at g p) y (changed (each rest cs) g)) (child_stays cs q g)
-    ∙ entered_past cs p q (child_at g p) (child_at g q) g
+    ap (λ x. exchanged_if p q x (child_of_place (changed (each rest cs) g) q) (changed (each rest cs) g)) (child_stays cs p g)
+    ∙ ap (λ y. exchanged_if p q (child_of_place g p) y (changed (each rest cs) g)) (child_stays cs q g)
+    ∙ entered_past cs p q (child_of_place g p) (child_of_place g q) g
 
 -- ---- more effects behind the exchange
 
@@ -124,7 +124,7 @@ tidy_empty i = subst (λ (c : Change). IsTidy (net_of c).bytes) (sym (empty_at i
 tidy_rest : (cs : Changes) → AreTidy cs → AreTidy (each rest cs)
 tidy_rest cs tidy i = subst (λ (c : Change). IsTidy (net_of c).bytes) (sym (each_at rest cs i refl)) (tidy i)
 
-pub in_its_place : (es fs : List Effect) (p q : Place) (g : Graph)
+pub in_its_place : (es fs : List Effect) (p q : EntryPlace) (g : Graph)
     → after_effects (exchanged p q (after_effects g es)) fs ≡ changed (with_effects (each rest (coalesced es)) fs) (exchanged p q (changed (each front (coalesced es)) g))
 in_its_place es fs p q g =
     let cs = coalesced es in

@@ -9,8 +9,8 @@ use Rattle.graph_change.specs.Net.{Kept, Child}
 use Rattle.graph_change.specs.Change.{Change, Changes}
 
 -- a directory, and a name in it
-abbrev pub Place : Type 0
-Place = ℕ × List ℕ
+abbrev pub EntryPlace : Type 0
+EntryPlace = ℕ × List ℕ
 
 -- the entries of a directory, none of what is no directory
 abbrev pub node_entries : Option Node → Entries Child
@@ -18,18 +18,18 @@ node_entries None = fin.empty
 node_entries (Some n) = elim (n.body) [ FileBody bytes ↦ fin.empty | DirBody entries ↦ entries ]
 
 -- what a name leads to
-abbrev pub child_at : Graph → Place → Option Child
-child_at g p = fin.get (node_entries (g p.0)) p.1
+abbrev pub child_of_place : Graph → EntryPlace → Option Child
+child_of_place g p = fin.get (node_entries (g p.0)) p.1
 
 -- with each of these entered under the other's name, where both are there
-abbrev pub entered : Place → Place → Option Child → Option Child → Graph → Graph
-entered p q (Some x) (Some y) g = after_effects g (effect.Enter p.0 y.0 y.1 p.1 ∷ effect.Enter q.0 x.0 x.1 q.1 ∷ [])
-entered p q (Some x) None g = g
-entered p q None y g = g
+abbrev pub exchanged_if : EntryPlace → EntryPlace → Option Child → Option Child → Graph → Graph
+exchanged_if p q (Some x) (Some y) g = after_effects g (effect.Enter p.0 y.0 y.1 p.1 ∷ effect.Enter q.0 x.0 x.1 q.1 ∷ [])
+exchanged_if p q (Some x) None g = g
+exchanged_if p q None y g = g
 
 -- a graph in which two names have exchanged what they lead to; as it was, unless both lead to something
-abbrev pub exchanged : Place → Place → Graph → Graph
-exchanged p q g = entered p q (child_at g p) (child_at g q) g
+abbrev pub exchanged : EntryPlace → EntryPlace → Graph → Graph
+exchanged p q g = exchanged_if p q (child_of_place g p) (child_of_place g q) g
 
 -- ---- a change in two parts
 

@@ -13,13 +13,13 @@ ghost use Rattle.coalescer.specs.declared.weight.TheConstants.{CHUNK_IMAGES, CHU
 ghost use Rattle.coalescer.specs.Records.{effects_of};
 ghost use Rattle.coalescer.specs.Weight.{is_entry, images, blocks, fits, IsLongestRun};
 ghost use Rattle.coalescer.specs.Within.{AreEntriesIn, AreBlocksIn};
-ghost use Rattle.coalescer.specs.Exchange.{Place, exchanged, each, front, rest};
+ghost use Rattle.coalescer.specs.Exchange.{EntryPlace, exchanged, each, front, rest};
 
 /// An exchange of two entries depends on the graph, and changes two directories, so no change of single inodes has it. It has its place
 /// between two changes: first what the effects before it make of nodes and entries, then the exchange, and then all the rest, with the
 /// effects behind it. No block of a file is written before it, so each is still written once.
 pub fn exchange_has_its_place()
-    ensures meaning { (es fs : List Effect) (p q : Place) (g : Graph) → after_effects (exchanged p q (after_effects g es)) fs ≡ changed (with_effects (each rest (coalesced es)) fs) (exchanged p q (changed (each front (coalesced es)) g)) }
+    ensures meaning { (es fs : List Effect) (p q : EntryPlace) (g : Graph) → after_effects (exchanged p q (after_effects g es)) fs ≡ changed (with_effects (each rest (coalesced es)) fs) (exchanged p q (changed (each front (coalesced es)) g)) }
     ensures blocks { (cs : Changes) (i b : ℕ) → writes_block (change_at (each front cs) i) b ≡ false }
 {}
 

@@ -12,7 +12,7 @@ use Rattle.coalescer.specs.Records.{effects_of}
 use Rattle.record_check.specs.Good.{KeepsLimits}
 use Rattle.record_check.proofs.Rises.{growth_told}
 use Rattle.digest_plan.specs.Covered.{IsCovered, AreCovered, AreSameAt, units_of}
-use Rattle.digest_plan.specs.Plan.{AreGood, Tells}
+use Rattle.digest_plan.specs.Plan.{AreGood, PlanTells}
 use Rattle.digest_plan.specs.declared.planning.Plan.TheVariants as plan
 use Rattle.digest_plan.proofs.Known.{among_joined, touches_joined}
 use Rattle.digest_plan.proofs.Runs.{never}
@@ -79,7 +79,7 @@ good_front held capacity g [] n all = subst (AreGood held capacity g) (sym (take
 good_front held capacity g (r ∷ rs) zero all = tt
 good_front held capacity g (r ∷ rs) (suc n) all = (all.0, good_front held capacity (after_effects g r.effects) rs n all.1)
 
-pub never_bad : (held : List ℕ) (capacity : ℕ) (g h : Graph) (rs : List Record) (place : ℕ) → AreCovered held g rs → AreSameAt (touches (effects_of rs)) g h → charge h + units_of rs ≤ capacity → Tells held capacity h rs (plan.Bad place) → ⊥
+pub never_bad : (held : List ℕ) (capacity : ℕ) (g h : Graph) (rs : List Record) (place : ℕ) → AreCovered held g rs → AreSameAt (touches (effects_of rs)) g h → charge h + units_of rs ≤ capacity → PlanTells held capacity h rs (plan.Bad place) → ⊥
 never_bad held capacity g h rs place all same few told =
     let n = told.0 in
     never held capacity h (take n rs) place told.2 (good_front held capacity h rs n (good held capacity h rs (local held g h rs all same) few))

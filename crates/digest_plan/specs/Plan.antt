@@ -38,6 +38,6 @@ pub record IsChunk (held : List ℕ) (capacity : ℕ) (g : Graph) (rs : List Rec
   pub charge : charge (after_effects g (effects_of (take c.count rs))) ≡ c.charge
   pub fits : fits (effects_of (take c.count rs)) ≡ true
 
-abbrev pub Tells : List ℕ → ℕ → Graph → List Record → Plan → Type 0
-Tells held capacity g rs (plan.Digest c) = IsChunk held capacity g rs c
-Tells held capacity g rs (plan.Bad place) = (n : ℕ) × IsLongestRun rs n × IsFirstBad held capacity g (take n rs) place
+abbrev pub PlanTells : List ℕ → ℕ → Graph → List Record → Plan → Type 0
+PlanTells held capacity g rs (plan.Digest c) = IsChunk held capacity g rs c
+PlanTells held capacity g rs (plan.Bad place) = (n : ℕ) × IsLongestRun rs n × IsFirstBad held capacity g (take n rs) place

@@ -9,7 +9,7 @@ ghost use Rattle.coalescer.specs.declared.weight.TheConstants.{CHUNK_IMAGES, CHU
 ghost use Rattle.coalescer.specs.Records.{effects_of};
 ghost use Rattle.record_check.specs.Good.{IsGood};
 ghost use Rattle.digest_plan.specs.Covered.{AreCovered, AreSameAt, units_of};
-ghost use Rattle.digest_plan.specs.Plan.{AreGood, IsFirstBad, Tells};
+ghost use Rattle.digest_plan.specs.Plan.{AreGood, IsFirstBad, PlanTells};
 ghost use Rattle.digest_plan.specs.declared.planning.Plan.TheVariants as plan;
 
 /// What is counted for a chunk is there on the shared media: as many images as a batch takes, and as many data blocks as are spare.
@@ -33,5 +33,5 @@ pub fn a_first_bad_record_is_the_only_one()
 pub fn covered_records_are_never_bad()
     ensures local { (held : List ℕ) (g h : Graph) (rs : List Record) → AreCovered held g rs → AreSameAt (touches (effects_of rs)) g h → AreCovered held h rs }
     ensures good { (held : List ℕ) (capacity : ℕ) (g : Graph) (rs : List Record) → AreCovered held g rs → charge g + units_of rs ≤ capacity → AreGood held capacity g rs }
-    ensures never { (held : List ℕ) (capacity : ℕ) (g h : Graph) (rs : List Record) (place : ℕ) → AreCovered held g rs → AreSameAt (touches (effects_of rs)) g h → charge h + units_of rs ≤ capacity → Tells held capacity h rs (plan.Bad place) → ⊥ }
+    ensures never { (held : List ℕ) (capacity : ℕ) (g h : Graph) (rs : List Record) (place : ℕ) → AreCovered held g rs → AreSameAt (touches (effects_of rs)) g h → charge h + units_of rs ≤ capacity → PlanTells held capacity h rs (plan.Bad place) → ⊥ }
 {}

@@ -6,7 +6,7 @@ ghost use Rattle.file_graph.specs.Units.{charge};
 ghost use Rattle.log_record.specs.Grammar.{IsRecord};
 ghost use Rattle.coalescer.specs.Records.{effects_of};
 ghost use Rattle.digest_plan.specs.Asked.{AskedOnce, refusal_of};
-ghost use Rattle.digest_plan.specs.Plan.{Tells};
+ghost use Rattle.digest_plan.specs.Plan.{PlanTells};
 
 use crate::error::PlanError;
 use crate::testing::{Found, test_records};
@@ -52,7 +52,7 @@ pub fn prepare<N: Nodes>(
     requires rising { IsNonDecreasing held.now }
     requires used { charge (N.graph nodes.old) ≡ used }
     ensures stays { N.graph nodes.new ≡ N.graph nodes.old }
-    ensures tells { IfOk result (Tells held.now capacity (N.graph nodes.old) records.now) }
+    ensures tells { IfOk result (PlanTells held.now capacity (N.graph nodes.old) records.now) }
     ensures answered { OnOk result (AskedOnce N.asked (touches (effects_of records.now)) nodes.old nodes.new None) }
     ensures refused { IfErr result (λ e. AskedOnce N.asked (touches (effects_of records.now)) nodes.old nodes.new (refusal_of e)) }
     ensures some { IfErr result (λ e. 0 < length records.now) }

@@ -7,7 +7,7 @@ ghost use Rattle.area_image.specs.declared.error.AreaError.TheVariants.{DeviceFa
 ghost use Rattle.area_image.specs.Store.{store_of, graph};
 ghost use Rattle.area_image.specs.Looks.{Looks};
 ghost use Rattle.shared_area.specs.Parts.{IsNoDamage};
-ghost use Rattle.digest_plan.specs.Plan.{Tells};
+ghost use Rattle.digest_plan.specs.Plan.{PlanTells};
 
 use crate::asking::Asked;
 use area_image::AreaError;
@@ -30,7 +30,7 @@ pub fn plan<M: Media>(
 ) -> Result<Plan, AreaError>
     requires spelled { AllByRecursion IsRecord records.now }
     requires rising { IsNonDecreasing held.now }
-    ensures tells { IfOk result (λ plan. Tells held.now area.old.geometry.units (graph area.old.geometry (store_of (M.seen area.old.media))) records.now plan) }
+    ensures tells { IfOk result (λ plan. PlanTells held.now area.old.geometry.units (graph area.old.geometry (store_of (M.seen area.old.media))) records.now plan) }
     ensures only { IfErr result IsNoDamage }
     ensures some { IfErr result (λ e. e ≢ DeviceFault → 0 < length records.now) }
     ensures looks { Looks M.moment M.seen M.left M.faults area.old area.new result }
@@ -65,7 +65,7 @@ fn plan_over<M: Media>(
     requires going { asked.old.area.now.failed ≡ false }
     requires used { charge (graph asked.old.area.now.geometry (store_of (M.seen asked.old.area.now.media))) ≡ used }
     ensures same_area { asked.new.area.ghost_name ≡ asked.old.area.ghost_name }
-    ensures tells { IfOk result (λ plan. Tells held.now capacity (graph asked.old.area.now.geometry (store_of (M.seen asked.old.area.now.media))) records.now plan) }
+    ensures tells { IfOk result (λ plan. PlanTells held.now capacity (graph asked.old.area.now.geometry (store_of (M.seen asked.old.area.now.media))) records.now plan) }
     ensures only { IfErr result IsNoDamage }
     ensures some { IfErr result (λ e. 0 < length records.now) }
     ensures looks { Looks M.moment M.seen M.left M.faults asked.old.area.now asked.new.area.now result }

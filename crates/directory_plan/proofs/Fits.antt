@@ -11,7 +11,7 @@ use Rattle.layout.specs.declared.slot.Slot.TheVariants as slots
 use Rattle.layout.specs.declared.geometry.Space.TheVariants as space
 use Rattle.layout.specs.declared.extents.Extent.{Extent}
 use Rattle.layout.specs.Places.{Sizes, is_node, is_run, node_end}
-use Rattle.layout.specs.Slot.{fits_slot, is_root}
+use Rattle.layout.specs.Slot.{fits_slot, is_root_block}
 use Rattle.extent_nodes.specs.Normal.{IsNormal}
 use Rattle.extent_nodes.specs.Places.{place_of}
 use Rattle.extent_nodes.specs.Spelled.{LiesWithin, IsOneToOne}
@@ -74,17 +74,17 @@ module _ (g : Sizes) (places : List ℕ) (runs : List Extent) (lie : ListPlaces 
     abbrev slot_then : Slot
     slot_then = slots.Directory names entries touch root
 
-    limits : touch < 2 ^ 64 → names ≤ MAX_NAMES → entries ≤ MAX_ENTRIES → is_root g root ≡ true → fits_slot g slot_then ≡ true
+    limits : touch < 2 ^ 64 → names ≤ MAX_NAMES → entries ≤ MAX_ENTRIES → is_root_block g root ≡ true → fits_slot g slot_then ≡ true
     limits touches named counted rooted =
-        and_from (nat_lt touch (2 ^ 64)) (nat_le names MAX_NAMES && nat_le entries MAX_ENTRIES && is_root g root) (lt-ltb touch (2 ^ 64) touches)
-        (and_from (nat_le names MAX_NAMES && nat_le entries MAX_ENTRIES) (is_root g root) (and_from (nat_le names MAX_NAMES) (nat_le entries MAX_ENTRIES) (le-leb names MAX_NAMES named) (le-leb entries MAX_ENTRIES counted)) rooted)
+        and_from (nat_lt touch (2 ^ 64)) (nat_le names MAX_NAMES && nat_le entries MAX_ENTRIES && is_root_block g root) (lt-ltb touch (2 ^ 64) touches)
+        (and_from (nat_le names MAX_NAMES && nat_le entries MAX_ENTRIES) (is_root_block g root) (and_from (nat_le names MAX_NAMES) (nat_le entries MAX_ENTRIES) (le-leb names MAX_NAMES named) (le-leb entries MAX_ENTRIES counted)) rooted)
 
     within : length places ≤ 64 → (t : Tier) → LiesWithin g (space_of slot_then t) (runs_in (on_fast runs) t)
     within few Fast k p at = on_nodes few k p at
     within few Block k p at = absurd (none-some p at)
     within few Slow k p at = absurd (none-some p at)
 
-    pub is_fit : touch < 2 ^ 64 → names ≤ MAX_NAMES → entries ≤ MAX_ENTRIES → is_root g root ≡ true → length places ≡ length_of slot_then → IsFit g slot_then (on_fast runs)
+    pub is_fit : touch < 2 ^ 64 → names ≤ MAX_NAMES → entries ≤ MAX_ENTRIES → is_root_block g root ≡ true → length places ≡ length_of slot_then → IsFit g slot_then (on_fast runs)
     is_fit touches named counted rooted long =
         let few : length places ≤ 64 = omega (arith, long, counted) in
         record {

@@ -5,7 +5,7 @@ use Rattle.std.proofs.lemmas.Bool.{cases_lt, cases_eq, eq-eqb, ne_eqb, and_parts
 use Rattle.std.proofs.lemmas.List.{length-append, length-take-le, get_or-take, get_or_append_left, get_or-append_right}
 use Rattle.tier_device.specs.declared.media.Tier.TheVariants.{Fast}
 use Rattle.layout.specs.Places.{Sizes, IsAllowed, is_node, node_end, tier_blocks}
-use Rattle.layout.specs.Slot.{is_root}
+use Rattle.layout.specs.Slot.{is_root_block}
 use Rattle.directory_plan.specs.Blocks.{nth_block, AreApart, AreNodeBlocks, spares_wanted, places_after, root_after}
 use Rattle.directory_plan.specs.Spare.{CanBeWritten, AreSpares}
 use Rattle.directory_plan.specs.declared.changing.ChangedDirectory.{ChangedDirectory}
@@ -28,7 +28,7 @@ node_small g k allowed is =
     let units = allowed.few_units in
     omega (arith, high, units)
 
-pub node_root : (g : Sizes) (k : ℕ) → is_node g k ≡ true → is_root g k ≡ true
+pub node_root : (g : Sizes) (k : ℕ) → is_node g k ≡ true → is_root_block g k ≡ true
 node_root g k is = or_right (k == 0) (is_node g k) is
 
 -- ---- how many spare blocks are wanted
@@ -145,11 +145,11 @@ module _ (g : Sizes) (x : ChangedDirectory) (spares : List ℕ) (can : CanBeWrit
   pub case_of : RootCase x.blocks.root (length old) spares new root_then
   case_of = root_case x.blocks.root (length old) spares new are.enough can.blocks_are.rooted
 
-  pub after_root_node : is_root g root_then ≡ true
+  pub after_root_node : is_root_block g root_then ≡ true
   after_root_node = elim case_of [
-    | NoRoot none is ↦ subst (λ r. is_root g r ≡ true) (sym is) (or_left (0 == 0) (is_node g 0) refl)
-    | OldRoot some root is ↦ subst (λ r. is_root g r ≡ true) (sym is) can.blocks_are.root_node
-    | NewRoot some root was many is ↦ subst (λ r. is_root g r ≡ true) (sym is) (node_root g (nth_block spares new) (are.nodes new (omega (arith, many))))
+    | NoRoot none is ↦ subst (λ r. is_root_block g r ≡ true) (sym is) (or_left (0 == 0) (is_node g 0) refl)
+    | OldRoot some root is ↦ subst (λ r. is_root_block g r ≡ true) (sym is) can.blocks_are.root_node
+    | NewRoot some root was many is ↦ subst (λ r. is_root_block g r ≡ true) (sym is) (node_root g (nth_block spares new) (are.nodes new (omega (arith, many))))
   ]
 
   pub after_root_apart : root_then ≢ 0 → (k : ℕ) → k < length after → nth_block after k ≢ root_then

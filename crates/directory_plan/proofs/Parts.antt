@@ -12,10 +12,10 @@ use Rattle.layout.specs.declared.slot.Slot.TheVariants as slots
 use Rattle.layout.specs.declared.geometry.Space.TheVariants as space
 use Rattle.layout.specs.Extents.{ExtentList}
 use Rattle.layout.specs.Places.{Sizes, is_node, is_run, node_end}
-use Rattle.layout.specs.Slot.{fits_slot, is_root}
+use Rattle.layout.specs.Slot.{fits_slot, is_root_block}
 use Rattle.extent_nodes.specs.Places.{place_of}
 use Rattle.extent_nodes.proofs.Spelled.{list-parts, lies-within}
-use Rattle.tree_blocks.specs.Inode.{Blocks, inode_of, IsDirectory, IsDirectoryBlock, blocks_for}
+use Rattle.tree_blocks.specs.Inode.{Blocks, inode_of, AreDirectoryBlocks, IsDirectoryBlock, blocks_for}
 use Rattle.area_image.specs.Store.{Store, slot, root_of, space_of, length_of, place, logical, inode}
 use Rattle.area_image.specs.Spelled.{Use, used}
 use Rattle.area_image.specs.Checks.{HasFound}
@@ -77,13 +77,13 @@ its_space x d = subst (λ (y : Slot). space_of y Fast ≡ space.Nodes) (sym d.is
 pub record SlotLimits (g : Sizes) (x : Slot) (blocks : Blocks) : Type 0 where
   pub names : (inode_of x blocks).names ≤ MAX_NAMES
   pub entries : (inode_of x blocks).size ≤ MAX_ENTRIES
-  pub root : is_root g (root_of x Fast) ≡ true
+  pub root : is_root_block g (root_of x Fast) ≡ true
 
 pub slot_limits : (g : Sizes) (x : Slot) (blocks : Blocks) → DirectorySlot x → fits_slot g x ≡ true → SlotLimits g x blocks
 slot_limits g x blocks d fits = subst (λ (y : Slot). SlotLimits g y blocks) (sym d.is) (
     let f : fits_slot g (slots.Directory d.names d.entries d.touch d.root) ≡ true = subst (λ (y : Slot). fits_slot g y ≡ true) d.is fits in
-    let rest = (and_parts (nat_lt d.touch (2 ^ 64)) (nat_le d.names MAX_NAMES && nat_le d.entries MAX_ENTRIES && is_root g d.root) f).1 in
-    let front = and_parts (nat_le d.names MAX_NAMES && nat_le d.entries MAX_ENTRIES) (is_root g d.root) rest in
+    let rest = (and_parts (nat_lt d.touch (2 ^ 64)) (nat_le d.names MAX_NAMES && nat_le d.entries MAX_ENTRIES && is_root_block g d.root) f).1 in
+    let front = and_parts (nat_le d.names MAX_NAMES && nat_le d.entries MAX_ENTRIES) (is_root_block g d.root) rest in
     let first = and_parts (nat_le d.names MAX_NAMES) (nat_le d.entries MAX_ENTRIES) front.0 in
     record { names = leb-true d.names MAX_NAMES first.0; entries = leb-true d.entries MAX_ENTRIES first.1; root = front.1 })
 
@@ -105,8 +105,8 @@ module _ (g : Sizes) (s : Store) (i : ℕ) (x : InodeParts) (are : AreDirectoryP
   pub long : length_of x.slot ≡ blocks_for (inode g s i).size
   long = ap length_of (sym slot_is) ∙ length_is (slot g s i) (logical g s i) are.kind_is
 
-  pub directory : IsDirectory i (inode g s i).size (logical g s i)
-  directory = subst (IsDirectory i (inode g s i).size) (blocks_is (slot g s i) (logical g s i) kind.Directory are.kind_is) (as_directory i (inode g s i) are.kind_is (are.spelled.inodes i are.number).consistent)
+  pub directory : AreDirectoryBlocks i (inode g s i).size (logical g s i)
+  directory = subst (AreDirectoryBlocks i (inode g s i).size) (blocks_is (slot g s i) (logical g s i) kind.Directory are.kind_is) (as_directory i (inode g s i) are.kind_is (are.spelled.inodes i are.number).consistent)
 
   -- each block is there
   lies : (k : ℕ) → k < length_of x.slot → (p : ℕ) × (place g s i Fast k ≡ Some p)
@@ -190,7 +190,7 @@ module _ (g : Sizes) (s : Store) (i : ℕ) (x : InodeParts) (are : AreDirectoryP
     sound blocks root_is places_are = record {
       nodes = subst (λ ps. (k : ℕ) → k < length ps → is_node g (nth_block ps k) ≡ true) (sym places_are) nodes;
       apart = subst AreApart (sym places_are) apart;
-      root_node = subst (λ r. is_root g r ≡ true) (sym root_is) (slot_limits g x.slot (λ k. []) its_slot are.fits).root;
+      root_node = subst (λ r. is_root_block g r ≡ true) (sym root_is) (slot_limits g x.slot (λ k. []) its_slot are.fits).root;
       root_apart = λ some k lt same. root_apart (λ zero'. some (root_is ∙ zero')) k (subst (λ ps. k < length ps) places_are lt) (ap (λ ps. nth_block ps k) (sym places_are) ∙ same ∙ root_is);
       rooted = λ none. ap (λ ps. length ps) places_are ∙ rooted (sym root_is ∙ none);
     }

@@ -7,7 +7,7 @@ use Rattle.layout.specs.declared.slot.Slot.TheVariants as slots
 use Rattle.layout.specs.Places.{Sizes}
 use Rattle.posix_calls.specs.declared.limits.TheConstants.{MAX_NAMES}
 use Rattle.tree_blocks.specs.Rewritten.{AreHeldOf}
-use Rattle.tree_blocks.specs.Inode.{Blocks, inode_of, IsDirectory, blocks_for}
+use Rattle.tree_blocks.specs.Inode.{Blocks, inode_of, AreDirectoryBlocks, blocks_for}
 use Rattle.tree_blocks.specs.Directory.{IsHeld, numbered}
 use Rattle.tree_blocks.proofs.Alike.{consistent_by}
 use Rattle.file_graph.specs.declared.effect.Kind.TheVariants as kind
@@ -49,8 +49,8 @@ module _ (g : Sizes) (s : Store) (i : ℕ) (x : InodeParts) (are : AreDirectoryP
       let inside : k < length places = subst (λ n. k < n) (sym long) lt in
       holds.each k inside ∙ sym (at_fast g s i k (nth_block places k) (parts.at_place g s i x are places is k inside))
 
-  directory : IsDirectory i count (numbered held)
-  directory = consistent_by i (Some kind.Directory) count (logical g s i) (numbered held) block_is (subst (λ n. IsDirectory i n (logical g s i)) size_is (parts.directory g s i x are))
+  directory : AreDirectoryBlocks i count (numbered held)
+  directory = consistent_by i (Some kind.Directory) count (logical g s i) (numbered held) block_is (subst (λ n. AreDirectoryBlocks i n (logical g s i)) size_is (parts.directory g s i x are))
 
   pub is_held : IsHeld (record { owner = i; count = count; blocks = held })
   is_held = record {

@@ -3,7 +3,7 @@ use Rattle.std.specs.Prelude.{◌≡◌, ◌≢◌, ◌<◌, ◌+◌, ◌-◌, �
 use Rattle.tier_device.specs.declared.media.Tier.{Tier}
 use Rattle.tier_device.specs.declared.media.Tier.TheVariants as tiers
 use Rattle.layout.specs.Places.{Sizes, is_node}
-use Rattle.layout.specs.Slot.{is_root}
+use Rattle.layout.specs.Slot.{is_root_block}
 use Rattle.block_alloc.specs.declared.runs.Run.{Run}
 use Rattle.directory_plan.specs.declared.blocks.DirectoryBlocks.{DirectoryBlocks}
 
@@ -23,7 +23,7 @@ AreNodeBlocks g blocks = (k : ℕ) → k < length blocks → is_node g (nth_bloc
 pub record AreSound (g : Sizes) (x : DirectoryBlocks) : Type 0 where
   pub nodes : AreNodeBlocks g x.places.items
   pub apart : AreApart x.places.items
-  pub root_node : is_root g x.root ≡ true
+  pub root_node : is_root_block g x.root ≡ true
   pub root_apart : x.root ≢ 0 → (k : ℕ) → k < length x.places.items → nth_block x.places.items k ≢ x.root
   pub rooted : x.root ≡ 0 → length x.places.items ≡ 0
 

@@ -2,7 +2,7 @@
 ghost use Rattle.std.specs.Prelude.{◌≡◌, ◌≤◌, ◌<◌, ◌+◌, true, length, OnOk};
 ghost use Rattle.std.specs.List.{All};
 ghost use Rattle.layout.specs.Places.{Sizes};
-ghost use Rattle.layout.specs.Slot.{is_root};
+ghost use Rattle.layout.specs.Slot.{is_root_block};
 ghost use Rattle.layout.specs.declared.extents.TheConstants.{MAX_EXTENTS};
 ghost use Rattle.layout.specs.declared.places.TheConstants.{BLOCK};
 ghost use Rattle.area_batch.specs.Batches.{AreNodes};
@@ -46,7 +46,7 @@ pub fn put_list(
     requires old { length old_list.now ≡ BLOCK }
     requires few { length list.now.extents ≤ MAX_EXTENTS }
     ensures image { OnOk result (HasListImage old_root old_list.now root list.now images.old images.new) }
-    ensures nodes { OnOk result ((g : Sizes) → is_root g root ≡ true → AreNodes g images.old → AreNodes g images.new) }
+    ensures nodes { OnOk result ((g : Sizes) → is_root_block g root ≡ true → AreNodes g images.old → AreNodes g images.new) }
     ensures few { OnOk result (length images.new ≤ length images.old + 1) }
 {
     if root == 0 {

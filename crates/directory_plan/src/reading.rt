@@ -2,7 +2,7 @@
 ghost use Rattle.std.specs.Prelude.{◌≡◌, ◌≢◌, ◌⊎◌, ◌<◌, ◌++◌, ◌∷◌, [], true, false, length, IfOk, IfErr, OnOk};
 ghost use Rattle.layout.specs.Places.{is_node};
 ghost use Rattle.tier_device.specs.declared.media.Tier.TheVariants as tiers;
-ghost use Rattle.layout.specs.Slot.{is_root};
+ghost use Rattle.layout.specs.Slot.{is_root_block};
 ghost use Rattle.area_image.specs.Store.{store_of};
 ghost use Rattle.area_image.specs.Looks.{Looks};
 ghost use Rattle.area_image.specs.declared.error.AreaError.TheVariants.{DeviceFault, Memory};
@@ -32,7 +32,7 @@ fn read_node<M: Media>(journal: &mut Journal<M>, block: u32) -> Result<[u8; BLOC
 
 // What stands in a root; zeros where there is none.
 pub fn read_root<M: Media>(journal: &mut Journal<M>, root: u32) -> Result<[u8; BLOCK], AreaError>
-    requires root { is_root journal.old.geometry root ≡ true }
+    requires root { is_root_block journal.old.geometry root ≡ true }
     requires going { journal.old.failed ≡ false }
     ensures bytes { IfOk result (λ bytes. root ≢ 0 → bytes ≡ store_of (M.seen journal.old.media) tiers.Fast root) }
     ensures only { IfErr result (λ e. e ≡ DeviceFault) }

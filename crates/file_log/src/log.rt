@@ -1,6 +1,6 @@
 // A log of numbered records over a file.
 ghost use Rattle.std.specs.Prelude.{◌≡◌, IfOk};
-ghost use Rattle.long_media.specs.File.{IsAtRest};
+ghost use Rattle.long_media.specs.File.{IsFileAtRest};
 ghost use Rattle.log_record.specs.Grammar.{IsRecord};
 ghost use Rattle.update_log.specs.declared.stage.Stage.TheVariants as stages;
 
@@ -60,7 +60,7 @@ fn sizes() -> Sizes {
 }
 
 fn opened(rt: &HostRuntime, path: &str) -> Result<FileMedia>
-    ensures { IfOk result IsAtRest }
+    ensures { IfOk result IsFileAtRest }
 {
     match FileMedia::open(rt, rt.alloc(), path, sizes()) {
         Ok(media) => Ok(media),
@@ -69,7 +69,7 @@ fn opened(rt: &HostRuntime, path: &str) -> Result<FileMedia>
 }
 
 fn created(rt: &HostRuntime, path: &str) -> Result<FileMedia>
-    ensures { IfOk result IsAtRest }
+    ensures { IfOk result IsFileAtRest }
 {
     match FileMedia::create(rt, rt.alloc(), path, sizes()) {
         Ok(media) => Ok(media),
@@ -78,7 +78,7 @@ fn created(rt: &HostRuntime, path: &str) -> Result<FileMedia>
 }
 
 fn region(alloc: Global, media: FileMedia) -> Result<Region<FileMedia>>
-    requires { IsAtRest media }
+    requires { IsFileAtRest media }
 {
     match Region::reopen(alloc, media) {
         Ok(region) => Ok(region),

@@ -15,8 +15,8 @@ use Rattle.std.proofs.lemmas.List.FromFn.{length-map-range_with_len}
 use Rattle.graph_change.specs.Bytes.{Length, byte_after}
 use Rattle.tree_blocks.specs.FileBlock.{put_in, in_block, block_after, is_cut_off, ReadSame, ReadsAfter}
 use Rattle.tree_blocks.proofs.FileBlocks.{made_of_same, made_whole, made_behind}
-use Rattle.file_plan.specs.Placed.{number_at}
-use Rattle.file_plan.specs.Bytes.{IsAfter, HoldsBlocks}
+use Rattle.file_plan.specs.Placed.{nth_number}
+use Rattle.file_plan.specs.Bytes.{IsBlockAfter, HoldsBlocks}
 
 put_of : (o : Option (List ℕ × List Bool)) → put_in o ≡ unwrap_or (option_map patch_of o) blank
 put_of None = refl
@@ -35,16 +35,16 @@ slice_right at n xs ys here long = ap (take n) (ap (λ k. drop k (xs ++ ys)) (sy
 pub holds_none : (c : Change) (old : Blocks) (numbers : List ℕ) → HoldsBlocks c old numbers 0 []
 holds_none c old numbers = record { long = refl; each = λ n lt. absurd (omega (arith, lt)) }
 
-pub holds_more : (c : Change) (old : Blocks) (numbers : List ℕ) (n : ℕ) (bytes block : List ℕ) → HoldsBlocks c old numbers n bytes → length block ≡ 4096 → IsAfter c old (number_at numbers n) block → HoldsBlocks c old numbers (n + 1) (bytes ++ block)
+pub holds_more : (c : Change) (old : Blocks) (numbers : List ℕ) (n : ℕ) (bytes block : List ℕ) → HoldsBlocks c old numbers n bytes → length block ≡ 4096 → IsBlockAfter c old (nth_number numbers n) block → HoldsBlocks c old numbers (n + 1) (bytes ++ block)
 holds_more c old numbers n bytes block h long after =
     let all = h.long in
     record {
       long = (let both = length-append bytes block in omega (arith, both, all, long));
       each = λ m lt. elim (cases_lt m n) [
-        | inl before ↦ subst (λ (b : List ℕ). IsAfter c old (number_at numbers m) b) (sym (slice_left (4096 * m) 4096 bytes block (omega (arith, all, before)))) (h.each m before)
+        | inl before ↦ subst (λ (b : List ℕ). IsBlockAfter c old (nth_number numbers m) b) (sym (slice_left (4096 * m) 4096 bytes block (omega (arith, all, before)))) (h.each m before)
         | inr ge ↦ (let is : m ≡ n = omega (arith, lt, ge) in
-            subst (λ (j : ℕ). IsAfter c old (number_at numbers j) (slice (4096 * j) 4096 (bytes ++ block))) (sym is)
-            (subst (λ (b : List ℕ). IsAfter c old (number_at numbers n) b) (sym (slice_right (4096 * n) 4096 bytes block all long)) after))
+            subst (λ (j : ℕ). IsBlockAfter c old (nth_number numbers j) (slice (4096 * j) 4096 (bytes ++ block))) (sym is)
+            (subst (λ (b : List ℕ). IsBlockAfter c old (nth_number numbers n) b) (sym (slice_right (4096 * n) 4096 bytes block all long)) after))
       ];
     }
 

@@ -17,7 +17,7 @@ use Rattle.extent_nodes.specs.Spelled.{LiesWithin, IsOneToOne}
 use Rattle.block_map.specs.Map.{TierRuns, runs_in, lies_at, LieOnce, LieBelow}
 use Rattle.block_map.specs.declared.map.Place.{Place}
 use Rattle.area_move.proofs.Given.{cons_cases, nothing}
-use Rattle.file_plan.specs.Placed.{number_at, nth_place, ArePlaced}
+use Rattle.file_plan.specs.Placed.{nth_number, nth_place, NumbersArePlaced}
 use Rattle.file_plan.specs.Written.{AreNumbers}
 use Rattle.file_plan.specs.Mapped.{IsCutBy, IsMapAfter, AreFresh, AreData, leaves, AreLeft, KeepsPlace, TakesPlace}
 use Rattle.file_plan.proofs.Moves.{same_or_other}
@@ -26,7 +26,7 @@ use Rattle.file_plan.proofs.Moves.{same_or_other}
 pub record StandsAt (numbers : List ℕ) (k : ℕ) : Type 0 where
   pub at : ℕ
   pub inside : at < length numbers
-  pub is : number_at numbers at ≡ k
+  pub is : nth_number numbers at ≡ k
 
 stands_later : (x : ℕ) (xs : List ℕ) (k : ℕ) → StandsAt xs k → StandsAt (x ∷ xs) k
 stands_later x xs k r = let lt = r.inside in record { at = suc r.at; inside = omega (arith, lt); is = r.is }
@@ -41,16 +41,16 @@ stands_in (x ∷ xs) k at = elim (cons_cases x xs k at) [
 -- ---- the map is cut, and then the blocks are placed
 
 module _ (c : Change) (numbers : List ℕ) (are : AreNumbers c numbers) where
-  pub written_at : (n : ℕ) → n < length numbers → writes_block c (number_at numbers n) ≡ true
-  written_at n lt = (are.each (number_at numbers n)).0 (Contains-get_or numbers n 0 lt)
+  pub written_at : (n : ℕ) → n < length numbers → writes_block c (nth_number numbers n) ≡ true
+  written_at n lt = (are.each (nth_number numbers n)).0 (Contains-get_or numbers n 0 lt)
 
-  pub number_fits : IsTidyChange c → end c.length ≤ 1048576 → (n : ℕ) → n < length numbers → number_at numbers n + 1 < 2 ^ 32
-  number_fits tidy few n lt = let begins = tidy.blocks (number_at numbers n) (written_at n lt) in omega (arith, begins, few)
+  pub number_fits : IsTidyChange c → end c.length ≤ 1048576 → (n : ℕ) → n < length numbers → nth_number numbers n + 1 < 2 ^ 32
+  number_fits tidy few n lt = let begins = tidy.blocks (nth_number numbers n) (written_at n lt) in omega (arith, begins, few)
 
   pub stands : (k : ℕ) → writes_block c k ≡ true → StandsAt numbers k
   stands k put = stands_in numbers k ((are.each k).1 put)
 
-  module _ (places : List Place) (old mid new : TierRuns) (cut : IsCutBy c.length old mid) (placed : ArePlaced numbers places (length numbers) mid new) where
+  module _ (places : List Place) (old mid new : TierRuns) (cut : IsCutBy c.length old mid) (placed : NumbersArePlaced numbers places (length numbers) mid new) where
     stays_put : (t : Tier) (k : ℕ) → writes_block c k ≡ false → lies_at new t k ≡ lies_at mid t k
     stays_put t k out = placed.others k t (λ n lt is. false≢true (sym out ∙ ap (writes_block c) (sym is) ∙ written_at n lt))
 
@@ -138,7 +138,7 @@ module _ (c : Change) (numbers : List ℕ) (places : List Place) (old new : Tier
 
     taken_apart : (t : Tier) (j k p : ℕ) → TakesPlace numbers places t j p → TakesPlace numbers places t k p → j ≡ k
     taken_apart t j k p one other =
-        sym one.number ∙ ap (number_at numbers) (fresh.apart one.at other.at one.inside other.inside (one.tier ∙ sym other.tier) (one.block ∙ sym other.block)) ∙ other.number
+        sym one.number ∙ ap (nth_number numbers) (fresh.apart one.at other.at one.inside other.inside (one.tier ∙ sym other.tier) (one.block ∙ sym other.block)) ∙ other.number
 
     pub after_apart : ((t : Tier) → IsOneToOne (runs_in old t)) → (t : Tier) → IsOneToOne (runs_in new t)
     after_apart apart t j k p at_j at_k = elim (keeps_or_takes t j p at_j) [

@@ -5,7 +5,7 @@ use Rattle.std.specs.Ordering.{nat_cmp}
 use Rattle.std.specs.BTreeMap.{get}
 use Rattle.std.specs.FinMap as fin
 use Rattle.graph_change.specs.Change.{cuts_within, writes_block}
-use Rattle.graph_change.specs.View.{change_of, length_of, patches_of}
+use Rattle.graph_change.specs.View.{change_of, new_length, patches_of}
 use Rattle.graph_change.specs.declared.node_change.NodeChange.{NodeChange}
 use Rattle.graph_change.proofs.Making.{has_is}
 use Rattle.graph_change.proofs.Touched.{or_cases}
@@ -20,18 +20,18 @@ or_right false b is = is
 
 module _ (c : NodeChange) (keys : List ℕ) (are : AreKeys c.blocks keys) where
   put_is : (k : ℕ) → IsSome (get nat_cmp c.blocks k) → writes_block (change_of c) k ≡ true
-  put_is k some = or_left (fin.contains_key (patches_of c.blocks) k) (cuts_within (length_of c.length) k) (has_is c.blocks k ∙ some)
+  put_is k some = or_left (fin.contains_key (patches_of c.blocks) k) (cuts_within (new_length c.length) k) (has_is c.blocks k ∙ some)
 
-  cut_is : (k : ℕ) → cuts_within (length_of c.length) k ≡ true → writes_block (change_of c) k ≡ true
-  cut_is k cut = or_right (fin.contains_key (patches_of c.blocks) k) (cuts_within (length_of c.length) k) cut
+  cut_is : (k : ℕ) → cuts_within (new_length c.length) k ≡ true → writes_block (change_of c) k ≡ true
+  cut_is k cut = or_right (fin.contains_key (patches_of c.blocks) k) (cuts_within (new_length c.length) k) cut
 
-  by : (k : ℕ) → writes_block (change_of c) k ≡ true → IsSome (get nat_cmp c.blocks k) ⊎ (cuts_within (length_of c.length) k ≡ true)
-  by k is = elim (or_cases (fin.contains_key (patches_of c.blocks) k) (cuts_within (length_of c.length) k) is) [
+  by : (k : ℕ) → writes_block (change_of c) k ≡ true → IsSome (get nat_cmp c.blocks k) ⊎ (cuts_within (new_length c.length) k ≡ true)
+  by k is = elim (or_cases (fin.contains_key (patches_of c.blocks) k) (cuts_within (new_length c.length) k) is) [
     | inl put ↦ inl (sym (has_is c.blocks k) ∙ put)
     | inr cut ↦ inr cut
   ]
 
-  pub with_cut : (new : List ℕ) (number : ℕ) → ((j : ℕ) → (cuts_within (length_of c.length) j ≡ true) ↔ (j ≡ number)) → HasOneMore number keys new → AreNumbers (change_of c) new
+  pub with_cut : (new : List ℕ) (number : ℕ) → ((j : ℕ) → (cuts_within (new_length c.length) j ≡ true) ↔ (j ≡ number)) → HasOneMore number keys new → AreNumbers (change_of c) new
   with_cut new number cuts more = record {
     rising = more.rising;
     each = λ k. (
@@ -40,7 +40,7 @@ module _ (c : NodeChange) (keys : List ℕ) (are : AreKeys c.blocks keys) where
     );
   }
 
-  pub without_cut : ((j : ℕ) → cuts_within (length_of c.length) j ≡ true → ⊥) → AreNumbers (change_of c) keys
+  pub without_cut : ((j : ℕ) → cuts_within (new_length c.length) j ≡ true → ⊥) → AreNumbers (change_of c) keys
   without_cut none = record {
     rising = are.rising;
     each = λ k. (

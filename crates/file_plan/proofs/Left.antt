@@ -14,7 +14,7 @@ use Rattle.extent_nodes.specs.Places.{place_of}
 use Rattle.extent_nodes.specs.Spelled.{IsOneToOne}
 use Rattle.graph_change.specs.Change.{Change, writes_block}
 use Rattle.tree_blocks.specs.FileBlock.{is_cut_off}
-use Rattle.block_map.specs.Map.{TierRuns, runs_in, lies_at, listed, places_of, LieBelow, HasBlock}
+use Rattle.block_map.specs.Map.{TierRuns, runs_in, lies_at, place_list, places_of, LieBelow, HasBlock}
 use Rattle.area_move.specs.Given.{AreUsed, IsInUse}
 use Rattle.area_move.proofs.Given.{cons_cases, cons_here, cons_there, nothing, in_range}
 use Rattle.file_plan.specs.Written.{AreNumbers}
@@ -23,7 +23,7 @@ use Rattle.file_plan.proofs.Once.{Once, runs_used}
 
 -- the places of some blocks
 abbrev placed : (ℕ → Option ℕ) → List ℕ → List ℕ
-placed place ks = flat_map (λ k. listed (place k)) ks
+placed place ks = flat_map (λ k. place_list (place k)) ks
 
 -- one of some blocks lies at a place
 record LiesAmong (place : ℕ → Option ℕ) (ks : List ℕ) (p : ℕ) : Type 0 where
@@ -38,7 +38,7 @@ module _ (place : ℕ → Option ℕ) where
   among : (ks : List ℕ) (p : ℕ) → Contains (placed place ks) p → LiesAmong place ks p
   among [] p at = absurd (nothing p at)
   among (k ∷ ks) p at = by (place k) refl (λ later. among_more k ks p (among ks p later)) at where
-    by : (o : Option ℕ) → place k ≡ o → (Contains (placed place ks) p → LiesAmong place (k ∷ ks) p) → Contains (listed o ++ placed place ks) p → LiesAmong place (k ∷ ks) p
+    by : (o : Option ℕ) → place k ≡ o → (Contains (placed place ks) p → LiesAmong place (k ∷ ks) p) → Contains (place_list o ++ placed place ks) p → LiesAmong place (k ∷ ks) p
     by None is rest here = rest here
     by (Some q) is rest here = elim (cons_cases q (placed place ks) p here) [
       | inl same ↦ record { block = k; one = cons_here k ks k refl; there = is ∙ ap (λ x. Some x) same }
@@ -48,14 +48,14 @@ module _ (place : ℕ → Option ℕ) where
   among_back : (ks : List ℕ) (k p : ℕ) → Contains ks k → place k ≡ Some p → Contains (placed place ks) p
   among_back [] k p at is = absurd (nothing k at)
   among_back (j ∷ ks) k p at is = elim (cons_cases j ks k at) [
-    | inl here ↦ Contains-append_left (listed (place j)) (placed place ks) p (subst (λ o. Contains (listed o) p) (sym (ap place here ∙ is)) (cons_here p [] p refl))
-    | inr there ↦ Contains-append_right (listed (place j)) (placed place ks) p (among_back ks k p there is)
+    | inl here ↦ Contains-append_left (place_list (place j)) (placed place ks) p (subst (λ o. Contains (place_list o) p) (sym (ap place here ∙ is)) (cons_here p [] p refl))
+    | inr there ↦ Contains-append_right (place_list (place j)) (placed place ks) p (among_back ks k p there is)
   ]
 
   once_placed : ((j k p : ℕ) → place j ≡ Some p → place k ≡ Some p → j ≡ k) → (ks : List ℕ) → Once ks → Once (placed place ks)
   once_placed apart [] once = tt
   once_placed apart (k ∷ ks) once = by (place k) refl (once_placed apart ks once.1) where
-    by : (o : Option ℕ) → place k ≡ o → Once (placed place ks) → Once (listed o ++ placed place ks)
+    by : (o : Option ℕ) → place k ≡ o → Once (placed place ks) → Once (place_list o ++ placed place ks)
     by None is rest = rest
     by (Some q) is rest = (λ at. (let r = among ks q at in once.0 (subst (Contains ks) (apart r.block k q r.there is) r.one)), rest)
 
@@ -93,10 +93,10 @@ once_both (x ∷ xs) ys one two apart = (
 -- ---- what a loop adds
 
 pub one_below : (es : List Extent) (end k : ℕ) → k < end → places_below es end (k ∷ []) ≡ places_of es k 1
-one_below es end k lt = ap (λ o. listed o ++ []) (cond-true (nat_lt k end) (place_of es k) None (lt-ltb k end lt))
+one_below es end k lt = ap (λ o. place_list o ++ []) (cond-true (nat_lt k end) (place_of es k) None (lt-ltb k end lt))
 
 pub none_below : (es : List Extent) (end k : ℕ) → end ≤ k → places_below es end (k ∷ []) ≡ []
-none_below es end k ge = ap (λ o. listed o ++ []) (cond-false (nat_lt k end) (place_of es k) None (le-ltb k end ge))
+none_below es end k ge = ap (λ o. place_list o ++ []) (cond-false (nat_lt k end) (place_of es k) None (le-ltb k end ge))
 
 -- ---- those of the written blocks, and those behind the cut
 

@@ -8,7 +8,7 @@ use Rattle.block_alloc.specs.Runs.{Rising}
 use Rattle.extent_nodes.specs.Places.{in_run, place_of}
 use Rattle.block_map.specs.Map.{TierRuns, runs_in, lies_at, ArePut}
 use Rattle.block_map.specs.declared.map.Place.{Place}
-use Rattle.file_plan.specs.Placed.{number_at, nth_place, ArePlaced}
+use Rattle.file_plan.specs.Placed.{nth_number, nth_place, NumbersArePlaced}
 
 -- a later number is greater
 low_at : (low end n : ℕ) (ks : List ℕ) → Rising low end ks → n < length ks → low ≤ get_or ks n 0
@@ -60,24 +60,24 @@ module _ (first place : ℕ) (tier : Tier) (old new : TierRuns) (put : ArePut fi
   ]
 
 -- one more block at its place
-pub placed_more : (numbers : List ℕ) (places : List Place) (n : ℕ) (old mid new : TierRuns) → ((m : ℕ) → m < n → number_at numbers m ≢ number_at numbers n) → ArePlaced numbers places n old mid → ArePut (number_at numbers n) 1 (nth_place places n).tier (nth_place places n).block mid new → ArePlaced numbers places (n + 1) old new
+pub placed_more : (numbers : List ℕ) (places : List Place) (n : ℕ) (old mid new : TierRuns) → ((m : ℕ) → m < n → nth_number numbers m ≢ nth_number numbers n) → NumbersArePlaced numbers places n old mid → ArePut (nth_number numbers n) 1 (nth_place places n).tier (nth_place places n).block mid new → NumbersArePlaced numbers places (n + 1) old new
 placed_more numbers places n old mid new differ so_far put =
-    let first = number_at numbers n in
+    let first = nth_number numbers n in
     let p = nth_place places n in
     record {
       there = λ m lt. elim (cases_lt m n) [
-        | inl before ↦ others_lie first p.block p.tier mid new put (nth_place places m).tier (number_at numbers m) (λ e. differ m before (sym e)) ∙ so_far.there m before
-        | inr ge ↦ subst (λ j. lies_at new (nth_place places j).tier (number_at numbers j) ≡ Some (nth_place places j).block) (omega (arith, lt, ge)) (lies_there first p.block p.tier mid new put)
+        | inl before ↦ others_lie first p.block p.tier mid new put (nth_place places m).tier (nth_number numbers m) (λ e. differ m before (sym e)) ∙ so_far.there m before
+        | inr ge ↦ subst (λ j. lies_at new (nth_place places j).tier (nth_number numbers j) ≡ Some (nth_place places j).block) (omega (arith, lt, ge)) (lies_there first p.block p.tier mid new put)
       ];
       once = λ m t lt other. elim (cases_lt m n) [
-        | inl before ↦ others_lie first p.block p.tier mid new put t (number_at numbers m) (λ e. differ m before (sym e)) ∙ so_far.once m t before other
+        | inl before ↦ others_lie first p.block p.tier mid new put t (nth_number numbers m) (λ e. differ m before (sym e)) ∙ so_far.once m t before other
         | inr ge ↦ (let is : m ≡ n = omega (arith, lt, ge) in
-            subst (λ j. lies_at new t (number_at numbers j) ≡ None) (sym is) (lies_once first p.block p.tier mid new put t (subst (λ j. t ≢ (nth_place places j).tier) is other)))
+            subst (λ j. lies_at new t (nth_number numbers j) ≡ None) (sym is) (lies_once first p.block p.tier mid new put t (subst (λ j. t ≢ (nth_place places j).tier) is other)))
       ];
       others = λ k t none. others_lie first p.block p.tier mid new put t k (none n (omega arith)) ∙ so_far.others k t (λ m lt. none m (omega (arith, lt)));
     }
 
-pub placed_none : (numbers : List ℕ) (places : List Place) (old : TierRuns) → ArePlaced numbers places 0 old old
+pub placed_none : (numbers : List ℕ) (places : List Place) (old : TierRuns) → NumbersArePlaced numbers places 0 old old
 placed_none numbers places old = record {
   there = λ n lt. absurd (omega (arith, lt));
   once = λ n t lt other. absurd (omega (arith, lt));

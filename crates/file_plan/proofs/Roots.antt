@@ -9,7 +9,7 @@ use Rattle.graph_change.specs.Change.{Change}
 use Rattle.graph_change.specs.Net.{Base, Kept, Made, Gone, names_after}
 use Rattle.layout.specs.Extents.{ExtentList}
 use Rattle.layout.specs.Places.{Sizes, is_node}
-use Rattle.layout.specs.Slot.{is_root, roots_apart, fits_slot}
+use Rattle.layout.specs.Slot.{is_root_block, roots_apart, fits_slot}
 use Rattle.layout.specs.declared.slot.Slot.{Slot}
 use Rattle.layout.specs.declared.slot.Slot.TheVariants as slots
 use Rattle.tree_blocks.specs.Inode.{Blocks, inode_of}
@@ -38,10 +38,10 @@ or_right false b is = is
 
 -- ---- each root
 
-one_fits : (g : Sizes) (old : ℕ) (o : Option ExtentList) (spare n : ℕ) → Root old o spare n → is_root g old ≡ true → (lacking old o ≡ 1 → is_node g spare ≡ true) → is_root g n ≡ true
-one_fits g old o spare n (none is) was node = subst (λ k. is_root g k ≡ true) (sym is) refl
-one_fits g old o spare n (kept some is) was node = subst (λ k. is_root g k ≡ true) (sym is) was
-one_fits g old o spare n (new lacks is) was node = subst (λ k. is_root g k ≡ true) (sym is) (or_right (spare == 0) (is_node g spare) (node lacks))
+one_fits : (g : Sizes) (old : ℕ) (o : Option ExtentList) (spare n : ℕ) → Root old o spare n → is_root_block g old ≡ true → (lacking old o ≡ 1 → is_node g spare ≡ true) → is_root_block g n ≡ true
+one_fits g old o spare n (none is) was node = subst (λ k. is_root_block g k ≡ true) (sym is) refl
+one_fits g old o spare n (kept some is) was node = subst (λ k. is_root_block g k ≡ true) (sym is) was
+one_fits g old o spare n (new lacks is) was node = subst (λ k. is_root_block g k ≡ true) (sym is) (or_right (spare == 0) (is_node g spare) (node lacks))
 
 apart_from : (a b : ℕ) → (a ≢ 0 → a ≢ b) → roots_apart a b ≡ true
 apart_from a b differ = elim (cases_Bool (a == 0)) [
@@ -81,9 +81,9 @@ module _ (a b : ℕ) (o q : Option ExtentList) (s u : ℕ) (differ : a ≢ 0 →
 
 -- its roots are blocks of the node pool, no two the same
 pub record AreRoots (g : Sizes) (a b d : ℕ) : Type 0 where
-  pub fast : is_root g a ≡ true
-  pub block : is_root g b ≡ true
-  pub slow : is_root g d ≡ true
+  pub fast : is_root_block g a ≡ true
+  pub block : is_root_block g b ≡ true
+  pub slow : is_root_block g d ≡ true
   pub fast_block : roots_apart a b ≡ true
   pub fast_slow : roots_apart a d ≡ true
   pub block_slow : roots_apart b d ≡ true
@@ -98,13 +98,13 @@ old_roots g (slots.File names size touch fast block slow) was =
     let bs = and_parts _ (roots_apart block slow) t.1 in
     let fs = and_parts _ (roots_apart fast slow) bs.0 in
     let fb = and_parts _ (roots_apart fast block) fs.0 in
-    let s = and_parts _ (is_root g slow) fb.0 in
-    let b = and_parts _ (is_root g block) s.0 in
-    let f = and_parts _ (is_root g fast) b.0 in
+    let s = and_parts _ (is_root_block g slow) fb.0 in
+    let b = and_parts _ (is_root_block g block) s.0 in
+    let f = and_parts _ (is_root_block g fast) b.0 in
     record { fast = f.1; block = b.1; slow = s.1; fast_block = fb.1; fast_slow = fs.1; block_slow = bs.1 }
 old_roots g (slots.Directory names entries touch root) was =
     let t = and_parts (nat_lt touch (2 ^ 64)) _ was in
-    let r = and_parts _ (is_root g root) t.1 in
+    let r = and_parts _ (is_root_block g root) t.1 in
     record { fast = r.1; block = refl; slow = refl; fast_block = from_none root; fast_slow = from_none root; block_slow = refl }
 
 -- what a change starts from keeps the limits
@@ -115,14 +115,14 @@ started_few g (slots.File names size touch fast block slow) Kept blocks was =
     let bs = and_parts _ (roots_apart block slow) t.1 in
     let fs = and_parts _ (roots_apart fast slow) bs.0 in
     let fb = and_parts _ (roots_apart fast block) fs.0 in
-    let s = and_parts _ (is_root g slow) fb.0 in
-    let b = and_parts _ (is_root g block) s.0 in
-    let f = and_parts _ (is_root g fast) b.0 in
+    let s = and_parts _ (is_root_block g slow) fb.0 in
+    let b = and_parts _ (is_root_block g block) s.0 in
+    let f = and_parts _ (is_root_block g fast) b.0 in
     let n = and_parts _ _ f.0 in
     (leb-true names _ n.0, leb-true size _ n.1)
 started_few g (slots.Directory names entries touch root) Kept blocks was =
     let t = and_parts (nat_lt touch (2 ^ 64)) _ was in
-    let r = and_parts _ (is_root g root) t.1 in
+    let r = and_parts _ (is_root_block g root) t.1 in
     let n = and_parts _ _ r.0 in
     (leb-true names _ n.0, (let few = leb-true entries _ n.1 in omega (arith, few)))
 started_few g slot (Made kind) blocks was = (omega arith, omega arith)

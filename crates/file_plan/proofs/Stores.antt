@@ -30,7 +30,7 @@ use Rattle.area_rewrite.specs.Changed.{place_from, LieAsChanged, IsFileSlot}
 use Rattle.area_rewrite.proofs.Places.{by_there}
 use Rattle.file_plan.specs.Placed.{nth_place}
 use Rattle.file_plan.specs.Written.{AreNumbers}
-use Rattle.file_plan.specs.Bytes.{IsAfter, HoldsBlocks}
+use Rattle.file_plan.specs.Bytes.{IsBlockAfter, HoldsBlocks}
 use Rattle.file_plan.specs.Mapped.{IsMapAfter, AreFresh, AreData}
 use Rattle.file_plan.specs.Planned.{pair_of, StartsFrom, HasData}
 use Rattle.file_plan.proofs.After.{stands, written_at, in_place, keeps_or_takes, after_once, after_below, after_apart, after_within}
@@ -54,7 +54,7 @@ module _ (g : Sizes) (c : Change) (old new : Store) (i : ℕ) (before after : Ti
       let s = stands c numbers are k put in
       let p = nth_place places s.at in
       let read : logical_by new after k ≡ slice (4096 * s.at) 4096 bytes = by_there new after k p.block now_once p.tier (in_place c numbers places before after are is k s) ∙ data_at s.at s.inside in
-      subst (λ (b : List ℕ). ReadsAfter c.length (patch_at c.patches k) k (blocks k) b) (sym read) (subst (λ (j : ℕ). IsAfter c blocks j (slice (4096 * s.at) 4096 bytes)) s.is (holds.each s.at s.inside))
+      subst (λ (b : List ℕ). ReadsAfter c.length (patch_at c.patches k) k (blocks k) b) (sym read) (subst (λ (j : ℕ). IsBlockAfter c blocks j (slice (4096 * s.at) 4096 bytes)) s.is (holds.each s.at s.inside))
 
   same : (t : Tier) (k p : ℕ) → writes_block c k ≡ false → lies_at after t k ≡ Some p → new t p ≡ old t p
   same t k p out at = elim (keeps_or_takes c numbers places before after are is t k p at) [

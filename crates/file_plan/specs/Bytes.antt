@@ -5,16 +5,16 @@ use Rattle.batch_journal.specs.Images.{slice}
 use Rattle.graph_change.specs.Change.{Change, patch_at}
 use Rattle.tree_blocks.specs.Inode.{Blocks}
 use Rattle.tree_blocks.specs.FileBlock.{ReadsAfter}
-use Rattle.file_plan.specs.Placed.{number_at}
+use Rattle.file_plan.specs.Placed.{nth_number}
 
 -- a block of a number reads as the change makes it of the old one
-abbrev pub IsAfter : Change → Blocks → ℕ → List ℕ → Type 0
-IsAfter c old k block = ReadsAfter c.length (patch_at c.patches k) k (old k) block
+abbrev pub IsBlockAfter : Change → Blocks → ℕ → List ℕ → Type 0
+IsBlockAfter c old k block = ReadsAfter c.length (patch_at c.patches k) k (old k) block
 
 -- The bytes are a block for each of the first so many numbers, one behind the other, as the change makes it of the old one.
 pub record HoldsBlocks (c : Change) (old : Blocks) (numbers : List ℕ) (count : ℕ) (bytes : List ℕ) : Type 0 where
   pub long : length bytes ≡ BLOCK * count
-  pub each : (n : ℕ) → n < count → IsAfter c old (number_at numbers n) (slice (BLOCK * n) BLOCK bytes)
+  pub each : (n : ℕ) → n < count → IsBlockAfter c old (nth_number numbers n) (slice (BLOCK * n) BLOCK bytes)
 
 -- Bytes are added to those that stood there: a block for each of the first so many numbers.
 abbrev pub AddsBlocks : Change → Blocks → List ℕ → ℕ → List ℕ → List ℕ → Type 0

@@ -8,9 +8,9 @@ use Rattle.graph_change.specs.Change.{Change, writes_block}
 use Rattle.tree_blocks.specs.FileBlock.{is_cut_off}
 use Rattle.layout.specs.declared.extents.Extent.{Extent}
 use Rattle.extent_nodes.specs.Places.{place_of}
-use Rattle.block_map.specs.Map.{TierRuns, lies_at, listed}
+use Rattle.block_map.specs.Map.{TierRuns, lies_at, place_list}
 use Rattle.block_map.specs.declared.map.Place.{Place}
-use Rattle.file_plan.specs.Placed.{number_at, nth_place}
+use Rattle.file_plan.specs.Placed.{nth_number, nth_place}
 
 -- No block that is cut off lies anywhere; all others lie where they did.
 abbrev pub IsCutBy : Length → TierRuns → TierRuns → Type 0
@@ -18,8 +18,8 @@ IsCutBy len old new = (t : Tier) (k : ℕ) → lies_at new t k ≡ (if is_cut_of
 
 -- Each block that is written lies in its place and nowhere else; one that is cut off and not written lies nowhere; each other one lies where it lay.
 pub record IsMapAfter (c : Change) (numbers : List ℕ) (places : List Place) (old new : TierRuns) : Type 0 where
-  pub there : (n : ℕ) → n < length numbers → lies_at new (nth_place places n).tier (number_at numbers n) ≡ Some (nth_place places n).block
-  pub once : (n : ℕ) (t : Tier) → n < length numbers → t ≢ (nth_place places n).tier → lies_at new t (number_at numbers n) ≡ None
+  pub there : (n : ℕ) → n < length numbers → lies_at new (nth_place places n).tier (nth_number numbers n) ≡ Some (nth_place places n).block
+  pub once : (n : ℕ) (t : Tier) → n < length numbers → t ≢ (nth_place places n).tier → lies_at new t (nth_number numbers n) ≡ None
   pub gone : (t : Tier) (k : ℕ) → writes_block c k ≡ false → is_cut_off c.length k ≡ true → lies_at new t k ≡ None
   pub others : (t : Tier) (k : ℕ) → writes_block c k ≡ false → is_cut_off c.length k ≡ false → lies_at new t k ≡ lies_at old t k
 
@@ -45,7 +45,7 @@ pub record KeepsPlace (c : Change) (old : TierRuns) (t : Tier) (k p : ℕ) : Typ
 pub record TakesPlace (numbers : List ℕ) (places : List Place) (t : Tier) (k p : ℕ) : Type 0 where
   pub at : ℕ
   pub inside : at < length numbers
-  pub number : number_at numbers at ≡ k
+  pub number : nth_number numbers at ≡ k
   pub tier : (nth_place places at).tier ≡ t
   pub block : (nth_place places at).block ≡ p
 
@@ -63,4 +63,4 @@ below_end end place k = if nat_lt k end then place k else None
 
 -- the places of those of some blocks that are less than a number, of those that some runs map
 abbrev pub places_below : List Extent → ℕ → List ℕ → List ℕ
-places_below es end blocks = flat_map (λ k. listed (below_end end (place_of es) k)) blocks
+places_below es end blocks = flat_map (λ k. place_list (below_end end (place_of es) k)) blocks

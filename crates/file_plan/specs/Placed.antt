@@ -6,18 +6,18 @@ use Rattle.block_map.specs.Map.{TierRuns, lies_at}
 use Rattle.block_map.specs.declared.map.Place.{Place}
 
 -- the number at a place of a list
-abbrev pub number_at : List ℕ → ℕ → ℕ
-number_at numbers n = get_or numbers n 0
+abbrev pub nth_number : List ℕ → ℕ → ℕ
+nth_number numbers n = get_or numbers n 0
 
 -- one place of a list
 abbrev pub nth_place : List Place → ℕ → Place
 nth_place places n = get_or places n (record { tier = Fast; block = 0 })
 
 -- The first so many of these blocks lie at these places, one each, and nowhere else; all others lie where they did.
-pub record ArePlaced (numbers : List ℕ) (places : List Place) (count : ℕ) (old new : TierRuns) : Type 0 where
-  pub there : (n : ℕ) → n < count → lies_at new (nth_place places n).tier (number_at numbers n) ≡ Some (nth_place places n).block
-  pub once : (n : ℕ) (t : Tier) → n < count → t ≢ (nth_place places n).tier → lies_at new t (number_at numbers n) ≡ None
-  pub others : (k : ℕ) (t : Tier) → ((n : ℕ) → n < count → number_at numbers n ≢ k) → lies_at new t k ≡ lies_at old t k
+pub record NumbersArePlaced (numbers : List ℕ) (places : List Place) (count : ℕ) (old new : TierRuns) : Type 0 where
+  pub there : (n : ℕ) → n < count → lies_at new (nth_place places n).tier (nth_number numbers n) ≡ Some (nth_place places n).block
+  pub once : (n : ℕ) (t : Tier) → n < count → t ≢ (nth_place places n).tier → lies_at new t (nth_number numbers n) ≡ None
+  pub others : (k : ℕ) (t : Tier) → ((n : ℕ) → n < count → nth_number numbers n ≢ k) → lies_at new t k ≡ lies_at old t k
 
 -- Each place is small enough for a map.
 abbrev pub PlacesFit : List Place → Type 0
@@ -26,5 +26,5 @@ PlacesFit places = (n : ℕ) → n < length places → (nth_place places n).bloc
 -- Numbers and places are small enough for a map.
 pub record CanBePlaced (numbers : List ℕ) (places : List Place) : Type 0 where
   pub enough : length numbers ≤ length places
-  pub numbers_fit : (n : ℕ) → n < length numbers → number_at numbers n + 1 < 2 ^ 32
+  pub numbers_fit : (n : ℕ) → n < length numbers → nth_number numbers n + 1 < 2 ^ 32
   pub places_fit : (n : ℕ) → n < length numbers → (nth_place places n).block + 1 < 2 ^ 32

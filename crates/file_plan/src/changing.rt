@@ -6,9 +6,9 @@ ghost use Rattle.area_image.specs.Checks.{HasFound, IsOnce};
 ghost use Rattle.area_image.specs.Looks.{Looks};
 ghost use Rattle.area_image.specs.declared.error.AreaError.TheVariants.{DeviceFault, Memory};
 ghost use Rattle.graph_change.specs.Change.{IsWhole};
-ghost use Rattle.graph_change.specs.View.{change_of, length_of};
+ghost use Rattle.graph_change.specs.View.{change_of, new_length};
 ghost use Rattle.tree_blocks.specs.FileBlock.{put_in, is_cut_off, ReadSame};
-ghost use Rattle.file_plan.specs.Bytes.{IsAfter, AddsBlocks, GoesOn, blocks_from};
+ghost use Rattle.file_plan.specs.Bytes.{IsBlockAfter, AddsBlocks, GoesOn, blocks_from};
 
 use crate::cutting::is_cut_off;
 use area_image::{AreaError, InodeExtents, block_number, first_place, read_block};
@@ -87,7 +87,7 @@ fn read_started<M: Media>(
 
 // Whether the bytes that a block had make a difference: not where a byte is put at each place of it, nor where the file was cut before it.
 fn needs_old(number: u64, len: NodeLength, put: Option<&BlockChange>) -> bool
-    ensures { result ≡ false → (is_cut_off (length_of len) number ≡ true) ⊎ IsWhole (put_in (option_map (λ b. b.now) put.entry)) }
+    ensures { result ≡ false → (is_cut_off (new_length len) number ≡ true) ⊎ IsWhole (put_in (option_map (λ b. b.now) put.entry)) }
 {
     if is_cut_off(len, number) {
         return false;
@@ -111,7 +111,7 @@ fn change_into<M: Media>(
     requires found { IfSome found (λ x. HasFound journal.old.geometry (store_of (M.seen journal.old.media)) inode x.now) }
     requires once { IsOnce journal.old.geometry (store_of (M.seen journal.old.media)) inode }
     requires going { journal.old.failed ≡ false }
-    ensures made { OnOk result (IsAfter (change_of change.now) (blocks_from found.entry (logical journal.old.geometry (store_of (M.seen journal.old.media)) inode)) number block.new) }
+    ensures made { OnOk result (IsBlockAfter (change_of change.now) (blocks_from found.entry (logical journal.old.geometry (store_of (M.seen journal.old.media)) inode)) number block.new) }
     ensures only { IfErr result (λ e. e ≡ DeviceFault) }
     ensures looks { Looks M.moment M.seen M.left M.faults journal.old journal.new result }
 {
@@ -154,7 +154,7 @@ fn change_last<M: Media>(
     requires going { journal.old.failed ≡ false }
     ensures front { take at out.new.items ≡ take at out.old.items }
     ensures long { length out.new.items ≡ length out.old.items }
-    ensures made { OnOk result (IsAfter (change_of change.now) (blocks_from found.entry (logical journal.old.geometry (store_of (M.seen journal.old.media)) inode)) number (drop at out.new.items)) }
+    ensures made { OnOk result (IsBlockAfter (change_of change.now) (blocks_from found.entry (logical journal.old.geometry (store_of (M.seen journal.old.media)) inode)) number (drop at out.new.items)) }
     ensures only { IfErr result (λ e. e ≡ DeviceFault) }
     ensures looks { Looks M.moment M.seen M.left M.faults journal.old journal.new result }
 {
@@ -176,7 +176,7 @@ fn push_block<M: Media>(
     requires found { IfSome found (λ x. HasFound journal.old.geometry (store_of (M.seen journal.old.media)) inode x.now) }
     requires once { IsOnce journal.old.geometry (store_of (M.seen journal.old.media)) inode }
     requires going { journal.old.failed ≡ false }
-    ensures added { OnOk result ((block : List ℕ) × (out.new.items ≡ out.old.items ++ block) × (length block ≡ BLOCK) × IsAfter (change_of change.now) (blocks_from found.entry (logical journal.old.geometry (store_of (M.seen journal.old.media)) inode)) number block) }
+    ensures added { OnOk result ((block : List ℕ) × (out.new.items ≡ out.old.items ++ block) × (length block ≡ BLOCK) × IsBlockAfter (change_of change.now) (blocks_from found.entry (logical journal.old.geometry (store_of (M.seen journal.old.media)) inode)) number block) }
     ensures refused { OnErr result (GoesOn out.old.items out.new.items) }
     ensures only { IfErr result (λ e. (e ≡ DeviceFault) ⊎ (e ≡ Memory)) }
     ensures looks { Looks M.moment M.seen M.left M.faults journal.old journal.new result }

@@ -3,7 +3,7 @@ ghost use Rattle.std.specs.Prelude.{◌≡◌, ◌≤◌, ◌*◌, ◌-◌, ◌^
 ghost use Rattle.posix_calls.specs.declared.limits.TheConstants.{MAX_FILE};
 ghost use Rattle.layout.specs.declared.places.TheConstants.{BLOCK, FILE_BLOCKS};
 ghost use Rattle.graph_change.specs.Bytes.{IsOrdered, end};
-ghost use Rattle.graph_change.specs.View.{length_of};
+ghost use Rattle.graph_change.specs.View.{new_length};
 ghost use Rattle.tree_blocks.specs.FileBlock.{is_cut_off};
 ghost use Rattle.file_plan.specs.Mapped.{IsCutBy};
 
@@ -30,7 +30,7 @@ fn blocks_before(end: u64) -> u64
 
 // Whether a block begins where a file is cut off, or behind.
 pub fn is_cut_off(len: NodeLength, number: u64) -> bool
-    ensures { result ≡ is_cut_off (length_of len) number }
+    ensures { result ≡ is_cut_off (new_length len) number }
 {
     match len {
         NodeLength::Grown { .. } => false,
@@ -40,10 +40,10 @@ pub fn is_cut_off(len: NodeLength, number: u64) -> bool
 
 // The first block that is cut off; the one behind all that a file may have where none is.
 pub fn first_cut(len: NodeLength) -> u32
-    requires ordered { IsOrdered (length_of len) }
-    requires bounded { end (length_of len) ≤ MAX_FILE }
+    requires ordered { IsOrdered (new_length len) }
+    requires bounded { end (new_length len) ≤ MAX_FILE }
     ensures few { result ≤ FILE_BLOCKS }
-    ensures is { (k : ℕ) → k < FILE_BLOCKS → nat_le result k ≡ is_cut_off (length_of len) k }
+    ensures is { (k : ℕ) → k < FILE_BLOCKS → nat_le result k ≡ is_cut_off (new_length len) k }
 {
     match len {
         NodeLength::Grown { .. } => FILE_BLOCKS,
@@ -53,9 +53,9 @@ pub fn first_cut(len: NodeLength) -> u32
 
 // Takes the blocks out of the map of a file that a change cuts off. After want of memory nothing is said of the map.
 pub fn cut_map(map: &mut BlockMap, len: NodeLength) -> Result<(), AllocError>
-    requires ordered { IsOrdered (length_of len) }
-    requires bounded { end (length_of len) ≤ MAX_FILE }
-    ensures { OnOk result (IsCutBy (length_of len) map.old map.new) }
+    requires ordered { IsOrdered (new_length len) }
+    requires bounded { end (new_length len) ≤ MAX_FILE }
+    ensures { OnOk result (IsCutBy (new_length len) map.old map.new) }
 {
     match len {
         NodeLength::Grown { .. } => Ok(()),

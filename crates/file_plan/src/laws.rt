@@ -25,7 +25,7 @@ ghost use Rattle.area_image.specs.declared.tiers.InodeExtents.{InodeExtents};
 ghost use Rattle.area_rewrite.specs.Written.{IsFit, IsListed};
 ghost use Rattle.area_rewrite.specs.Changed.{IsFileSlot, IsFileWritten};
 ghost use Rattle.area_move.specs.Lists.{AreListsOf};
-ghost use Rattle.file_plan.specs.Placed.{nth_place, number_at};
+ghost use Rattle.file_plan.specs.Placed.{nth_place, nth_number};
 ghost use Rattle.file_plan.specs.Written.{AreNumbers};
 ghost use Rattle.file_plan.specs.Bytes.{HoldsBlocks};
 ghost use Rattle.file_plan.specs.Mapped.{IsMapAfter, AreFresh, AreData, AreLeft, KeepsPlace, TakesPlace};

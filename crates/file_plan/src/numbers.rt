@@ -2,7 +2,7 @@
 ghost use Rattle.std.specs.Prelude.{◌≡◌, ◌↔◌, ◌<◌, ◌≤◌, ◌⊎◌, true, ℕ, length, slice_index, IfOk, OnOk, IfSome, IfNone};
 ghost use Rattle.std.specs.List.{Contains};
 ghost use Rattle.graph_change.specs.Change.{cuts_within};
-ghost use Rattle.graph_change.specs.View.{change_of, length_of};
+ghost use Rattle.graph_change.specs.View.{change_of, new_length};
 ghost use Rattle.file_plan.specs.Written.{AreNumbers, AreKeys, Rise, HasOneMore};
 
 use graph_change::{BlockChange, NodeChange, NodeLength};
@@ -12,8 +12,8 @@ use std::collections::BTreeMap;
 
 // The block within which a file is cut, if it is.
 fn cut_block(len: NodeLength) -> Option<u64>
-    ensures some { IfSome result (λ k. (j : ℕ) → (cuts_within (length_of len) j ≡ true) ↔ (j ≡ k)) }
-    ensures none { IfNone result ((j : ℕ) → cuts_within (length_of len) j ≡ true → ⊥) }
+    ensures some { IfSome result (λ k. (j : ℕ) → (cuts_within (new_length len) j ≡ true) ↔ (j ≡ k)) }
+    ensures none { IfNone result ((j : ℕ) → cuts_within (new_length len) j ≡ true → ⊥) }
 {
     let NodeLength::Cut { least, .. } = len else {
         return None;

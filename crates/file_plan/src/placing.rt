@@ -6,7 +6,7 @@ ghost use Rattle.block_map.specs.Map.{ArePut};
 ghost use Rattle.graph_change.specs.Bytes.{end};
 ghost use Rattle.graph_change.specs.Tidy.{IsTidyChange};
 ghost use Rattle.graph_change.specs.View.{change_of};
-ghost use Rattle.file_plan.specs.Placed.{CanBePlaced, ArePlaced, PlacesFit};
+ghost use Rattle.file_plan.specs.Placed.{CanBePlaced, NumbersArePlaced, PlacesFit};
 ghost use Rattle.file_plan.specs.Written.{AreNumbers};
 ghost use Rattle.file_plan.specs.Mapped.{IsMapAfter};
 
@@ -20,7 +20,7 @@ use std::alloc::AllocError;
 fn place_blocks(map: &mut BlockMap, numbers: &[u64], places: &[Place]) -> Result<(), AllocError>
     requires fit { CanBePlaced numbers.now places.now }
     requires rising { (end : ℕ) × Rising 0 end numbers.now }
-    ensures { OnOk result (ArePlaced numbers.now places.now (length numbers.now) map.old map.new) }
+    ensures { OnOk result (NumbersArePlaced numbers.now places.now (length numbers.now) map.old map.new) }
 {
     'each: for index in 0..numbers.len() {
         place_block(map, numbers[index], places[index])?;

@@ -5,7 +5,7 @@ ghost use Rattle.layout.specs.Slot.{fits_slot};
 ghost use Rattle.graph_change.specs.Bounds.{IsBounded};
 ghost use Rattle.graph_change.specs.Bytes.{length_after};
 ghost use Rattle.graph_change.specs.Net.{names_after};
-ghost use Rattle.graph_change.specs.View.{base_of, length_of, change_of};
+ghost use Rattle.graph_change.specs.View.{base_of, new_length, change_of};
 ghost use Rattle.tree_blocks.specs.Inode.{Blocks, inode_of};
 ghost use Rattle.tree_blocks.specs.After.{started};
 ghost use Rattle.area_image.specs.Store.{touch_of};
@@ -93,7 +93,7 @@ fn names_after(change: &NodeChange, slot: &Slot) -> u32
 
 // How long the file is after a change.
 fn size_after(change: &NodeChange, slot: &Slot) -> u64
-    ensures { (blocks : Blocks) → result ≡ length_after (length_of change.now.length) (started (base_of change.now.base) (inode_of slot.now blocks)).size }
+    ensures { (blocks : Blocks) → result ≡ length_after (new_length change.now.length) (started (base_of change.now.base) (inode_of slot.now blocks)).size }
 {
     change.length.after(size_before(change.base, slot))
 }
@@ -108,7 +108,7 @@ pub fn slot_after(
     touch: u64,
 ) -> Slot
     requires { length spare.now ≡ roots_wanted slot.now lists.now }
-    ensures file { (blocks : Blocks) → IsFileSlot (names_after (change_of change.now).names (started (base_of change.now.base) (inode_of slot.now blocks)).names) (length_after (length_of change.now.length) (started (base_of change.now.base) (inode_of slot.now blocks)).size) result }
+    ensures file { (blocks : Blocks) → IsFileSlot (names_after (change_of change.now).names (started (base_of change.now.base) (inode_of slot.now blocks)).names) (length_after (new_length change.now.length) (started (base_of change.now.base) (inode_of slot.now blocks)).size) result }
     ensures touch { touch_of result ≡ touch }
     ensures roots { HasRootsOf lists.now spare.now slot.now result }
     // It keeps the limits of the format where the old one and the change do, and the spare blocks are others of the node pool.

@@ -17,7 +17,7 @@ use Rattle.area_image.proofs.Rewriting.{free_unused}
 use Rattle.free_pools.specs.Value.{PoolsView, data_pool, HasRanges, AreFree}
 use Rattle.free_pools.specs.declared.taking.Taken.{Taken}
 use Rattle.free_pools.specs.Taking.{WasTaken, WereTaken, runs_of}
-use Rattle.free_pools.specs.Writing.{AreFreeIn, AreApart}
+use Rattle.free_pools.specs.Writing.{AreFreeIn, RunsAreNormal}
 use Rattle.free_pools.proofs.Fronts.{rising-right}
 use Rattle.free_pools.proofs.Members.{cons_cases, nothing}
 
@@ -28,7 +28,7 @@ taken_free g s old new taken free were t k at =
     let before : Contains (data_pool old t).free k = subst (λ xs. Contains xs k) (were.per_tier t).front (Contains-append_left (blocks_of (runs_of taken t)) (data_pool new t).free k at) in
     ((free.per_tier t k).0 before).0
 
-pub taken_apart : (g : Sizes) (old new : PoolsView) (taken : Taken) → HasRanges g old → WereTaken old new taken → AreApart g taken
+pub taken_apart : (g : Sizes) (old new : PoolsView) (taken : Taken) → HasRanges g old → WereTaken old new taken → RunsAreNormal g taken
 taken_apart g old new taken ranges were t = subst (λ low. IsNormal low (tier_blocks g t) (runs_of taken t)) (ranges.first t) (subst (λ end. IsNormal (data_pool old t).first end (runs_of taken t)) (ranges.end t) (were.per_tier t).apart)
 
 rising_low : (low end : ℕ) (xs : List ℕ) (k : ℕ) → Rising low end xs → Contains xs k → low ≤ k

@@ -15,7 +15,7 @@ use Rattle.batch_journal.specs.Images.{slice}
 use Rattle.batch_journal.specs.Blocks.{block_of, home, is_home}
 use Rattle.area_image.specs.Store.{Store, store_of}
 use Rattle.free_pools.specs.Value.{on_tier}
-use Rattle.free_pools.specs.Taking.{places_of}
+use Rattle.free_pools.specs.Taking.{tier_places}
 use Rattle.free_pools.specs.Writing.{block_at, HoldParts, HoldData}
 use Rattle.free_pools.proofs.Held.{same_blocks}
 
@@ -89,7 +89,7 @@ module _ (g : Sizes) (seen : Tier → List ℕ) (sizes : (t : Tier) → length (
       ∙ same_blocks (store_of seen t) (block_of (seen t)) (λ k. data_first g t ≤ k) (raw t) (blocks_of runs) (rising-each (λ k. data_first g t ≤ k) (data_first g t) (tier_blocks g t) (blocks_of runs) (λ k low high. low) (normal-rising (data_first g t) (tier_blocks g t) runs normal))
 
   module _ (fast block slow : List Run) (in_fast : IsNormal (data_first g Fast) (tier_blocks g Fast) fast) (in_block : IsNormal (data_first g Block) (tier_blocks g Block) block) (in_slow : IsNormal (data_first g Slow) (tier_blocks g Slow) slow) (bytes : List ℕ) (parts : HoldParts seen fast block slow bytes) where
-    joined : flat_map (block_at (store_of seen)) (places_of fast block slow) ≡ bytes
+    joined : flat_map (block_at (store_of seen)) (tier_places fast block slow) ≡ bytes
     joined =
         let f = on_tier Fast (blocks_of fast) in
         let b = on_tier Block (blocks_of block) in
@@ -104,8 +104,8 @@ module _ (g : Sizes) (seen : Tier → List ℕ) (sizes : (t : Tier) → length (
         ∙ ap (λ x. take one bytes ++ x) (take-append-drop two (drop one bytes))
         ∙ take-append-drop one bytes
 
-    all_long : AllByRecursion (λ p. length (block_at (store_of seen) p) ≡ 4096) (places_of fast block slow)
+    all_long : AllByRecursion (λ p. length (block_at (store_of seen) p) ≡ 4096) (tier_places fast block slow)
     all_long = all-append _ (on_tier Fast (blocks_of fast)) _ (runs_long Fast fast in_fast) (all-append _ (on_tier Block (blocks_of block)) _ (runs_long Block block in_block) (runs_long Slow slow in_slow))
 
-    pub hold_data : HoldData (store_of seen) (places_of fast block slow) bytes
-    hold_data n below = sym (part_of_all (block_at (store_of seen)) (places_of fast block slow) all_long n (Fast, 0) below) ∙ ap (slice (4096 * n) 4096) joined
+    pub hold_data : HoldData (store_of seen) (tier_places fast block slow) bytes
+    hold_data n below = sym (part_of_all (block_at (store_of seen)) (tier_places fast block slow) all_long n (Fast, 0) below) ∙ ap (slice (4096 * n) 4096) joined

@@ -15,12 +15,12 @@ runs_of taken tiers.Block = taken.block.items
 runs_of taken tiers.Slow = taken.slow.items
 
 -- the blocks of runs of three tiers, fastest tier first
-abbrev pub places_of : List Run → List Run → List Run → List (Tier × ℕ)
-places_of fast block slow = on_tier tiers.Fast (blocks_of fast) ++ (on_tier tiers.Block (blocks_of block) ++ on_tier tiers.Slow (blocks_of slow))
+abbrev pub tier_places : List Run → List Run → List Run → List (Tier × ℕ)
+tier_places fast block slow = on_tier tiers.Fast (blocks_of fast) ++ (on_tier tiers.Block (blocks_of block) ++ on_tier tiers.Slow (blocks_of slow))
 
 -- the data blocks that were taken, fastest tier first
 abbrev pub taken_data : Taken → List (Tier × ℕ)
-taken_data taken = places_of taken.fast.items taken.block.items taken.slow.items
+taken_data taken = tier_places taken.fast.items taken.block.items taken.slow.items
 
 -- These runs stood at the front of a pool's free blocks; they can be given back without memory where there was room for one run.
 pub record WasTaken (old new : FreeBlocks) (runs : List Run) : Type 0 where

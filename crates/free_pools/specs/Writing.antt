@@ -42,16 +42,16 @@ fences_of [] = 0
 fences_of (run ∷ runs) = 1
 
 -- how many device calls it takes to write runs of a tier and to fence it
-abbrev pub calls_of : List Run → ℕ
-calls_of runs = length runs + fences_of runs
+abbrev pub tier_calls : List Run → ℕ
+tier_calls runs = length runs + fences_of runs
 
 -- how many it takes for all that was taken
 abbrev pub calls_for : Taken → ℕ
-calls_for taken = calls_of taken.fast.items + calls_of taken.block.items + calls_of taken.slow.items
+calls_for taken = tier_calls taken.fast.items + tier_calls taken.block.items + tier_calls taken.slow.items
 
 -- The runs rise among the data blocks of their tiers, and none touches the next.
-abbrev pub AreApart : Sizes → Taken → Type 0
-AreApart g taken = (t : Tier) → IsNormal (data_first g t) (tier_blocks g t) (runs_of taken t)
+abbrev pub RunsAreNormal : Sizes → Taken → Type 0
+RunsAreNormal g taken = (t : Tier) → IsNormal (data_first g t) (tier_blocks g t) (runs_of taken t)
 
 -- Whatever may be left of a tier differs from that store in blocks alone that are free in it.
 abbrev pub IsLooseLeft : Sizes → Store → (Tier → List ℕ → Type 0) → Type 0

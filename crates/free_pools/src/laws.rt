@@ -14,12 +14,12 @@ ghost use Rattle.area_image.specs.Spelled.{Use, used};
 ghost use Rattle.free_pools.specs.Value.{PoolsView, HasRanges, AreFree};
 ghost use Rattle.free_pools.specs.declared.taking.Taken.{Taken};
 ghost use Rattle.free_pools.specs.Taking.{WasTaken, WereTaken, runs_of};
-ghost use Rattle.free_pools.specs.Writing.{AreFreeIn, AreApart};
+ghost use Rattle.free_pools.specs.Writing.{AreFreeIn, RunsAreNormal};
 
 /// What was taken of pools that have exactly the free blocks is free, stands apart in its tiers, and is in the pools no more.
 pub fn taken_blocks_are_free()
     ensures free { (g : Sizes) (s : Store) (old new : PoolsView) (taken : Taken) → AreFree g s old → WereTaken old new taken → (t : Tier) → AreFreeIn g s t (runs_of taken t) }
-    ensures apart { (g : Sizes) (old new : PoolsView) (taken : Taken) → HasRanges g old → WereTaken old new taken → AreApart g taken }
+    ensures apart { (g : Sizes) (old new : PoolsView) (taken : Taken) → HasRanges g old → WereTaken old new taken → RunsAreNormal g taken }
     ensures left { (old new : FreeBlocks) (runs : List Run) → InOrder old → WasTaken old new runs → (k : ℕ) → Contains new.free k ↔ (Contains old.free k × (Contains (blocks_of runs) k → ⊥)) }
 {}
 

@@ -11,8 +11,8 @@ ghost use Rattle.batch_journal.specs.Course.{SameLengths};
 ghost use Rattle.batch_journal.specs.declared.error.JournalError.TheVariants.{DeviceFault};
 ghost use Rattle.area_image.specs.Reads.{Loose};
 ghost use Rattle.area_image.specs.Store.{Store, store_of};
-ghost use Rattle.free_pools.specs.Taking.{places_of, runs_of, taken_data};
-ghost use Rattle.free_pools.specs.Writing.{AreFreeIn, StaysLoose, Went, KeepsRest, RestsBut, part_in, HoldParts, HoldData, IsLooseLeft, AreApart, fences_of, calls_of, calls_for};
+ghost use Rattle.free_pools.specs.Taking.{tier_places, runs_of, taken_data};
+ghost use Rattle.free_pools.specs.Writing.{AreFreeIn, StaysLoose, Went, KeepsRest, RestsBut, part_in, HoldParts, HoldData, IsLooseLeft, RunsAreNormal, fences_of, tier_calls, calls_for};
 
 use crate::taking::Taken;
 use batch_journal::{Journal, JournalError};
@@ -173,13 +173,13 @@ fn write_and_fence<M: Media>(
     requires slow { IsNormal (data_first journal.old.geometry Slow) (tier_blocks journal.old.geometry Slow) slow.now }
     requires size { length «data».now ≡ 4096 * length (blocks_of fast.now) + 4096 * length (blocks_of block.now) + 4096 * length (blocks_of slow.now) }
     ensures loose { (s : Store) → AreFreeIn journal.old.geometry s Fast fast.now → AreFreeIn journal.old.geometry s Block block.now → AreFreeIn journal.old.geometry s Slow slow.now → StaysLoose journal.old.geometry s (M.moment journal.old.media) (M.moment journal.new.media) (M.left journal.old.media) (M.left journal.new.media) }
-    ensures written { OnOk result (HoldData (store_of (M.seen journal.new.media)) (places_of fast.now block.now slow.now) «data».now) }
+    ensures written { OnOk result (HoldData (store_of (M.seen journal.new.media)) (tier_places fast.now block.now slow.now) «data».now) }
     ensures fast { OnOk result (0 < length fast.now → AtRest (M.seen journal.new.media) (M.left journal.new.media (M.moment journal.new.media)) Fast) }
     ensures block { OnOk result (0 < length block.now → AtRest (M.seen journal.new.media) (M.left journal.new.media (M.moment journal.new.media)) Block) }
     ensures slow { OnOk result (0 < length slow.now → AtRest (M.seen journal.new.media) (M.left journal.new.media (M.moment journal.new.media)) Slow) }
     ensures keeps_rest { OnOk result (KeepsRest (M.seen journal.old.media) (M.seen journal.new.media) (M.left journal.old.media (M.moment journal.old.media)) (M.left journal.new.media (M.moment journal.new.media))) }
-    ensures calls { OnOk result (M.moment journal.new.media ≡ M.moment journal.old.media + calls_of fast.now + calls_of block.now + calls_of slow.now) }
-    ensures at_most { M.moment journal.new.media ≤ M.moment journal.old.media + calls_of fast.now + calls_of block.now + calls_of slow.now }
+    ensures calls { OnOk result (M.moment journal.new.media ≡ M.moment journal.old.media + tier_calls fast.now + tier_calls block.now + tier_calls slow.now) }
+    ensures at_most { M.moment journal.new.media ≤ M.moment journal.old.media + tier_calls fast.now + tier_calls block.now + tier_calls slow.now }
     ensures went { Went M.faults journal.old journal.new result }
     ensures lengths { SameLengths (M.seen journal.old.media) (M.seen journal.new.media) }
 {
@@ -199,7 +199,7 @@ pub fn write_data<M: Media>(
     taken: &Taken,
     data: &[u8],
 ) -> Result<(), JournalError>
-    requires apart { AreApart journal.old.geometry taken.now }
+    requires apart { RunsAreNormal journal.old.geometry taken.now }
     requires free { (t : Tier) → AreFreeIn journal.old.geometry (store_of (M.seen journal.old.media)) t (runs_of taken.now t) }
     requires size { length «data».now ≡ 4096 * length (taken_data taken.now) }
 

@@ -26,9 +26,9 @@ base_of (node_base.Made kind) = net.Made kind
 base_of node_base.Gone = net.Gone
 
 -- the length that a file gets
-abbrev pub length_of : NodeLength → Length
-length_of (node_length.Grown to) = bytes.Grown to
-length_of (node_length.Cut least to) = bytes.Cut least to
+abbrev pub new_length : NodeLength → Length
+new_length (node_length.Grown to) = bytes.Grown to
+new_length (node_length.Cut least to) = bytes.Cut least to
 
 -- a map by numbers, of what some entries say
 abbrev pub map_of : {X Y : Type 0} → (X → Y) → List (ℕ × X) → fin.FinMap nat_cmp Y
@@ -41,7 +41,7 @@ patches_of blocks = map_of patch_of blocks.entries
 
 -- the change of one inode
 abbrev pub change_of : NodeChange → Change
-change_of c = record { base = base_of c.base; names = c.names; length = length_of c.length; patches = patches_of c.blocks; entries = c.entries }
+change_of c = record { base = base_of c.base; names = c.names; length = new_length c.length; patches = patches_of c.blocks; entries = c.entries }
 
 -- the change of each of some inodes
 abbrev pub nodes_of : BTreeMap ℕ NodeChange → Changes

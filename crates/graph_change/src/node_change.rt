@@ -7,7 +7,7 @@ ghost use Rattle.graph_change.specs.Bytes.{grown_to};
 ghost use Rattle.posix_calls.specs.declared.limits.TheConstants.{UNIT_BYTES};
 ghost use Rattle.graph_change.specs.Change.{new_change, change_after, patch_at, put_patch, put_blocks, span, cut_last, cut_patches};
 ghost use Rattle.graph_change.specs.Memory.{lacks_one, write_takes_memory, takes_memory};
-ghost use Rattle.graph_change.specs.View.{base_of, length_of, patches_of, change_of};
+ghost use Rattle.graph_change.specs.View.{base_of, new_length, patches_of, change_of};
 
 use crate::block_change::BlockChange;
 use crate::made_blocks::make_blocks;
@@ -97,9 +97,9 @@ fn write(
     at: u64,
     bytes: &[u8],
 ) -> Result<(), AllocError>
-    ensures length { OnOk result (length_of len.new ≡ grown_to (at + length bytes.now) (length_of len.old)) }
+    ensures length { OnOk result (new_length len.new ≡ grown_to (at + length bytes.now) (new_length len.old)) }
     ensures blocks { OnOk result (patches_of blocks.new ≡ put_blocks at bytes.now (span at (length bytes.now)) (patches_of blocks.old)) }
-    ensures same_length { OnErr result (length_of len.new ≡ length_of len.old) }
+    ensures same_length { OnErr result (new_length len.new ≡ new_length len.old) }
     ensures same_blocks { OnErr result (patches_of blocks.new ≡ patches_of blocks.old) }
     ensures memory { OnErr result (write_takes_memory at (length bytes.now) (patches_of blocks.old) ≡ true) }
 {

@@ -1,6 +1,6 @@
 ghost use Rattle.std.specs.Prelude.{◌≡◌};
 ghost use Rattle.graph_change.specs.Bytes.{grown_to, sized_to, length_after};
-ghost use Rattle.graph_change.specs.View.{length_of};
+ghost use Rattle.graph_change.specs.View.{new_length};
 
 use file_graph::Kind;
 
@@ -27,7 +27,7 @@ pub enum NodeLength {
 impl NodeLength {
     /// How long a file of that length is after it.
     pub fn after(self, old: u64) -> u64
-        ensures { result ≡ length_after (length_of self) old }
+        ensures { result ≡ length_after (new_length self) old }
     {
         match self {
             NodeLength::Grown { to } => old.max(to),
@@ -37,7 +37,7 @@ impl NodeLength {
 
     /// After a write that ends there.
     pub fn grown(self, end: u64) -> Self
-        ensures { length_of result ≡ grown_to end (length_of self) }
+        ensures { new_length result ≡ grown_to end (new_length self) }
     {
         match self {
             NodeLength::Grown { to } => NodeLength::Grown { to: to.max(end) },
@@ -50,7 +50,7 @@ impl NodeLength {
 
     /// After it is set.
     pub fn sized(self, size: u64) -> Self
-        ensures { length_of result ≡ sized_to size (length_of self) }
+        ensures { new_length result ≡ sized_to size (new_length self) }
     {
         match self {
             NodeLength::Grown { .. } => NodeLength::Cut {

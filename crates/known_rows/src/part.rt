@@ -1,7 +1,7 @@
 // A graph of which a part is known.
 ghost use Rattle.std.specs.Prelude.{◌≡◌};
 ghost use Rattle.file_graph.specs.Graph.{graph_of, is_among};
-ghost use Rattle.known_rows.specs.Known.{part_of};
+ghost use Rattle.known_rows.specs.Known.{known_part};
 
 use file_graph::PlainGraph;
 use graph_answers::GraphAnswers;
@@ -73,7 +73,7 @@ fn is_among(inode: u32, known: &[u32]) -> bool
 }
 
 impl TreeAnswers for KnownPart {
-    ghost part = { λ r. part_of (graph_of r.graph) r.nodes.items r.kinds.items r.read.items };
+    ghost part = { λ r. known_part (graph_of r.graph) r.nodes.items r.kinds.items r.read.items };
 
     fn is_dir(&self, inode: u32) -> Option<Option<bool>> {
         if inode == ROOT || is_among(inode, &self.kinds) {

@@ -1,8 +1,8 @@
 // Regions that are filled again and again, over media of several kinds.
 ghost use Rattle.std.specs.Prelude.{◌≡◌, IfOk, OnOk};
 ghost use Rattle.log_record.specs.Grammar.{IsRecord};
-ghost use Rattle.long_media.specs.File.{IsAtRest as IsFileAtRest};
-ghost use Rattle.long_media.specs.Ram.{IsAtRest as IsRamAtRest};
+ghost use Rattle.long_media.specs.File.{IsFileAtRest};
+ghost use Rattle.long_media.specs.Ram.{IsRamAtRest};
 ghost use Rattle.tier_device.specs.Memory.{IsAtRest};
 ghost use Rattle.tier_device.specs.declared.media.Tier.TheVariants.{Fast};
 ghost use Rattle.tier_device.specs.Media.{AtRest};

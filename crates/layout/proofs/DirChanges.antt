@@ -17,7 +17,7 @@ use Rattle.file_graph.specs.declared.effect.Kind.{Kind}
 use Rattle.layout.specs.declared.directory.DirEntry.{DirEntry}
 use Rattle.layout.specs.Places.{is_inode}
 use Rattle.layout.specs.Bytes.{u32, zeros, filled, with_text, within, all_pairs}
-use Rattle.layout.specs.Directory.{EntryList, entry_text, entries_text, entries_spelling, fits_entry, fits_entries, differ, are_distinct, head_at, entries_at, listed, AreEntries, IsListed, no_entry, entry_of, with_entry_at, with_last, with_target, without_entry, without_last}
+use Rattle.layout.specs.Directory.{EntryList, entry_text, entries_text, entries_spelling, fits_entry, fits_entries, differ, are_distinct, head_at, entries_field, listed, AreEntries, IsEntryList, no_entry, entry_of, with_entry_at, with_last, with_target, without_entry, without_last}
 use Rattle.file_graph.specs.Kinds.{kind_byte}
 use Rattle.layout.proofs.Limits.{and_parts}
 use Rattle.layout.proofs.Fields.{u32_long}
@@ -32,7 +32,7 @@ pub entries_now : (block : List ℕ) (v : EntryList) → fits_entries v ≡ true
 unfolding listed
 entries_now block v fit is =
     let p = and_parts (fits_list v) (are_distinct v.entries) fit in
-    let read : within 4096 entries_at block ≡ Some v = ap (within 4096 entries_at) is ∙ list_again v p.0 in
+    let read : within 4096 entries_field block ≡ Some v = ap (within 4096 entries_field) is ∙ list_again v p.0 in
     let list : listed block ≡ v = ap (λ (o : Option EntryList). unwrap_or o (record { owner = 0; entries = [] })) read in
     (record { fit = ap fits_entries list ∙ fit; spelled = is ∙ ap entries_spelling (sym list) }, list)
 
@@ -59,11 +59,11 @@ text_short v f =
 pub spelling_long : (v : EntryList) → Fit v → length (entries_spelling v) ≡ 4096
 spelling_long v f = filled_long 4096 (entries_text v) (text_short v f)
 
-pub listed_now : (block : List ℕ) → AreEntries block → IsListed block
+pub listed_now : (block : List ℕ) → AreEntries block → IsEntryList block
 listed_now block e =
     let f = fit_parts (listed block) e.fit in
     let p = and_parts (fits_list (listed block)) (are_distinct (listed block).entries) e.fit in
-    record { spelled = ap (within 4096 entries_at) e.spelled ∙ list_again (listed block) p.0; few = f.few; long = ap length e.spelled ∙ spelling_long (listed block) f }
+    record { spelled = ap (within 4096 entries_field) e.spelled ∙ list_again (listed block) p.0; few = f.few; long = ap length e.spelled ∙ spelling_long (listed block) f }
 
 -- what its head tells
 pub head_now : (block : List ℕ) → AreEntries block → (rest : List ℕ) × (head_at block ≡ Some (((listed block).owner, length (listed block).entries), rest))

@@ -15,7 +15,7 @@ use Rattle.file_graph.specs.declared.effect.Kind.TheVariants as kind
 use Rattle.layout.specs.declared.directory.DirEntry.{DirEntry}
 use Rattle.layout.specs.Places.{is_inode}
 use Rattle.layout.specs.Bytes.{◌>>=◌, AreBytes, Field, u32, zeros, filled, with_text, number_at, text_at, items_at, are_zero, within}
-use Rattle.layout.specs.Directory.{EntryList, entry_text, entries_text, entries_spelling, fits_entry, fits_entries, head_at, entry_at, fields_at, entries_at, entry_list_of, listed, IsListed, are_distinct, with_entry_at}
+use Rattle.layout.specs.Directory.{EntryList, entry_text, entries_text, entries_spelling, fits_entry, fits_entries, head_at, entry_at, fields_at, entries_field, entry_list_of, listed, IsEntryList, are_distinct, with_entry_at}
 use Rattle.file_graph.specs.Kinds.{kind_byte}
 use Rattle.layout.proofs.Limits.{and_parts}
 use Rattle.layout.proofs.Fields.{bind_some, test_some, some_is, u32_long}
@@ -74,7 +74,7 @@ stands_spelled block v i d fit is lt =
       fit = all_at fits_entry v.entries i d f.each lt;
     }
 
-pub stands : (block : List ℕ) (v : EntryList) (i : ℕ) (d : DirEntry) → AreBytes block → within 4096 entries_at block ≡ Some v → i < length v.entries → Stands block (64 + 72 * i) (get_or v.entries i d)
+pub stands : (block : List ℕ) (v : EntryList) (i : ℕ) (d : DirEntry) → AreBytes block → within 4096 entries_field block ≡ Some v → i < length v.entries → Stands block (64 + 72 * i) (get_or v.entries i d)
 stands block v i d are e lt =
     let t = list_takes block v are e in
     stands_spelled block v i d t.0 t.1 lt
@@ -122,10 +122,10 @@ pub same_entry : (f : Option (DirEntry × List ℕ)) (e x : DirEntry) (rest afte
 same_entry f e x rest after p q = ap (λ (y : DirEntry × List ℕ). y.0) (some_is (e, rest) (x, after) (sym p ∙ q))
 
 -- what a block that spells entries has at a place
-pub listed_name : (block : List ℕ) (i : ℕ) (d : DirEntry) → AreBytes block → IsListed block → i < length (listed block).entries → NameThere block (64 + 72 * i) (get_or (listed block).entries i d).name
+pub listed_name : (block : List ℕ) (i : ℕ) (d : DirEntry) → AreBytes block → IsEntryList block → i < length (listed block).entries → NameThere block (64 + 72 * i) (get_or (listed block).entries i d).name
 listed_name block i d are l lt = name_there block (64 + 72 * i) (get_or (listed block).entries i d) (stands block (listed block) i d are l.spelled lt)
 
-pub listed_fields : (block : List ℕ) (i : ℕ) (d : DirEntry) → AreBytes block → IsListed block → i < length (listed block).entries → (rest : List ℕ) × (fields_at (drop (64 + 72 * i) block) ≡ Some (get_or (listed block).entries i d, rest))
+pub listed_fields : (block : List ℕ) (i : ℕ) (d : DirEntry) → AreBytes block → IsEntryList block → i < length (listed block).entries → (rest : List ℕ) × (fields_at (drop (64 + 72 * i) block) ≡ Some (get_or (listed block).entries i d, rest))
 unfolding entry_at
 listed_fields block i d are l lt =
     let e : DirEntry = get_or (listed block).entries i d in
@@ -138,7 +138,7 @@ listed_fields block i d are l lt =
 tail_at : (at : ℕ) (block : List ℕ) → take (length block - at) (drop at block) ≡ drop at block
 tail_at at block = take_all (length block - at) (drop at block) (omega (arith, length-drop at block))
 
-pub fields_there : (block : List ℕ) (i : ℕ) → AreBytes block → IsListed block → i < length (listed block).entries
+pub fields_there : (block : List ℕ) (i : ℕ) → AreBytes block → IsEntryList block → i < length (listed block).entries
     → (e : DirEntry) × (rest : List ℕ) × (fields_at (take (length block - (64 + 72 * i)) (drop (64 + 72 * i) block)) ≡ Some (e, rest)) × (slice_get (listed block).entries i ≡ Some e) × (fits_entry e ≡ true)
 fields_there block i are l lt =
     let none : DirEntry = record { inode = 0; kind = kind.File; name = [] } in
@@ -202,11 +202,11 @@ entry_set v i e fit lt short =
 
 -- ---- the list of a block, as it is read
 
-list_from : (block : List ℕ) → length block ≡ 4096 → within 4096 entries_at block ≡ (entries_at block >>= λ x. cond (are_zero x.1) (Some x.0) None)
+list_from : (block : List ℕ) → length block ≡ 4096 → within 4096 entries_field block ≡ (entries_field block >>= λ x. cond (are_zero x.1) (Some x.0) None)
 list_from block long = rw (eq-eqb (length block) 4096 long) refl
 
-pub no_head : (block : List ℕ) → length block ≡ 4096 → head_at block ≡ None → within 4096 entries_at block ≡ None
-unfolding entries_at
+pub no_head : (block : List ℕ) → length block ≡ 4096 → head_at block ≡ None → within 4096 entries_field block ≡ None
+unfolding entries_field
 no_head block long e = list_from block long ∙ rw e refl
 
 none_from : {A B : Type 0} (f : A → B) (o : Option A) → option_map f o ≡ None → o ≡ None
@@ -217,19 +217,19 @@ some_from : {A B : Type 0} (f : A → B) (o : Option A) (y : B) → option_map f
 some_from f (Some x) y e = (x, refl, cc)
 some_from f None y e = absurd cc
 
-pub no_items : (block : List ℕ) (owner count : ℕ) (rest : List ℕ) → length block ≡ 4096 → head_at block ≡ Some ((owner, count), rest) → option_map (λ x. x.1) (items_at entry_at count rest) ≡ None → within 4096 entries_at block ≡ None
-unfolding entries_at
+pub no_items : (block : List ℕ) (owner count : ℕ) (rest : List ℕ) → length block ≡ 4096 → head_at block ≡ Some ((owner, count), rest) → option_map (λ x. x.1) (items_at entry_at count rest) ≡ None → within 4096 entries_field block ≡ None
+unfolding entries_field
 no_items block owner count rest long h e = list_from block long ∙ rw (h, none_from (λ x. x.1) (items_at entry_at count rest) e) refl
 
-pub no_end : (block : List ℕ) (owner count : ℕ) (rest after : List ℕ) → length block ≡ 4096 → head_at block ≡ Some ((owner, count), rest) → option_map (λ x. x.1) (items_at entry_at count rest) ≡ Some after → are_zero after ≡ false → within 4096 entries_at block ≡ None
-unfolding entries_at
+pub no_end : (block : List ℕ) (owner count : ℕ) (rest after : List ℕ) → length block ≡ 4096 → head_at block ≡ Some ((owner, count), rest) → option_map (λ x. x.1) (items_at entry_at count rest) ≡ Some after → are_zero after ≡ false → within 4096 entries_field block ≡ None
+unfolding entries_field
 no_end block owner count rest after long h e z =
     let s = some_from (λ x. x.1) (items_at entry_at count rest) after e in
     let zero : are_zero s.0.1 ≡ false = ap are_zero s.2 ∙ z in
     list_from block long ∙ rw (h, s.1, zero) refl
 
 pub record IsList (block : List ℕ) (owner count : ℕ) : Type 0 where
-  pub list : IsListed block
+  pub list : IsEntryList block
   pub owner_is : owner ≡ (listed block).owner
   pub count_is : count ≡ length (listed block).entries
 
@@ -254,12 +254,12 @@ items_long {A = A} field (suc n) bytes x e =
     let made : List A × List ℕ = (a.0.0 ∷ b.0.0, b.0.1) in
     subst (λ (y : List A × List ℕ). length y.0 ≡ suc n) (some_is made x b.2) (ap suc (items_long field n a.0.1 b.0 b.1))
 
-whole_list : (block : List ℕ) (owner count : ℕ) (rest : List ℕ) (x : List DirEntry × List ℕ) → length block ≡ 4096 → head_at block ≡ Some ((owner, count), rest) → items_at entry_at count rest ≡ Some x → are_zero x.1 ≡ true → within 4096 entries_at block ≡ Some (record { owner = owner; entries = x.0 })
-unfolding entries_at
+whole_list : (block : List ℕ) (owner count : ℕ) (rest : List ℕ) (x : List DirEntry × List ℕ) → length block ≡ 4096 → head_at block ≡ Some ((owner, count), rest) → items_at entry_at count rest ≡ Some x → are_zero x.1 ≡ true → within 4096 entries_field block ≡ Some (record { owner = owner; entries = x.0 })
+unfolding entries_field
 whole_list block owner count rest x long h i z = list_from block long ∙ rw (h, i, z) refl
 
 pub list_there : (block : List ℕ) (owner count : ℕ) (rest after : List ℕ) → length block ≡ 4096 → head_at block ≡ Some ((owner, count), rest) → option_map (λ x. x.1) (items_at entry_at count rest) ≡ Some after → are_zero after ≡ true → IsList block owner count
-unfolding entries_at listed
+unfolding entries_field listed
 list_there block owner count rest after long h e z =
     let s = some_from (λ x. x.1) (items_at entry_at count rest) after e in
     let v : EntryList = record { owner = owner; entries = s.0.0 } in
@@ -273,7 +273,7 @@ list_there block owner count rest after long h e z =
       count_is = sym n ∙ ap (λ (w : EntryList). length w.entries) (sym is);
     }
 
-pub no_list : (block : List ℕ) → within 4096 entries_at block ≡ None → entry_list_of block ≡ None
+pub no_list : (block : List ℕ) → within 4096 entries_field block ≡ None → entry_list_of block ≡ None
 unfolding entry_list_of
 no_list block e = rw e refl
 
@@ -287,27 +287,27 @@ counts v = (v.owner, length v.entries)
 pub counts_none : (o : Option EntryList) → o ≡ None → option_map counts o ≡ None
 counts_none o e = rw e refl
 
-pub counts_some : (block : List ℕ) (owner count : ℕ) → IsList block owner count → some_pair owner count ≡ option_map counts (within 4096 entries_at block)
+pub counts_some : (block : List ℕ) (owner count : ℕ) → IsList block owner count → some_pair owner count ≡ option_map counts (within 4096 entries_field block)
 counts_some block owner count l = rw (l.list.spelled, l.owner_is, l.count_is) refl
 
 pub counts_more : (block : List ℕ) (owner count : ℕ) → IsList block owner count → entry_list_of block ≡ Some (listed block) → some_pair owner count ≡ option_map counts (entry_list_of block)
 counts_more block owner count l e = rw (e, l.owner_is, l.count_is) refl
 
-pub no_counts : (block : List ℕ) → None ≡ option_map counts (within 4096 entries_at block) → entry_list_of block ≡ None
-no_counts block e = no_list block (none_from counts (within 4096 entries_at block) (sym e))
+pub no_counts : (block : List ℕ) → None ≡ option_map counts (within 4096 entries_field block) → entry_list_of block ≡ None
+no_counts block e = no_list block (none_from counts (within 4096 entries_field block) (sym e))
 
-pub list_counted : (block : List ℕ) (owner count : ℕ) → some_pair owner count ≡ option_map counts (within 4096 entries_at block) → IsListed block → IsList block owner count
+pub list_counted : (block : List ℕ) (owner count : ℕ) → some_pair owner count ≡ option_map counts (within 4096 entries_field block) → IsEntryList block → IsList block owner count
 list_counted block owner count e l =
     let is : (owner, count) ≡ counts (listed block) = some_is (owner, count) (counts (listed block)) (e ∙ ap (option_map counts) l.spelled) in
     record { list = l; owner_is = ap (λ (p : ℕ × ℕ). p.0) is; count_is = ap (λ (p : ℕ × ℕ). p.1) is }
 
 -- ---- the test of names
 
-pub names_meet : (block : List ℕ) → IsListed block → are_distinct (listed block).entries ≡ false → entry_list_of block ≡ None
+pub names_meet : (block : List ℕ) → IsEntryList block → are_distinct (listed block).entries ≡ false → entry_list_of block ≡ None
 unfolding entry_list_of
 names_meet block l e = rw (l.spelled, e) refl
 
-pub names_differ : (block : List ℕ) → IsListed block → are_distinct (listed block).entries ≡ true → entry_list_of block ≡ Some (listed block)
+pub names_differ : (block : List ℕ) → IsEntryList block → are_distinct (listed block).entries ≡ true → entry_list_of block ≡ Some (listed block)
 unfolding entry_list_of
 names_differ block l e = rw (l.spelled, e) refl
 

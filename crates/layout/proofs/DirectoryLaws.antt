@@ -8,7 +8,7 @@ use Rattle.posix_calls.specs.Name.{is_name}
 use Rattle.layout.specs.declared.directory.DirEntry.{DirEntry}
 use Rattle.layout.specs.Places.{is_inode}
 use Rattle.layout.specs.Bytes.{AreBytes, u32, zeros, filled, byte_at, run_at, number_at, text_at, items_at, are_zero, within}
-use Rattle.layout.specs.Directory.{EntryList, entry_text, entries_text, entries_spelling, fits_entry, are_distinct, fits_entries, front_of, fields_at, entry_at, head_at, entries_at, entry_list_of}
+use Rattle.layout.specs.Directory.{EntryList, entry_text, entries_text, entries_spelling, fits_entry, are_distinct, fits_entries, front_of, fields_at, entry_at, head_at, entries_field, entry_list_of}
 use Rattle.file_graph.specs.Kinds.{kind_byte, kind_field}
 use Rattle.layout.proofs.Limits.{and_parts}
 use Rattle.layout.proofs.Fields.{Takes, Takes-then, bind_some, test_some, some_is, text_takes, text_again, u32_takes, u32_again, u32_long, byte_takes, run_takes, run_again, kind_takes, kind_again}
@@ -160,8 +160,8 @@ head_again owner count rest is few =
 
 -- ---- lists of entries
 
-entries_take : (bytes : List ℕ) (x : EntryList × List ℕ) → AreBytes bytes → entries_at bytes ≡ Some x → Takes bytes (entries_text x.0) x.1 × (fits_list x.0 ≡ true)
-unfolding entries_at
+entries_take : (bytes : List ℕ) (x : EntryList × List ℕ) → AreBytes bytes → entries_field bytes ≡ Some x → Takes bytes (entries_text x.0) x.1 × (fits_list x.0 ≡ true)
+unfolding entries_field
 entries_take bytes x are e =
     let h = bind_some (head_at bytes) _ x e in
     let s = bind_some (items_at entry_at h.0.0.1 h.0.1) _ x h.2 in
@@ -193,32 +193,32 @@ list_fits v fit =
     let q = and_parts (is_inode v.owner) (leb (length v.entries) 56) p.0 in
     record { owner = q.0; few = q.1; each = p.1 }
 
-entries_again : (v : EntryList) (rest : List ℕ) → ListFits v → entries_at (entries_text v ++ rest) ≡ Some (v, rest)
-unfolding entries_at
+entries_again : (v : EntryList) (rest : List ℕ) → ListFits v → entries_field (entries_text v ++ rest) ≡ Some (v, rest)
+unfolding entries_field
 entries_again v rest h =
     let texts : List ℕ = flat_map entry_text v.entries in
     let flat : entries_text v ++ rest ≡ head_text v.owner (length v.entries) ++ (texts ++ rest) = append_assoc (head_text v.owner (length v.entries)) texts rest in
-    ap entries_at flat
+    ap entries_field flat
     ∙ rw (head_again v.owner (length v.entries) (texts ++ rest) h.owner h.few, items_again entry_at entry_text fits_entry entry_read v.entries rest h.each) refl
 
-pub list_takes : (block : List ℕ) (v : EntryList) → AreBytes block → within 4096 entries_at block ≡ Some v → (fits_list v ≡ true) × (block ≡ entries_spelling v)
+pub list_takes : (block : List ℕ) (v : EntryList) → AreBytes block → within 4096 entries_field block ≡ Some v → (fits_list v ≡ true) × (block ≡ entries_spelling v)
 list_takes block v are e =
-    let p = within_parts 4096 entries_at block v e in
+    let p = within_parts 4096 entries_field block v e in
     let t = entries_take block (v, p.0) are p.2 in
     (t.1, filled_from 4096 block (entries_text v) p.0 p.1 t.0 p.3)
 
-pub list_again : (v : EntryList) → fits_list v ≡ true → within 4096 entries_at (entries_spelling v) ≡ Some v
+pub list_again : (v : EntryList) → fits_list v ≡ true → within 4096 entries_field (entries_spelling v) ≡ Some v
 list_again v fit =
     let h = list_fits v fit in
     let few : length v.entries ≤ 56 = leb-true _ _ h.few in
     let texts = flat_map entry_text v.entries in
     let long : length (entries_text v) ≤ 4096 = omega (arith, length-append (head_text v.owner (length v.entries)) texts, head_text_long v.owner (length v.entries), entry_texts_long v.entries h.each, few) in
-    within_again 4096 entries_at (entries_text v) v long (entries_again v _ h)
+    within_again 4096 entries_field (entries_text v) v long (entries_again v _ h)
 
 pub entries_of_takes : (block : List ℕ) (v : EntryList) → AreBytes block → entry_list_of block ≡ Some v → (fits_entries v ≡ true) × (block ≡ entries_spelling v)
 unfolding entry_list_of
 entries_of_takes block v are e =
-    let f = bind_some (within 4096 entries_at block) _ v e in
+    let f = bind_some (within 4096 entries_field block) _ v e in
     let t = test_some (are_distinct f.0.entries) f.0 v f.2 in
     let p = list_takes block f.0 are f.1 in
     subst (λ (y : EntryList). (fits_entries y ≡ true) × (block ≡ entries_spelling y)) t.1 (and_from _ _ p.0 t.0, p.1)

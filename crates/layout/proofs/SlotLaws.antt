@@ -7,7 +7,7 @@ use Rattle.layout.specs.declared.slot.Slot.TheVariants as slot
 use Rattle.layout.specs.declared.slot_fields.SlotFields.{SlotFields}
 use Rattle.layout.specs.Places.{Sizes, IsAllowed, is_node, node_end}
 use Rattle.layout.specs.Bytes.{AreBytes, u32, u64, filled, number_at, within}
-use Rattle.layout.specs.Slot.{slot_fields, slot_text, slot_spelling, is_root, roots_apart, fits_slot, slot_at, is_blank, slot_from, slot_of}
+use Rattle.layout.specs.Slot.{slot_fields, slot_text, slot_spelling, is_root_block, roots_apart, fits_slot, slot_at, is_blank, slot_from, slot_of}
 use Rattle.layout.proofs.Limits.{and_parts}
 use Rattle.layout.proofs.Fields.{Takes, Takes-then, bind_some, test_some, chosen, some_is, u32_takes, u64_takes, u32_again, u64_again, u32_long, u64_long}
 use Rattle.layout.proofs.Blocks.{within_parts, within_again, filled_from}
@@ -111,7 +111,7 @@ text_from f s e =
 
 -- ---- limits
 
-small_root : (g : Sizes) (root : ℕ) → IsAllowed g → is_root g root ≡ true → root < 2 ^ 32
+small_root : (g : Sizes) (root : ℕ) → IsAllowed g → is_root_block g root ≡ true → root < 2 ^ 32
 small_root g root allowed e =
     elim (either (eqb root 0) (is_node g root) e) [
       | inl zero_root ↦ let r : root ≡ 0 = eqb-true _ _ zero_root in omega (arith, r)
@@ -131,9 +131,9 @@ fields_fit g (slot.File names size touch fast block slow) allowed e =
     let a = and_parts _ (roots_apart block slow) p.1 in
     let b = and_parts _ (roots_apart fast slow) a.0 in
     let c = and_parts _ (roots_apart fast block) b.0 in
-    let d = and_parts _ (is_root g slow) c.0 in
-    let f = and_parts _ (is_root g block) d.0 in
-    let h = and_parts _ (is_root g fast) f.0 in
+    let d = and_parts _ (is_root_block g slow) c.0 in
+    let f = and_parts _ (is_root_block g block) d.0 in
+    let h = and_parts _ (is_root_block g fast) f.0 in
     let k = and_parts (leb names 1000) (leb size 1048576) h.0 in
     let few : names ≤ 1000 = leb-true _ _ k.0 in
     let short : size ≤ 1048576 = leb-true _ _ k.1 in
@@ -148,7 +148,7 @@ fields_fit g (slot.File names size touch fast block slow) allowed e =
     }
 fields_fit g (slot.Directory names entries touch root) allowed e =
     let p = and_parts (ltb touch (2 ^ 64)) _ e in
-    let a = and_parts _ (is_root g root) p.1 in
+    let a = and_parts _ (is_root_block g root) p.1 in
     let k = and_parts (leb names 1000) (leb entries 3584) a.0 in
     let few : names ≤ 1000 = leb-true _ _ k.0 in
     let short : entries ≤ 3584 = leb-true _ _ k.1 in

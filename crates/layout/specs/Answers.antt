@@ -5,9 +5,9 @@ use Rattle.layout.specs.declared.error.LayoutError.{LayoutError}
 use Rattle.layout.specs.declared.error.LayoutError.TheVariants as errors
 
 -- the value that is read, or that this block is damaged
-abbrev pub answer : {A : Type 0} → What → ℕ → Option A → Result A LayoutError
-answer what block (Some x) = Ok x
-answer what block None = Err (errors.Damaged what block)
+abbrev pub or_damaged : {A : Type 0} → What → ℕ → Option A → Result A LayoutError
+or_damaged what block (Some x) = Ok x
+or_damaged what block None = Err (errors.Damaged what block)
 
 -- the value that is read, or that this block is damaged; memory is wanted only for what is spelled
 abbrev pub Reads : {A : Type 0} → What → ℕ → Result A LayoutError → Option A → Type 0

@@ -76,8 +76,8 @@ head_at bytes = do
   if is_inode owner.0 && nat_le count.0 MAX_IN_BLOCK then Some ((owner.0, count.0), rest) else None
 
 -- the owner and its entries
-unfoldable pub entries_at : Field EntryList
-entries_at bytes = do
+unfoldable pub entries_field : Field EntryList
+entries_field bytes = do
   head ← head_at bytes
   entries ← items_at entry_at head.0.1 head.1
   Some (record { owner = head.0.0; entries = entries.0 }, entries.1)
@@ -85,22 +85,22 @@ entries_at bytes = do
 -- the entries that a block spells, if no two have one name
 unfoldable pub entry_list_of : List ℕ → Option EntryList
 entry_list_of bytes = do
-  v ← within BLOCK entries_at bytes
+  v ← within BLOCK entries_field bytes
   if are_distinct v.entries then Some v else None
 
 -- the entries that stand in a block, whatever their names; none where it has no such
 unfoldable pub listed : List ℕ → EntryList
-listed bytes = unwrap_or (within BLOCK entries_at bytes) (record { owner = 0; entries = [] })
+listed bytes = unwrap_or (within BLOCK entries_field bytes) (record { owner = 0; entries = [] })
 
 -- entries stand in the block
-pub record IsListed (bytes : List ℕ) : Type 0 where
-  pub spelled : within BLOCK entries_at bytes ≡ Some (listed bytes)
+pub record IsEntryList (bytes : List ℕ) : Type 0 where
+  pub spelled : within BLOCK entries_field bytes ≡ Some (listed bytes)
   pub few : length (listed bytes).entries ≤ MAX_IN_BLOCK
   pub long : length bytes ≡ BLOCK
 
 -- a block of entries, no two of one name, and what its head tells
 pub record IsRead (owner count : ℕ) (bytes : List ℕ) : Type 0 where
-  pub list : IsListed bytes
+  pub list : IsEntryList bytes
   pub distinct : are_distinct (listed bytes).entries ≡ true
   pub owner_is : owner ≡ (listed bytes).owner
   pub count_is : count ≡ length (listed bytes).entries

@@ -24,8 +24,8 @@ abbrev pub slot_spelling : Slot → List ℕ
 slot_spelling s = filled SLOT_SIZE (slot_text (slot_fields s))
 
 -- whether a root is none or a block of the node pool
-abbrev pub is_root : Sizes → ℕ → Bool
-is_root g root = (root == 0) || is_node g root
+abbrev pub is_root_block : Sizes → ℕ → Bool
+is_root_block g root = (root == 0) || is_node g root
 
 -- whether two roots are not the same block
 abbrev pub roots_apart : ℕ → ℕ → Bool
@@ -34,8 +34,8 @@ roots_apart a b = (a == 0) || not (a == b)
 -- whether a slot keeps the limits of the format
 abbrev pub fits_slot : Sizes → Slot → Bool
 fits_slot g slot.Free = true
-fits_slot g (slot.File names size touch fast block slow) = nat_lt touch (2 ^ 64) && (nat_le names MAX_NAMES && nat_le size MAX_FILE && is_root g fast && is_root g block && is_root g slow && roots_apart fast block && roots_apart fast slow && roots_apart block slow)
-fits_slot g (slot.Directory names entries touch root) = nat_lt touch (2 ^ 64) && (nat_le names MAX_NAMES && nat_le entries MAX_ENTRIES && is_root g root)
+fits_slot g (slot.File names size touch fast block slow) = nat_lt touch (2 ^ 64) && (nat_le names MAX_NAMES && nat_le size MAX_FILE && is_root_block g fast && is_root_block g block && is_root_block g slow && roots_apart fast block && roots_apart fast slow && roots_apart block slow)
+fits_slot g (slot.Directory names entries touch root) = nat_lt touch (2 ^ 64) && (nat_le names MAX_NAMES && nat_le entries MAX_ENTRIES && is_root_block g root)
 
 -- the numbers of a slot
 unfoldable pub slot_at : Field SlotFields

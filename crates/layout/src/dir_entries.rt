@@ -2,9 +2,9 @@
 ghost use Rattle.std.specs.Prelude.{◌≡◌, ◌<◌, ◌≤◌, ◌+◌, ◌*◌, length, option_map, slice_index_or, slice_get, Some, drop, not, true, IfSome, OnSome, IfOk, OnOk};
 ghost use Rattle.std.specs.List.{list_all, position};
 ghost use Rattle.std.specs.Str.{bytes_eq};
-ghost use Rattle.layout.specs.Answers.{answer};
+ghost use Rattle.layout.specs.Answers.{or_damaged};
 ghost use Rattle.layout.specs.Bytes.{items_at, text_at, zeros, within};
-ghost use Rattle.layout.specs.Directory.{head_at, entry_at, entries_at, entry_list_of, listed, AreEntries, IsListed, IsRead, are_distinct, fits_entry};
+ghost use Rattle.layout.specs.Directory.{head_at, entry_at, entries_field, entry_list_of, listed, AreEntries, IsEntryList, IsRead, are_distinct, fits_entry};
 ghost use Rattle.layout.specs.Lent.{owned};
 ghost use Rattle.layout.specs.declared.directory.DirEntry.{DirEntry};
 ghost use Rattle.layout.specs.declared.error.What.TheVariants as what;
@@ -38,7 +38,7 @@ impl<'a> Model for DirEntries<'a> {
 impl<'a> DirEntries<'a> {
     /// The entries that a block spells. `Damaged`, with the number of the block, where it spells none.
     pub fn read(number: u32, block: &'a [u8]) -> Result<Self, LayoutError>
-        ensures read { result ≡ answer what.DirBlock number (entry_list_of block.now) }
+        ensures read { result ≡ or_damaged what.DirBlock number (entry_list_of block.now) }
         ensures listed { IfOk result (λ b. b ≡ listed block.now) }
         ensures entries { OnOk result (AreEntries block.now) }
     {
@@ -116,8 +116,8 @@ fn head_of_entries(block: &[u8]) -> Option<(u32, usize)>
 
 // The same, whatever names the entries have.
 fn head_of_list(block: &[u8]) -> Option<(u32, usize)>
-    ensures listed { OnSome result (IsListed block.now) }
-    ensures head { result ≡ option_map (λ v. (v.owner, length v.entries)) (within BLOCK entries_at block.now) }
+    ensures listed { OnSome result (IsEntryList block.now) }
+    ensures head { result ≡ option_map (λ v. (v.owner, length v.entries)) (within BLOCK entries_field block.now) }
 {
     if block.len() != BLOCK {
         return None;
@@ -165,7 +165,7 @@ fn behind_list(count: u32, bytes: &[u8]) -> Option<&[u8]>
 
 // Whether no two entries have one name.
 fn are_distinct(block: &[u8], count: usize) -> bool
-    requires listed { IsListed block.now }
+    requires listed { IsEntryList block.now }
     requires count { count ≡ length (listed block.now).entries }
     ensures { result ≡ are_distinct (listed block.now).entries }
 {
@@ -180,7 +180,7 @@ fn are_distinct(block: &[u8], count: usize) -> bool
 
 // Whether the entries from a place on have other names.
 fn differs_from(block: &[u8], first: usize, count: usize, name: &[u8]) -> bool
-    requires listed { IsListed block.now }
+    requires listed { IsEntryList block.now }
     requires count { count ≡ length (listed block.now).entries }
     requires first { first ≤ count }
     ensures { result ≡ list_all (λ e. not (bytes_eq name.now e.name)) (drop first (listed block.now).entries) }
@@ -194,7 +194,7 @@ fn differs_from(block: &[u8], first: usize, count: usize, name: &[u8]) -> bool
 }
 
 pub fn place_of(block: &[u8], count: usize, name: &[u8]) -> Option<usize>
-    requires listed { IsListed block.now }
+    requires listed { IsEntryList block.now }
     requires count { count ≡ length (listed block.now).entries }
     ensures { result ≡ position (λ e. bytes_eq e.name name.now) (listed block.now).entries }
 {
@@ -208,7 +208,7 @@ pub fn place_of(block: &[u8], count: usize, name: &[u8]) -> Option<usize>
 
 // The name of the entry at a place.
 fn name_in(block: &[u8], index: usize) -> &[u8]
-    requires listed { IsListed block.now }
+    requires listed { IsEntryList block.now }
     requires inside { index < length (listed block.now).entries }
     ensures { (d : DirEntry) → result.now ≡ (slice_index_or (listed block.now).entries index d).name }
 {
@@ -219,7 +219,7 @@ fn name_in(block: &[u8], index: usize) -> &[u8]
 }
 
 fn entry_in(block: &[u8], index: usize) -> EntryRef<'_>
-    requires listed { IsListed block.now }
+    requires listed { IsEntryList block.now }
     requires inside { index < length (listed block.now).entries }
     ensures entry { slice_get (listed block.now).entries index ≡ Some (owned result) }
     ensures fits { fits_entry (owned result) ≡ true }

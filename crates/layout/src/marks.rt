@@ -1,5 +1,5 @@
 ghost use Rattle.std.specs.Prelude.{◌≡◌, ◌≤◌, ◌+◌, length, option_map};
-ghost use Rattle.layout.specs.Answers.{answer};
+ghost use Rattle.layout.specs.Answers.{or_damaged};
 ghost use Rattle.layout.specs.Bytes.{items_at, with_text};
 ghost use Rattle.layout.specs.Marks.{mark_text, marks_spelling, mark_at, marks_at, marks_of};
 ghost use Rattle.layout.specs.declared.error.What.TheVariants as what;
@@ -46,7 +46,7 @@ impl Marks {
 
     /// The marks that a block spells; `Damaged` where it spells none.
     pub fn decode(block: &[u8]) -> Result<Self, LayoutError>
-        ensures { result ≡ answer what.Marks MARKS_BLOCK (marks_of block.now) }
+        ensures { result ≡ or_damaged what.Marks MARKS_BLOCK (marks_of block.now) }
     {
         match marks_of(block) {
             Some(found) => Ok(found),

@@ -1,7 +1,7 @@
 ghost use Rattle.std.specs.Prelude.{◌≡◌, ◌≤◌, length};
-ghost use Rattle.layout.specs.Answers.{answer};
+ghost use Rattle.layout.specs.Answers.{or_damaged};
 ghost use Rattle.layout.specs.Places.{slot_block};
-ghost use Rattle.layout.specs.Slot.{slot_fields, slot_spelling, slot_from, slot_of, fits_slot, is_root, roots_apart};
+ghost use Rattle.layout.specs.Slot.{slot_fields, slot_spelling, slot_from, slot_of, fits_slot, is_root_block, roots_apart};
 ghost use Rattle.layout.specs.declared.error.What.TheVariants as what;
 
 use crate::error::{LayoutError, What};
@@ -48,7 +48,7 @@ impl Slot {
     pub fn decode(geometry: &Geometry, inode: u32, bytes: &[u8]) -> Result<Self, LayoutError>
         requires low { 1 ≤ inode }
         requires high { inode ≤ MAX_INODE }
-        ensures { result ≡ answer what.Slot (slot_block inode) (slot_of geometry.now bytes.now) }
+        ensures { result ≡ or_damaged what.Slot (slot_block inode) (slot_of geometry.now bytes.now) }
     {
         match slot_of(geometry, bytes) {
             Some(found) => Ok(found),
@@ -121,9 +121,9 @@ impl Slot {
             } => {
                 names <= MAX_NAMES
                     && size <= MAX_FILE
-                    && is_root(geometry, fast)
-                    && is_root(geometry, block)
-                    && is_root(geometry, slow)
+                    && is_root_block(geometry, fast)
+                    && is_root_block(geometry, block)
+                    && is_root_block(geometry, slow)
                     && roots_apart(fast, block)
                     && roots_apart(fast, slow)
                     && roots_apart(block, slow)
@@ -133,13 +133,15 @@ impl Slot {
                 entries,
                 touch: _,
                 root,
-            } => { names <= MAX_NAMES && entries <= MAX_ENTRIES as u64 && is_root(geometry, root) }
+            } => {
+                names <= MAX_NAMES && entries <= MAX_ENTRIES as u64 && is_root_block(geometry, root)
+            }
         }
     }
 }
 
-fn is_root(geometry: &Geometry, root: u32) -> bool
-    ensures { result ≡ is_root geometry.now root }
+fn is_root_block(geometry: &Geometry, root: u32) -> bool
+    ensures { result ≡ is_root_block geometry.now root }
 {
     root == 0 || geometry.is_node(root)
 }

@@ -1,5 +1,5 @@
 ghost use Rattle.std.specs.Prelude.{◌≡◌, length, option_map};
-ghost use Rattle.layout.specs.Answers.{answer};
+ghost use Rattle.layout.specs.Answers.{or_damaged};
 ghost use Rattle.layout.specs.Super.{super_spelling, super_at, super_of};
 ghost use Rattle.layout.specs.declared.error.What.TheVariants as what;
 
@@ -36,7 +36,7 @@ impl Super {
 
     /// The superblock that a block spells; `Damaged` where it spells none.
     pub fn decode(block: &[u8]) -> Result<Self, LayoutError>
-        ensures { result ≡ answer what.Super SUPER_BLOCK (super_of block.now) }
+        ensures { result ≡ or_damaged what.Super SUPER_BLOCK (super_of block.now) }
     {
         match super_of(block) {
             Some(found) => Ok(found),

@@ -46,8 +46,8 @@ abbrev pub failures : FileMedia → ℕ
 failures m = m.faults
 
 -- a stop now leaves what a read gives, and nothing else
-abbrev pub IsAtRest : FileMedia → Type 0
-IsAtRest m = (t : Tier) → AtRest (file_seen m) (file_left m (file_moment m)) t
+abbrev pub IsFileAtRest : FileMedia → Type 0
+IsFileAtRest m = (t : Tier) → AtRest (file_seen m) (file_left m (file_moment m)) t
 
 pub file_seen_now : (m : FileMedia) (t : Tier) → file_left m (file_moment m) t (file_seen m t)
 file_seen_now m t = history_seen_now m.inner.past.history (row m.inner.tiers) m.inner.shows t

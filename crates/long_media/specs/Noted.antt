@@ -4,9 +4,9 @@ use Rattle.long_media.specs.History.{History, and_then}
 use Rattle.long_media.specs.declared.past.Note.{Note}
 use Rattle.long_media.specs.declared.past.Note.TheVariants as note
 
-abbrev pub call_of : Note → DeviceCall
-call_of (note.Write tier at bytes) = Write tier at bytes.now
-call_of (note.Fence tier) = Fence tier
+abbrev pub noted_call : Note → DeviceCall
+noted_call (note.Write tier at bytes) = Write tier at bytes.now
+noted_call (note.Fence tier) = Fence tier
 
 abbrev pub noted : History → Note → History
-noted h told = and_then h (call_of told)
+noted h told = and_then h (noted_call told)

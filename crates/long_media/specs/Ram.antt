@@ -26,8 +26,8 @@ abbrev pub ram_left : RamMedia → ℕ → Tier → List ℕ → Type 0
 ram_left m = LeftAt (ram_history m)
 
 -- a stop now leaves what a read gives, and nothing else
-abbrev pub IsAtRest : RamMedia → Type 0
-IsAtRest m = (t : Tier) → AtRest (ram_seen m) (ram_left m (ram_moment m)) t
+abbrev pub IsRamAtRest : RamMedia → Type 0
+IsRamAtRest m = (t : Tier) → AtRest (ram_seen m) (ram_left m (ram_moment m)) t
 
 pub ram_seen_now : (m : RamMedia) (t : Tier) → ram_left m (ram_moment m) t (ram_seen m t)
 ram_seen_now m t = history_seen_now m.past.history (row m.tiers) m.shows t

@@ -25,13 +25,13 @@ pub struct FileMedia {
 }
 
 impl FileMedia {
-    ghost use Rattle.long_media.specs.File.{file_seen, file_left, file_moment, file_failed, failures, kept_by_system, IsAtRest, IsSynced};
+    ghost use Rattle.long_media.specs.File.{file_seen, file_left, file_moment, file_failed, failures, kept_by_system, IsFileAtRest, IsSynced};
 
     // The medium over an open file that was synced, of which a read gives these tiers.
     pub(crate) fn of(file: File, tiers: Tiers) -> Self
         requires fits { total tiers < 2 ^ 63 }
         ensures tiers { result.inner.tiers ≡ tiers }
-        ensures at_rest { IsAtRest result }
+        ensures at_rest { IsFileAtRest result }
         ensures clock { file_moment result ≡ 0 }
         ensures faults { failures result ≡ 0 }
         ensures works { file_failed result ≡ false }

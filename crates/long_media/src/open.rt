@@ -3,7 +3,7 @@ ghost use Rattle.std.specs.Prelude.{◌≡◌, ◌≤◌, ◌<◌, ◌+◌, ◌^
 ghost use Rattle.tier_device.specs.declared.media.Tier.TheVariants.{Fast, Block, Slow};
 ghost use Rattle.tier_device.specs.Rows.{row};
 ghost use Rattle.long_media.specs.Place.{total};
-ghost use Rattle.long_media.specs.File.{file_seen, file_moment, file_failed, failures, IsAtRest, IsSynced};
+ghost use Rattle.long_media.specs.File.{file_seen, file_moment, file_failed, failures, IsFileAtRest, IsSynced};
 
 use crate::error::{FileError, FileProblem};
 use crate::file::FileMedia;
@@ -56,7 +56,7 @@ impl FileMedia {
         ensures fast { IfOk result (λ m. length (file_seen m Fast) ≡ sizes.fast) }
         ensures block { IfOk result (λ m. length (file_seen m Block) ≡ sizes.block) }
         ensures slow { IfOk result (λ m. length (file_seen m Slow) ≡ sizes.slow) }
-        ensures at_rest { IfOk result (λ m. IsAtRest m) }
+        ensures at_rest { IfOk result (λ m. IsFileAtRest m) }
         ensures clock { IfOk result (λ m. file_moment m ≡ 0) }
         ensures faults { IfOk result (λ m. failures m ≡ 0) }
         ensures works { IfOk result (λ m. file_failed m ≡ false) }
@@ -81,7 +81,7 @@ impl FileMedia {
         ensures fast { IfOk result (λ m. file_seen m Fast ≡ replicate sizes.fast 0) }
         ensures block { IfOk result (λ m. file_seen m Block ≡ replicate sizes.block 0) }
         ensures slow { IfOk result (λ m. file_seen m Slow ≡ replicate sizes.slow 0) }
-        ensures at_rest { IfOk result (λ m. IsAtRest m) }
+        ensures at_rest { IfOk result (λ m. IsFileAtRest m) }
         ensures clock { IfOk result (λ m. file_moment m ≡ 0) }
         ensures faults { IfOk result (λ m. failures m ≡ 0) }
         ensures works { IfOk result (λ m. file_failed m ≡ false) }
@@ -103,7 +103,7 @@ fn opened<R: Files<File = File>>(
     ensures fast { IfOk result (λ m. length (file_seen m Fast) ≡ sizes.fast) }
     ensures block { IfOk result (λ m. length (file_seen m Block) ≡ sizes.block) }
     ensures slow { IfOk result (λ m. length (file_seen m Slow) ≡ sizes.slow) }
-    ensures at_rest { IfOk result (λ m. IsAtRest m) }
+    ensures at_rest { IfOk result (λ m. IsFileAtRest m) }
     ensures clock { IfOk result (λ m. file_moment m ≡ 0) }
     ensures faults { IfOk result (λ m. failures m ≡ 0) }
     ensures works { IfOk result (λ m. file_failed m ≡ false) }
@@ -129,7 +129,7 @@ fn created<R: Files<File = File>>(
     ensures fast { IfOk result (λ m. file_seen m Fast ≡ replicate sizes.fast 0) }
     ensures block { IfOk result (λ m. file_seen m Block ≡ replicate sizes.block 0) }
     ensures slow { IfOk result (λ m. file_seen m Slow ≡ replicate sizes.slow 0) }
-    ensures at_rest { IfOk result (λ m. IsAtRest m) }
+    ensures at_rest { IfOk result (λ m. IsFileAtRest m) }
     ensures clock { IfOk result (λ m. file_moment m ≡ 0) }
     ensures faults { IfOk result (λ m. failures m ≡ 0) }
     ensures works { IfOk result (λ m. file_failed m ≡ false) }

@@ -22,14 +22,14 @@ pub struct RamMedia {
 }
 
 impl RamMedia {
-    ghost use Rattle.long_media.specs.Ram.{ram_seen, ram_moment, IsAtRest};
+    ghost use Rattle.long_media.specs.Ram.{ram_seen, ram_moment, IsRamAtRest};
 
     /// A medium at rest that holds these bytes, at moment 0.
     pub fn of_bytes(fast: Vec<u8>, block: Vec<u8>, slow: Vec<u8>) -> Self
         ensures fast { ram_seen result Fast ≡ fast.items }
         ensures block { ram_seen result Block ≡ block.items }
         ensures slow { ram_seen result Slow ≡ slow.items }
-        ensures at_rest { IsAtRest result }
+        ensures at_rest { IsRamAtRest result }
         ensures clock { ram_moment result ≡ 0 }
     {
         let tiers = Tiers::new(fast, block, slow);

@@ -9,7 +9,7 @@ use Rattle.shared_area.specs.Running.{file_lies, FindsRun}
 use Rattle.shared_area.proofs.FirstRuns.{no_inode_lies}
 use Rattle.block_alloc.specs.declared.runs.Run.{Run}
 use Rattle.migrator.specs.declared.picking.TheConstants.{MOST_BLOCKS}
-use Rattle.migrator.specs.Picking.{LiesIn, touched, ComesBefore, IsPickedIn, Found, pick_of, IsBestBelow, IsCandidate, IsFirstOf}
+use Rattle.migrator.specs.Picking.{LiesIn, touched, ComesBefore, IsPickedIn, FoundFile, pick_of, IsBestBelow, IsCandidate, IsFirstOf}
 
 past_is_none : (j : ℕ) → 1025 ≤ j → is_inode j ≡ false
 past_is_none j past = false_from_ne_true (is_inode j) (λ is. let p = and_parts (nat_le 1 j) (nat_le j 1024) is in let low = leb-true j 1024 p.1 in omega (arith, low, past))
@@ -39,19 +39,19 @@ module _ (g : Sizes) (s : Store) (t : Tier) where
     touch = tt;
   }
 
-  before_here : (i : ℕ) (best found : Found) → best.0 ≡ touched g s best.1.inode → found.0 ≡ touched g s found.1.inode → best.0 ≤ found.0 → best.1.inode < i → (j : ℕ) → j ≡ i → ComesBefore g s found.1.inode j → ComesBefore g s best.1.inode j
+  before_here : (i : ℕ) (best found : FoundFile) → best.0 ≡ touched g s best.1.inode → found.0 ≡ touched g s found.1.inode → best.0 ≤ found.0 → best.1.inode < i → (j : ℕ) → j ≡ i → ComesBefore g s found.1.inode j → ComesBefore g s best.1.inode j
   before_here i best found is_best is_found le low j here (inl less) = inl (omega (arith, is_best, is_found, le, less))
   before_here i best found is_best is_found le low j here (inr both) = elim (cases_lt best.0 found.0) [
     | inl less ↦ (let same = both.0 in inl (omega (arith, is_best, is_found, less, same)))
     | inr ge ↦ (let same = both.0 in inr (omega (arith, is_best, is_found, le, ge, same), omega (arith, low, here)))
   ]
 
-  found_first : (best found : Found) → best.0 ≡ touched g s best.1.inode → found.0 ≡ touched g s found.1.inode → found.0 < best.0 → (j : ℕ) → ComesBefore g s best.1.inode j → ComesBefore g s found.1.inode j
+  found_first : (best found : FoundFile) → best.0 ≡ touched g s best.1.inode → found.0 ≡ touched g s found.1.inode → found.0 < best.0 → (j : ℕ) → ComesBefore g s best.1.inode j → ComesBefore g s found.1.inode j
   found_first best found is_best is_found less j (inl first) = inl (omega (arith, is_best, is_found, less, first))
   found_first best found is_best is_found less j (inr both) = (let same = both.0 in inl (omega (arith, is_best, is_found, less, same)))
 
   -- below one inode more
-  pub best_stays : (i : ℕ) (best : Option Found) → IsBestBelow g s t i best → IsCandidate g s t i None → IsBestBelow g s t (i + 1) best
+  pub best_stays : (i : ℕ) (best : Option FoundFile) → IsBestBelow g s t i best → IsCandidate g s t i None → IsBestBelow g s t (i + 1) best
   best_stays i None b c = record {
     picked = λ j lt lies. elim (cases_lt j i) [
       | inl before ↦ b.picked j before lies
@@ -71,8 +71,8 @@ module _ (g : Sizes) (s : Store) (t : Tier) where
     touch = b.touch;
   }
 
-  pub best_or_found : (i : ℕ) (best : Option Found) (found x : Found) → IsBestBelow g s t i best → IsCandidate g s t i (Some found) → IsFirstOf best found x → IsBestBelow g s t (i + 1) (Some x)
-  best_or_found i None found x b c is = subst (λ (y : Found). IsBestBelow g s t (i + 1) (Some y)) (sym is) (record {
+  pub best_or_found : (i : ℕ) (best : Option FoundFile) (found x : FoundFile) → IsBestBelow g s t i best → IsCandidate g s t i (Some found) → IsFirstOf best found x → IsBestBelow g s t (i + 1) (Some x)
+  best_or_found i None found x b c is = subst (λ (y : FoundFile). IsBestBelow g s t (i + 1) (Some y)) (sym is) (record {
     picked = record {
       inside = (let here = c.picked.inside in omega (arith, here));
       run = c.picked.run;
@@ -83,7 +83,7 @@ module _ (g : Sizes) (s : Store) (t : Tier) where
     };
     touch = c.touch;
   })
-  best_or_found i (Some best) found x b c (inl first) = subst (λ (y : Found). IsBestBelow g s t (i + 1) (Some y)) (sym first.1) (record {
+  best_or_found i (Some best) found x b c (inl first) = subst (λ (y : FoundFile). IsBestBelow g s t (i + 1) (Some y)) (sym first.1) (record {
     picked = record {
       inside = (let lt = b.picked.inside in omega (arith, lt));
       run = b.picked.run;
@@ -94,7 +94,7 @@ module _ (g : Sizes) (s : Store) (t : Tier) where
     };
     touch = b.touch;
   })
-  best_or_found i (Some best) found x b c (inr later) = subst (λ (y : Found). IsBestBelow g s t (i + 1) (Some y)) (sym later.1) (record {
+  best_or_found i (Some best) found x b c (inr later) = subst (λ (y : FoundFile). IsBestBelow g s t (i + 1) (Some y)) (sym later.1) (record {
     picked = record {
       inside = (let here = c.picked.inside in omega (arith, here));
       run = c.picked.run;
@@ -117,7 +117,7 @@ module _ (g : Sizes) (s : Store) (t : Tier) where
   best_none = record { picked = λ j lt lies. nobody j (omega (arith, lt)) lies; touch = tt }
 
   -- .. or behind the last one
-  pub best_of_all : (end : ℕ) (best : Option Found) → 1025 ≤ end → IsBestBelow g s t end best → IsPickedIn g s t (pick_of best)
+  pub best_of_all : (end : ℕ) (best : Option FoundFile) → 1025 ≤ end → IsBestBelow g s t end best → IsPickedIn g s t (pick_of best)
   best_of_all end None all b = λ j among lies. elim (cases_lt j end) [
     | inl lt ↦ b.picked j lt lies
     | inr ge ↦ nobody_behind j (omega (arith, ge, all)) lies

@@ -44,30 +44,30 @@ IsPicked g s tiers.Slow x = IsPickedIn g s tiers.Block x
 -- ---- as it is looked for
 
 -- a file that has a block in a tier, with the number of the last digest that wrote it
-abbrev pub Found : Type 0
-Found = ℕ × FileRun
+abbrev pub FoundFile : Type 0
+FoundFile = ℕ × FileRun
 
 -- the pick alone
-abbrev pub pick_of : Option Found → Option FileRun
+abbrev pub pick_of : Option FoundFile → Option FileRun
 pick_of None = None
 pick_of (Some x) = Some x.1
 
 -- The touch number is told as it is.
-abbrev pub TellsTouch : Sizes → Store → Option Found → Type 0
+abbrev pub TellsTouch : Sizes → Store → Option FoundFile → Type 0
 TellsTouch g s None = Unit {0}
 TellsTouch g s (Some x) = x.0 ≡ touched g s x.1.inode
 
 -- The first one of the inodes below a number.
-pub record IsBestBelow (g : Sizes) (s : Store) (t : Tier) (end : ℕ) (x : Option Found) : Type 0 where
+pub record IsBestBelow (g : Sizes) (s : Store) (t : Tier) (end : ℕ) (x : Option FoundFile) : Type 0 where
   pub picked : IsPickedAmong g s t (λ j. j < end) (pick_of x)
   pub touch : TellsTouch g s x
 
 -- The file at an inode, none where it has no block in the tier.
-pub record IsCandidate (g : Sizes) (s : Store) (t : Tier) (i : ℕ) (x : Option Found) : Type 0 where
+pub record IsCandidate (g : Sizes) (s : Store) (t : Tier) (i : ℕ) (x : Option FoundFile) : Type 0 where
   pub picked : IsPickedAmong g s t (λ j. j ≡ i) (pick_of x)
   pub touch : TellsTouch g s x
 
 -- The one that was touched first: the first of the two, where both were at once.
-abbrev pub IsFirstOf : Option Found → Found → Found → Type 0
+abbrev pub IsFirstOf : Option FoundFile → FoundFile → FoundFile → Type 0
 IsFirstOf None found x = x ≡ found
 IsFirstOf (Some best) found x = ((best.0 ≤ found.0) × (x ≡ best)) ⊎ ((found.0 < best.0) × (x ≡ found))

@@ -11,7 +11,7 @@ use Rattle.std.specs.List.Sorted.{IsSortedBy}
 use Rattle.posix_calls.specs.Content.{Entries}
 use Rattle.posix_calls.proofs.Directory.{entries-empty, entries-insert, entries-remove}
 use Rattle.node_bodies.specs.declared.name_map.NamedEntry.{NamedEntry}
-use Rattle.node_bodies.specs.Named.{pairs, IsInOrder, without, one_later, place_by, place_in}
+use Rattle.node_bodies.specs.Named.{pairs, IsInOrder, without, one_later, position_by, position_in}
 
 -- how two names compare
 abbrev pub names_cmp : List ℕ → List ℕ → Ordering
@@ -71,19 +71,19 @@ sorted_by_name es h k d low within = ap is_lt (turned (get_or es k d).name (get_
 -- ---- a place that a search found
 
 pub free_place : {V : Type 0} → (q : List ℕ) (es : List (NamedEntry V)) (i : ℕ) → i ≤ length es → ((k : ℕ) (d : NamedEntry V) → k < i → names_cmp (get_or es k d).name q ≡ Less)
-    → ((k : ℕ) (d : NamedEntry V) → i ≤ k → k < length es → names_cmp (get_or es k d).name q ≡ Greater) → place_in q es ≡ Err i
+    → ((k : ℕ) (d : NamedEntry V) → i ≤ k → k < length es → names_cmp (get_or es k d).name q ≡ Greater) → position_in q es ≡ Err i
 free_place q [] i within below above = ap Err (let none : 0 ≡ i = omega arith in none)
-free_place q (e ∷ es) zero within below above = ap (λ o. place_by o (place_in q es)) (turned e.name q Greater (above 0 e (omega arith) (omega arith)))
+free_place q (e ∷ es) zero within below above = ap (λ o. position_by o (position_in q es)) (turned e.name q Greater (above 0 e (omega arith) (omega arith)))
 free_place q (e ∷ es) (suc i) within below above =
-    ap (λ o. place_by o (place_in q es)) (turned e.name q Less (below 0 e (omega arith)))
+    ap (λ o. position_by o (position_in q es)) (turned e.name q Less (below 0 e (omega arith)))
     ∙ ap one_later (free_place q es i (omega arith) (λ k d lt. below (suc k) d (omega arith)) (λ k d le lt. above (suc k) d (omega arith) (omega arith)))
 
-pub found_place : {V : Type 0} → (q : List ℕ) (es : List (NamedEntry V)) (i : ℕ) → IsInOrder es → i < length es → ((d : NamedEntry V) → names_cmp (get_or es i d).name q ≡ Equal) → place_in q es ≡ Ok i
+pub found_place : {V : Type 0} → (q : List ℕ) (es : List (NamedEntry V)) (i : ℕ) → IsInOrder es → i < length es → ((d : NamedEntry V) → names_cmp (get_or es i d).name q ≡ Equal) → position_in q es ≡ Ok i
 found_place q [] i order within here = absurd (omega arith)
-found_place q (e ∷ es) zero order within here = ap (λ o. place_by o (place_in q es)) (turned e.name q Equal (here e))
+found_place q (e ∷ es) zero order within here = ap (λ o. position_by o (position_in q es)) (turned e.name q Equal (here e))
 found_place q (e ∷ es) (suc i) order within here =
     let later : names_cmp (get_or es i e).name e.name ≡ Greater = turned e.name (get_or es i e).name Less (below_at e.name es i e (and_left _ _ order) (omega arith)) in
-    ap (λ o. place_by o (place_in q es)) (sym (nat_list_cmp_total.congr (get_or es i e).name q e.name (here e)) ∙ later)
+    ap (λ o. position_by o (position_in q es)) (sym (nat_list_cmp_total.congr (get_or es i e).name q e.name (here e)) ∙ later)
     ∙ ap one_later (found_place q es i (and_right _ _ order) (omega arith) here)
 
 -- the place among the others, where it comes after the first
@@ -101,22 +101,22 @@ find_below : {V : Type 0} → (q : List ℕ) (es : Pairs V) → below_all names_
 find_below q [] h = refl
 find_below q (e ∷ es) h = ap (λ o. cond (is_eq o) (Some e.1) (fin.find names_cmp q es)) (is_less _ (and_left _ _ h)) ∙ find_below q es (and_right _ _ h)
 
-pub find_found : {V : Type 0} → (q : List ℕ) (es : List (NamedEntry V)) (i : ℕ) (d : NamedEntry V) → place_in q es ≡ Ok i → Some (get_or es i d).value ≡ fin.find names_cmp q (pairs es)
+pub find_found : {V : Type 0} → (q : List ℕ) (es : List (NamedEntry V)) (i : ℕ) (d : NamedEntry V) → position_in q es ≡ Ok i → Some (get_or es i d).value ≡ fin.find names_cmp q (pairs es)
 find_found q [] i d e = absurd cc
 find_found {V = V} q (x ∷ es) i d e =
-    elim (names_cmp q x.name) as (λ r. place_by r (place_in q es) ≡ Ok i → Some (get_or (x ∷ es) i d).value ≡ cond (is_eq r) (Some x.value) (fin.find names_cmp q (pairs es))) [
+    elim (names_cmp q x.name) as (λ r. position_by r (position_in q es) ≡ Ok i → Some (get_or (x ∷ es) i d).value ≡ cond (is_eq r) (Some x.value) (fin.find names_cmp q (pairs es))) [
       | Less ↦ λ h. absurd cc
       | Equal ↦ λ h. let at : i ≡ 0 = cc in ap (λ k. Some (get_or (x ∷ es) k d).value) at
-      | Greater ↦ λ h. let later = found_later (place_in q es) i h in ap (λ k. Some (get_or (x ∷ es) k d).value) later.2 ∙ find_found q es later.0 d later.1
+      | Greater ↦ λ h. let later = found_later (position_in q es) i h in ap (λ k. Some (get_or (x ∷ es) k d).value) later.2 ∙ find_found q es later.0 d later.1
     ] e
 
-pub find_free : {V : Type 0} → (q : List ℕ) (es : List (NamedEntry V)) (i : ℕ) → IsInOrder es → place_in q es ≡ Err i → None ≡ fin.find names_cmp q (pairs es)
+pub find_free : {V : Type 0} → (q : List ℕ) (es : List (NamedEntry V)) (i : ℕ) → IsInOrder es → position_in q es ≡ Err i → None ≡ fin.find names_cmp q (pairs es)
 find_free q [] i order e = refl
 find_free {V = V} q (x ∷ es) i order e =
-    elim (names_cmp q x.name) as (λ r. names_cmp q x.name ≡ r → place_by r (place_in q es) ≡ Err i → None ≡ cond (is_eq r) (Some x.value) (fin.find names_cmp q (pairs es))) [
+    elim (names_cmp q x.name) as (λ r. names_cmp q x.name ≡ r → position_by r (position_in q es) ≡ Err i → None ≡ cond (is_eq r) (Some x.value) (fin.find names_cmp q (pairs es))) [
       | Less ↦ λ p h. sym (find_below q (pairs es) (below_less q x.name p (pairs es) (and_left _ _ order)))
       | Equal ↦ λ p h. absurd cc
-      | Greater ↦ λ p h. let later = free_later (place_in q es) i h in find_free q es later.0 (and_right _ _ order) later.1
+      | Greater ↦ λ p h. let later = free_later (position_in q es) i h in find_free q es later.0 (and_right _ _ order) later.1
     ] refl e
 
 -- ---- a name taken out
@@ -125,25 +125,25 @@ pub without_below : {V : Type 0} → (q : List ℕ) (es : Pairs V) → below_all
 without_below q [] h = refl
 without_below {V = V} q (e ∷ es) h = ap (λ o. cond (not (is_eq o)) (e ∷ without q es) (without q es)) (is_less _ (and_left _ _ h)) ∙ ap (λ (ps : Pairs V). e ∷ ps) (without_below q es (and_right _ _ h))
 
-pub remove_found : {V : Type 0} → (q : List ℕ) (es : List (NamedEntry V)) (i : ℕ) → IsInOrder es → place_in q es ≡ Ok i → pairs (remove es i) ≡ without q (pairs es)
+pub remove_found : {V : Type 0} → (q : List ℕ) (es : List (NamedEntry V)) (i : ℕ) → IsInOrder es → position_in q es ≡ Ok i → pairs (remove es i) ≡ without q (pairs es)
 remove_found q [] i order e = absurd cc
 remove_found {V = V} q (x ∷ es) i order e =
-    elim (names_cmp q x.name) as (λ r. names_cmp q x.name ≡ r → place_by r (place_in q es) ≡ Ok i → pairs (remove (x ∷ es) i) ≡ cond (not (is_eq r)) ((x.name, x.value) ∷ without q (pairs es)) (without q (pairs es))) [
+    elim (names_cmp q x.name) as (λ r. names_cmp q x.name ≡ r → position_by r (position_in q es) ≡ Ok i → pairs (remove (x ∷ es) i) ≡ cond (not (is_eq r)) ((x.name, x.value) ∷ without q (pairs es)) (without q (pairs es))) [
       | Less ↦ λ p h. absurd cc
       | Equal ↦ λ p h. let at : i ≡ 0 = cc in ap (λ k. pairs (remove (x ∷ es) k)) at ∙ sym (without_below q (pairs es) (below_tied q x.name p (pairs es) (and_left _ _ order)))
       | Greater ↦ λ p h.
-          let later = found_later (place_in q es) i h in
+          let later = found_later (position_in q es) i h in
           ap (λ k. pairs (remove (x ∷ es) k)) later.2 ∙ ap (λ (ps : Pairs V). (x.name, x.value) ∷ ps) (remove_found q es later.0 (and_right _ _ order) later.1)
     ] refl e
 
-pub remove_free : {V : Type 0} → (q : List ℕ) (es : List (NamedEntry V)) (i : ℕ) → IsInOrder es → place_in q es ≡ Err i → pairs es ≡ without q (pairs es)
+pub remove_free : {V : Type 0} → (q : List ℕ) (es : List (NamedEntry V)) (i : ℕ) → IsInOrder es → position_in q es ≡ Err i → pairs es ≡ without q (pairs es)
 remove_free q [] i order e = refl
 remove_free {V = V} q (x ∷ es) i order e =
-    elim (names_cmp q x.name) as (λ r. names_cmp q x.name ≡ r → place_by r (place_in q es) ≡ Err i → pairs (x ∷ es) ≡ cond (not (is_eq r)) ((x.name, x.value) ∷ without q (pairs es)) (without q (pairs es))) [
+    elim (names_cmp q x.name) as (λ r. names_cmp q x.name ≡ r → position_by r (position_in q es) ≡ Err i → pairs (x ∷ es) ≡ cond (not (is_eq r)) ((x.name, x.value) ∷ without q (pairs es)) (without q (pairs es))) [
       | Less ↦ λ p h. ap (λ (ps : Pairs V). (x.name, x.value) ∷ ps) (sym (without_below q (pairs es) (below_less q x.name p (pairs es) (and_left _ _ order))))
       | Equal ↦ λ p h. absurd cc
       | Greater ↦ λ p h.
-          let later = free_later (place_in q es) i h in
+          let later = free_later (position_in q es) i h in
           ap (λ (ps : Pairs V). (x.name, x.value) ∷ ps) (remove_free q es later.0 (and_right _ _ order) later.1)
     ] refl e
 
@@ -153,32 +153,32 @@ abbrev put_pair : {V : Type 0} → List ℕ → V → List (NamedEntry V) → Pa
 put_pair name v es = fin.put names_cmp name v (pairs es)
 
 -- an entry that stands there gets another value
-pub put_found : {V : Type 0} → (name : List ℕ) (value : V) (es : List (NamedEntry V)) (i : ℕ) (d : NamedEntry V) → place_in name es ≡ Ok i → d ≡ get_or es i d
+pub put_found : {V : Type 0} → (name : List ℕ) (value : V) (es : List (NamedEntry V)) (i : ℕ) (d : NamedEntry V) → position_in name es ≡ Ok i → d ≡ get_or es i d
     → pairs (set es i (record { name = d.name; value = value })) ≡ put_pair name value es
 put_found name value [] i d e is = absurd cc
 put_found {V = V} name value (x ∷ es) i d e is =
-    elim (names_cmp name x.name) as (λ r. place_by r (place_in name es) ≡ Ok i → pairs (set (x ∷ es) i (record { name = d.name; value = value })) ≡ by_order r ((name, value) ∷ pairs (x ∷ es)) ((x.name, value) ∷ pairs es) ((x.name, x.value) ∷ put_pair name value es)) [
+    elim (names_cmp name x.name) as (λ r. position_by r (position_in name es) ≡ Ok i → pairs (set (x ∷ es) i (record { name = d.name; value = value })) ≡ by_order r ((name, value) ∷ pairs (x ∷ es)) ((x.name, value) ∷ pairs es) ((x.name, x.value) ∷ put_pair name value es)) [
       | Less ↦ λ h. absurd cc
       | Equal ↦ λ h.
           let at : i ≡ 0 = cc in
           let here : d ≡ x = is ∙ ap (λ (k : ℕ). get_or (x ∷ es) k d) at in
           ap (λ (k : ℕ). pairs (set (x ∷ es) k (record { name = d.name; value = value }))) at ∙ ap (λ (y : NamedEntry V). (y.name, value) ∷ pairs es) here
       | Greater ↦ λ h.
-          let later = found_later (place_in name es) i h in
+          let later = found_later (position_in name es) i h in
           let there : d ≡ get_or es later.0 d = is ∙ ap (λ (k : ℕ). get_or (x ∷ es) k d) later.2 in
           ap (λ (k : ℕ). pairs (set (x ∷ es) k (record { name = d.name; value = value }))) later.2
           ∙ ap (λ (ps : Pairs V). (x.name, x.value) ∷ ps) (put_found name value es later.0 d later.1 there)
     ] e
 
 -- a new entry goes where it belongs
-pub put_new : {V : Type 0} → (new : NamedEntry V) (es : List (NamedEntry V)) (i : ℕ) → place_in new.name es ≡ Err i → pairs (insert es i new) ≡ put_pair new.name new.value es
+pub put_new : {V : Type 0} → (new : NamedEntry V) (es : List (NamedEntry V)) (i : ℕ) → position_in new.name es ≡ Err i → pairs (insert es i new) ≡ put_pair new.name new.value es
 put_new new [] i e = ap (λ (k : ℕ). pairs (take k [] ++ new ∷ drop k [])) (let at : i ≡ 0 = cc in at)
 put_new {V = V} new (x ∷ es) i e =
-    elim (names_cmp new.name x.name) as (λ r. place_by r (place_in new.name es) ≡ Err i → pairs (insert (x ∷ es) i new) ≡ by_order r ((new.name, new.value) ∷ pairs (x ∷ es)) ((x.name, new.value) ∷ pairs es) ((x.name, x.value) ∷ put_pair new.name new.value es)) [
+    elim (names_cmp new.name x.name) as (λ r. position_by r (position_in new.name es) ≡ Err i → pairs (insert (x ∷ es) i new) ≡ by_order r ((new.name, new.value) ∷ pairs (x ∷ es)) ((x.name, new.value) ∷ pairs es) ((x.name, x.value) ∷ put_pair new.name new.value es)) [
       | Less ↦ λ h. let at : i ≡ 0 = cc in ap (λ (k : ℕ). pairs (insert (x ∷ es) k new)) at
       | Equal ↦ λ h. absurd cc
       | Greater ↦ λ h.
-          let later = free_later (place_in new.name es) i h in
+          let later = free_later (position_in new.name es) i h in
           ap (λ (k : ℕ). pairs (insert (x ∷ es) k new)) later.2
           ∙ ap (λ (ps : Pairs V). (x.name, x.value) ∷ ps) (put_new new es later.0 later.1)
     ] e

@@ -26,12 +26,12 @@ one_later (Ok i) = Ok (suc i)
 one_later (Err i) = Err (suc i)
 
 -- a place by how the name compares with the first entry's, where `rest` is its place in the others
-abbrev pub place_by : Ordering → Result ℕ ℕ → Result ℕ ℕ
-place_by Less rest = Err 0
-place_by Equal rest = Ok 0
-place_by Greater rest = one_later rest
+abbrev pub position_by : Ordering → Result ℕ ℕ → Result ℕ ℕ
+position_by Less rest = Err 0
+position_by Equal rest = Ok 0
+position_by Greater rest = one_later rest
 
 -- where the entry of a name stands, or else where it would
-abbrev pub place_in : {V : Type 0} → List ℕ → List (NamedEntry V) → Result ℕ ℕ
-place_in name [] = Err 0
-place_in name (e ∷ es) = place_by (slice_cmp nat_cmp name e.name) (place_in name es)
+abbrev pub position_in : {V : Type 0} → List ℕ → List (NamedEntry V) → Result ℕ ℕ
+position_in name [] = Err 0
+position_in name (e ∷ es) = position_by (slice_cmp nat_cmp name e.name) (position_in name es)

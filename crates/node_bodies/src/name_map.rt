@@ -4,7 +4,7 @@ ghost use Rattle.std.specs.Ordering.{nat_cmp};
 ghost use Rattle.std.specs.FinMap as fin;
 ghost use Rattle.std.specs.Cmp.Lexicographic.{slice_cmp};
 ghost use Rattle.std.specs.List.{insert};
-ghost use Rattle.node_bodies.specs.Named.{place_in, pairs, without, IsInOrder};
+ghost use Rattle.node_bodies.specs.Named.{position_in, pairs, without, IsInOrder};
 
 use posix_calls::{Name, Names};
 use std::alloc::{AllocError, Global};
@@ -190,7 +190,7 @@ fn remove_entry<V: Drop>(entries: &mut Vec<NamedEntry<V>>, name: &[u8])
 fn place_of<V>(entries: &[NamedEntry<V>], name: &[u8]) -> Result<usize, usize>
     requires { IsInOrder entries.now }
     ensures within { IsSearchInRange result (length entries.now) }
-    ensures place { result ≡ place_in name.now entries.now }
+    ensures place { result ≡ position_in name.now entries.now }
 {
     entries.binary_search_by(
         |entry: &NamedEntry<V>| -> Ordering

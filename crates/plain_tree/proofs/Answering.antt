@@ -6,7 +6,7 @@ use Rattle.posix_calls.proofs.Counts.{order}
 use Rattle.posix_calls.proofs.Directory.{entries-empty}
 use Rattle.posix_calls.specs.Tree.{Node, File, Dir, entries_of}
 use Rattle.posix_calls.specs.declared.operation.Missing.{Missing}
-use Rattle.posix_calls.specs.Query.{Query, Gives, Refuses, IsDir, Look, Range, View, Found, Known, Unknown, run, run_part, seen, whole}
+use Rattle.posix_calls.specs.Query.{Query, Gives, Refuses, IsDir, Look, Range, View, Found, Known, Unknown, run, run_part, seen, whole_part}
 use Rattle.posix_calls.specs.Walk.{entries_seen}
 use Rattle.plain_tree.specs.Plain.{stored_tree}
 use Rattle.std.proofs.lemmas.Bool.{ltb-false}
@@ -17,7 +17,7 @@ entries_are_seen n None = refl
 entries_are_seen n (Some (File bytes)) = refl
 entries_are_seen n (Some (Dir entries)) = refl
 
-pub whole_knows : {A : Type 0} (v : View) (q : Query A) → run_part (whole v) q ≡ Known (run v q)
+pub whole_knows : {A : Type 0} (v : View) (q : Query A) → run_part (whole_part v) q ≡ Known (run v q)
 unfolding run_part run
 whole_knows v (Gives x) = refl
 whole_knows v (Refuses e) = refl
@@ -25,13 +25,13 @@ whole_knows v (IsDir i next) = whole_knows v (next (v.is_dir i))
 whole_knows v (Look i next) = whole_knows v (next (v.node i))
 whole_knows v (Range i at count next) = whole_knows v (next (v.bytes i at count))
 
-pub nothing_is_missing : {A : Type 0} (v : View) (q : Query A) (what : Missing) → run_part (whole v) q ≡ Unknown what → ⊥
+pub nothing_is_missing : {A : Type 0} (v : View) (q : Query A) (what : Missing) → run_part (whole_part v) q ≡ Unknown what → ⊥
 nothing_is_missing v q what e = apart (run v q) what (sym (whole_knows v q) ∙ e)
   where
     apart : {A : Type 0} (r : _) (what : Missing) → ◌≡◌ {A = Found A} (Known r) (Unknown what) → ⊥
     apart r what e = absurd cc
 
-pub known_of : {A : Type 0} (v : View) (q : Query A) (r : _) → run_part (whole v) q ≡ Known r → run v q ≡ r
+pub known_of : {A : Type 0} (v : View) (q : Query A) (r : _) → run_part (whole_part v) q ≡ Known r → run v q ≡ r
 known_of v q r e = same (run v q) r (sym (whole_knows v q) ∙ e)
   where
     same : {A : Type 0} (x y : _) → ◌≡◌ {A = Found A} (Known x) (Known y) → x ≡ y

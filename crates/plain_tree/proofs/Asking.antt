@@ -5,7 +5,7 @@ use Rattle.std.proofs.lemmas.Bool.Decides.{nat_tests}
 use Rattle.std.proofs.lemmas.List.{get_or_default}
 use Rattle.posix_calls.specs.Tree.{Own, State}
 use Rattle.posix_calls.specs.Own.{own_of}
-use Rattle.posix_calls.specs.Query.{Known, run, run_part, view_of, whole}
+use Rattle.posix_calls.specs.Query.{Known, run, run_part, view_of, whole_part}
 use Rattle.posix_calls.specs.Decide.{decide}
 use Rattle.posix_calls.specs.Operations.{answer, Follows, Step, makes, is_client}
 use Rattle.posix_calls.specs.Exact.{IsLowest, IsAnswered, IsGivenUp}
@@ -41,7 +41,7 @@ outside client (inl e) = grind (arith, nat_tests)
 outside client (inr e) = grind (arith, nat_tests)
 
 pub answer_is : (s : Stored) (client : ℕ) (call : Call) (row : Row) (r : Result Operation Errno) → is_client client ≡ true → held_of s.rows client ≡ own_of row
-    → run_part (whole (view_of (stored_tree s.nodes))) (decide (own_of row) call) ≡ Known r → answer (stored_state s) client call ≡ r
+    → run_part (whole_part (view_of (stored_tree s.nodes))) (decide (own_of row) call) ≡ Known r → answer (stored_state s) client call ≡ r
 answer_is s client call row r among held known =
     let v = view_of (stored_tree s.nodes) in
     let same : Known (run v (decide (own_of row) call)) ≡ Known r = sym (whole_knows v (decide (own_of row) call)) ∙ known in
@@ -50,7 +50,7 @@ answer_is s client call row r among held known =
     ∙ cc
 
 pub exact_of : (old after : State) (client : ℕ) (call : Call) (operation : Operation) (r : Reply) → answer old client call ≡ Ok operation → IsDone old client operation r after ⊎ IsDropped old operation r after
-    → is_client client ≡ true → (takes_room operation ≡ true → takes_memory (whole (view_of old.tree)) (old.descriptors client) call ≡ true) → IsAnswered old client call r after ⊎ IsGivenUp old client call r after
+    → is_client client ≡ true → (takes_room operation ≡ true → takes_memory (whole_part (view_of old.tree)) (old.descriptors client) call ≡ true) → IsAnswered old client call r after ⊎ IsGivenUp old client call r after
 exact_of old after client call operation r e (inl done) is takes =
     let lowest : (d : Operation) → answer old client call ≡ Ok d → makes d ≡ true → IsLowest old.tree done.0 = λ d f m. let same : operation ≡ d = cc in done.1 (ap makes same ∙ m) in
     inl (done.0, lowest, subst (λ a. Follows old client done.0 a r after) (sym e) (λ m. (done.1 m).free, done.2, done.3))
@@ -69,7 +69,7 @@ refused_of s client call e is =
 
 -- the operation of a client's call was done or given up; what is stored is seen as one value
 pub came_of : (held now : Stored) (client : ℕ) (call : Call) (operation : Operation) (r : Reply) (after : State) (row : Row) → held ≡ now → 0 < client → client ≤ 8 → length held.rows ≡ 8 → row ≡ get_or held.rows (client - 1) row → IsConsistent (stored_state held)
-    → run_part (whole (view_of (stored_tree now.nodes))) (decide (own_of row) call) ≡ Known (Ok operation) → IsDone (stored_state held) client operation r after ⊎ IsDropped (stored_state held) operation r after → IsAnswered (stored_state now) client call r after ⊎ IsGivenUp (stored_state now) client call r after
+    → run_part (whole_part (view_of (stored_tree now.nodes))) (decide (own_of row) call) ≡ Known (Ok operation) → IsDone (stored_state held) client operation r after ⊎ IsDropped (stored_state held) operation r after → IsAnswered (stored_state now) client call r after ⊎ IsGivenUp (stored_state now) client call r after
 came_of held now client call operation r after row seen low high rows is sound known done =
     let own = ap (λ (s : Stored). held_of s.rows client) (sym seen) ∙ row_of held.rows client row low (omega (arith, rows, high)) is in
     let fine = subst (λ (s : Stored). IsConsistent (stored_state s)) seen sound in

@@ -12,7 +12,7 @@ use Rattle.posix_calls.specs.declared.descriptor.Descriptor.{Descriptor}
 use Rattle.posix_calls.specs.declared.operation.Operation.{Operation}
 use Rattle.posix_calls.specs.Tree.{State, Own}
 use Rattle.posix_calls.specs.Path.{components, fault, first_fault, unless, reading_behind, reading_short, reading, first_is_faultless, name_behind, name_first, comes_to_name}
-use Rattle.posix_calls.specs.Query.{Seen, File, Dir, Gives, Refuses, View, run, view_of, whole, dir_test}
+use Rattle.posix_calls.specs.Query.{Seen, File, Dir, Gives, Refuses, View, run, view_of, whole_part, dir_test}
 use Rattle.posix_calls.specs.Walk.{Place, said, prefix, is_root, is_there, is_true, kind_at, walk}
 use Rattle.posix_calls.specs.Decide.{opened, described, write_at, open_path, close, pread, pwrite, truncate, mkdir, rmdir, link, unlink, rename, list_path, stat, decide}
 use Rattle.posix_calls.specs.Memory.{writes_bytes, takes_memory}
@@ -93,7 +93,7 @@ module _ (s : State) (fine : IsWellFormed s) where
   unmade_root [] place e none = absurd (let same = given v e in let clash : true ≡ false = ap (λ (p : Place). is_there p.inode) same ∙ none in cc)
 
   abbrev Takes : ℕ → Call → Type 0
-  Takes client c = takes_memory (whole v) (s.descriptors client) c ≡ true
+  Takes client c = takes_memory (whole_part v) (s.descriptors client) c ≡ true
 
   -- ---- by a path
 

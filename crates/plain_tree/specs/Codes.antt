@@ -7,8 +7,8 @@ use Rattle.posix_calls.specs.Content.{Entries}
 use Rattle.posix_calls.specs.Tree.{Node, File, Dir}
 
 -- entries are stored as the map from names
-abbrev pub entries_code : Coded (Entries ℕ)
-entries_code = fin.code (coded_list coded_ℕ) coded_ℕ
+abbrev pub plain_entries_code : Coded (Entries ℕ)
+plain_entries_code = fin.code (coded_list coded_ℕ) coded_ℕ
 
 -- a node as one of two
 abbrev parts : Node → List ℕ ⊎ Entries ℕ
@@ -26,5 +26,5 @@ node_back (File bytes) = refl
 node_back (Dir entries) = refl
 
 -- a node is stored as its bytes or its entries
-abbrev pub node_code : Coded Node
-node_code = code_by (List ℕ ⊎ Entries ℕ) (coded⊎ (coded_list coded_ℕ) entries_code) parts node_from node_back
+abbrev pub plain_node_code : Coded Node
+plain_node_code = code_by (List ℕ ⊎ Entries ℕ) (coded⊎ (coded_list coded_ℕ) plain_entries_code) parts node_from node_back

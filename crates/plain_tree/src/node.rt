@@ -28,11 +28,11 @@ impl Model for PlainNode {
     ghost use Rattle.std.specs.Prelude.{Option};
     ghost use Rattle.std.specs.Coded.{coded_option};
     ghost use Rattle.posix_calls.specs.Tree.{Node};
-    ghost use Rattle.plain_tree.specs.Codes.{node_code};
+    ghost use Rattle.plain_tree.specs.Codes.{plain_node_code};
 
     ghost Value = { Option Node };
 
-    ghost coded = { coded_option node_code };
+    ghost coded = { coded_option plain_node_code };
 
     ghost use Rattle.plain_tree.specs.Bodies.{node_of};
 

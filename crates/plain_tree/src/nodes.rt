@@ -25,12 +25,12 @@ impl Model for PlainNodes {
     ghost use Rattle.std.specs.Prelude.{List, Option};
     ghost use Rattle.std.specs.Coded.{coded_list, coded_option};
     ghost use Rattle.posix_calls.specs.Tree.{Node};
-    ghost use Rattle.plain_tree.specs.Codes.{node_code};
+    ghost use Rattle.plain_tree.specs.Codes.{plain_node_code};
     ghost use Rattle.plain_tree.specs.Plain.{AreNameCounts};
 
     ghost Value = { List (Option Node) };
 
-    ghost coded = { coded_list (coded_option node_code) };
+    ghost coded = { coded_list (coded_option plain_node_code) };
 
     ghost view = { λ p. p.nodes.items };
 

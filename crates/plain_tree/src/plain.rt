@@ -1,7 +1,7 @@
 ghost use Rattle.std.specs.Prelude.{◌≡◌, ◌⊎◌, ◌≤◌, ◌<◌, ℕ, true, false, Ok, Some, length, option_map, IfOk, IfErr, OnOk, OnErr, MatchOption, None};
 ghost use Rattle.std.specs.FinMap as fin;
 ghost use Rattle.posix_calls.specs.Tree.{opening, empty_tree, entries_of};
-ghost use Rattle.posix_calls.specs.Query.{dir_test, view_of, whole};
+ghost use Rattle.posix_calls.specs.Query.{dir_test, view_of, whole_part};
 ghost use Rattle.posix_calls.specs.Answers.{description_of};
 ghost use Rattle.posix_calls.specs.Operations.{Step, makes, only_tells, reply_of, state_after, tree_after};
 ghost use Rattle.posix_calls.specs.Exact.{IsAnswered, IsGivenUp, IsLowest, IsTaken};
@@ -83,7 +83,7 @@ impl PlainTree {
 
 /// All of the tree is known.
 impl TreeAnswers for PlainTree {
-    ghost part = { λ s. whole (view_of (stored_tree s.nodes)) };
+    ghost part = { λ s. whole_part (view_of (stored_tree s.nodes)) };
 
     fn is_dir(&self, inode: u32) -> Option<Option<bool>> {
         Some(is_dir(self.nodes.as_slice(), inode))

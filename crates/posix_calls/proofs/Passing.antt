@@ -15,7 +15,7 @@ use Rattle.posix_calls.specs.declared.call.Reply.TheVariants as reply
 use Rattle.posix_calls.specs.Tree.{Tree, Node, File, Dir, State, names_of, entries_of}
 use Rattle.posix_calls.specs.Query.{Seen, Query, Gives, View, run, view_of, seen, dir_test}
 use Rattle.posix_calls.specs.Query as query
-use Rattle.posix_calls.specs.Walk.{Place, said, walk, prefix, is_root, is_there, names_seen, is_inode}
+use Rattle.posix_calls.specs.Walk.{Place, said, walk, prefix, is_root, is_there, names_seen, leads_to}
 use Rattle.posix_calls.specs.Decide.{described, write_at, open_there, replacing, replacing_dir, renamed, open_path, close, pread, pwrite, truncate, mkdir, rmdir, link, unlink, rename, list_path, stat, decide}
 use Rattle.posix_calls.specs.declared.operation.Operation.{Operation}
 use Rattle.posix_calls.specs.declared.operation.Replaced.{Replaced}
@@ -236,7 +236,7 @@ module _ (s : State) (fine : IsWellFormed s) where
       let under = bind_ok v _ _ _ to.2 in
       let roots = no_bit (is_root old_names.0) (is_root new_names.0) (not_refused v errno.Busy _ _ busy.1) in
       let end = end_beyond new_names.0 to.0 (reading_names new new_names.0 (said_is v (reading new) new_names.0 new_names.1)) to.1 roots.1 in
-      elim (is_inode i.0 to.0.inode) as (λ b. run v (cond b (Gives (Tell reply.Done)) (renamed from.0 to.0 i.0)) ≡ Ok operation → AbleIn operation) [
+      elim (leads_to i.0 to.0.inode) as (λ b. run v (cond b (Gives (Tell reply.Done)) (renamed from.0 to.0 i.0)) ≡ Ok operation → AbleIn operation) [
         | true ↦ λ done. able_as _ operation (given v done) tt
         | false ↦ λ rest. renamed_able from.0 to.0 i.0 operation end rest
       ] under.2

@@ -3,7 +3,7 @@ use Rattle.std.proofs.Common.{◌≡◌, ℕ, ◌<◌, ◌==◌, List, [], ◌�
 use Rattle.std.specs.Prelude.{IfOk}
 use Rattle.posix_calls.specs.Tree.{Own}
 use Rattle.posix_calls.specs.Query.{Seen, File, Dir, Query, Gives, Refuses, IsDir, Look, Range, ◌>>=◌, Part, Known, Unknown, blocks_of, run_part}
-use Rattle.posix_calls.specs.Walk.{Place, refuse, is_inode}
+use Rattle.posix_calls.specs.Walk.{Place, refuse, leads_to}
 use Rattle.posix_calls.specs.Answers.{Tells}
 use Rattle.posix_calls.specs.Decide.{lowest_free, number_or, open_there, open_path, close, pread, write_at, pwrite, truncate, mkdir, rmdir, link, unlink, renamed, rename, list_path, described, stat}
 use Rattle.posix_calls.specs.Operations.{IsInRange}
@@ -135,7 +135,7 @@ unlink_in_range path = then_always _ _ (λ names. then_always _ _ (λ _. then_al
 pub rename_in_range : (old new : List ℕ) → Always IsInRange (rename old new)
 unfolding rename
 rename_in_range old new =
-    then_always _ _ (λ old_names. then_always _ _ (λ new_names. then_always _ _ (λ _. then_always _ _ (λ from. then_always _ _ (λ i. then_always _ _ (λ to. then_always _ _ (λ _. moved from to i (is_inode i to.inode))))))))
+    then_always _ _ (λ old_names. then_always _ _ (λ new_names. then_always _ _ (λ _. then_always _ _ (λ from. then_always _ _ (λ i. then_always _ _ (λ to. then_always _ _ (λ _. moved from to i (leads_to i to.inode))))))))
   where
     moved : (from to : Place) (i : ℕ) (same : Bool) → Always IsInRange (cond same (Gives (Tell reply.Done)) (renamed from to i))
     moved from to i true = tt

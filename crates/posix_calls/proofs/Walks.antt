@@ -14,7 +14,7 @@ use Rattle.posix_calls.specs.declared.operation.Missing.TheVariants as missing
 use Rattle.posix_calls.specs.declared.walk.Landing.{Landing}
 use Rattle.posix_calls.specs.declared.limits.TheConstants.{ROOT}
 use Rattle.posix_calls.specs.Query.{Seen, Query, Gives, Look, ◌>>=◌, Part, Found, Known, Unknown, run_part, run, view_of, seen, dir_test}
-use Rattle.posix_calls.specs.Walk.{Place, root_place, walk, prefix, led, directory, directory_if, entries_seen, is_inode, there, kind_at}
+use Rattle.posix_calls.specs.Walk.{Place, root_place, walk, prefix, led, directory, directory_if, entries_seen, leads_to, there, kind_at}
 use Rattle.posix_calls.specs.Answers.{Tells, entry_in, count_in, last_name, landing_of, landing, untold, place_at, child_at}
 use Rattle.posix_calls.proofs.Chain.{then_found, part_bind, part_gives, tells_ok, tells_err, tells_missing, tells_memory, tells_same, bind_stops, gives, look_missing}
 use Rattle.std.specs.FinMap as fin
@@ -85,7 +85,7 @@ part_assoc p q w f =
 pub record Walked (p : Part) (watched : Option ℕ) (names : List (List ℕ)) (dir : ℕ) (passed : Bool) (rest : List (List ℕ)) : Type 0 where
   pub way : List ℕ
   pub same : run_part p (landing watched names) ≡ run_part p (walk dir way rest >>= (λ place. Gives (landing_of watched place)))
-  pub seen : list_any (λ d. is_inode d watched) way ≡ passed
+  pub seen : list_any (λ d. leads_to d watched) way ≡ passed
 
 or_swap : (a b : Bool) → (a || b) ≡ (b || a)
 or_swap true true = refl
@@ -118,15 +118,15 @@ pub walked_stops : {p : Part} {watched : Option ℕ} {names : List (List ℕ)} {
 walked_stops before last w h = tells_same (same_step before last w) (bind_stops _ h)
 
 -- otherwise it goes on
-pub walked_on : {p : Part} {watched : Option ℕ} {names : List (List ℕ)} {dir : ℕ} {passed : Bool} {name : List ℕ} (before : List (List ℕ)) (last : List ℕ) {child : ℕ} → Walked p watched names dir passed (name ∷ (before ++ last ∷ [])) → Tells p (child_at dir name) (Ok child) → Walked p watched names child (passed || is_inode dir watched) (before ++ last ∷ [])
+pub walked_on : {p : Part} {watched : Option ℕ} {names : List (List ℕ)} {dir : ℕ} {passed : Bool} {name : List ℕ} (before : List (List ℕ)) (last : List ℕ) {child : ℕ} → Walked p watched names dir passed (name ∷ (before ++ last ∷ [])) → Tells p (child_at dir name) (Ok child) → Walked p watched names child (passed || leads_to dir watched) (before ++ last ∷ [])
 walked_on {p = p} {watched = watched} {dir = dir} {passed = passed} {name = name} before last w h = record {
   way = dir ∷ w.way;
   same = same_step before last w ∙ part_bind p (child_at dir name) (λ child. walk child (dir ∷ w.way) (before ++ last ∷ []) >>= (λ place. Gives (landing_of watched place))) ∙ ap (λ z. then_found z (λ child. run_part p (walk child (dir ∷ w.way) (before ++ last ∷ []) >>= (λ place. Gives (landing_of watched place))))) (h.gives _ refl);
-  seen = ap (λ z. is_inode dir watched || z) w.seen ∙ or_swap (is_inode dir watched) passed;
+  seen = ap (λ z. leads_to dir watched || z) w.seen ∙ or_swap (leads_to dir watched) passed;
 }
 
 -- at its end
-last_is : (p : Part) (watched : Option ℕ) (dir : ℕ) (way : List ℕ) (name : List ℕ) → run_part p (walk dir way (name ∷ []) >>= (λ place. Gives (landing_of watched place))) ≡ run_part {A = Landing} p (Look dir (λ s. Gives (record { parent = dir; inode = entry_in name s; entries = count_in s; passed = is_inode dir watched || list_any (λ d. is_inode d watched) way; is_dir = None })))
+last_is : (p : Part) (watched : Option ℕ) (dir : ℕ) (way : List ℕ) (name : List ℕ) → run_part p (walk dir way (name ∷ []) >>= (λ place. Gives (landing_of watched place))) ≡ run_part {A = Landing} p (Look dir (λ s. Gives (record { parent = dir; inode = entry_in name s; entries = count_in s; passed = leads_to dir watched || list_any (λ d. leads_to d watched) way; is_dir = None })))
 unfolding walk ◌>>=◌
 last_is p watched dir way name = refl
 
@@ -148,9 +148,9 @@ look_lands : (p : Part) (dir : ℕ) (name : List ℕ) (passed : Bool) (o : Optio
 unfolding run_part
 look_lands p dir name passed o n e h = lands p dir name passed o n (p.node dir) e h
 
-pub walked_lands : {p : Part} {watched : Option ℕ} {names : List (List ℕ)} {dir : ℕ} {passed : Bool} {last : List ℕ} {o : Option ℕ} {n : ℕ} → Walked p watched names dir passed (last ∷ []) → option_map (entry_in last) (p.node dir) ≡ Some o → option_map count_in (p.node dir) ≡ Some n → Tells p (landing watched names) (Ok (record { parent = dir; inode = o; entries = n; passed = passed || is_inode dir watched; is_dir = None }))
+pub walked_lands : {p : Part} {watched : Option ℕ} {names : List (List ℕ)} {dir : ℕ} {passed : Bool} {last : List ℕ} {o : Option ℕ} {n : ℕ} → Walked p watched names dir passed (last ∷ []) → option_map (entry_in last) (p.node dir) ≡ Some o → option_map count_in (p.node dir) ≡ Some n → Tells p (landing watched names) (Ok (record { parent = dir; inode = o; entries = n; passed = passed || leads_to dir watched; is_dir = None }))
 walked_lands {p = p} {watched = watched} {dir = dir} {passed = passed} {last = last} {o = o} {n = n} w e h =
-    tells_ok (w.same ∙ last_is p watched dir w.way last ∙ look_lands p dir last (is_inode dir watched || list_any (λ d. is_inode d watched) w.way) o n e h ∙ ap (λ z. Known (Ok (record { parent = dir; inode = o; entries = n; passed = is_inode dir watched || z; is_dir = None }))) w.seen ∙ ap (λ z. Known (Ok (record { parent = dir; inode = o; entries = n; passed = z; is_dir = None }))) (or_swap (is_inode dir watched) passed))
+    tells_ok (w.same ∙ last_is p watched dir w.way last ∙ look_lands p dir last (leads_to dir watched || list_any (λ d. leads_to d watched) w.way) o n e h ∙ ap (λ z. Known (Ok (record { parent = dir; inode = o; entries = n; passed = leads_to dir watched || z; is_dir = None }))) w.seen ∙ ap (λ z. Known (Ok (record { parent = dir; inode = o; entries = n; passed = z; is_dir = None }))) (or_swap (leads_to dir watched) passed))
 
 -- `/` leads to the root
 pub lands_at_root : (p : Part) (watched : Option ℕ) (names : List (List ℕ)) → length names < 1 → Tells p (landing watched names) (Ok (record { parent = 0; inode = Some ROOT; entries = 0; passed = false; is_dir = None }))
@@ -221,7 +221,7 @@ named p (name ∷ next ∷ names) dir way place e =
     named p (next ∷ names) after.0 (dir ∷ way) place after.2
 
 -- what follows a walk may use what is kept of its place
-pub bind_place : {B : Type 0} {p : Part} (watched : Option ℕ) (names : List (List ℕ)) {to : Landing} (f : Place → Query B) {r : Result B DecideError} → Tells p (landing watched names) (Ok to) → ((walked : List ℕ) → list_any (λ d. is_inode d watched) walked ≡ to.passed → Tells p (f (place_at names to walked)) r) → Tells p (prefix names >>= f) r
+pub bind_place : {B : Type 0} {p : Part} (watched : Option ℕ) (names : List (List ℕ)) {to : Landing} (f : Place → Query B) {r : Result B DecideError} → Tells p (landing watched names) (Ok to) → ((walked : List ℕ) → list_any (λ d. leads_to d watched) walked ≡ to.passed → Tells p (f (place_at names to walked)) r) → Tells p (prefix names >>= f) r
 bind_place {p = p} watched names {to = to} f {r = r} h rest =
     let after = found_after (run_part p (prefix names)) (λ place. run_part p (Gives (landing_of watched place))) to (sym (part_bind p (prefix names) (λ place. Gives (landing_of watched place))) ∙ h.gives to refl) in
     let place : Place = after.0 in

@@ -3,7 +3,7 @@ use Rattle.std.specs.Prelude.{◌≡◌, ℕ, List, [], ◌∷◌, map, Bool, tr
 use Rattle.std.specs.FinMap as fin
 use Rattle.std.specs.List.{list_any}
 use Rattle.posix_calls.specs.Query.{Seen, File, Dir, Query, Gives, Look, ◌>>=◌, Part, Known, Unknown, run_part}
-use Rattle.posix_calls.specs.Walk.{Place, entries_seen, entries_at, directory, prefix, is_inode, there, kind_at, refuse}
+use Rattle.posix_calls.specs.Walk.{Place, entries_seen, entries_at, directory, prefix, leads_to, there, kind_at, refuse}
 use Rattle.posix_calls.specs.declared.errno.Errno.{Errno}
 use Rattle.posix_calls.specs.declared.errno.Errno.TheVariants.{NoMemory, NotEmpty}
 use Rattle.posix_calls.specs.declared.operation.DecideError.{DecideError}
@@ -45,7 +45,7 @@ last_name (name ∷ next ∷ names) = last_name (next ∷ names)
 
 -- what a call needs of a place beside its name, and whether the walk went through the inode that is watched for, where one is
 abbrev pub landing_of : Option ℕ → Place → Landing
-landing_of watched place = record { parent = place.location.parent; inode = place.inode; entries = place.entries; passed = list_any (λ d. is_inode d watched) place.walked; is_dir = None }
+landing_of watched place = record { parent = place.location.parent; inode = place.inode; entries = place.entries; passed = list_any (λ d. leads_to d watched) place.walked; is_dir = None }
 
 -- a place by what is kept of it
 abbrev pub place_at : List (List ℕ) → Landing → List ℕ → Place

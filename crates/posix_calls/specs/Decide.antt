@@ -6,7 +6,7 @@ use Rattle.posix_calls.specs.Path.{reading}
 use Rattle.posix_calls.specs.Tree.{Own}
 use Rattle.posix_calls.specs.declared.descriptor.Descriptor.{Descriptor}
 use Rattle.posix_calls.specs.Query.{Seen, File, Dir, Query, Gives, Refuses, Look, Range, ◌>>=◌}
-use Rattle.posix_calls.specs.Walk.{Place, refuse, said, entries_at, size_at, size_seen, names_at, kind_at, prefix, is_root, is_there, is_inode, there, is_full}
+use Rattle.posix_calls.specs.Walk.{Place, refuse, said, entries_at, size_at, size_seen, names_at, kind_at, prefix, is_root, is_there, leads_to, there, is_full}
 use Rattle.posix_calls.specs.declared.limits.TheConstants.{MAX_DESCRIPTORS, MAX_FILE, MAX_NAMES, MAX_TRANSFER}
 use Rattle.posix_calls.specs.declared.errno.Errno.TheVariants as errno
 use Rattle.posix_calls.specs.declared.call.Flags.{Flags}
@@ -220,7 +220,7 @@ rename_at old_names new_names = do
   i ← there from.inode
   to ← prefix new_names
   _ ← refuse errno.Invalid (list_any (λ d. d == i) to.walked)
-  if is_inode i to.inode then Gives (Tell reply.Done) else renamed from to i
+  if leads_to i to.inode then Gives (Tell reply.Done) else renamed from to i
 
 -- a name moves, in place of what was there; between two names of one node nothing changes
 unfoldable pub rename : List ℕ → List ℕ → Query Operation

@@ -1,7 +1,7 @@
 -- Steps of a tree that gives each new node the lowest number that is free.
 use Rattle.std.specs.Prelude.{◌≡◌, ◌≢◌, ◌⊎◌, true, ℕ, ◌<◌, ◌≤◌, None, Ok}
 use Rattle.posix_calls.specs.Tree.{Tree, State}
-use Rattle.posix_calls.specs.Query.{view_of, whole}
+use Rattle.posix_calls.specs.Query.{view_of, whole_part}
 use Rattle.posix_calls.specs.Memory.{takes_memory}
 use Rattle.posix_calls.specs.Operations.{IsFree, Follows, is_client, answer, makes}
 use Rattle.posix_calls.specs.declared.operation.Operation.{Operation}
@@ -26,7 +26,7 @@ IsAnswered old client call r after = (new : ℕ) × ((operation : Operation) →
 
 -- memory ran out, where the call takes memory
 abbrev pub IsOutOfMemory : State → ℕ → Call → Reply → Type 0
-IsOutOfMemory old client call r = (r ≡ Failed errno.NoMemory) × (is_client client ≡ true) × (takes_memory (whole (view_of old.tree)) (old.descriptors client) call ≡ true)
+IsOutOfMemory old client call r = (r ≡ Failed errno.NoMemory) × (is_client client ≡ true) × (takes_memory (whole_part (view_of old.tree)) (old.descriptors client) call ≡ true)
 
 -- memory ran out, or the inode numbers for the node that the call makes; nothing changed
 abbrev pub IsGivenUp : State → ℕ → Call → Reply → State → Type 0

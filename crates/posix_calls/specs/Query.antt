@@ -76,8 +76,8 @@ pub record Part : Type 0 where
   pub bytes : ℕ → ℕ → ℕ → Option (List ℕ)
 
 -- who knows the whole of a view
-abbrev pub whole : View → Part
-whole v = record { is_dir = λ i. Some (v.is_dir i); node = λ i. Some (v.node i); bytes = λ i at count. Some (v.bytes i at count) }
+abbrev pub whole_part : View → Part
+whole_part v = record { is_dir = λ i. Some (v.is_dir i); node = λ i. Some (v.node i); bytes = λ i at count. Some (v.bytes i at count) }
 
 -- how many blocks a range of bytes touches
 abbrev pub blocks_touched : ℕ → ℕ → ℕ

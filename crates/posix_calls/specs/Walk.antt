@@ -110,9 +110,9 @@ is_there None = false
 is_there (Some i) = true
 
 -- whether this inode is there
-abbrev pub is_inode : ℕ → Option ℕ → Bool
-is_inode i None = false
-is_inode i (Some j) = i == j
+abbrev pub leads_to : ℕ → Option ℕ → Bool
+leads_to i None = false
+leads_to i (Some j) = i == j
 
 -- the inode, or an error where nothing is there
 abbrev pub there : Option ℕ → Query ℕ

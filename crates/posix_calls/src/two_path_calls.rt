@@ -13,7 +13,7 @@ use crate::operation::{DecideError, Missing, Operation, Replaced};
 use crate::path::Path;
 use crate::tree_answers::{TreeAnswers, known};
 use crate::walk::{
-    Landing, is_inode, kind_at, location, prefix, reach, read_path, refuse_entries, refuse_if,
+    Landing, kind_at, leads_to, location, prefix, reach, read_path, refuse_entries, refuse_if,
     refuse_root, there, walk,
 };
 use std::alloc::Global;
@@ -114,7 +114,7 @@ fn rename_at<T: TreeAnswers>(
     let inode = there(from.inode)?;
     let to = walk(tree, new_path, Some(inode))?;
     refuse_if(to.passed, Errno::Invalid)?;
-    if is_inode(inode, to.inode) {
+    if leads_to(inode, to.inode) {
         return Ok(Operation::Tell {
             answer: Reply::Done,
         });

@@ -3,7 +3,7 @@ ghost use Rattle.std.specs.Prelude.{◌≡◌, ◌≢◌, Bool, Some, None, Ok, 
 ghost use Rattle.posix_calls.specs.Path.{comes_to_name, reading};
 ghost use Rattle.posix_calls.specs.Query.{Part};
 ghost use Rattle.posix_calls.specs.declared.tree_answers.Child.{Child};
-ghost use Rattle.posix_calls.specs.Walk.{said, kind_at, there, is_root, is_there, is_inode};
+ghost use Rattle.posix_calls.specs.Walk.{said, kind_at, there, is_root, is_there, leads_to};
 ghost use Rattle.posix_calls.specs.Answers.{Tells, IsTold, last_name, landing, untold, child_at, other_kind, target, no_entries};
 ghost use Rattle.posix_calls.specs.declared.operation.DecideError.TheVariants as why;
 ghost use Rattle.posix_calls.specs.declared.operation.DecideError.TheVariants.{Refused, Memory};
@@ -80,8 +80,8 @@ pub(crate) fn kind_at<T: TreeAnswers>(tree: &T, to: Landing) -> Result<bool, Dec
 }
 
 // Whether this inode is there.
-pub(crate) fn is_inode(inode: u32, at: Option<u32>) -> bool
-    ensures { result ≡ is_inode inode at }
+pub(crate) fn leads_to(inode: u32, at: Option<u32>) -> bool
+    ensures { result ≡ leads_to inode at }
 {
     match at {
         Some(other) => inode == other,
@@ -191,7 +191,7 @@ pub(crate) fn walk<T: TreeAnswers>(
     let mut dir = ROOT;
     let mut passed = false;
     for name in before {
-        passed |= is_inode(dir, watched);
+        passed |= leads_to(dir, watched);
         dir = child_at(tree, dir, name.as_slice())?;
     }
     let child = known(
@@ -199,7 +199,7 @@ pub(crate) fn walk<T: TreeAnswers>(
         Missing::Node { inode: dir },
     )?;
     let entries = known(tree.entry_count(dir), Missing::Node { inode: dir })?;
-    passed |= is_inode(dir, watched);
+    passed |= leads_to(dir, watched);
     Ok(landing_at(dir, child, entries, passed))
 }
 

@@ -15,7 +15,7 @@ use Rattle.log_record.specs.declared.format.Record.{Record}
 use Rattle.call_effects.specs.NodeView.{NodeView, FileView, DirView, view_at, view_after}
 use Rattle.call_effects.proofs.NodeViews.{viewed_after}
 use Rattle.record_check.specs.Counts.{counts_of}
-use Rattle.record_check.specs.Known.{Known, Agrees, known_at, first_unknown}
+use Rattle.record_check.specs.Known.{Known, ViewsAgree, known_at, first_unknown}
 use Rattle.record_check.specs.Good.{KeepsLimits, AreHeld, IsGood, are_held, is_within, keeps}
 use Rattle.record_check.proofs.Touched.{as_known}
 
@@ -56,13 +56,13 @@ within_if None kept = refl
 within_if (Some (FileView names size)) kept = and_from (nat_le names MAX_NAMES) (nat_le size MAX_FILE) (le-leb names MAX_NAMES kept.0) (le-leb size MAX_FILE kept.1)
 within_if (Some (DirView names entries)) kept = and_from (nat_le names MAX_NAMES) (nat_le (fin.len entries) MAX_ENTRIES) (le-leb names MAX_NAMES kept.0) (le-leb (fin.len entries) MAX_ENTRIES kept.1)
 
-seen_after : (m : Known) (g : Graph) (es : List Effect) → first_unknown m es ≡ None → Agrees m g → (i : ℕ) → is_among i (touches es) ≡ true → view_at (after_effects g es) i ≡ view_after es i (known_at m i)
+seen_after : (m : Known) (g : Graph) (es : List Effect) → first_unknown m es ≡ None → ViewsAgree m g → (i : ℕ) → is_among i (touches es) ≡ true → view_at (after_effects g es) i ≡ view_after es i (known_at m i)
 seen_after m g es none agrees i among = viewed_after g es i (known_at m i) (as_known m g es none agrees i among)
 
-pub limits_kept : (m : Known) (g : Graph) (es : List Effect) → first_unknown m es ≡ None → Agrees m g → list_all (keeps m es) (touches es) ≡ true → (i : ℕ) → is_among i (touches es) ≡ true → KeepsLimits (view_at (after_effects g es) i)
+pub limits_kept : (m : Known) (g : Graph) (es : List Effect) → first_unknown m es ≡ None → ViewsAgree m g → list_all (keeps m es) (touches es) ≡ true → (i : ℕ) → is_among i (touches es) ≡ true → KeepsLimits (view_at (after_effects g es) i)
 limits_kept m g es none agrees all i among = subst KeepsLimits (sym (seen_after m g es none agrees i among)) (keeps_if (view_after es i (known_at m i)) (at_all (keeps m es) (touches es) all i among))
 
-pub limits_tested : (m : Known) (g : Graph) (es : List Effect) → first_unknown m es ≡ None → Agrees m g → ((i : ℕ) → is_among i (touches es) ≡ true → KeepsLimits (view_at (after_effects g es) i)) → list_all (keeps m es) (touches es) ≡ true
+pub limits_tested : (m : Known) (g : Graph) (es : List Effect) → first_unknown m es ≡ None → ViewsAgree m g → ((i : ℕ) → is_among i (touches es) ≡ true → KeepsLimits (view_at (after_effects g es) i)) → list_all (keeps m es) (touches es) ≡ true
 limits_tested m g es none agrees each = all_from (keeps m es) (touches es) (λ i among. within_if (view_after es i (known_at m i)) (subst KeepsLimits (seen_after m g es none agrees i among) (each i among)))
 
 -- ---- held
@@ -78,7 +78,7 @@ held_tested held es each = all_from (λ i. is_among i held) (touches es) each
 pub bad_held : (held : List ℕ) (capacity : ℕ) (g : Graph) (r : Record) (es : List Effect) → es ≡ r.effects → are_held held es ≡ false → IsGood held capacity g r → ⊥
 bad_held held capacity g r es is out good = false≢true (sym out ∙ ap (are_held held) is ∙ held_tested held r.effects good.holds)
 
-pub bad_limits : (m : Known) (held : List ℕ) (capacity : ℕ) (g : Graph) (r : Record) (es : List Effect) → es ≡ r.effects → first_unknown m es ≡ None → Agrees m g → list_all (keeps m es) (touches es) ≡ false → IsGood held capacity g r → ⊥
+pub bad_limits : (m : Known) (held : List ℕ) (capacity : ℕ) (g : Graph) (r : Record) (es : List Effect) → es ≡ r.effects → first_unknown m es ≡ None → ViewsAgree m g → list_all (keeps m es) (touches es) ≡ false → IsGood held capacity g r → ⊥
 bad_limits m held capacity g r es is none agrees out good =
     false≢true (sym out ∙ ap (λ xs. list_all (keeps m xs) (touches xs)) is ∙ limits_tested m g r.effects (subst (λ xs. first_unknown m xs ≡ None) is none) agrees good.limits)
 
@@ -88,7 +88,7 @@ charge_is now then used before after moved is = omega (arith, moved, is)
 within : (b : Bool) (n k : ℕ) → cond b (Some n) None ≡ Some k → (b ≡ true) × (n ≡ k)
 within b n k is = test_some b n k is
 
-pub good : (m : Known) (held : List ℕ) (used capacity before after k : ℕ) (g : Graph) (r : Record) (es : List Effect) → es ≡ r.effects → IsRecord r → first_unknown m es ≡ None → Agrees m g → charge g ≡ used → are_held held es ≡ true → growth g es ≤ r.units → list_all (keeps m es) (touches es) ≡ true → charge (after_effects g es) + before ≡ charge g + after → cond (nat_le ((used + after) - before) capacity) (Some ((used + after) - before)) None ≡ Some k → IsGood held capacity g r × (charge (after_effects g r.effects) ≡ k)
+pub good : (m : Known) (held : List ℕ) (used capacity before after k : ℕ) (g : Graph) (r : Record) (es : List Effect) → es ≡ r.effects → IsRecord r → first_unknown m es ≡ None → ViewsAgree m g → charge g ≡ used → are_held held es ≡ true → growth g es ≤ r.units → list_all (keeps m es) (touches es) ≡ true → charge (after_effects g es) + before ≡ charge g + after → cond (nat_le ((used + after) - before) capacity) (Some ((used + after) - before)) None ≡ Some k → IsGood held capacity g r × (charge (after_effects g r.effects) ≡ k)
 good m held used capacity before after k g r es is spelled none agrees costs held_all paid kept moved told =
     let fits = within (nat_le ((used + after) - before) capacity) ((used + after) - before) k told in
     let sum : charge (after_effects g r.effects) ≡ (used + after) - before =

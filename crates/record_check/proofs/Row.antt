@@ -10,11 +10,11 @@ use Rattle.file_graph.specs.Graph.{Graph, after_effects, touches, is_among}
 use Rattle.file_graph.specs.Units.{charge}
 use Rattle.file_graph.proofs.Touches.{untouched}
 use Rattle.call_effects.specs.NodeView.{NodeView, view_at, view_of_node, view_after}
-use Rattle.record_check.specs.Known.{Known, Agrees, first_unknown, is_unknown, known_after}
+use Rattle.record_check.specs.Known.{Known, ViewsAgree, first_unknown, is_unknown, known_after}
 use Rattle.record_check.specs.Row.{with_known}
 use Rattle.record_check.proofs.Touched.{all_known}
 
-pub learned : (m n : Known) (g : Graph) (inode : ℕ) (v : Option NodeView) → ((i : ℕ) → get nat_cmp n i ≡ with_known inode v (get nat_cmp m) i) → view_at g inode ≡ v → Agrees m g → Agrees n g
+pub learned : (m n : Known) (g : Graph) (inode : ℕ) (v : Option NodeView) → ((i : ℕ) → get nat_cmp n i ≡ with_known inode v (get nat_cmp m) i) → view_at g inode ≡ v → ViewsAgree m g → ViewsAgree n g
 learned m n g inode v is stands agrees i w at = elim (eqb_tells i inode) [
   | inl here ↦ ap (view_at g) here.1 ∙ stands ∙ ap (λ (o : Option (Option NodeView)). unwrap_or o None) (sym (ap (λ b. cond b (Some v) (get nat_cmp m i)) here.0) ∙ sym (is i) ∙ at)
   | inr apart ↦ agrees i w (sym (ap (λ b. cond b (Some v) (get nat_cmp m i)) apart.0) ∙ sym (is i) ∙ at)
@@ -48,10 +48,10 @@ unknown_before m n inode v is i unknown = elim (eqb_tells i inode) [
   | inr apart ↦ sym (ap (λ o. not (is_some o)) (is i ∙ ap (λ b. cond b (Some v) (get nat_cmp m i)) apart.0)) ∙ unknown
 ]
 
-pub learned_first : (m n : Known) (g now : Graph) (inode : ℕ) (v : Option NodeView) → ((i : ℕ) → get nat_cmp n i ≡ with_known inode v (get nat_cmp m) i) → is_unknown m inode ≡ true → view_at g inode ≡ v → Agrees m now → ((i : ℕ) → is_unknown m i ≡ true → view_at now i ≡ view_at g i) → Agrees n now × ((i : ℕ) → is_unknown n i ≡ true → view_at now i ≡ view_at g i)
+pub learned_first : (m n : Known) (g now : Graph) (inode : ℕ) (v : Option NodeView) → ((i : ℕ) → get nat_cmp n i ≡ with_known inode v (get nat_cmp m) i) → is_unknown m inode ≡ true → view_at g inode ≡ v → ViewsAgree m now → ((i : ℕ) → is_unknown m i ≡ true → view_at now i ≡ view_at g i) → ViewsAgree n now × ((i : ℕ) → is_unknown n i ≡ true → view_at now i ≡ view_at g i)
 learned_first m n g now inode v is unknown stands agrees same = (learned m n now inode v is (same inode unknown ∙ stands) agrees, λ i e. same i (unknown_before m n inode v is i e))
 
-pub all_come : (m n : Known) (es fs : List Effect) (g h : Graph) (units : ℕ) → es ≡ fs → get nat_cmp n ≡ known_after es (get nat_cmp m) → Agrees n (after_effects h es) → charge (after_effects h fs) ≡ units → first_unknown m fs ≡ None → ((i : ℕ) → is_unknown m i ≡ true → view_at h i ≡ view_at g i) → (Agrees n (after_effects h fs) × (charge (after_effects h fs) ≡ units)) × ((i : ℕ) → is_unknown n i ≡ true → view_at (after_effects h fs) i ≡ view_at g i)
+pub all_come : (m n : Known) (es fs : List Effect) (g h : Graph) (units : ℕ) → es ≡ fs → get nat_cmp n ≡ known_after es (get nat_cmp m) → ViewsAgree n (after_effects h es) → charge (after_effects h fs) ≡ units → first_unknown m fs ≡ None → ((i : ℕ) → is_unknown m i ≡ true → view_at h i ≡ view_at g i) → (ViewsAgree n (after_effects h fs) × (charge (after_effects h fs) ≡ units)) × ((i : ℕ) → is_unknown n i ≡ true → view_at (after_effects h fs) i ≡ view_at g i)
 all_come m n es fs g h units same taken agrees costs none before =
     let told = subst (λ (xs : List Effect). get nat_cmp n ≡ known_after xs (get nat_cmp m)) same taken in
-    ((subst (λ (xs : List Effect). Agrees n (after_effects h xs)) same agrees, costs), has_come m n fs g h told none before)
+    ((subst (λ (xs : List Effect). ViewsAgree n (after_effects h xs)) same agrees, costs), has_come m n fs g h told none before)

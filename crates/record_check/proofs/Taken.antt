@@ -9,7 +9,7 @@ use Rattle.file_graph.specs.declared.effect.Effect.{Effect}
 use Rattle.file_graph.specs.Graph.{Graph, after_effects, subjects, is_among}
 use Rattle.call_effects.specs.NodeView.{NodeView, view_at, view_acted, view_after}
 use Rattle.call_effects.proofs.NodeViews.{viewed_after}
-use Rattle.record_check.specs.Known.{Known, Agrees, known_acted, known_after}
+use Rattle.record_check.specs.Known.{Known, ViewsAgree, known_acted, known_after}
 use Rattle.record_check.specs.Memory.{enters_known, want_room}
 
 composed : (f g : Option NodeView → Option NodeView) (o : Option (Option NodeView)) → option_map (λ v. f (g v)) o ≡ option_map f (option_map g o)
@@ -30,7 +30,7 @@ told : (g : Graph) (es : List Effect) (i : ℕ) (o : Option (Option NodeView)) (
 told g es i None v agrees at = absurd (none-some v at)
 told g es i (Some w) v agrees at = viewed_after g es i w (agrees w refl) ∙ ap (λ (o : Option (Option NodeView)). unwrap_or o None) at
 
-pub agrees_after : (m n : Known) (g : Graph) (es : List Effect) → get nat_cmp n ≡ known_after es (get nat_cmp m) → Agrees m g → Agrees n (after_effects g es)
+pub agrees_after : (m n : Known) (g : Graph) (es : List Effect) → get nat_cmp n ≡ known_after es (get nat_cmp m) → ViewsAgree m g → ViewsAgree n (after_effects g es)
 agrees_after m n g es is agrees i v at = told g es i (get nat_cmp m i) v (agrees i) (sym (ap (λ (k : ℕ → Option (Option NodeView)). k i) is) ∙ at)
 
 from_here : (es : List Effect) (k : ℕ) (e : Effect) → k < length es → e ≡ get_or es k e → drop k es ≡ e ∷ drop (k + 1) es

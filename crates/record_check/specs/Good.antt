@@ -38,10 +38,10 @@ pub record IsGood (held : List ℕ) (capacity : ℕ) (g : Graph) (r : Record) : 
   pub charge : charge (after_effects g r.effects) ≤ capacity
 
 -- what a verdict says of a record over a graph: it is good, and the charge after it is told, or it is not
-abbrev pub Tells : List ℕ → ℕ → Graph → Record → Verdict → Type 0
-Tells held capacity g r (verdict.Good units) = IsGood held capacity g r × (charge (after_effects g r.effects) ≡ units)
-Tells held capacity g r verdict.Bad = IsGood held capacity g r → ⊥
-Tells held capacity g r (verdict.Unknown i) = Unit {0}
+abbrev pub VerdictTells : List ℕ → ℕ → Graph → Record → Verdict → Type 0
+VerdictTells held capacity g r (verdict.Good units) = IsGood held capacity g r × (charge (after_effects g r.effects) ≡ units)
+VerdictTells held capacity g r verdict.Bad = IsGood held capacity g r → ⊥
+VerdictTells held capacity g r (verdict.Unknown i) = Unit {0}
 
 -- the inode that a verdict asks for
 abbrev pub asked : Verdict → Option ℕ

@@ -16,8 +16,8 @@ abbrev pub known_at : Known → ℕ → Option NodeView
 known_at m i = unwrap_or (get nat_cmp m i) None
 
 -- a graph has at each inode what is known of it
-abbrev pub Agrees : Known → Graph → Type 0
-Agrees m g = (i : ℕ) (v : Option NodeView) → get nat_cmp m i ≡ Some v → view_at g i ≡ v
+abbrev pub ViewsAgree : Known → Graph → Type 0
+ViewsAgree m g = (i : ℕ) (v : Option NodeView) → get nat_cmp m i ≡ Some v → view_at g i ≡ v
 
 -- whether nothing is known of an inode
 abbrev pub is_unknown : Known → ℕ → Bool

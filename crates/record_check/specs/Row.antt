@@ -7,11 +7,11 @@ use Rattle.call_effects.specs.NodeView.{NodeView, view_at}
 use Rattle.record_check.specs.declared.record_check.RecordCheck.{RecordCheck}
 use Rattle.record_check.specs.declared.verdict.Verdict.{Verdict}
 use Rattle.record_check.specs.declared.verdict.Verdict.TheVariants as verdict
-use Rattle.record_check.specs.Known.{Agrees, is_unknown, known_after}
+use Rattle.record_check.specs.Known.{ViewsAgree, is_unknown, known_after}
 
 -- a check stands over a graph that is as it knows it, and has the charge that it knows
 abbrev pub Stands : RecordCheck → Graph → Type 0
-Stands c g = Agrees c.known g × (charge g ≡ c.charge)
+Stands c g = ViewsAgree c.known g × (charge g ≡ c.charge)
 
 -- a check that began over one graph has come to another: of what it does not know, nothing has changed
 abbrev pub HasCome : RecordCheck → Graph → Graph → Type 0

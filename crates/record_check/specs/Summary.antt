@@ -10,9 +10,9 @@ use Rattle.record_check.specs.declared.node_summary.SummaryBody.{SummaryBody}
 use Rattle.record_check.specs.declared.node_summary.SummaryBody.TheVariants as summary
 
 -- a summary without where it lies in memory
-abbrev pub view_of : ℕ → SummaryBody → NodeView
-view_of names (summary.File size) = FileView names size
-view_of names (summary.Directory entries) = DirView names entries
+abbrev pub view_of_summary : ℕ → SummaryBody → NodeView
+view_of_summary names (summary.File size) = FileView names size
+view_of_summary names (summary.Directory entries) = DirView names entries
 
 -- a view as one of two
 abbrev parts : NodeView → (ℕ × ℕ) ⊎ (ℕ × Entries (ℕ × Kind))

@@ -6,7 +6,7 @@ ghost use Rattle.file_graph.specs.Graph.{Graph, after_effects, is_among, touches
 ghost use Rattle.file_graph.specs.Units.{charge, growth};
 ghost use Rattle.log_record.specs.Grammar.{Fits};
 ghost use Rattle.log_record.specs.declared.format.TheConstants.{MAX_EFFECTS};
-ghost use Rattle.record_check.specs.Known.{Agrees, first_unknown, known_at};
+ghost use Rattle.record_check.specs.Known.{ViewsAgree, first_unknown, known_at};
 ghost use Rattle.record_check.specs.Rises.{sum_distinct, view_cost, view_cost_after, view_rise};
 
 use crate::counting::{counts_after, counts_of, is_on};
@@ -36,8 +36,8 @@ pub fn record_costs(
 ) -> Result<RecordCosts, u32>
     requires few { length effects.now ≤ MAX_EFFECTS }
     requires fit { AllByRecursion Fits effects.now }
-    ensures growth { IfOk result (λ c. (g : Graph) → Agrees known.now g → growth g effects.now ≡ c.growth) }
-    ensures charge { IfOk result (λ c. (g : Graph) → Agrees known.now g → charge (after_effects g effects.now) + c.before ≡ charge g + c.after) }
+    ensures growth { IfOk result (λ c. (g : Graph) → ViewsAgree known.now g → growth g effects.now ≡ c.growth) }
+    ensures charge { IfOk result (λ c. (g : Graph) → ViewsAgree known.now g → charge (after_effects g effects.now) + c.before ≡ charge g + c.after) }
     ensures small { IfOk result (λ c. (c.before < 2 ^ 64) × (c.after < 2 ^ 64)) }
     ensures known { IfOk result (λ c. first_unknown known.now effects.now ≡ None) }
     ensures unknown { IfErr result (λ i. first_unknown known.now effects.now ≡ Some i) }

@@ -4,7 +4,7 @@ ghost use Rattle.file_graph.specs.Plain.{is_drop};
 ghost use Rattle.log_record.specs.Grammar.{Fits};
 ghost use Rattle.call_effects.specs.NodeView.{FileView, DirView, empty_view, in_entries, in_size, view_acted, view_is_dir};
 ghost use Rattle.record_check.specs.Memory.{is_enter};
-ghost use Rattle.record_check.specs.Summary.{view_of};
+ghost use Rattle.record_check.specs.Summary.{view_of_summary};
 ghost use Rattle.record_check.specs.Counts.{counts_of, entry_in, entry_count};
 
 use crate::node_counts::NodeCounts;
@@ -32,13 +32,13 @@ pub enum SummaryBody {
 
 impl Model for NodeSummary {
     ghost use Rattle.call_effects.specs.NodeView.{NodeView};
-    ghost use Rattle.record_check.specs.Summary.{view_of, view_code};
+    ghost use Rattle.record_check.specs.Summary.{view_of_summary, view_code};
 
     ghost Value = { NodeView };
 
     ghost coded = { view_code };
 
-    ghost view = { λ n. view_of n.names n.body };
+    ghost view = { λ n. view_of_summary n.names n.body };
 }
 
 impl NodeSummary {
@@ -147,9 +147,9 @@ fn put_entry(
     name: &Name,
     child: Child,
 ) -> Result<(), AllocError>
-    ensures ok { OnOk result ((names : ℕ) → view_of names body.new ≡ in_entries (λ es. fin.insert es name.now child) (view_of names body.old)) }
+    ensures ok { OnOk result ((names : ℕ) → view_of_summary names body.new ≡ in_entries (λ es. fin.insert es name.now child) (view_of_summary names body.old)) }
     ensures err { OnErr result (body.new ≡ body.old) }
-    ensures directory { OnErr result ((names : ℕ) → view_is_dir (view_of names body.old) ≡ true) }
+    ensures directory { OnErr result ((names : ℕ) → view_is_dir (view_of_summary names body.old) ≡ true) }
 {
     match body {
         SummaryBody::File { .. } => Ok(()),
@@ -158,7 +158,7 @@ fn put_entry(
 }
 
 fn remove_entry(body: &mut SummaryBody, name: &Name)
-    ensures { (names : ℕ) → view_of names body.new ≡ in_entries (λ es. fin.remove es name.now) (view_of names body.old) }
+    ensures { (names : ℕ) → view_of_summary names body.new ≡ in_entries (λ es. fin.remove es name.now) (view_of_summary names body.old) }
 {
     match body {
         SummaryBody::File { .. } => {}
@@ -167,7 +167,7 @@ fn remove_entry(body: &mut SummaryBody, name: &Name)
 }
 
 fn resize(body: &mut SummaryBody, len: u64)
-    ensures { (names : ℕ) → view_of names body.new ≡ in_size (λ old. len) (view_of names body.old) }
+    ensures { (names : ℕ) → view_of_summary names body.new ≡ in_size (λ old. len) (view_of_summary names body.old) }
 {
     match body {
         SummaryBody::File { size } => *size = len,
@@ -176,7 +176,7 @@ fn resize(body: &mut SummaryBody, len: u64)
 }
 
 fn grow(body: &mut SummaryBody, end: u64)
-    ensures { (names : ℕ) → view_of names body.new ≡ in_size (λ old. max old end) (view_of names body.old) }
+    ensures { (names : ℕ) → view_of_summary names body.new ≡ in_size (λ old. max old end) (view_of_summary names body.old) }
 {
     match body {
         SummaryBody::File { size } => *size = (*size).max(end),

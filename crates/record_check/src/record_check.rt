@@ -8,7 +8,7 @@ ghost use Rattle.file_graph.specs.Graph.{Graph};
 ghost use Rattle.file_graph.specs.Units.{charge};
 ghost use Rattle.log_record.specs.Grammar.{IsRecord};
 ghost use Rattle.call_effects.specs.NodeView.{view_at};
-ghost use Rattle.record_check.specs.Good.{IsGood, Tells, asked};
+ghost use Rattle.record_check.specs.Good.{IsGood, VerdictTells, asked};
 ghost use Rattle.record_check.specs.Known.{first_unknown, is_unknown};
 ghost use Rattle.record_check.specs.Memory.{want_room};
 ghost use Rattle.record_check.specs.Row.{HasCome, Stands, known_by, left_by, with_known};
@@ -69,7 +69,7 @@ impl RecordCheck {
     ) -> Result<Verdict, AllocError>
         requires spelled { IsRecord next.now }
         requires rising { IsNonDecreasing held.now }
-        ensures tells { IfOk result (λ v. (g : Graph) → Stands self.old g → Tells held.now capacity g next.now v) }
+        ensures tells { IfOk result (λ v. (g : Graph) → Stands self.old g → VerdictTells held.now capacity g next.now v) }
         ensures unknown { IfOk result (λ v. asked v ≡ first_unknown self.old.known next.now.effects) }
         ensures known { IfOk result (λ v. get nat_cmp self.new.known ≡ known_by v next.now (get nat_cmp self.old.known)) }
         ensures stands { IfOk result (λ v. (g : Graph) → Stands self.old g → Stands self.new (left_by v g next.now)) }

@@ -8,7 +8,7 @@ ghost use Rattle.file_graph.specs.Graph.{Graph, after_effects};
 ghost use Rattle.file_graph.specs.Plain.{is_drop};
 ghost use Rattle.log_record.specs.Grammar.{Fits};
 ghost use Rattle.call_effects.specs.NodeView.{view_acted};
-ghost use Rattle.record_check.specs.Known.{Agrees, known_after, known_acted};
+ghost use Rattle.record_check.specs.Known.{ViewsAgree, known_after, known_acted};
 ghost use Rattle.record_check.specs.Memory.{enters_known, is_directory, is_enter, want_room};
 
 use crate::node_summary::NodeSummary;
@@ -26,7 +26,7 @@ pub fn take_effects(
 ) -> Result<(), AllocError>
     requires fit { AllByRecursion Fits effects.now }
     ensures known { OnOk result (get nat_cmp known.new ≡ known_after effects.now (get nat_cmp known.old)) }
-    ensures agrees { OnOk result ((g : Graph) → Agrees known.old g → Agrees known.new (after_effects g effects.now)) }
+    ensures agrees { OnOk result ((g : Graph) → ViewsAgree known.old g → ViewsAgree known.new (after_effects g effects.now)) }
     ensures memory { OnErr result (want_room effects.now (get nat_cmp known.old) ≡ true) }
 {
     for effect in effects {

@@ -7,8 +7,8 @@ ghost use Rattle.file_graph.specs.Graph.{Graph, is_among, touches};
 ghost use Rattle.file_graph.specs.Units.{charge};
 ghost use Rattle.log_record.specs.Grammar.{Fits, IsRecord};
 ghost use Rattle.log_record.specs.declared.format.TheConstants.{MAX_EFFECTS};
-ghost use Rattle.record_check.specs.Good.{Tells, are_held, asked, is_within, keeps};
-ghost use Rattle.record_check.specs.Known.{Agrees, first_unknown};
+ghost use Rattle.record_check.specs.Good.{VerdictTells, are_held, asked, is_within, keeps};
+ghost use Rattle.record_check.specs.Known.{ViewsAgree, first_unknown};
 
 use crate::costs::{RecordCosts, record_costs};
 use crate::counting::counts_after;
@@ -44,7 +44,7 @@ pub fn test_record(
 ) -> Verdict
     requires spelled { IsRecord next.now }
     requires rising { IsNonDecreasing held.now }
-    ensures tells { (g : Graph) → Agrees known.now g → charge g ≡ used → Tells held.now capacity g next.now result }
+    ensures tells { (g : Graph) → ViewsAgree known.now g → charge g ≡ used → VerdictTells held.now capacity g next.now result }
     ensures unknown { asked result ≡ first_unknown known.now next.now.effects }
 {
     let effects = next.effects.as_slice();

@@ -12,7 +12,7 @@ use Rattle.layout.specs.declared.slot.Slot.TheVariants as slots
 use Rattle.layout.specs.Places.{Sizes, is_inode}
 use Rattle.layout.specs.Directory.{EntryList, AreEntries, listed, entry_of, no_entry}
 use Rattle.layout.proofs.DirChanges.{listed_now}
-use Rattle.tree_blocks.specs.Inode.{Blocks, Entry, plain, entry_at, entries_in, blocks_for, named, byte_of, AreDistinct, IsDirectory, inode_of, node_of}
+use Rattle.tree_blocks.specs.Inode.{Blocks, Entry, plain, entry_at, entries_in, blocks_for, named, byte_of, AreDistinct, AreDirectoryBlocks, inode_of, node_of}
 use Rattle.tree_blocks.specs.After.{IsEntered}
 use Rattle.tree_blocks.proofs.Entering.{named_entered}
 use Rattle.tree_blocks.proofs.Held.{entry_is}
@@ -60,7 +60,7 @@ module _ (entry : ℕ → Entry) (n : ℕ) (v : EntryList) (next : AreNext entry
 
 -- ---- the entries of a block behind those before it
 
-module _ (owner n : ℕ) (blocks : Blocks) (is : IsDirectory owner n blocks) (k : ℕ) (lt : k < blocks_for n) where
+module _ (owner n : ℕ) (blocks : Blocks) (is : AreDirectoryBlocks owner n blocks) (k : ℕ) (lt : k < blocks_for n) where
   some : 56 * k < n
   some = omega (arith, lt)
 

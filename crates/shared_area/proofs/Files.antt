@@ -7,20 +7,20 @@ use Rattle.std.proofs.lemmas.List.{ext_get_or, get_or-take, get_or-drop, get_or_
 use Rattle.std.proofs.lemmas.List.FromFn.{get_or-map-range_with_len, length-map-range_with_len}
 use Rattle.tier_device.specs.declared.media.Tier.{Tier}
 use Rattle.tier_device.specs.declared.media.Tier.TheVariants.{Fast, Block, Slow}
-use Rattle.file_graph.specs.Graph.{file_bytes as bytes_of}
+use Rattle.file_graph.specs.Graph.{bytes_of_blocks as bytes_of}
 use Rattle.layout.specs.Places.{Sizes, is_inode}
 use Rattle.layout.specs.declared.slot.Slot.{Slot}
 use Rattle.layout.specs.declared.slot.Slot.TheVariants as slots
 use Rattle.batch_journal.specs.Images.{slice}
 use Rattle.batch_journal.specs.Blocks.{ShowsHome}
 use Rattle.batch_journal.proofs.Meaning.{slice_slice}
-use Rattle.tree_blocks.specs.Inode.{Blocks, byte_of, file_bytes, inode_of, node_of}
+use Rattle.tree_blocks.specs.Inode.{Blocks, byte_of, bytes_of_blocks, inode_of, node_of}
 use Rattle.area_image.specs.Store.{Store, store_of, slot_read, place, logical, graph}
 use Rattle.area_image.specs.Reads.{IsRoom}
 use Rattle.area_image.proofs.Parts.{slot_as}
 use Rattle.area_image.proofs.Twins.{room_home}
 use Rattle.area_image.proofs.Damages.{at_none}
-use Rattle.shared_area.specs.Reading.{bytes_at, ShowsBytes, IsReadUpTo, IsReadFrom}
+use Rattle.shared_area.specs.Reading.{bytes_of_inode, ShowsBytes, IsReadUpTo, IsReadFrom}
 use Rattle.shared_area.proofs.Sound.{no_slot}
 
 -- what is read of a tier is a part of the block
@@ -101,13 +101,13 @@ module _ (blocks : Blocks) (size at n count : ℕ) (out new : List ℕ) (up_to :
   cut_long : length (take count out) ≡ count
   cut_long = length-take-le count out fits
 
-  taken_long : length (take n (drop at (file_bytes blocks size))) ≡ n
-  taken_long = length-take-le n (drop at (file_bytes blocks size)) (omega (arith, length-drop at (file_bytes blocks size), length-map-range_with_len (byte_of blocks) 0 size, few, within))
+  taken_long : length (take n (drop at (bytes_of_blocks blocks size))) ≡ n
+  taken_long = length-take-le n (drop at (bytes_of_blocks blocks size)) (omega (arith, length-drop at (bytes_of_blocks blocks size), length-map-range_with_len (byte_of blocks) 0 size, few, within))
 
-  out_at : (i : ℕ) → n ≤ i → get_or (take n (drop at (file_bytes blocks size)) ++ drop n out) i 0 ≡ get_or out i 0
+  out_at : (i : ℕ) → n ≤ i → get_or (take n (drop at (bytes_of_blocks blocks size)) ++ drop n out) i 0 ≡ get_or out i 0
   out_at i ge =
       let back : n + (i - n) ≡ i = omega (arith, ge) in
-      get_or-append_right (take n (drop at (file_bytes blocks size))) (drop n out) n i 0 taken_long ge ∙ get_or-drop n out (i - n) 0 ∙ ap (λ j. get_or out j 0) back
+      get_or-append_right (take n (drop at (bytes_of_blocks blocks size))) (drop n out) n i 0 taken_long ge ∙ get_or-drop n out (i - n) 0 ∙ ap (λ j. get_or out j 0) back
 
   new_at : (i : ℕ) → count ≤ i → get_or (new ++ drop count out) i 0 ≡ get_or out i 0
   new_at i ge =
@@ -117,13 +117,13 @@ module _ (blocks : Blocks) (size at n count : ℕ) (out new : List ℕ) (up_to :
   new_in : (i : ℕ) → i < count → get_or (new ++ drop count out) i 0 ≡ get_or new i 0
   new_in i lt = get_or_append_left new (drop count out) 0 i (omega (arith, lt, up_to.long, cut_long))
 
-  byte_at : (i : ℕ) → i < n → get_or (take n (drop at (file_bytes blocks size)) ++ drop n out) i 0 ≡ byte_of blocks (at + i)
+  byte_at : (i : ℕ) → i < n → get_or (take n (drop at (bytes_of_blocks blocks size)) ++ drop n out) i 0 ≡ byte_of blocks (at + i)
   byte_at i lt =
-      get_or_append_left (take n (drop at (file_bytes blocks size))) (drop n out) 0 i (omega (arith, lt, taken_long))
-      ∙ get_or-take n (drop at (file_bytes blocks size)) i 0 lt ∙ get_or-drop at (file_bytes blocks size) i 0
+      get_or_append_left (take n (drop at (bytes_of_blocks blocks size))) (drop n out) 0 i (omega (arith, lt, taken_long))
+      ∙ get_or-take n (drop at (bytes_of_blocks blocks size)) i 0 lt ∙ get_or-drop at (bytes_of_blocks blocks size) i 0
       ∙ get_or-map-range_with_len (byte_of blocks) 0 size (at + i) (at + i) 0 (omega (arith, lt, few, within)) (omega arith)
 
-  each : (i : ℕ) → get_or (new ++ drop count out) i 0 ≡ get_or (take n (drop at (file_bytes blocks size)) ++ drop n out) i 0
+  each : (i : ℕ) → get_or (new ++ drop count out) i 0 ≡ get_or (take n (drop at (bytes_of_blocks blocks size)) ++ drop n out) i 0
   each i = elim (cases_lt i n) [
     | inl lt ↦ new_in i (omega (arith, lt, few)) ∙ up_to.read i lt ∙ sym (byte_at i lt)
     | inr ge ↦ elim (cases_lt i count) [
@@ -132,20 +132,20 @@ module _ (blocks : Blocks) (size at n count : ℕ) (out new : List ℕ) (up_to :
     ]
   ]
 
-  pub read_from : IsReadFrom (file_bytes blocks size) at n out (new ++ drop count out)
-  read_from = ext_get_or 0 (new ++ drop count out) (take n (drop at (file_bytes blocks size)) ++ drop n out)
-      (omega (arith, length-append new (drop count out), length-drop count out, up_to.long, cut_long, length-append (take n (drop at (file_bytes blocks size))) (drop n out), length-drop n out, taken_long, few, fits)) (λ i _. each i)
+  pub read_from : IsReadFrom (bytes_of_blocks blocks size) at n out (new ++ drop count out)
+  read_from = ext_get_or 0 (new ++ drop count out) (take n (drop at (bytes_of_blocks blocks size)) ++ drop n out)
+      (omega (arith, length-append new (drop count out), length-drop count out, up_to.long, cut_long, length-append (take n (drop at (bytes_of_blocks blocks size))) (drop n out), length-drop n out, taken_long, few, fits)) (λ i _. each i)
 
 -- ---- the bytes of what stands at an inode
 
 module _ (g : Sizes) (s : Store) (i : ℕ) where
-  bytes_by : (x : Slot) → slot_read g s i ≡ Some x → bytes_at (graph g s) i ≡ unwrap_or (bytes_of (node_of (inode_of x (logical g s i)))) []
+  bytes_by : (x : Slot) → slot_read g s i ≡ Some x → bytes_of_inode (graph g s) i ≡ unwrap_or (bytes_of (node_of (inode_of x (logical g s i)))) []
   bytes_by x read = ap (λ (x : Slot). unwrap_or (bytes_of (node_of (inode_of x (logical g s i)))) []) (slot_as g s i x read)
 
-  pub bytes_long : (names size touch fast block slow : ℕ) → slot_read g s i ≡ Some (slots.File names size touch fast block slow) → length (bytes_at (graph g s) i) ≡ size
+  pub bytes_long : (names size touch fast block slow : ℕ) → slot_read g s i ≡ Some (slots.File names size touch fast block slow) → length (bytes_of_inode (graph g s) i) ≡ size
   bytes_long names size touch fast block slow read = ap length (bytes_by (slots.File names size touch fast block slow) read) ∙ length-map-range_with_len (byte_of (logical g s i)) 0 size
 
-  pub no_bytes : is_inode i ≡ false → bytes_at (graph g s) i ≡ []
+  pub no_bytes : is_inode i ≡ false → bytes_of_inode (graph g s) i ≡ []
   no_bytes none = ap (λ (x : Slot). unwrap_or (bytes_of (node_of (inode_of x (logical g s i)))) []) (no_slot g s i none)
 
 pub none_of : (n at : ℕ) (bytes : List ℕ) → bytes ≡ [] → 0 ≡ min n (length bytes - at)

@@ -8,10 +8,10 @@ use Rattle.layout.specs.declared.error.What.{What}
 use Rattle.layout.specs.Places.{Sizes}
 use Rattle.batch_journal.specs.declared.error.JournalError.{JournalError}
 use Rattle.batch_journal.specs.declared.error.JournalError.TheVariants as journal
-use Rattle.batch_journal.specs.Images.{count_of}
-use Rattle.batch_journal.specs.Blocks.{home, area_of, is_open, calls_of}
+use Rattle.batch_journal.specs.Images.{image_count}
+use Rattle.batch_journal.specs.Blocks.{home, area_of, is_gate_open, opening_calls}
 use Rattle.batch_journal.specs.Course.{Since, Unmoved}
-use Rattle.batch_journal.specs.Damage.{OnDamage as OnJournalDamage, AwaitsReplay}
+use Rattle.batch_journal.specs.Damage.{OnJournalDamage, AwaitsReplay}
 use Rattle.batch_journal.specs.Volume.{IsVolume, SameJournal}
 use Rattle.batch_journal.proofs.Courses.{and_then, still, left_before, tiers_same}
 use Rattle.batch_journal.proofs.Openings.{spells_one}
@@ -21,7 +21,7 @@ use Rattle.area_image.specs.Store.{Store, store_of, content_blocks}
 use Rattle.area_image.specs.Spelled.{IsOpenable}
 use Rattle.area_image.specs.Damage.{OnDamage}
 use Rattle.area_image.proofs.Parts.{on_damage}
-use Rattle.shared_area.specs.Opening.{SpellsNone, IsTold}
+use Rattle.shared_area.specs.Opening.{SpellsNone, IsToldAs}
 
 -- The medium is as it was at rest, but for the replay of an open journal.
 pub record IsReplayed (s s' : Tier → List ℕ) (a b : ℕ) (L M : ℕ → Tier → List ℕ → Type 0) : Type 0 where
@@ -53,13 +53,13 @@ module _ (s s' : Tier → List ℕ) (a b : ℕ) (L M : ℕ → Tier → List ℕ
   rest_after Slow = other_rest Slow (λ e. cc)
 
   -- no call was made where no journal was open
-  no_calls : (g : Sizes) → IsVolume g s → b ≡ a + calls_of (s Fast) → (AwaitsReplay s → ⊥) → b ≡ a
-  no_calls g volume calls none = elim (cases_Bool (is_open (s Fast))) [
+  no_calls : (g : Sizes) → IsVolume g s → b ≡ a + opening_calls (s Fast) → (AwaitsReplay s → ⊥) → b ≡ a
+  no_calls g volume calls none = elim (cases_Bool (is_gate_open (s Fast))) [
     | inl opened ↦ absurd (none (opened, (g, volume)))
-    | inr closed ↦ let zero : calls_of (s Fast) ≡ 0 = ap (λ o. cond o (count_of (area_of (s Fast)) + 3) 0) closed in omega (arith, calls, zero)
+    | inr closed ↦ let zero : opening_calls (s Fast) ≡ 0 = ap (λ o. cond o (image_count (area_of (s Fast)) + 3) 0) closed in omega (arith, calls, zero)
   ]
 
-  pub untouched : M b Fast (s' Fast) → (g : Sizes) → IsVolume g s → b ≡ a + calls_of (s Fast) → (AwaitsReplay s → ⊥) → Unmoved a b s s' L M
+  pub untouched : M b Fast (s' Fast) → (g : Sizes) → IsVolume g s → b ≡ a + opening_calls (s Fast) → (AwaitsReplay s → ⊥) → Unmoved a b s s' L M
   untouched now g volume calls none =
       let clock = no_calls g volume calls none in
       record { clock = clock; reads = by_tier clock; past = is.course.past; kept = is.course.kept }
@@ -85,25 +85,25 @@ spells_none g s x e volume same none = on_damage e (λ w block not h other opens
 
 -- ---- what the journal was refused for
 
-pub told_damage : (j : JournalError) (e : AreaError) {P Q : What → ℕ → Type 0} → IsTold j e → ((w : What) (block : ℕ) → P w block → Q w block) → OnJournalDamage j P → OnDamage e Q
+pub told_damage : (j : JournalError) (e : AreaError) {P Q : What → ℕ → Type 0} → IsToldAs j e → ((w : What) (block : ℕ) → P w block → Q w block) → OnJournalDamage j P → OnDamage e Q
 told_damage journal.DeviceFault e {Q = Q} is f p = subst (λ (x : AreaError). OnDamage x Q) (sym is) tt
 told_damage journal.BatchTooLarge e is f p = absurd is
 told_damage (journal.Damaged w block) e {Q = Q} is f p = subst (λ (x : AreaError). OnDamage x Q) (sym is) (f w block p)
 told_damage journal.Memory e {Q = Q} is f p = subst (λ (x : AreaError). OnDamage x Q) (sym is) tt
 
-pub told_fault : (j : JournalError) (e : AreaError) → IsTold j e → e ≡ errors.DeviceFault → j ≡ journal.DeviceFault
+pub told_fault : (j : JournalError) (e : AreaError) → IsToldAs j e → e ≡ errors.DeviceFault → j ≡ journal.DeviceFault
 told_fault journal.DeviceFault e is fault = refl
 told_fault journal.BatchTooLarge e is fault = absurd is
 told_fault (journal.Damaged w block) e is fault = cc
 told_fault journal.Memory e is fault = cc
 
-pub told_other : (j : JournalError) (e : AreaError) → IsTold j e → e ≢ errors.DeviceFault → j ≢ journal.DeviceFault
+pub told_other : (j : JournalError) (e : AreaError) → IsToldAs j e → e ≢ errors.DeviceFault → j ≢ journal.DeviceFault
 told_other journal.DeviceFault e is other fault = other is
 told_other journal.BatchTooLarge e is other fault = is
 told_other (journal.Damaged w block) e is other fault = cc
 told_other journal.Memory e is other fault = cc
 
-pub told_memory : (j : JournalError) (e : AreaError) → IsTold j e → e ≡ errors.Memory → j ≡ journal.Memory
+pub told_memory : (j : JournalError) (e : AreaError) → IsToldAs j e → e ≡ errors.Memory → j ≡ journal.Memory
 told_memory journal.DeviceFault e is memory = cc
 told_memory journal.BatchTooLarge e is memory = absurd is
 told_memory (journal.Damaged w block) e is memory = cc

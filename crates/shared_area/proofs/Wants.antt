@@ -8,7 +8,7 @@ use Rattle.layout.specs.declared.slot.Slot.TheVariants as slots
 use Rattle.layout.specs.Places.{Sizes, is_inode}
 use Rattle.layout.specs.Extents.{extents_of}
 use Rattle.extent_nodes.specs.Places.{place_of}
-use Rattle.tree_blocks.specs.Inode.{IsConsistent, IsDirectory, IsDirectoryBlock, blocks_for, inode_of}
+use Rattle.tree_blocks.specs.Inode.{IsConsistent, AreDirectoryBlocks, IsDirectoryBlock, blocks_for, inode_of}
 use Rattle.area_image.specs.Store.{Store, slot_read, root_of, space_of, length_of, extents_by, extents_read, place, logical}
 use Rattle.area_image.specs.Spelled.{SpellsInode}
 use Rattle.area_image.specs.Map.{WantsMemory}
@@ -49,7 +49,7 @@ module _ (g : Sizes) (s : Store) (i : ℕ) (x : Slot) (read : slot_read g s i �
 
 -- a directory that has entries
 module _ (g : Sizes) (s : Store) (i names entries touch root : ℕ) (number : is_inode i ≡ true) (read : slot_read g s i ≡ Some (slots.Directory names entries touch root)) (spells : SpellsInode g s i) where
-  directory : IsDirectory i entries (logical g s i)
+  directory : AreDirectoryBlocks i entries (logical g s i)
   directory = subst (λ (y : Slot). IsConsistent i (inode_of y (logical g s i))) (slot_as g s i (slots.Directory names entries touch root) read) spells.consistent
 
   pub directory_wants : 0 < blocks_for entries → WantsMemory g s i

@@ -6,7 +6,7 @@ use Rattle.layout.specs.Places.{Sizes}
 use Rattle.batch_journal.specs.declared.error.JournalError.{JournalError}
 use Rattle.batch_journal.specs.declared.error.JournalError.TheVariants as journal
 use Rattle.batch_journal.specs.Volume.{IsVolume}
-use Rattle.batch_journal.specs.Damage.{Names, AwaitsReplay}
+use Rattle.batch_journal.specs.Damage.{NamesDamage, AwaitsReplay}
 use Rattle.area_image.specs.declared.error.AreaError.{AreaError}
 use Rattle.area_image.specs.declared.error.AreaError.TheVariants as errors
 use Rattle.area_image.specs.Store.{store_of, marks}
@@ -19,15 +19,15 @@ SpellsNone seen = (g : Sizes) → IsVolume g seen → IsOpenable g (store_of see
 
 -- This structure is damaged, and stands in that block: the media hold no journal, or their blocks, an open journal replayed, spell no graph within the units.
 abbrev pub IsMediumDamage : (Tier → List ℕ) → What → ℕ → Type 0
-IsMediumDamage seen w block = Names seen w block ⊎ ((g : Sizes) × IsVolume g seen × IsDamaged g (store_of seen) w block)
+IsMediumDamage seen w block = NamesDamage seen w block ⊎ ((g : Sizes) × IsVolume g seen × IsDamaged g (store_of seen) w block)
 
 -- Memory is wanted: for a replay, or behind sound marks for what the blocks spell.
 abbrev pub TakesMemory : (Tier → List ℕ) → Type 0
 TakesMemory seen = AwaitsReplay seen ⊎ (((g : Sizes) × IsVolume g seen) × IsSome (marks (store_of seen)))
 
 -- The area tells what the journal was refused for; it commits no batch.
-abbrev pub IsTold : JournalError → AreaError → Type 0
-IsTold journal.DeviceFault e = e ≡ errors.DeviceFault
-IsTold journal.BatchTooLarge e = ⊥
-IsTold (journal.Damaged w block) e = e ≡ errors.Damaged w block
-IsTold journal.Memory e = e ≡ errors.Memory
+abbrev pub IsToldAs : JournalError → AreaError → Type 0
+IsToldAs journal.DeviceFault e = e ≡ errors.DeviceFault
+IsToldAs journal.BatchTooLarge e = ⊥
+IsToldAs (journal.Damaged w block) e = e ≡ errors.Damaged w block
+IsToldAs journal.Memory e = e ≡ errors.Memory

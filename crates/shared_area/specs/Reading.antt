@@ -4,8 +4,8 @@ use Rattle.file_graph.specs.Graph.{Graph, file_bytes}
 use Rattle.tree_blocks.specs.Inode.{Blocks, byte_of}
 
 -- the bytes of the file at an inode; none where there is no file
-abbrev pub bytes_at : Graph → ℕ → List ℕ
-bytes_at g i = unwrap_or (file_bytes (g i)) []
+abbrev pub bytes_of_inode : Graph → ℕ → List ℕ
+bytes_of_inode g i = unwrap_or (file_bytes (g i)) []
 
 -- In front of the buffer stand so many of these bytes from a place on, behind them what stood there.
 abbrev pub IsReadFrom : List ℕ → ℕ → ℕ → List ℕ → List ℕ → Type 0

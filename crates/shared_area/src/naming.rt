@@ -5,7 +5,7 @@ ghost use Rattle.posix_calls.specs.declared.limits.TheConstants.{MAX_ENTRIES};
 ghost use Rattle.layout.specs.declared.directory.TheConstants.{MAX_IN_BLOCK};
 ghost use Rattle.layout.specs.Directory.{AreEntries, listed, fits_entry};
 ghost use Rattle.layout.specs.Lent.{owned};
-ghost use Rattle.tree_blocks.specs.Inode.{Entry, IsDirectory, entry_at, named, blocks_for};
+ghost use Rattle.tree_blocks.specs.Inode.{Entry, AreDirectoryBlocks, entry_at, named, blocks_for};
 ghost use Rattle.area_image.specs.Store.{store_of, logical};
 ghost use Rattle.area_image.specs.Checks.{HasFound, IsOnce};
 ghost use Rattle.area_image.specs.Looks.{Looks};
@@ -82,7 +82,7 @@ fn add_part<M: Media>(
 ) -> Result<(), AreaError>
     requires few { number < 65536 }
     requires within { number < blocks_for entries }
-    requires directory { IsDirectory inode entries (logical journal.old.geometry (store_of (M.seen journal.old.media)) inode) }
+    requires directory { AreDirectoryBlocks inode entries (logical journal.old.geometry (store_of (M.seen journal.old.media)) inode) }
     requires found { HasFound journal.old.geometry (store_of (M.seen journal.old.media)) inode found.now }
     requires once { IsOnce journal.old.geometry (store_of (M.seen journal.old.media)) inode }
     requires before { map.old ≡ named (entry_at (logical journal.old.geometry (store_of (M.seen journal.old.media)) inode)) (min entries (MAX_IN_BLOCK * number)) }
@@ -111,7 +111,7 @@ pub fn read_entries<M: Media>(
 ) -> Result<NameMap<Child>, AreaError>
     requires few { entries ≤ MAX_ENTRIES }
     requires blocks { blocks ≡ blocks_for entries }
-    requires directory { IsDirectory inode entries (logical journal.old.geometry (store_of (M.seen journal.old.media)) inode) }
+    requires directory { AreDirectoryBlocks inode entries (logical journal.old.geometry (store_of (M.seen journal.old.media)) inode) }
     requires found { HasFound journal.old.geometry (store_of (M.seen journal.old.media)) inode found.now }
     requires once { IsOnce journal.old.geometry (store_of (M.seen journal.old.media)) inode }
     requires going { journal.old.failed ≡ false }

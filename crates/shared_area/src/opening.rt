@@ -8,7 +8,7 @@ ghost use Rattle.area_image.specs.Damage.{OnDamage, IsDamaged};
 ghost use Rattle.area_image.specs.Looks.{Looks};
 ghost use Rattle.area_image.specs.declared.error.AreaError.TheVariants.{Memory};
 ghost use Rattle.free_pools.specs.Value.{HasRanges, AreFree};
-ghost use Rattle.shared_area.specs.Opening.{IsTold};
+ghost use Rattle.shared_area.specs.Opening.{IsToldAs};
 
 use area_image::{AreaError, open_area};
 use batch_journal::{Journal, JournalError};
@@ -59,7 +59,7 @@ pub fn read_contents<M: Media>(
 /// What the journal was refused for.
 pub fn told(error: JournalError) -> AreaError
     requires { error ≢ BatchTooLarge }
-    ensures { IsTold error result }
+    ensures { IsToldAs error result }
 {
     match error {
         JournalError::DeviceFault => AreaError::DeviceFault,

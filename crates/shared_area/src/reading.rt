@@ -2,7 +2,7 @@
 ghost use Rattle.std.specs.Prelude.{◌≡◌, ◌≤◌, ◌<◌, ◌+◌, ◌-◌, ◌*◌, ◌%◌, ◌^◌, ℕ, min, length, replicate, false, OnOk, OnErr, IfOk, IfErr};
 ghost use Rattle.batch_journal.specs.Images.{slice};
 ghost use Rattle.layout.specs.declared.places.TheConstants.{BLOCK};
-ghost use Rattle.tree_blocks.specs.Inode.{file_bytes};
+ghost use Rattle.tree_blocks.specs.Inode.{bytes_of_blocks};
 ghost use Rattle.area_image.specs.Store.{store_of, logical, graph};
 ghost use Rattle.area_image.specs.Reads.{IsRoom};
 ghost use Rattle.area_image.specs.Spelled.{IsOpenable};
@@ -11,7 +11,7 @@ ghost use Rattle.area_image.specs.Looks.{Looks};
 ghost use Rattle.area_image.specs.Map.{WantsMemory};
 ghost use Rattle.area_image.specs.declared.error.AreaError.TheVariants.{DeviceFault, Memory};
 ghost use Rattle.shared_area.specs.Parts.{IsNoDamage, HasParts};
-ghost use Rattle.shared_area.specs.Reading.{ShowsBytes, IsReadUpTo, IsReadFrom, bytes_at};
+ghost use Rattle.shared_area.specs.Reading.{ShowsBytes, IsReadUpTo, IsReadFrom, bytes_of_inode};
 
 use crate::finding::find_parts;
 use area_image::{AreaError, InodeExtents, InodeParts, block_number, first_place};
@@ -136,8 +136,8 @@ fn read_bytes<M: Media>(
     requires once { IsOnce journal.old.geometry (store_of (M.seen journal.old.media)) inode }
     requires going { journal.old.failed ≡ false }
     ensures count { IfOk result (λ n. n ≡ min (length out.old) (size - at)) }
-    ensures bytes { IfOk result (λ n. IsReadFrom (file_bytes (logical journal.old.geometry (store_of (M.seen journal.old.media)) inode) size) at n out.old out.new) }
-    ensures refused { OnErr result ((n : ℕ) × IsReadFrom (file_bytes (logical journal.old.geometry (store_of (M.seen journal.old.media)) inode) size) at n out.old out.new) }
+    ensures bytes { IfOk result (λ n. IsReadFrom (bytes_of_blocks (logical journal.old.geometry (store_of (M.seen journal.old.media)) inode) size) at n out.old out.new) }
+    ensures refused { OnErr result ((n : ℕ) × IsReadFrom (bytes_of_blocks (logical journal.old.geometry (store_of (M.seen journal.old.media)) inode) size) at n out.old out.new) }
     ensures only { IfErr result (λ e. e ≡ DeviceFault) }
     ensures looks { Looks M.moment M.seen M.left M.faults journal.old journal.new result }
 {
@@ -162,9 +162,9 @@ fn read_parts_bytes<M: Media>(
     requires parts { HasParts journal.old.geometry (store_of (M.seen journal.old.media)) inode parts.now }
     requires opens { IsOpenable journal.old.geometry (store_of (M.seen journal.old.media)) }
     requires going { journal.old.failed ≡ false }
-    ensures count { IfOk result (λ n. n ≡ min (length out.old) (length (bytes_at (graph journal.old.geometry (store_of (M.seen journal.old.media))) inode) - at)) }
-    ensures bytes { IfOk result (λ n. IsReadFrom (bytes_at (graph journal.old.geometry (store_of (M.seen journal.old.media))) inode) at n out.old out.new) }
-    ensures refused { OnErr result ((n : ℕ) × IsReadFrom (bytes_at (graph journal.old.geometry (store_of (M.seen journal.old.media))) inode) at n out.old out.new) }
+    ensures count { IfOk result (λ n. n ≡ min (length out.old) (length (bytes_of_inode (graph journal.old.geometry (store_of (M.seen journal.old.media))) inode) - at)) }
+    ensures bytes { IfOk result (λ n. IsReadFrom (bytes_of_inode (graph journal.old.geometry (store_of (M.seen journal.old.media))) inode) at n out.old out.new) }
+    ensures refused { OnErr result ((n : ℕ) × IsReadFrom (bytes_of_inode (graph journal.old.geometry (store_of (M.seen journal.old.media))) inode) at n out.old out.new) }
     ensures only { IfErr result (λ e. e ≡ DeviceFault) }
     ensures looks { Looks M.moment M.seen M.left M.faults journal.old journal.new result }
 {
@@ -189,9 +189,9 @@ pub fn read_file<M: Media>(
     out: &mut [u8],
 ) -> Result<usize, AreaError>
     requires { journal.old.failed ≡ false → IsOpenable journal.old.geometry (store_of (M.seen journal.old.media)) }
-    ensures count { IfOk result (λ n. n ≡ min (length out.old) (length (bytes_at (graph journal.old.geometry (store_of (M.seen journal.old.media))) inode) - at)) }
-    ensures bytes { IfOk result (λ n. IsReadFrom (bytes_at (graph journal.old.geometry (store_of (M.seen journal.old.media))) inode) at n out.old out.new) }
-    ensures refused { OnErr result ((n : ℕ) × IsReadFrom (bytes_at (graph journal.old.geometry (store_of (M.seen journal.old.media))) inode) at n out.old out.new) }
+    ensures count { IfOk result (λ n. n ≡ min (length out.old) (length (bytes_of_inode (graph journal.old.geometry (store_of (M.seen journal.old.media))) inode) - at)) }
+    ensures bytes { IfOk result (λ n. IsReadFrom (bytes_of_inode (graph journal.old.geometry (store_of (M.seen journal.old.media))) inode) at n out.old out.new) }
+    ensures refused { OnErr result ((n : ℕ) × IsReadFrom (bytes_of_inode (graph journal.old.geometry (store_of (M.seen journal.old.media))) inode) at n out.old out.new) }
     ensures only { IfErr result IsNoDamage }
     ensures memory { IfErr result (λ e. e ≡ Memory → WantsMemory journal.old.geometry (store_of (M.seen journal.old.media)) inode) }
     ensures looks { Looks M.moment M.seen M.left M.faults journal.old journal.new result }

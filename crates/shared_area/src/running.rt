@@ -88,7 +88,7 @@ fn run_of(parts: &InodeParts, tier: Tier, most: u32) -> Option<Run>
 }
 
 /// The first run of a file's logical blocks in a tier, of so many blocks at most.
-pub fn find_run<M: Media>(
+pub fn find_first_run<M: Media>(
     alloc: Global,
     journal: &mut Journal<M>,
     inode: u32,

@@ -2,7 +2,7 @@ ghost use Rattle.std.specs.Prelude.{◌≡◌, ◌≢◌, ◌≤◌, ◌<◌, �
 ghost use Rattle.tier_device.specs.declared.media.Tier.{Tier};
 ghost use Rattle.tier_device.specs.declared.media.Tier.TheVariants.{Fast};
 ghost use Rattle.tier_device.specs.Media.{AtRest, Left, Rose};
-ghost use Rattle.batch_journal.specs.Blocks.{calls_of};
+ghost use Rattle.batch_journal.specs.Blocks.{opening_calls};
 ghost use Rattle.batch_journal.specs.Course.{Since, Unmoved};
 ghost use Rattle.batch_journal.specs.Damage.{AwaitsReplay};
 ghost use Rattle.batch_journal.specs.Volume.{IsVolume, SameJournal};
@@ -19,7 +19,7 @@ ghost use Rattle.area_image.specs.declared.error.AreaError.TheVariants.{DeviceFa
 ghost use Rattle.area_image.specs.Damage.{OnDamage};
 ghost use Rattle.shared_area.specs.Opening.{SpellsNone, IsMediumDamage, TakesMemory};
 ghost use Rattle.shared_area.specs.Ready.{OpensAs, HasCount};
-ghost use Rattle.shared_area.specs.Reading.{bytes_at, IsReadFrom};
+ghost use Rattle.shared_area.specs.Reading.{bytes_of_inode, IsReadFrom};
 ghost use Rattle.shared_area.specs.Parts.{IsNoDamage, IsTierOf};
 ghost use Rattle.shared_area.specs.Running.{FindsRun, file_lies};
 
@@ -27,7 +27,7 @@ use crate::finding::find_tier;
 use crate::node::find_node;
 use crate::opening::{read_contents, told};
 use crate::reading::read_file;
-use crate::running::find_run;
+use crate::running::find_first_run;
 use crate::touching::find_touch;
 use area_image::AreaError;
 use batch_journal::Journal;
@@ -86,7 +86,7 @@ impl<M: Media> Shared<M> {
         ensures blocks { IfOk result (λ a. store_of (M.seen a.media) ≡ store_of (M.seen medium)) }
         ensures rests { IfOk result (λ a. (t : Tier) → AtRest (M.seen a.media) (M.left a.media (M.moment a.media)) t) }
         ensures unfailed { IfOk result (λ a. a.failed ≡ false) }
-        ensures calls { IfOk result (λ a. M.moment a.media ≡ M.moment medium + calls_of (M.seen medium Fast)) }
+        ensures calls { IfOk result (λ a. M.moment a.media ≡ M.moment medium + opening_calls (M.seen medium Fast)) }
         ensures quiet { IfOk result (λ a. M.faults a.media ≡ M.faults medium) }
 
         ensures damaged { IfErr result (λ e. OnDamage e.0 (λ _ _. SpellsNone (M.seen medium))) }
@@ -97,7 +97,7 @@ impl<M: Media> Shared<M> {
         ensures rests_refused { IfErr result (λ e. e.0 ≢ DeviceFault → (t : Tier) → AtRest (M.seen e.1) (M.left e.1 (M.moment e.1)) t) }
         ensures fault { IfErr result (λ e. e.0 ≡ DeviceFault → Rose (M.faults medium) (M.faults e.1)) }
         ensures quiet_refused { IfErr result (λ e. e.0 ≢ DeviceFault → M.faults e.1 ≡ M.faults medium) }
-        ensures at_most { IfErr result (λ e. M.moment e.1 ≤ M.moment medium + calls_of (M.seen medium Fast)) }
+        ensures at_most { IfErr result (λ e. M.moment e.1 ≤ M.moment medium + opening_calls (M.seen medium Fast)) }
         ensures faults_refused { IfErr result (λ e. M.faults medium ≤ M.faults e.1) }
         ensures one_fault { IfErr result (λ e. M.faults e.1 ≤ M.faults medium + 1) }
     {
@@ -134,9 +134,9 @@ impl<M: Media> Shared<M> {
     ///
     /// After a refusal the front of the buffer may have been read.
     pub fn read_range(&mut self, inode: u32, at: u64, out: &mut [u8]) -> Result<usize, AreaError>
-        ensures count { IfOk result (λ n. n ≡ min (length out.old) (length (bytes_at (graph self.old.geometry (store_of (M.seen self.old.media))) inode) - at)) }
-        ensures bytes { IfOk result (λ n. IsReadFrom (bytes_at (graph self.old.geometry (store_of (M.seen self.old.media))) inode) at n out.old out.new) }
-        ensures refused { OnErr result ((n : ℕ) × IsReadFrom (bytes_at (graph self.old.geometry (store_of (M.seen self.old.media))) inode) at n out.old out.new) }
+        ensures count { IfOk result (λ n. n ≡ min (length out.old) (length (bytes_of_inode (graph self.old.geometry (store_of (M.seen self.old.media))) inode) - at)) }
+        ensures bytes { IfOk result (λ n. IsReadFrom (bytes_of_inode (graph self.old.geometry (store_of (M.seen self.old.media))) inode) at n out.old out.new) }
+        ensures refused { OnErr result ((n : ℕ) × IsReadFrom (bytes_of_inode (graph self.old.geometry (store_of (M.seen self.old.media))) inode) at n out.old out.new) }
         ensures only { IfErr result IsNoDamage }
         ensures memory { IfErr result (λ e. e ≡ Memory → WantsMemory self.old.geometry (store_of (M.seen self.old.media)) inode) }
         ensures looks { Looks M.moment M.seen M.left M.faults self.old self.new result }
@@ -167,7 +167,7 @@ impl<M: Media> Shared<M> {
         ensures looks { Looks M.moment M.seen M.left M.faults self.old self.new result }
     {
         let alloc = self.alloc;
-        find_run(alloc, &mut self.journal, inode, tier, most)
+        find_first_run(alloc, &mut self.journal, inode, tier, most)
     }
 
     /// The number of the last digest that wrote an inode; 0 where there is no such inode. It takes no memory.

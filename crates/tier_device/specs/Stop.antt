@@ -50,8 +50,8 @@ abbrev pub failures : StopMedia → ℕ
 failures s = s.faults
 
 -- these bytes lie in the tier
-abbrev pub Fits : StopMedia → Tier → ℕ → ℕ → Type 0
-Fits s tier at n = at + n ≤ length (memory_seen s.inner tier)
+abbrev pub IsWithinTier : StopMedia → Tier → ℕ → ℕ → Type 0
+IsWithinTier s tier at n = at + n ≤ length (memory_seen s.inner tier)
 
 -- Nothing has changed but the count of failed calls.
 pub record IsStill (old new : StopMedia) : Type 0 where

@@ -25,7 +25,7 @@ pub struct StopMedia {
 impl StopMedia {
     ghost use Rattle.tier_device.specs.Memory.{memory_seen, memory_left, memory_moment, memory_held, IsRefused, IsAtRest};
     ghost use Rattle.tier_device.specs.Count.{IsAlone, HasCounted};
-    ghost use Rattle.tier_device.specs.Stop.{medium_of, count_of, turn, armed, next_fill, stopped, fill_of, failures, Runs, HasStopped, Fits, IsStill, Stops, RunsOn, IsTorn};
+    ghost use Rattle.tier_device.specs.Stop.{medium_of, count_of, turn, armed, next_fill, stopped, fill_of, failures, Runs, HasStopped, IsWithinTier, IsStill, Stops, RunsOn, IsTorn};
 
     /// A medium that runs until it is stopped.
     pub fn new(inner: MemMedia) -> Self
@@ -142,7 +142,7 @@ impl StopMedia {
 
     // The write that it stops in: its range counts as written.
     fn tear(&mut self, tier: Tier, at: usize, bytes: &[u8])
-        requires { Fits self.old tier at (length bytes.now) }
+        requires { IsWithinTier self.old tier at (length bytes.now) }
         ensures torn { IsTorn tier at bytes.now self.old.inner self.new.inner ⊎ IsRefused self.old.inner self.new.inner }
         ensures past { Keeps (memory_moment self.old.inner) (memory_moment self.new.inner) (memory_left self.old.inner) (memory_left self.new.inner) }
         ensures left { Tears tier at (length bytes.now) (memory_left self.old.inner (memory_moment self.old.inner)) (memory_left self.new.inner (memory_moment self.new.inner)) }
@@ -163,7 +163,7 @@ impl Media for StopMedia {
     ghost use Rattle.tier_device.specs.Memory.{memory_seen, memory_left, memory_moment, IsRefused};
     ghost use Rattle.tier_device.specs.MemoryLaws.{memory_seen_now, memory_sized};
     ghost use Rattle.tier_device.specs.Count.{HasCounted};
-    ghost use Rattle.tier_device.specs.Stop.{medium_of, count_of, turn, failures, Runs, HasStopped, Fits, IsStill, Stops, RunsOn, IsTorn};
+    ghost use Rattle.tier_device.specs.Stop.{medium_of, count_of, turn, failures, Runs, HasStopped, IsWithinTier, IsStill, Stops, RunsOn, IsTorn};
 
     ghost seen = { λ s. memory_seen s.inner };
 
@@ -194,7 +194,7 @@ impl Media for StopMedia {
 
         // It is not counted. It fails where the medium has stopped, and nowhere else.
         ensures still { IsStill self.old self.new }
-        ensures after_stop { HasStopped self.old → Fits self.old tier at (length out.old) → IsErrOf result DeviceFault }
+        ensures after_stop { HasStopped self.old → IsWithinTier self.old tier at (length out.old) → IsErrOf result DeviceFault }
         ensures sound { Runs self.old → IsErrOf result DeviceFault → ⊥ }
     {
         let size = self.inner.size(tier);
@@ -218,14 +218,14 @@ impl Media for StopMedia {
         ensures cause { HasCause (failures self.old) (failures self.new) result }
 
         // After the stop it fails and changes nothing.
-        ensures after_stop { HasStopped self.old → Fits self.old tier at (length bytes.now) → IsErrOf result DeviceFault × IsStill self.old self.new }
+        ensures after_stop { HasStopped self.old → IsWithinTier self.old tier at (length bytes.now) → IsErrOf result DeviceFault × IsStill self.old self.new }
 
         // It is counted, and what the count says of it holds: it passes, it is the one, or the stop was elsewhere.
-        ensures counted { Runs self.old → Fits self.old tier at (length bytes.now) → HasCounted (count_of self.old) (count_of self.new) }
-        ensures stops { Runs self.old → Fits self.old tier at (length bytes.now) → turn self.new ≡ IsTheOne → IsErrOf result DeviceFault × Stops self.old self.new }
-        ensures torn { Runs self.old → Fits self.old tier at (length bytes.now) → turn self.new ≡ IsTheOne → IsTorn tier at bytes.now (medium_of self.old) (medium_of self.new) ⊎ IsRefused (medium_of self.old) (medium_of self.new) }
-        ensures over { Runs self.old → Fits self.old tier at (length bytes.now) → turn self.new ≡ Over → IsErrOf result DeviceFault × Stops self.old self.new × (medium_of self.new ≡ medium_of self.old) }
-        ensures passes { Runs self.old → Fits self.old tier at (length bytes.now) → turn self.new ≡ Passes → RunsOn self.old self.new }
+        ensures counted { Runs self.old → IsWithinTier self.old tier at (length bytes.now) → HasCounted (count_of self.old) (count_of self.new) }
+        ensures stops { Runs self.old → IsWithinTier self.old tier at (length bytes.now) → turn self.new ≡ IsTheOne → IsErrOf result DeviceFault × Stops self.old self.new }
+        ensures torn { Runs self.old → IsWithinTier self.old tier at (length bytes.now) → turn self.new ≡ IsTheOne → IsTorn tier at bytes.now (medium_of self.old) (medium_of self.new) ⊎ IsRefused (medium_of self.old) (medium_of self.new) }
+        ensures over { Runs self.old → IsWithinTier self.old tier at (length bytes.now) → turn self.new ≡ Over → IsErrOf result DeviceFault × Stops self.old self.new × (medium_of self.new ≡ medium_of self.old) }
+        ensures passes { Runs self.old → IsWithinTier self.old tier at (length bytes.now) → turn self.new ≡ Passes → RunsOn self.old self.new }
         ensures sound { Runs self.old → turn self.new ≡ Passes → IsErrOf result DeviceFault → IsRefused (medium_of self.old) (medium_of self.new) }
     {
         let size = self.inner.size(tier);

@@ -6,7 +6,7 @@ use Rattle.file_graph.specs.declared.effect.Kind.{Kind}
 use Rattle.file_graph.specs.declared.effect.Kind.TheVariants as kind
 use Rattle.file_graph.specs.Graph.{FileBody, DirBody}
 use Rattle.layout.specs.Directory.{listed, entry_of}
-use Rattle.tree_blocks.specs.Inode.{Blocks, Inode, plain, byte_of, entry_at, IsDirectoryBlock, blocks_for, node_by, node_of, body_of, IsConsistentBy, IsConsistent, ReadAlike, AreAlike}
+use Rattle.tree_blocks.specs.Inode.{Blocks, Inode, plain, byte_of, entry_at, IsDirectoryBlock, blocks_for, node_by, node_of, body_of_blocks, IsConsistentBy, IsConsistent, ReadAlike, AreAlike}
 
 pub mapped_same : {X : Type 0} (f g : ℕ → X) (a n : ℕ) → ((k : ℕ) → k < a + n → f k ≡ g k) → map f (range_with_len a n) ≡ map g (range_with_len a n)
 mapped_same f g a zero same = refl
@@ -16,7 +16,7 @@ pub entries_same : (size : ℕ) (b c : Blocks) → ((k : ℕ) → k < blocks_for
 unfolding entry_at
 entries_same size b c same e lt = ap (λ l. plain (entry_of (listed l) (e % 56))) (same (e / 56) (omega (arith, lt)))
 
-body_same : (k : Kind) (size : ℕ) (b c : Blocks) → ReadAlike (Some k) size b c → body_of k size c ≡ body_of k size b
+body_same : (k : Kind) (size : ℕ) (b c : Blocks) → ReadAlike (Some k) size b c → body_of_blocks k size c ≡ body_of_blocks k size b
 body_same kind.File size b c same = ap FileBody (mapped_same (byte_of c) (byte_of b) 0 size (λ at lt. same at))
 body_same kind.Directory size b c same = ap (λ es. DirBody (fin.from_entries es)) (mapped_same (entry_at c) (entry_at b) 0 size (λ e lt. entries_same size b c same e (omega (arith, lt))))
 

@@ -11,7 +11,7 @@ use Rattle.graph_change.specs.Bytes.{BytesChange, length_after, byte_after, byte
 use Rattle.graph_change.specs.Net.{Base, Kept, Made, Gone, Net, based, edited, node_after}
 use Rattle.graph_change.specs.Change.{Change, Changes, new_change, net_of, change_at, changed}
 use Rattle.graph_change.proofs.Law.{empty_at, coalesced_law}
-use Rattle.tree_blocks.specs.Inode.{Blocks, Inode, byte_of, file_bytes, IsZeroFrom, node_by, node_of, graph_of, IsConsistentBy, IsConsistent}
+use Rattle.tree_blocks.specs.Inode.{Blocks, Inode, byte_of, bytes_of_blocks, IsZeroFrom, node_by, node_of, graph_of_inodes, IsConsistentBy, IsConsistent}
 use Rattle.tree_blocks.specs.After.{started, IsFileAfter, BodyAfter, IsInodeAfter, AreInodesAfter}
 use Rattle.tree_blocks.proofs.Files.{length_file}
 use Rattle.tree_blocks.proofs.Alike.{mapped_same, node_same, consistent_same}
@@ -20,14 +20,14 @@ use Rattle.tree_blocks.proofs.Alike.{mapped_same, node_same, consistent_same}
 
 module _ (c : BytesChange) (size : ℕ) (old : Blocks) (new_size : ℕ) (new : Blocks) (after : IsFileAfter c size old new_size new) where
   zero_after : IsZeroFrom new_size new
-  zero_after at ge = after.bytes at ∙ ap (λ b. cond b (byte_after c (file_bytes old size) at) 0) (le-ltb at new_size ge)
+  zero_after at ge = after.bytes at ∙ ap (λ b. cond b (byte_after c (bytes_of_blocks old size) at) 0) (le-ltb at new_size ge)
 
-  bytes_are : file_bytes new new_size ≡ bytes_after c (file_bytes old size)
+  bytes_are : bytes_of_blocks new new_size ≡ bytes_after c (bytes_of_blocks old size)
   unfolding bytes_after
   bytes_are =
-      mapped_same (byte_of new) (byte_after c (file_bytes old size)) 0 new_size (λ at lt.
-      after.bytes at ∙ ap (λ b. cond b (byte_after c (file_bytes old size) at) 0) (lt-ltb at new_size (omega (arith, lt))))
-      ∙ ap (λ k. map (byte_after c (file_bytes old size)) (range_with_len 0 k)) (after.size ∙ ap (length_after c.length) (sym (length_file old size)))
+      mapped_same (byte_of new) (byte_after c (bytes_of_blocks old size)) 0 new_size (λ at lt.
+      after.bytes at ∙ ap (λ b. cond b (byte_after c (bytes_of_blocks old size) at) 0) (lt-ltb at new_size (omega (arith, lt))))
+      ∙ ap (λ k. map (byte_after c (bytes_of_blocks old size)) (range_with_len 0 k)) (after.size ∙ ap (length_after c.length) (sym (length_file old size)))
 
 -- ---- one inode
 
@@ -75,9 +75,9 @@ missing None e = refl
 missing (Some c) e = absurd cc
 
 pub graph_law : (cs : Changes) (old new : ℕ → Inode) → ((i : ℕ) → IsConsistent i (old i)) → AreInodesAfter cs old new
-    → (graph_of new ≡ changed cs (graph_of old)) × ((i : ℕ) → IsConsistent i (new i))
+    → (graph_of_inodes new ≡ changed cs (graph_of_inodes old)) × ((i : ℕ) → IsConsistent i (new i))
 graph_law cs old new is after = ((λ t i. (each i).0 t), λ i. (each i).1) where
-  each : (i : ℕ) → (graph_of new i ≡ changed cs (graph_of old) i) × IsConsistent i (new i)
+  each : (i : ℕ) → (graph_of_inodes new i ≡ changed cs (graph_of_inodes old) i) × IsConsistent i (new i)
   each i = elim (cases_Bool (fin.contains_key cs i)) [
     | inl said ↦ node_law i (net_of (change_at cs i)) (old i) (new i) (is i) (after.changed i said)
     | inr unsaid_of ↦

@@ -9,7 +9,7 @@ use Rattle.std.proofs.lemmas.List.FromFn.{get_or-map-range_with_len, length-map-
 use Rattle.graph_change.specs.Bytes.{Length, Grown, Cut, length_after, kept_byte, byte_after, end, IsOrdered, IsTidy}
 use Rattle.graph_change.specs.Change.{Change, Patch, blank, patch_at, net_of, patched, IsWhole, writes_block, ends_within, cuts_within}
 use Rattle.graph_change.specs.Tidy.{IsTidyChange}
-use Rattle.tree_blocks.specs.Inode.{Blocks, byte_of, file_bytes, IsZeroFrom}
+use Rattle.tree_blocks.specs.Inode.{Blocks, byte_of, bytes_of_blocks, IsZeroFrom}
 use Rattle.tree_blocks.specs.After.{IsFileAfter}
 use Rattle.tree_blocks.specs.FileBlock.{kept_in, in_block, block_after, is_cut_off, ReadSame, ReadsAfter, AreWritten}
 use Rattle.tree_blocks.proofs.Alike.{mapped_same}
@@ -126,7 +126,7 @@ left_inside c old_size k tidy = left_by c.length old_size k tidy.bytes.ordered
 
 module _ (c : Change) (old_size new_size : ℕ) (old new : Blocks) (tidy : IsTidy (net_of c).bytes) (zeros : IsZeroFrom old_size old) (size : new_size ≡ length_after c.length old_size) (are : AreWritten c old new) where
   -- what is left of a byte, told by its block or by the file
-  left_is : (len : Length) (at : ℕ) → kept_byte (Cut (kept_in len (at / 4096)) 4096) (old (at / 4096)) (at % 4096) ≡ kept_byte len (file_bytes old old_size) at
+  left_is : (len : Length) (at : ℕ) → kept_byte (Cut (kept_in len (at / 4096)) 4096) (old (at / 4096)) (at % 4096) ≡ kept_byte len (bytes_of_blocks old old_size) at
   unfolding byte_of
   left_is (Grown to) at = ap (λ b. cond b (get_or (old (at / 4096)) (at % 4096) 0) 0) (lt-ltb (at % 4096) 4096 (omega arith)) ∙ sym (byte_read old old_size at zeros)
   left_is (Cut least to) at =
@@ -134,13 +134,13 @@ module _ (c : Change) (old_size new_size : ℕ) (old new : Blocks) (tidy : IsTid
       elim (cases_lt at least) [
         | inl lt ↦
             ap (λ b. cond b (get_or (old (at / 4096)) (at % 4096) 0) 0) (lt-ltb (at % 4096) kept (omega (arith, lt))) ∙ sym (byte_read old old_size at zeros)
-            ∙ sym (ap (λ b. cond b (get_or (file_bytes old old_size) at 0) 0) (lt-ltb at least lt))
+            ∙ sym (ap (λ b. cond b (get_or (bytes_of_blocks old old_size) at 0) 0) (lt-ltb at least lt))
         | inr ge ↦
             ap (λ b. cond b (get_or (old (at / 4096)) (at % 4096) 0) 0) (le-ltb (at % 4096) kept (omega (arith, ge)))
-            ∙ sym (ap (λ b. cond b (get_or (file_bytes old old_size) at 0) 0) (le-ltb at least ge))
+            ∙ sym (ap (λ b. cond b (get_or (bytes_of_blocks old old_size) at 0) 0) (le-ltb at least ge))
       ]
 
-  byte_is : (at : ℕ) → byte_after (in_block c.length (patch_at c.patches (at / 4096)) (at / 4096)) (old (at / 4096)) (at % 4096) ≡ byte_after (net_of c).bytes (file_bytes old old_size) at
+  byte_is : (at : ℕ) → byte_after (in_block c.length (patch_at c.patches (at / 4096)) (at / 4096)) (old (at / 4096)) (at % 4096) ≡ byte_after (net_of c).bytes (bytes_of_blocks old old_size) at
   byte_is at = ap (λ x. elim (patch_at c.patches (at / 4096) (at % 4096)) [ None ↦ x | Some b ↦ b ]) (left_is c.length at)
 
   -- nothing is put into a block that is not written, and it is cut whole or not at all
@@ -186,25 +186,25 @@ module _ (c : Change) (old_size new_size : ℕ) (old new : Blocks) (tidy : IsTid
   ]
 
   -- nothing is left behind the end
-  left_past : (len : Length) (at : ℕ) → IsOrdered len → length_after len old_size ≤ at → kept_byte len (file_bytes old old_size) at ≡ 0
-  left_past (Grown to) at ordered past = let long = length_file old old_size in get_or_past (file_bytes old old_size) at 0 (omega (arith, long, past))
-  left_past (Cut least to) at ordered past = ap (λ b. cond b (get_or (file_bytes old old_size) at 0) 0) (le-ltb at least (omega (arith, ordered, past)))
+  left_past : (len : Length) (at : ℕ) → IsOrdered len → length_after len old_size ≤ at → kept_byte len (bytes_of_blocks old old_size) at ≡ 0
+  left_past (Grown to) at ordered past = let long = length_file old old_size in get_or_past (bytes_of_blocks old old_size) at 0 (omega (arith, long, past))
+  left_past (Cut least to) at ordered past = ap (λ b. cond b (get_or (bytes_of_blocks old old_size) at 0) 0) (le-ltb at least (omega (arith, ordered, past)))
 
   abbrev or_put : Option ℕ → ℕ → ℕ
   or_put o x = elim o [ None ↦ x | Some b ↦ b ]
 
-  nothing : (at : ℕ) → new_size ≤ at → byte_after (net_of c).bytes (file_bytes old old_size) at ≡ 0
+  nothing : (at : ℕ) → new_size ≤ at → byte_after (net_of c).bytes (bytes_of_blocks old old_size) at ≡ 0
   nothing at ge =
       let e = end_in c.length old_size in
-      ap (λ o. or_put o (kept_byte c.length (file_bytes old old_size) at)) (tidy.inside at (omega (arith, e, ge, size))) ∙ left_past c.length at tidy.ordered (omega (arith, ge, size))
+      ap (λ o. or_put o (kept_byte c.length (bytes_of_blocks old old_size) at)) (tidy.inside at (omega (arith, e, ge, size))) ∙ left_past c.length at tidy.ordered (omega (arith, ge, size))
 
   pub file_law : IsFileAfter (net_of c).bytes old_size old new_size new
   unfolding byte_of
   file_law = record {
     size = size;
     bytes = λ at. elim (cases_lt at new_size) [
-      | inl lt ↦ block_byte (at / 4096) (at % 4096) (omega arith) ∙ byte_is at ∙ sym (ap (λ b. cond b (byte_after (net_of c).bytes (file_bytes old old_size) at) 0) (lt-ltb at new_size lt))
+      | inl lt ↦ block_byte (at / 4096) (at % 4096) (omega arith) ∙ byte_is at ∙ sym (ap (λ b. cond b (byte_after (net_of c).bytes (bytes_of_blocks old old_size) at) 0) (lt-ltb at new_size lt))
       | inr ge ↦
-          block_byte (at / 4096) (at % 4096) (omega arith) ∙ byte_is at ∙ nothing at ge ∙ sym (ap (λ b. cond b (byte_after (net_of c).bytes (file_bytes old old_size) at) 0) (le-ltb at new_size ge))
+          block_byte (at / 4096) (at % 4096) (omega arith) ∙ byte_is at ∙ nothing at ge ∙ sym (ap (λ b. cond b (byte_after (net_of c).bytes (bytes_of_blocks old old_size) at) 0) (le-ltb at new_size ge))
     ];
   }

@@ -4,7 +4,7 @@ use Rattle.std.proofs.lemmas.Bool.{cases_eq}
 use Rattle.std.proofs.lemmas.List.{get_or-set_same, get_or-set_other, length-set, length-append, get_or-take, get_or_append_left, get_or_push}
 use Rattle.layout.specs.declared.directory.DirEntry.{DirEntry}
 use Rattle.layout.specs.Directory.{EntryList, AreEntries, listed, no_entry, entry_of, with_entry_at, with_last, without_entry, without_last}
-use Rattle.tree_blocks.specs.Inode.{Blocks, plain, entry_at, entries_in, blocks_for, IsAbsent, IsDirectoryBlock, IsDirectory}
+use Rattle.tree_blocks.specs.Inode.{Blocks, plain, entry_at, entries_in, blocks_for, IsAbsent, IsDirectoryBlock, AreDirectoryBlocks}
 use Rattle.tree_blocks.specs.After.{IsEntered}
 
 -- an entry by the list of its block
@@ -80,7 +80,7 @@ taken_other v i j off lt = get_or-take (length v.entries - 1) _ j no_entry lt �
 pub part_stays : (owner n m k : ℕ) (b c : List ℕ) → c ≡ b → entries_in n k ≡ entries_in m k → IsDirectoryBlock owner n k b → IsDirectoryBlock owner m k c
 part_stays owner n m k b c same count part = subst (IsDirectoryBlock owner m k) (sym same) (record { entries = part.entries; owner_is = part.owner_is; count_is = part.count_is ∙ count })
 
-module _ (owner n : ℕ) (b : Blocks) (is : IsDirectory owner n b) where
+module _ (owner n : ℕ) (b : Blocks) (is : AreDirectoryBlocks owner n b) where
   -- the part in which an entry stands
   pub part_of : (e : ℕ) → e < n → IsDirectoryBlock owner n (e / 56) (b (e / 56))
   part_of e lt = is.parts (e / 56) (omega (arith, lt))

@@ -4,7 +4,7 @@ use Rattle.std.proofs.lemmas.Bool.{cases_eq}
 use Rattle.std.proofs.lemmas.List.{length-set, length-take}
 use Rattle.layout.specs.declared.directory.DirEntry.{DirEntry}
 use Rattle.layout.specs.Directory.{EntryList, AreEntries, listed, entry_of, are_distinct, with_entry_at, without_entry, without_last}
-use Rattle.tree_blocks.specs.Inode.{Blocks, plain, entry_at, entries_in, blocks_for, IsDirectoryBlock, IsDirectory}
+use Rattle.tree_blocks.specs.Inode.{Blocks, plain, entry_at, entries_in, blocks_for, IsDirectoryBlock, AreDirectoryBlocks}
 use Rattle.tree_blocks.specs.After.{IsTakenOut}
 use Rattle.tree_blocks.specs.Directory.{HaveOneLess}
 use Rattle.tree_blocks.proofs.Alike.{entries_same}
@@ -18,7 +18,7 @@ length_less v = omega (arith, length-take (length v.entries - 1) v.entries)
 length_taken : (v : EntryList) (i : ℕ) → length (without_entry v i).entries ≡ length v.entries - 1
 length_taken v i = omega (arith, length-take (length v.entries - 1) (with_entry_at v i (entry_of v (length v.entries - 1))).entries, length-set v.entries i (entry_of v (length v.entries - 1)))
 
-module _ (owner last : ℕ) (b : Blocks) (is : IsDirectory owner (last + 1) b) where
+module _ (owner last : ℕ) (b : Blocks) (is : AreDirectoryBlocks owner (last + 1) b) where
   -- what stands in the block of the last entry
   abbrev pub own : EntryList
   own = listed (b (last / 56))

@@ -10,7 +10,7 @@ use Rattle.std.proofs.lemmas.Option.{slice_get-get_or}
 use Rattle.file_graph.specs.declared.effect.Kind.{Kind}
 use Rattle.layout.specs.declared.directory.DirEntry.{DirEntry}
 use Rattle.layout.specs.Directory.{EntryList, AreEntries, listed, no_entry, entry_of, with_target, with_last}
-use Rattle.tree_blocks.specs.Inode.{Blocks, plain, entry_at, named, blocks_for, IsAbsent, IsDirectory}
+use Rattle.tree_blocks.specs.Inode.{Blocks, plain, entry_at, named, blocks_for, IsAbsent, AreDirectoryBlocks}
 use Rattle.tree_blocks.specs.After.{IsEntered}
 use Rattle.tree_blocks.specs.Directory.{numbered, AreHeld, HaveOneMore}
 use Rattle.tree_blocks.proofs.Directories.{get_there, get_missing}
@@ -55,7 +55,7 @@ pub written_back : (n : ℕ) (new old : List (List ℕ)) → length new ≡ n �
 written_back n new old long = ap (λ k. take k (new ++ drop (length new) old)) (sym long) ∙ take-append_seam new (drop (length new) old)
 
 -- where a name is absent, each block has none of it
-pub absent_in : (owner n : ℕ) (b : Blocks) → IsDirectory owner n b → (name : List ℕ) → IsAbsent name (entry_at b) n → n % 56 ≢ 0 → position (has name) (listed (b (n / 56))).entries ≡ None
+pub absent_in : (owner n : ℕ) (b : Blocks) → AreDirectoryBlocks owner n b → (name : List ℕ) → IsAbsent name (entry_at b) n → n % 56 ≢ 0 → position (has name) (listed (b (n / 56))).entries ≡ None
 absent_in owner n b is name absent room =
     let long : length (listed (b (n / 56))).entries ≡ n % 56 = let c = (is.parts (n / 56) (omega (arith, room))).count_is in omega (arith, c, room) in
     none_found name (listed (b (n / 56))).entries (λ i lt same.
@@ -66,7 +66,7 @@ absent_in owner n b is name absent room =
     absent e (omega (arith, small))
     (ap (λ x. x.0) (entry_is b e (listed (b (n / 56))) (ap (λ k. listed (b k)) block)) ∙ ap (λ j. (entry_of (listed (b (n / 56))) j).name) index ∙ same))
 
-module _ (owner n : ℕ) (bs : List (List ℕ)) (is : IsDirectory owner n (numbered bs)) (w : List ℕ) (entries : AreEntries w) where
+module _ (owner n : ℕ) (bs : List (List ℕ)) (is : AreDirectoryBlocks owner n (numbered bs)) (w : List ℕ) (entries : AreEntries w) where
   -- ---- an entry leads elsewhere
 
   module _ (place : ℕ) (lt : place < n) (room : place / 56 < length bs) (inode : ℕ) (kind : Kind) (now : listed w ≡ with_target (listed (numbered bs (place / 56))) (place % 56) inode kind) where
@@ -91,7 +91,7 @@ module _ (owner n : ℕ) (bs : List (List ℕ)) (is : IsDirectory owner n (numbe
     pub set_entered : IsEntered place ((entry_at (numbered bs) place).0, (inode, kind)) n (entry_at (numbered bs)) n (entry_at c)
     set_entered = is_set owner n (numbered bs) is c place lt x others (subst AreEntries (sym here) entries) listed_so (entry_at (numbered bs) place).0 refl (sym old)
 
-    pub set_directory : IsDirectory owner n c
+    pub set_directory : AreDirectoryBlocks owner n c
     set_directory = record {
       parts = parts_set owner n (numbered bs) is c place lt x others (subst AreEntries (sym here) entries) listed_so;
       distinct = distinct_entered place (entry_at (numbered bs)) n is.distinct ((entry_at (numbered bs) place).0, (inode, kind)) n (entry_at c) set_entered;

@@ -17,7 +17,7 @@ use Rattle.layout.proofs.DirChanges.{listed_now}
 use Rattle.graph_change.specs.Net.{Child}
 use Rattle.tree_blocks.specs.Inode.{entry_at, named}
 use Rattle.tree_blocks.specs.Directory.{numbered, AreHeld}
-use Rattle.tree_blocks.specs.Written.{numbers_from, count_set, Marks, TellsWritten}
+use Rattle.tree_blocks.specs.Written.{numbers_from, count_set, WereMarked, TellsWritten}
 use Rattle.tree_blocks.proofs.Directories.{len_named}
 
 count_cons : (b : Bool) (marks : List Bool) → count_set (b ∷ marks) ≡ cond b 1 0 + count_set marks
@@ -41,10 +41,10 @@ before marks a k unset = elim (cases_lt k (length marks)) [
   | inr ge ↦ get_or_past marks k false ge
 ]
 
-pub mark_none : (marks : List Bool) (bs : List (List ℕ)) → Marks 0 marks marks bs bs
+pub mark_none : (marks : List Bool) (bs : List (List ℕ)) → WereMarked 0 marks marks bs bs
 mark_none marks bs = record { long = refl; few = omega arith; stay = λ k unset. unset; others = λ k lt unset. refl }
 
-pub mark_one : (marks : List Bool) (a : ℕ) (old new : List (List ℕ)) → ((k : ℕ) → k ≢ a → numbered new k ≡ numbered old k) → Marks 1 marks (set marks a true) old new
+pub mark_one : (marks : List Bool) (a : ℕ) (old new : List (List ℕ)) → ((k : ℕ) → k ≢ a → numbered new k ≡ numbered old k) → WereMarked 1 marks (set marks a true) old new
 mark_one marks a old new others = record {
   long = length-set marks a true;
   few = count_one marks a;
@@ -52,7 +52,7 @@ mark_one marks a old new others = record {
   others = λ k lt unset. others k (apart marks a k (subst (λ n. k < n) (length-set marks a true) lt) unset);
 }
 
-pub mark_two : (marks : List Bool) (a b : ℕ) (old new : List (List ℕ)) → ((k : ℕ) → k ≢ a → k ≢ b → numbered new k ≡ numbered old k) → Marks 2 marks (set (set marks a true) b true) old new
+pub mark_two : (marks : List Bool) (a b : ℕ) (old new : List (List ℕ)) → ((k : ℕ) → k ≢ a → k ≢ b → numbered new k ≡ numbered old k) → WereMarked 2 marks (set (set marks a true) b true) old new
 mark_two marks a b old new others =
     let one = set marks a true in
     let long = length-set marks a true in
@@ -64,7 +64,7 @@ mark_two marks a b old new others =
       others = λ k lt unset. others k (apart marks a k (omega (arith, lt, long, longer)) (before one b k unset)) (apart one b k (omega (arith, lt, longer)) unset);
     }
 
-pub marks_more : (m n most : ℕ) (a b c : List Bool) (x y z : List (List ℕ)) → m + n ≤ most → Marks m a b x y → Marks n b c y z → Marks most a c x z
+pub marks_more : (m n most : ℕ) (a b c : List Bool) (x y z : List (List ℕ)) → m + n ≤ most → WereMarked m a b x y → WereMarked n b c y z → WereMarked most a c x z
 marks_more m n most a b c x y z le one two = record {
   long = two.long ∙ one.long;
   few = omega (arith, one.few, two.few, le);
@@ -127,11 +127,11 @@ count_front zero marks = omega arith
 count_front (suc n) [] = omega arith
 count_front (suc n) (b ∷ marks) = omega (arith, count_cons b (take n marks), count_cons b marks, count_front n marks)
 
-pub written_few : (n end most : ℕ) (marks : List Bool) (old new : List (List ℕ)) → Marks most (replicate n false) marks old new → length (numbers_from 0 (take end marks)) ≤ most
+pub written_few : (n end most : ℕ) (marks : List Bool) (old new : List (List ℕ)) → WereMarked most (replicate n false) marks old new → length (numbers_from 0 (take end marks)) ≤ most
 written_few n end most marks old new are = omega (arith, numbers_few 0 (take end marks), count_front end marks, are.few, count_none n)
 
 -- a block that was not there before is marked, since it has bytes
-module _ (most n : ℕ) (marks : List Bool) (old new : List (List ℕ)) (are : Marks most (replicate n false) marks old new) (room : length new ≤ n) (some : (k : ℕ) → k < length new → 0 < length (numbered new k)) where
+module _ (most n : ℕ) (marks : List Bool) (old new : List (List ℕ)) (are : WereMarked most (replicate n false) marks old new) (room : length new ≤ n) (some : (k : ℕ) → k < length new → 0 < length (numbered new k)) where
   long : length marks ≡ n
   long = are.long ∙ length-replicate n false
 

@@ -4,7 +4,7 @@ use Rattle.file_graph.specs.declared.effect.Kind.{Kind}
 use Rattle.posix_calls.specs.declared.limits.TheConstants.{MAX_ENTRIES}
 use Rattle.layout.specs.Places.{is_inode}
 use Rattle.layout.specs.declared.directory.TheConstants.{MAX_IN_BLOCK}
-use Rattle.tree_blocks.specs.Inode.{Blocks, Entry, entry_at, blocks_for, IsDirectory}
+use Rattle.tree_blocks.specs.Inode.{Blocks, Entry, entry_at, blocks_for, AreDirectoryBlocks}
 use Rattle.tree_blocks.specs.After.{IsEntered, IsTakenOut}
 
 -- its inode, how many entries it has, and its blocks
@@ -26,12 +26,12 @@ pub record IsHeld (d : EntryBlocks) : Type 0 where
   pub number : is_inode d.owner ≡ true
   pub few : d.count ≤ MAX_ENTRIES
   pub long : length d.blocks ≡ blocks_for d.count
-  pub directory : IsDirectory d.owner d.count (numbered d.blocks)
+  pub directory : AreDirectoryBlocks d.owner d.count (numbered d.blocks)
 
 -- blocks are those of a directory of so many entries, and no more
 pub record AreHeld (owner count : ℕ) (blocks : List (List ℕ)) : Type 0 where
   pub long : length blocks ≡ blocks_for count
-  pub directory : IsDirectory owner count (numbered blocks)
+  pub directory : AreDirectoryBlocks owner count (numbered blocks)
 
 -- ---- a change of names
 
@@ -53,11 +53,11 @@ coming (c ∷ cs) = counted (coming cs) false (is_some c.1)
 -- the blocks of a directory of so many entries with one more behind them
 pub record HaveOneMore (owner count : ℕ) (e : Entry) (old new : List (List ℕ)) : Type 0 where
   pub long : length new ≡ blocks_for (count + 1)
-  pub directory : IsDirectory owner (count + 1) (numbered new)
+  pub directory : AreDirectoryBlocks owner (count + 1) (numbered new)
   pub entered : IsEntered count e count (entry_at (numbered old)) (count + 1) (entry_at (numbered new))
   pub others : (k : ℕ) → k ≢ count / MAX_IN_BLOCK → numbered new k ≡ numbered old k
 
 -- the blocks of a directory of which the last entry stands at the place of another, and not behind the others; `last` is its number
 pub record HaveOneLess (owner last number : ℕ) (old new : Blocks) : Type 0 where
-  pub directory : IsDirectory owner last new
+  pub directory : AreDirectoryBlocks owner last new
   pub taken : IsTakenOut number (last + 1) (entry_at old) last (entry_at new)

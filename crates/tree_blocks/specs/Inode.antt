@@ -24,8 +24,8 @@ unfoldable pub byte_of : Blocks → ℕ → ℕ
 byte_of blocks at = get_or (blocks (at / BLOCK)) (at % BLOCK) 0
 
 -- the bytes of a file of this size
-abbrev pub file_bytes : Blocks → ℕ → List ℕ
-file_bytes blocks size = map (byte_of blocks) (range_with_len 0 size)
+abbrev pub bytes_of_blocks : Blocks → ℕ → List ℕ
+bytes_of_blocks blocks size = map (byte_of blocks) (range_with_len 0 size)
 
 -- every byte from the size on is zero, whatever blocks there are
 abbrev pub IsZeroFrom : ℕ → Blocks → Type 0
@@ -72,7 +72,7 @@ pub record IsDirectoryBlock (owner n k : ℕ) (block : List ℕ) : Type 0 where
   pub count_is : length (listed block).entries ≡ entries_in n k
 
 -- a directory of n entries: each block spells its part of them, and no two have one name
-pub record IsDirectory (owner n : ℕ) (blocks : Blocks) : Type 0 where
+pub record AreDirectoryBlocks (owner n : ℕ) (blocks : Blocks) : Type 0 where
   pub parts : (k : ℕ) → k < blocks_for n → IsDirectoryBlock owner n k (blocks k)
   pub distinct : AreDistinct (entry_at blocks) n
 
@@ -96,28 +96,28 @@ inode_of slot.Free blocks = blank_inode None
 inode_of (slot.File names size touch fast block slow) blocks = record { kind = Some kind.File; names = names; size = size; blocks = blocks }
 inode_of (slot.Directory names entries touch root) blocks = record { kind = Some kind.Directory; names = names; size = entries; blocks = blocks }
 
-abbrev pub body_of : Kind → ℕ → Blocks → Body
-body_of kind.File size blocks = FileBody (file_bytes blocks size)
-body_of kind.Directory size blocks = DirBody (named (entry_at blocks) size)
+abbrev pub body_of_blocks : Kind → ℕ → Blocks → Body
+body_of_blocks kind.File size blocks = FileBody (bytes_of_blocks blocks size)
+body_of_blocks kind.Directory size blocks = DirBody (named (entry_at blocks) size)
 
 abbrev pub node_by : Option Kind → ℕ → ℕ → Blocks → Option Node
 node_by None names size blocks = None
-node_by (Some k) names size blocks = Some (record { names = names; body = body_of k size blocks })
+node_by (Some k) names size blocks = Some (record { names = names; body = body_of_blocks k size blocks })
 
 -- the node that an inode is
 abbrev pub node_of : Inode → Option Node
 node_of x = node_by x.kind x.names x.size x.blocks
 
 -- the nodes that the inodes are
-abbrev pub graph_of : (ℕ → Inode) → Graph
-graph_of inodes i = node_of (inodes i)
+abbrev pub graph_of_inodes : (ℕ → Inode) → Graph
+graph_of_inodes inodes i = node_of (inodes i)
 
 -- ---- what the format asks of an inode, beside what each block alone is
 
 abbrev pub IsConsistentBy : ℕ → Option Kind → ℕ → Blocks → Type 0
 IsConsistentBy number None size blocks = Unit {0}
 IsConsistentBy number (Some kind.File) size blocks = IsZeroFrom size blocks
-IsConsistentBy number (Some kind.Directory) size blocks = IsDirectory number size blocks
+IsConsistentBy number (Some kind.Directory) size blocks = AreDirectoryBlocks number size blocks
 
 -- a file is zero behind its size, and a directory's blocks are its entries, each in its place
 abbrev pub IsConsistent : ℕ → Inode → Type 0

@@ -22,7 +22,7 @@ abbrev pub count_set : List Bool → ℕ
 count_set marks = count_by (λ b. b) marks
 
 -- as blocks are written they are marked, `most` of them at most: one that is not marked in the end was not before, and is as it was
-pub record Marks (most : ℕ) (old_marks new_marks : List Bool) (old new : List (List ℕ)) : Type 0 where
+pub record WereMarked (most : ℕ) (old_marks new_marks : List Bool) (old new : List (List ℕ)) : Type 0 where
   pub long : length new_marks ≡ length old_marks
   pub few : count_set new_marks ≤ count_set old_marks + most
   pub stay : (k : ℕ) → get_or new_marks k false ≡ false → get_or old_marks k false ≡ false

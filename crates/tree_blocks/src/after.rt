@@ -4,7 +4,7 @@ ghost use Rattle.std.specs.Prelude.{◌≡◌, ◌<◌, ℕ, List};
 ghost use Rattle.std.specs.FinMap as fin;
 ghost use Rattle.graph_change.specs.Net.{Net, node_after};
 ghost use Rattle.graph_change.specs.Change.{Changes, changed};
-ghost use Rattle.tree_blocks.specs.Inode.{Inode, Entry, node_of, graph_of, named, AreDistinct, IsConsistent};
+ghost use Rattle.tree_blocks.specs.Inode.{Inode, Entry, node_of, graph_of_inodes, named, AreDistinct, IsConsistent};
 ghost use Rattle.tree_blocks.specs.After.{IsEntered, IsTakenOut, IsInodeAfter, AreInodesAfter};
 
 /// A consistent inode after a net change is the node after that change, and is consistent.
@@ -14,7 +14,7 @@ pub fn inode_after_is_node_after()
 
 /// Consistent inodes after a change of many are the graph after that change, and are consistent.
 pub fn inodes_after_are_graph_after()
-    ensures { (cs : Changes) (old new : ℕ → Inode) → ((i : ℕ) → IsConsistent i (old i)) → AreInodesAfter cs old new → (graph_of new ≡ changed cs (graph_of old)) × ((i : ℕ) → IsConsistent i (new i)) }
+    ensures { (cs : Changes) (old new : ℕ → Inode) → ((i : ℕ) → IsConsistent i (old i)) → AreInodesAfter cs old new → (graph_of_inodes new ≡ changed cs (graph_of_inodes old)) × ((i : ℕ) → IsConsistent i (new i)) }
 {}
 
 /// Where no two entries have one name, so it is after one is entered or taken out, and the entries by name have it then or no longer.

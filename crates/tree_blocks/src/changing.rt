@@ -8,9 +8,9 @@ ghost use Rattle.layout.specs.Lent.{owned};
 ghost use Rattle.layout.specs.Directory.{fits_entry};
 ghost use Rattle.node_bodies.specs.Named.{pairs, IsInOrder};
 ghost use Rattle.graph_change.specs.Net.{with_entry, with_entries};
-ghost use Rattle.tree_blocks.specs.Inode.{entry_at, named, IsDirectory, blocks_for};
+ghost use Rattle.tree_blocks.specs.Inode.{entry_at, named, AreDirectoryBlocks, blocks_for};
 ghost use Rattle.tree_blocks.specs.Directory.{numbered, AreHeld, LeadToInodes, coming, counted};
-ghost use Rattle.tree_blocks.specs.Written.{Marks};
+ghost use Rattle.tree_blocks.specs.Written.{WereMarked};
 
 use crate::entry_blocks::{add_to, find_in, take_from};
 use crate::written::mark;
@@ -35,7 +35,7 @@ fn put_name(
     requires held { AreHeld owner count blocks.old.items }
     ensures held { IfOk result (λ n. AreHeld owner n blocks.new.items) }
     ensures entries { IfOk result (λ n. named (entry_at (numbered blocks.new.items)) n ≡ fin.insert (named (entry_at (numbered blocks.old.items)) count) entry.entry.name.now (entry.entry.inode, entry.entry.kind)) }
-    ensures marks { OnOk result (Marks 1 marks.old marks.new blocks.old.items blocks.new.items) }
+    ensures marks { OnOk result (WereMarked 1 marks.old marks.new blocks.old.items blocks.new.items) }
     ensures grown { IfOk result (λ n. n ≤ count + 1) }
     ensures memory { OnErr result (vec_capacity blocks.old < blocks_for (count + 1)) }
     ensures capacity { vec_capacity blocks.old ≤ vec_capacity blocks.new }
@@ -61,7 +61,7 @@ fn drop_name(blocks: &mut Vec<[u8; BLOCK]>, marks: &mut [bool], count: usize, na
     requires held { (owner : ℕ) × AreHeld owner count blocks.old.items }
     ensures held { (owner : ℕ) → AreHeld owner count blocks.old.items → AreHeld owner result blocks.new.items }
     ensures entries { named (entry_at (numbered blocks.new.items)) result ≡ fin.remove (named (entry_at (numbered blocks.old.items)) count) name.now }
-    ensures marks { Marks 2 marks.old marks.new blocks.old.items blocks.new.items }
+    ensures marks { WereMarked 2 marks.old marks.new blocks.old.items blocks.new.items }
     ensures shrunk { result ≤ count }
     ensures capacity { vec_capacity blocks.new ≡ vec_capacity blocks.old }
 {
@@ -90,7 +90,7 @@ fn change_name(
     requires held { AreHeld owner count blocks.old.items }
     ensures held { IfOk result (λ n. AreHeld owner n blocks.new.items) }
     ensures entries { IfOk result (λ n. named (entry_at (numbered blocks.new.items)) n ≡ with_entry change.now.name change.now.value (named (entry_at (numbered blocks.old.items)) count)) }
-    ensures marks { OnOk result (Marks 2 marks.old marks.new blocks.old.items blocks.new.items) }
+    ensures marks { OnOk result (WereMarked 2 marks.old marks.new blocks.old.items blocks.new.items) }
     ensures grown { IfOk result (λ n. n ≤ counted count false (is_some change.now.value)) }
     ensures memory { OnErr result (vec_capacity blocks.old < blocks_for (counted count false (is_some change.now.value))) }
     ensures capacity { vec_capacity blocks.old ≤ vec_capacity blocks.new }
@@ -125,7 +125,7 @@ pub fn change_names(
     requires room { blocks_for (count + coming (pairs changes.now)) ≤ vec_capacity blocks.old }
     ensures held { AreHeld owner result blocks.new.items }
     ensures entries { named (entry_at (numbered blocks.new.items)) result ≡ with_entries (pairs changes.now) (named (entry_at (numbered blocks.old.items)) count) }
-    ensures marks { Marks (2 * length changes.now) marks.old marks.new blocks.old.items blocks.new.items }
+    ensures marks { WereMarked (2 * length changes.now) marks.old marks.new blocks.old.items blocks.new.items }
 {
     let mut after = count;
     'changes: for done in 0..changes.len() {

@@ -5,7 +5,7 @@ ghost use Rattle.layout.specs.Places.{is_inode};
 ghost use Rattle.layout.specs.Lent.{owned};
 ghost use Rattle.layout.specs.Directory.{AreEntries, listed, fits_entry, are_distinct, with_entry_at, without_last, entry_of};
 ghost use Rattle.layout.specs.declared.directory.TheConstants.{MAX_IN_BLOCK};
-ghost use Rattle.tree_blocks.specs.Inode.{plain, entry_at, blocks_for, IsAbsent, IsDirectory};
+ghost use Rattle.tree_blocks.specs.Inode.{plain, entry_at, blocks_for, IsAbsent, AreDirectoryBlocks};
 ghost use Rattle.tree_blocks.specs.Directory.{numbered, HaveOneMore, HaveOneLess};
 
 use layout::{
@@ -85,7 +85,7 @@ pub fn add_to(
     requires owner { is_inode owner ≡ true }
     requires fits { fits_entry (owned entry) ≡ true }
     requires long { length blocks.old.items ≡ blocks_for count }
-    requires directory { IsDirectory owner count (numbered blocks.old.items) }
+    requires directory { AreDirectoryBlocks owner count (numbered blocks.old.items) }
     requires new { IsAbsent entry.name.now (entry_at (numbered blocks.old.items)) count }
     ensures more { OnOk result (HaveOneMore owner count (plain (owned entry.entry)) blocks.old.items blocks.new.items) }
     ensures err { OnErr result (blocks.new.items ≡ blocks.old.items) }
@@ -104,10 +104,10 @@ pub fn add_to(
 pub fn fill_block(blocks: &mut [[u8; BLOCK]], count: usize, entry: EntryRef<'_>)
     requires fits { fits_entry (owned entry) ≡ true }
     requires long { length blocks.old ≡ blocks_for count }
-    requires directory { (owner : ℕ) × IsDirectory owner count (numbered blocks.old) }
+    requires directory { (owner : ℕ) × AreDirectoryBlocks owner count (numbered blocks.old) }
     requires new { IsAbsent entry.name.now (entry_at (numbered blocks.old)) count }
     requires room { count % MAX_IN_BLOCK ≢ 0 }
-    ensures more { (owner : ℕ) → IsDirectory owner count (numbered blocks.old) → HaveOneMore owner count (plain (owned entry.entry)) blocks.old blocks.new }
+    ensures more { (owner : ℕ) → AreDirectoryBlocks owner count (numbered blocks.old) → HaveOneMore owner count (plain (owned entry.entry)) blocks.old blocks.new }
 {
     add_entry(&mut blocks[count / MAX_IN_BLOCK], entry);
 }
@@ -116,8 +116,8 @@ pub fn fill_block(blocks: &mut [[u8; BLOCK]], count: usize, entry: EntryRef<'_>)
 pub fn put_last_at(blocks: &mut [[u8; BLOCK]], number: usize, last: usize)
     requires inside { number ≤ last }
     requires long { length blocks.old ≡ blocks_for (last + 1) }
-    requires directory { (owner : ℕ) × IsDirectory owner (last + 1) (numbered blocks.old) }
-    ensures less { (owner : ℕ) → IsDirectory owner (last + 1) (numbered blocks.old) → HaveOneLess owner last number (numbered blocks.old) (numbered blocks.new) }
+    requires directory { (owner : ℕ) × AreDirectoryBlocks owner (last + 1) (numbered blocks.old) }
+    ensures less { (owner : ℕ) → AreDirectoryBlocks owner (last + 1) (numbered blocks.old) → HaveOneLess owner last number (numbered blocks.old) (numbered blocks.new) }
     ensures others { (k : ℕ) → k ≢ number / MAX_IN_BLOCK → k ≢ last / MAX_IN_BLOCK → numbered blocks.new k ≡ numbered blocks.old k }
     ensures long { length blocks.new ≡ length blocks.old }
 {
@@ -134,8 +134,8 @@ pub fn put_last_at(blocks: &mut [[u8; BLOCK]], number: usize, last: usize)
 pub fn take_from(blocks: &mut Vec<[u8; BLOCK]>, number: usize, last: usize)
     requires inside { number ≤ last }
     requires long { length blocks.old.items ≡ blocks_for (last + 1) }
-    requires directory { (owner : ℕ) × IsDirectory owner (last + 1) (numbered blocks.old.items) }
-    ensures less { (owner : ℕ) → IsDirectory owner (last + 1) (numbered blocks.old.items) → HaveOneLess owner last number (numbered blocks.old.items) (numbered blocks.new.items) }
+    requires directory { (owner : ℕ) × AreDirectoryBlocks owner (last + 1) (numbered blocks.old.items) }
+    ensures less { (owner : ℕ) → AreDirectoryBlocks owner (last + 1) (numbered blocks.old.items) → HaveOneLess owner last number (numbered blocks.old.items) (numbered blocks.new.items) }
     ensures others { (k : ℕ) → k ≢ number / MAX_IN_BLOCK → k ≢ last / MAX_IN_BLOCK → numbered blocks.new.items k ≡ numbered blocks.old.items k }
     ensures long { length blocks.new.items ≡ blocks_for last }
     ensures capacity { vec_capacity blocks.new ≡ vec_capacity blocks.old }

@@ -4,7 +4,7 @@ ghost use Rattle.std.specs.Prelude.{◌≡◌, ◌≤◌, ◌<◌, ◌-◌, ◌*
 ghost use Rattle.graph_change.specs.Bytes.{Length, length_after, IsTidy};
 ghost use Rattle.graph_change.specs.Change.{Change, Patch, blank, net_of, writes_block, IsWhole};
 ghost use Rattle.graph_change.specs.Tidy.{IsTidyChange};
-ghost use Rattle.graph_change.specs.View.{length_of};
+ghost use Rattle.graph_change.specs.View.{new_length};
 ghost use Rattle.layout.specs.declared.places.TheConstants.{BLOCK};
 ghost use Rattle.tree_blocks.specs.Inode.{Blocks, IsZeroFrom};
 ghost use Rattle.tree_blocks.specs.After.{IsFileAfter};
@@ -17,7 +17,7 @@ use layout::BLOCK;
 /// block that no tier holds is passed as zeros.
 pub fn change_block(block: &mut [u8], number: u64, len: NodeLength, put: Option<&BlockChange>)
     requires { length block.old ≡ BLOCK }
-    ensures { block.new ≡ block_after (length_of len) (put_in (option_map (λ b. b.now) put.entry)) number block.old }
+    ensures { block.new ≡ block_after (new_length len) (put_in (option_map (λ b. b.now) put.entry)) number block.old }
 {
     cut_block(block, kept_in(number, len));
     match put {
@@ -28,7 +28,7 @@ pub fn change_block(block: &mut [u8], number: u64, len: NodeLength, put: Option<
 
 // How many bytes of a block are kept.
 fn kept_in(number: u64, len: NodeLength) -> usize
-    ensures kept { result ≡ kept_in (length_of len) number }
+    ensures kept { result ≡ kept_in (new_length len) number }
     ensures few { result ≤ BLOCK }
 {
     let NodeLength::Cut { least, .. } = len else {

@@ -5,7 +5,7 @@ use Rattle.std.proofs.lemmas.Bool.{cases_Bool, eqb-true, eq-eqb, ne_eqb, cond-tr
 use Rattle.std.proofs.lemmas.List.{append-nil, drop_all, drop-drop, drop-append-le, length-drop}
 use Rattle.byteorder.specs.Numbers.{little_from-take}
 use Rattle.log_record.specs.declared.format.Record.{Record}
-use Rattle.update_log.specs.Frames.{records, header, joined}
+use Rattle.update_log.specs.Frames.{records, header, with_record}
 use Rattle.update_log.specs.View.{WithOrWithout}
 use Rattle.update_log.specs.Wiping.{generation, LeftInWipe}
 use Rattle.update_log.specs.Counting.{records_under, next_generation, records_in, counted, with_region}
@@ -67,11 +67,11 @@ wipe_keeps g done r regions content behind wiped other next =
 
 -- ---- an append
 
-joined_behind : (first rs : List Record) (o : Option Record) → first ++ joined rs o ≡ joined (first ++ rs) o
+joined_behind : (first rs : List Record) (o : Option Record) → first ++ with_record rs o ≡ with_record (first ++ rs) o
 joined_behind first rs None = refl
 joined_behind first rs (Some r) = sym (append_assoc first rs (r ∷ []))
 
-drop_joined : (done : ℕ) (rs : List Record) (o : Option Record) → done ≤ length rs → drop done (joined rs o) ≡ joined (drop done rs) o
+drop_joined : (done : ℕ) (rs : List Record) (o : Option Record) → done ≤ length rs → drop done (with_record rs o) ≡ with_record (drop done rs) o
 drop_joined done rs None le = refl
 drop_joined done rs (Some r) le = drop-append-le done rs (r ∷ []) le
 
@@ -80,7 +80,7 @@ next_is_other g lt is = omega (arith, lt, is)
 
 module _ (g done : ℕ) (regions : ℕ → List ℕ) (content : List ℕ) (begun : Option Record) (small : g < 2 ^ 64) where
   abbrev EitherIn : ℕ → Type 0
-  EitherIn r = (counted g done (with_region regions r content) ≡ counted g done regions) ⊎ (counted g done (with_region regions r content) ≡ joined (counted g done regions) begun)
+  EitherIn r = (counted g done (with_region regions r content) ≡ counted g done regions) ⊎ (counted g done (with_region regions r content) ≡ with_record (counted g done regions) begun)
 
   abbrev next_one : ℕ
   next_one = next_generation g
@@ -98,7 +98,7 @@ module _ (g done : ℕ) (regions : ℕ → List ℕ) (content : List ℕ) (begun
       let all : counted g done (with_region regions r content) ≡ drop done (records_in regions g) ++ records content = (λ k. drop done (first k) ++ last k) in
       elim (shows.records_are) [
         | inl is ↦ inl (all ∙ ap (λ (l : List Record). drop done (records_in regions g) ++ l) (is ∙ sym was))
-        | inr more ↦ inr (all ∙ ap (λ (l : List Record). drop done (records_in regions g) ++ l) (more ∙ ap (λ (l : List Record). joined l begun) (sym was))
+        | inr more ↦ inr (all ∙ ap (λ (l : List Record). drop done (records_in regions g) ++ l) (more ∙ ap (λ (l : List Record). with_record l begun) (sym was))
             ∙ joined_behind (drop done (records_in regions g)) (records_in regions next_one) begun)
       ]
 
@@ -115,7 +115,7 @@ module _ (g done : ℕ) (regions : ℕ → List ℕ) (content : List ℕ) (begun
       let before : counted g done regions ≡ drop done (records (regions r)) = (λ k. drop done (was k) ++ none k) ∙ append-nil (drop done (records (regions r))) in
       elim (shows.records_are) [
         | inl is ↦ inl (all ∙ ap (drop done) is ∙ sym before)
-        | inr more ↦ inr (all ∙ ap (drop done) more ∙ drop_joined done (records (regions r)) begun le ∙ ap (λ (l : List Record). joined l begun) (sym before))
+        | inr more ↦ inr (all ∙ ap (drop done) more ∙ drop_joined done (records (regions r)) begun le ∙ ap (λ (l : List Record). with_record l begun) (sym before))
       ]
 
 -- ---- a digest

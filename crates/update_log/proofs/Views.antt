@@ -14,7 +14,7 @@ use Rattle.tier_device.specs.declared.media.Tier.TheVariants.{Fast}
 use Rattle.tier_device.specs.Media.{Keeps, LeftSince}
 use Rattle.update_log.specs.declared.stage.Stage.{Stage}
 use Rattle.update_log.specs.declared.stage.Stage.TheVariants as stages
-use Rattle.update_log.specs.Frames.{payloads, records, header, before_gate, spelled, joined, behind_gate, is_payload}
+use Rattle.update_log.specs.Frames.{payloads, records, header, before_gate, spelled, with_record, behind_gate, is_payload}
 use Rattle.update_log.specs.Stage.{IsFront, IsShut, IsWhole, HasRecord, BeforeOrAfter, IsResting, FitsItsStage, AtStage, IsAppending, IsIdle, payload_in, next}
 use Rattle.update_log.specs.Wipe.{IsWiping}
 use Rattle.update_log.specs.View.{begun_in, WithOrWithout}
@@ -42,7 +42,7 @@ since_more first before now old new P keeps earlier last c since = elim (cases_l
 pub same_either : (h h' : List ℕ) (rs rs' : List Record) (o o' : Option Record) (c : List ℕ) → h ≡ h' → rs ≡ rs' → o ≡ o' → WithOrWithout h rs o c → WithOrWithout h' rs' o' c
 same_either h h' rs rs' o o' c hs rss os was = record {
   header_is = was.header_is ∙ hs;
-  records_are = elim (was.records_are) [ inl same ↦ inl (same ∙ rss) | inr more ↦ inr (more ∙ (λ i. joined (rss i) (os i))) ];
+  records_are = elim (was.records_are) [ inl same ↦ inl (same ∙ rss) | inr more ↦ inr (more ∙ (λ i. with_record (rss i) (os i))) ];
 }
 
 -- the same for what an append promises
@@ -78,11 +78,11 @@ whole_at stages.Closed end body h has = absurd h
 whole_at stages.Naming end body h has = absurd h
 whole_at stages.WipeFailed end body h has = absurd h
 
-join_one : (rs : List Record) (o : Option Record) → rs ++ cons_option o [] ≡ joined rs o
+join_one : (rs : List Record) (o : Option Record) → rs ++ cons_option o [] ≡ with_record rs o
 join_one rs None = append-nil rs
 join_one rs (Some r) = refl
 
-pub spelled_more : (ps : List (List ℕ)) (payload : List ℕ) → spelled (ps ++ payload ∷ []) ≡ joined (spelled ps) (record_of payload)
+pub spelled_more : (ps : List (List ℕ)) (payload : List ℕ) → spelled (ps ++ payload ∷ []) ≡ with_record (spelled ps) (record_of payload)
 spelled_more ps payload = filter_map-append record_of ps (payload ∷ []) ∙ join_one (spelled ps) (record_of payload)
 
 pub with_or_without : (front payload c : List ℕ) → IsFront front → BeforeOrAfter front payload c → WithOrWithout (header front) (spelled (before_gate front)) (record_of payload) c

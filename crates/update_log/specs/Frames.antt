@@ -68,6 +68,6 @@ abbrev pub end_behind : List Record → ℕ
 end_behind rs = HEADER + taken rs
 
 -- records, and one more where there is one
-abbrev pub joined : List Record → Option Record → List Record
-joined rs None = rs
-joined rs (Some r) = rs ++ r ∷ []
+abbrev pub with_record : List Record → Option Record → List Record
+with_record rs None = rs
+with_record rs (Some r) = rs ++ r ∷ []

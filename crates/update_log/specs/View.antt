@@ -7,7 +7,7 @@ use Rattle.log_record.specs.Grammar.{record_of}
 use Rattle.update_log.specs.declared.format.TheConstants.{REGION_SIZE}
 use Rattle.update_log.specs.declared.stage.Stage.{Stage}
 use Rattle.update_log.specs.declared.stage.Stage.TheVariants as stages
-use Rattle.update_log.specs.Frames.{before_gate, spelled, records, header, joined}
+use Rattle.update_log.specs.Frames.{before_gate, spelled, records, header, with_record}
 
 pub record RegionView (M : Type 0) : Type 0 where
   pub media : M
@@ -50,7 +50,7 @@ begun_of v = v.begun
 -- A content with this header and these records, with the begun one after them or without it.
 pub record WithOrWithout (head : List ℕ) (rs : List Record) (begun : Option Record) (content : List ℕ) : Type 0 where
   pub header_is : header content ≡ head
-  pub records_are : (records content ≡ rs) ⊎ (records content ≡ joined rs begun)
+  pub records_are : (records content ≡ rs) ⊎ (records content ≡ with_record rs begun)
 
 -- the tiers have the sizes of a region's
 pub record HasSize (seen : Tier → List ℕ) : Type 0 where

@@ -2,7 +2,7 @@
 ghost use Rattle.std.specs.Prelude.{◌≡◌, ◌≢◌, ◌⊎◌, ◌≤◌, ◌<◌, ◌+◌, ◌%◌, ◌^◌, ℕ, List, [], length, drop, Option};
 ghost use Rattle.log_record.specs.declared.format.Record.{Record};
 ghost use Rattle.update_log.specs.Counting.{counted, next_generation, records_in, records_under, with_region};
-ghost use Rattle.update_log.specs.Frames.{header, joined, records};
+ghost use Rattle.update_log.specs.Frames.{header, with_record, records};
 ghost use Rattle.update_log.specs.View.{WithOrWithout};
 ghost use Rattle.update_log.specs.Wiping.{LeftInWipe, generation};
 

@@ -6,7 +6,7 @@ ghost use Rattle.tier_device.specs.Media.{AtRest, LeftSince, Keeps, Puts, Rose};
 ghost use Rattle.update_log.specs.declared.error.RegionError.TheVariants.{DeviceFault, RegionFull, Damaged, Memory};
 ghost use Rattle.update_log.specs.declared.format.TheConstants.{HEADER, REGION_SIZE, OPEN};
 ghost use Rattle.update_log.specs.declared.stage.Stage.TheVariants as stages;
-ghost use Rattle.update_log.specs.Frames.{records, header, joined, end_behind};
+ghost use Rattle.update_log.specs.Frames.{records, header, with_record, end_behind};
 ghost use Rattle.update_log.specs.Stage.{IsAppending, IsIdle, calls_left, next, progress};
 ghost use Rattle.update_log.specs.View.{HasSize};
 
@@ -192,7 +192,7 @@ impl<M: Media> Region<M> {
 
         // Until the last call the record is begun; then it is appended, and every stop leaves it.
         ensures going { self.new.stage ≢ stages.Resting → (records_of M.seen self.new ≡ records_of M.seen self.old) × (begun_of self.new ≡ begun_of self.old) }
-        ensures appended { self.new.stage ≡ stages.Resting → records_of M.seen self.new ≡ joined (records_of M.seen self.old) (begun_of self.old) }
+        ensures appended { self.new.stage ≡ stages.Resting → records_of M.seen self.new ≡ with_record (records_of M.seen self.old) (begun_of self.old) }
         ensures kept { self.new.stage ≡ stages.Resting → (c : List ℕ) → M.left self.new.media (M.moment self.new.media) Fast c → records c ≡ records_of M.seen self.new }
 
         ensures one_call { OnOk result (M.moment self.new.media ≡ M.moment self.old.media + 1) }
@@ -232,7 +232,7 @@ impl<M: Media> Region<M> {
             → WithOrWithout (header_of M.seen self.old) (records_of M.seen self.old) (Some entry.now) c }
         ensures past { PastStays (M.moment self.old.media) (M.moment self.new.media) (M.left self.old.media) (M.left self.new.media) }
 
-        ensures appended { OnOk result (records_of M.seen self.new ≡ joined (records_of M.seen self.old) (Some entry.now)) }
+        ensures appended { OnOk result (records_of M.seen self.new ≡ with_record (records_of M.seen self.old) (Some entry.now)) }
         ensures kept { OnOk result ((c : List ℕ) → M.left self.new.media (M.moment self.new.media) Fast c → records c ≡ records_of M.seen self.new) }
         ensures stage { OnOk result (self.new.stage ≡ stages.Resting) }
         ensures same_header { header_of M.seen self.new ≡ header_of M.seen self.old }
@@ -261,7 +261,7 @@ impl<M: Media> Region<M> {
         ensures any_moment { (c : List ℕ) → LeftSince (M.left self.new.media) (M.moment self.new.media) (M.moment self.old.media) Fast c
             → WithOrWithout (header_of M.seen self.old) (records_of M.seen self.old) (begun_of self.old) c }
         ensures past { PastStays (M.moment self.old.media) (M.moment self.new.media) (M.left self.old.media) (M.left self.new.media) }
-        ensures appended { OnOk result (records_of M.seen self.new ≡ joined (records_of M.seen self.old) (begun_of self.old)) }
+        ensures appended { OnOk result (records_of M.seen self.new ≡ with_record (records_of M.seen self.old) (begun_of self.old)) }
         ensures kept { OnOk result ((c : List ℕ) → M.left self.new.media (M.moment self.new.media) Fast c → records c ≡ records_of M.seen self.new) }
         ensures stage { OnOk result (self.new.stage ≡ stages.Resting) }
         ensures same_header { header_of M.seen self.new ≡ header_of M.seen self.old }

@@ -12,7 +12,7 @@ use Rattle.posix_calls.specs.Operations.{reply_of}
 use Rattle.file_graph.specs.Graph.{Graph, fresh, after_effects}
 use Rattle.file_graph.specs.declared.effect.Kind.TheVariants as kind
 use Rattle.log_record.specs.declared.format.Record.{Record}
-use Rattle.update_log.specs.Frames.{records, joined}
+use Rattle.update_log.specs.Frames.{records, with_record}
 use Rattle.call_effects.specs.Effects.{making}
 use Rattle.call_effects.specs.Known.{stored_view}
 use Rattle.call_effects.specs.Records.{effects_asked, growth_asked}
@@ -21,8 +21,8 @@ use Rattle.workload_cli.specs.declared.two_clients.TheConstants.{FILE, NEW}
 -- ---- the calls
 
 -- a root with the empty file `/f`
-abbrev pub opening : Graph
-opening = after_effects fresh (making FILE kind.File (record { parent = ROOT; name = codes "f" }))
+abbrev pub root_with_f : Graph
+root_with_f = after_effects fresh (making FILE kind.File (record { parent = ROOT; name = codes "f" }))
 
 -- nothing is open
 abbrev pub nothing_open : Own
@@ -56,17 +56,17 @@ after_replay g [] = g
 after_replay g (r ∷ rs) = after_replay (after_effects g r.effects) rs
 
 -- the first call's record stands behind the old ones of its region, and is done
-pub record IsDone (g after : Graph) (old new : List Record) : Type 0 where
+pub record IsLoggedAndApplied (g after : Graph) (old new : List Record) : Type 0 where
   pub entry : Record
   pub told : Reply
   pub logged : IsLogged g file_open first_call NEW entry told
-  pub appended : new ≡ joined old (Some entry)
+  pub appended : new ≡ with_record old (Some entry)
   pub applied : after ≡ after_effects g entry.effects
 
 -- how many records of the first region are done: the first call's, once it is answered, and else none
 abbrev pub IsMark : ℕ → Graph → Graph → List Record → List Record → Type 0
 IsMark zero g after old new = after ≡ g
-IsMark (suc n) g after old new = (n ≡ 0) × IsDone g after old new
+IsMark (suc n) g after old new = (n ≡ 0) × IsLoggedAndApplied g after old new
 
 -- these are the records of one of the contents that a stop may leave
 abbrev pub MayHold : (List ℕ → Type 0) → List Record → Type 0

@@ -1,7 +1,7 @@
 // The program `strata_first`.
 ghost use Rattle.std.specs.Prelude.{◌≡◌, Ok, true, Some, IfOk, OnOk};
 ghost use Rattle.tier_device.specs.declared.media.Tier.TheVariants.{Fast};
-ghost use Rattle.update_log.specs.Frames.{joined};
+ghost use Rattle.update_log.specs.Frames.{with_record};
 ghost use Rattle.file_graph.specs.Graph.{Graph, graph_of};
 ghost use Rattle.update_log.specs.View.{records_of};
 ghost use Rattle.workload_cli.specs.FirstPath.{nothing_open, file_open, first_call, second_call, IsLogged, IsMark, IsRecovered};
@@ -150,7 +150,7 @@ fn keep<M: Media, O: Write>(
     client: u8,
     out: &mut O,
 ) -> Result<bool, RunError>
-    ensures { result ≡ Ok true → records_of M.seen region.new ≡ joined (records_of M.seen region.old) (Some entry.now) }
+    ensures { result ≡ Ok true → records_of M.seen region.new ≡ with_record (records_of M.seen region.old) (Some entry.now) }
 {
     let is_answered = log(region, entry)?;
     write_reply(out, client, is_answered, &reply)?;

@@ -5,7 +5,7 @@ ghost use Rattle.tier_device.specs.Media.{AtRest, Rose};
 ghost use Rattle.tier_device.specs.Memory.{IsAtRest, memory_seen};
 ghost use Rattle.tier_device.specs.Stop.{medium_of};
 ghost use Rattle.file_graph.specs.Graph.{graph_of, after_effects};
-ghost use Rattle.update_log.specs.Frames.{joined, records};
+ghost use Rattle.update_log.specs.Frames.{with_record, records};
 ghost use Rattle.update_log.specs.View.{records_of};
 ghost use Rattle.workload_cli.specs.FirstPath.{after_replay, MayHold, IsRecovered};
 
@@ -84,7 +84,7 @@ fn opened<M: Media + Drop>(alloc: Global, media: M) -> Result<Region<M>, RunErro
 
 /// Logs a record: whether it was answered, or the medium stopped before.
 pub fn log<M: Media>(region: &mut Region<M>, entry: &Record) -> Result<bool, RunError>
-    ensures answered { result ≡ Ok true → records_of M.seen region.new ≡ joined (records_of M.seen region.old) (Some entry.now) }
+    ensures answered { result ≡ Ok true → records_of M.seen region.new ≡ with_record (records_of M.seen region.old) (Some entry.now) }
     ensures unanswered { result ≡ Ok false → Rose (M.faults region.old.media) (M.faults region.new.media) }
 {
     if region.stage() != Stage::Resting || !entry.has_spelling() {

@@ -10,7 +10,7 @@ ghost use Rattle.file_graph.specs.Graph.{graph_of, after_effect, after_effects};
 ghost use Rattle.call_effects.specs.Effects.{making};
 ghost use Rattle.call_effects.specs.Known.{stored_view};
 ghost use Rattle.call_effects.specs.Records.{effects_asked, growth_asked};
-ghost use Rattle.workload_cli.specs.FirstPath.{opening, file_open, first_call, second_call, IsLogged};
+ghost use Rattle.workload_cli.specs.FirstPath.{root_with_f, file_open, first_call, second_call, IsLogged};
 
 use crate::run_error::RunError;
 use call_effects::{growth_of, record_of};
@@ -30,7 +30,7 @@ pub const NEW: u32 = 3;
 
 /// A root with the empty file `/f`.
 pub fn first_graph(alloc: Global) -> Result<PlainGraph, RunError>
-    ensures { IfOk result (λ graph. graph_of graph ≡ opening) }
+    ensures { IfOk result (λ graph. graph_of graph ≡ root_with_f) }
 {
     let name = file_name(alloc)?;
     let mut graph = PlainGraph::with_root(alloc)?;

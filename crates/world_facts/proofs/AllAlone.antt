@@ -2,7 +2,7 @@
 use Rattle.std.proofs.Common.{◌≡◌, ℕ, ◌+◌, ◌<◌, length, arith}
 use Rattle.std.proofs.lemmas.List.{length-replicate}
 use Rattle.posix_calls.specs.declared.limits.TheConstants.{MAX_FILE}
-use Rattle.world_facts.specs.Parts.{BookPart, NumbersFree, NumbersInRange, NumbersInOneHand, NodesWithin, UnitsFit, ClientPart, OwnNumber, MarkNotBefore, MarkNotPast, AwayHasRecords, BackHasNone, UnwipedHasNone, UnwipedIsIdle, RecordsLeased, RecordsPaid, RecordsNameNone, RecordsKeepLimits, UnitsBooked, MadeBooked, MadeOnce, GrantedBooked, GrantedUnused, CopiesLeased, BlocksLeased, OpenPinned, PinsBooked, BegunPlanned, BegunHasEffects, BegunPinned, SettledClosed, SettledIdle, Part, Book, Each, LeasesLegal, WholeSound, WholeKnown, BreaksAlone}
+use Rattle.world_facts.specs.Parts.{BookPart, NumbersFree, NumbersInRange, NumbersInOneHand, NodesWithin, UnitsFit, ClientPart, OwnNumber, MarkNotBefore, MarkNotPast, AwayHasRecords, BackHasNone, UnwipedHasNone, UnwipedIsIdle, RecordsLeased, RecordsPaid, RecordsNameNone, RecordsKeepLimits, UnitsBooked, MadeBooked, MadeOnce, GrantedBooked, GrantedUnused, CopiesLeased, BlocksLeased, OpenPinned, PinsBooked, BegunPlanned, BegunHasEffects, BegunPinned, SettledClosed, SettledIdle, WorldPart, Book, Each, LeasesLegal, WholeSound, WholeKnown, BreaksAlone}
 use Rattle.world_facts.specs.BrokenParts.{broken_book, broken_client, broken_world}
 use Rattle.world_facts.specs.Broken.{zeros}
 use Rattle.world_facts.proofs.AloneBooks as books
@@ -55,7 +55,7 @@ client_alone BegunPinned = calls.unpinned_alone
 client_alone SettledClosed = calls.left_alone
 client_alone SettledIdle = calls.settled_alone
 
-pub all_alone : (part : Part) → BreaksAlone part (broken_world part)
+pub all_alone : (part : WorldPart) → BreaksAlone part (broken_world part)
 all_alone (Book q) = book_alone q
 all_alone (Each q) = client_alone q
 all_alone LeasesLegal = copies.beside_alone

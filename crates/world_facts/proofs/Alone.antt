@@ -9,13 +9,13 @@ use Rattle.file_graph.specs.Units.{charge}
 use Rattle.world_facts.specs.World.{Account, Client, World, undigested, has_lease, log_of, whole, held, at, moved}
 use Rattle.world_facts.specs.Standing.{IsBooked, IsBeside}
 use Rattle.world_facts.specs.Invariant.{IsCoherent}
-use Rattle.world_facts.specs.Parts.{BookPart, HoldsIn, ClientPart, HoldsOf, Part, Book, Each, LeasesLegal, WholeSound, WholeKnown, Holds}
+use Rattle.world_facts.specs.Parts.{BookPart, HoldsIn, ClientPart, HoldsOf, WorldPart, Book, Each, LeasesLegal, WholeSound, WholeKnown, Holds}
 use Rattle.world_facts.proofs.Kernels.{each}
 use Rattle.world_facts.proofs.Moved.{each_client, both_same, whole_same, held_same, units_moved, booked_moved, before_less, after_less}
 use Rattle.world_facts.proofs.Parts.{book_parts, client_parts}
 
 -- the others' parts stand beside another graph
-abbrev pub OthersStand : Part → World → ℕ → Graph → Type 0
+abbrev pub OthersStand : WorldPart → World → ℕ → Graph → Type 0
 OthersStand part w c g = (q : ClientPart) → Each q ≢ part → (d : ℕ) → is_client d ≡ true → d ≢ c → HoldsOf q g (w.kernel.accounts d) d (w.clients d)
 
 -- the leases of a client's part and of the others are legal
@@ -26,7 +26,7 @@ IsLegalBeside w c p = (d : ℕ) → is_client d ≡ true → d ≢ c → IsBesid
 abbrev pub AllKnow : World → ℕ → Client → World → Type 0
 AllKnow w c p now = Agrees p.knows (whole now) (held now) × ((d : ℕ) → is_client d ≡ true → d ≢ c → Agrees (w.clients d).knows (whole now) (held now))
 
-module _ (part : Part) (w : World) (c : ℕ) (g : Graph) (a : Account) (p : Client) (is_c : is_client c ≡ true) where
+module _ (part : WorldPart) (w : World) (c : ℕ) (g : Graph) (a : Account) (p : Client) (is_c : is_client c ≡ true) where
   pub moved_others : ((q : BookPart) → Book q ≢ part → HoldsIn q (moved w c g a p).kernel)
       → ((q : ClientPart) → Each q ≢ part → HoldsOf q g a c p)
       → OthersStand part w c g
@@ -34,7 +34,7 @@ module _ (part : Part) (w : World) (c : ℕ) (g : Graph) (a : Account) (p : Clie
       → (LeasesLegal ≢ part → IsLegalBeside w c p)
       → (WholeSound ≢ part → IsSound (whole (moved w c g a p)) (held (moved w c g a p)))
       → (WholeKnown ≢ part → AllKnow w c p (moved w c g a p))
-      → (q : Part) → q ≢ part → Holds q (moved w c g a p)
+      → (q : WorldPart) → q ≢ part → Holds q (moved w c g a p)
   moved_others book own others were legal sound known (Book q) off = book q off
   moved_others book own others were legal sound known (Each q) off = λ d is_d. each_client w c g a p (λ e b r. is_client e ≡ true → HoldsOf q g b e r) (λ is. own q off) (λ e other is. others q off e is other) d is_d
   moved_others book own others were legal sound known LeasesLegal off = λ d e is_d is_e apart. beside d e is_d is_e apart
@@ -49,7 +49,7 @@ module _ (part : Part) (w : World) (c : ℕ) (g : Graph) (a : Account) (p : Clie
   moved_others book own others were legal sound known WholeKnown off = λ d is_d. each w.clients c p (λ e r. is_client e ≡ true → Agrees r.knows (whole (moved w c g a p)) (held (moved w c g a p))) (λ is. (known off).0) (λ e other is. (known off).1 e is other) d is_d
 
 -- the shared graph, the client's log and what it has open stay
-module _ (part : Part) (w : World) (c : ℕ) (a : Account) (p : Client) (h : IsCoherent w) (is_c : is_client c ≡ true) (log : undigested a p ≡ log_of w c) (own_same : p.knows.own ≡ (w.clients c).knows.own) where
+module _ (part : WorldPart) (w : World) (c : ℕ) (a : Account) (p : Client) (h : IsCoherent w) (is_c : is_client c ≡ true) (log : undigested a p ≡ log_of w c) (own_same : p.knows.own ≡ (w.clients c).knows.own) where
   abbrev now : World
   now = moved w c w.kernel.shared a p
 
@@ -57,7 +57,7 @@ module _ (part : Part) (w : World) (c : ℕ) (a : Account) (p : Client) (h : IsC
       → ((q : ClientPart) → Each q ≢ part → HoldsOf q w.kernel.shared a c p)
       → (LeasesLegal ≢ part → IsLegalBeside w c p)
       → (WholeKnown ≢ part → Agrees p.knows (whole w) (held w))
-      → (q : Part) → q ≢ part → Holds q now
+      → (q : WorldPart) → q ≢ part → Holds q now
   quiet_others book own legal known = moved_others part w c w.kernel.shared a p is_c book own
       (λ q off d is_d other. client_parts w.kernel.shared (w.kernel.accounts d) d (w.clients d) (h.stands d is_d) q)
       (λ off. h.beside) legal
@@ -84,7 +84,7 @@ same_less w c p log own reads writes = record {
   leases = λ i e. ap (λ (f : ℕ → Bool). f i || p.writes i) reads ∙ ap (λ (f : ℕ → Bool). (w.clients c).reads i || f i) writes ∙ e;
 }
 
-module _ (part : Part) (w : World) (c : ℕ) (a : Account) (p : Client) (h : IsCoherent w) (is_c : is_client c ≡ true) (less : IsLess w c a p) where
+module _ (part : WorldPart) (w : World) (c : ℕ) (a : Account) (p : Client) (h : IsCoherent w) (is_c : is_client c ≡ true) (less : IsLess w c a p) where
   booked_less : IsBooked (moved w c w.kernel.shared a p).kernel
   booked_less = booked_moved w c w.kernel.shared a p h is_c
       (λ i e. h.booked.free c i is_c (less.numbers i e)) (λ d i is_d other e. h.booked.free d i is_d e)
@@ -100,7 +100,7 @@ module _ (part : Part) (w : World) (c : ℕ) (a : Account) (p : Client) (h : IsC
 
   pub less_others : ((q : ClientPart) → Each q ≢ part → HoldsOf q w.kernel.shared a c p)
       → (WholeKnown ≢ part → Agrees p.knows (whole w) (held w))
-      → (q : Part) → q ≢ part → Holds q (moved w c w.kernel.shared a p)
+      → (q : WorldPart) → q ≢ part → Holds q (moved w c w.kernel.shared a p)
   less_others own known = quiet_others part w c a p h is_c less.log less.own
       (λ q off. book_parts (moved w c w.kernel.shared a p).kernel booked_less q) own
       (λ off d is_d other. (before_less w c p h is_c less.writes d is_d other, after_less w c p h is_c less.leases d is_d other)) known

@@ -13,7 +13,7 @@ use Rattle.world_facts.specs.Limits.{AreWithin}
 use Rattle.world_facts.specs.Logs.{after_records, after_clients}
 use Rattle.world_facts.specs.World.{Account, Client, World, undigested, whole, held, at, moved}
 use Rattle.world_facts.specs.Opening.{knows_nothing, idle_client, idle_account, idle_world}
-use Rattle.world_facts.specs.Parts.{BookPart, NumbersFree, NumbersInRange, NumbersInOneHand, NodesWithin, UnitsFit, HoldsIn, ClientPart, HoldsOf, Part, Book, Each, Holds}
+use Rattle.world_facts.specs.Parts.{BookPart, NumbersFree, NumbersInRange, NumbersInOneHand, NodesWithin, UnitsFit, HoldsIn, ClientPart, HoldsOf, WorldPart, Book, Each, Holds}
 use Rattle.world_facts.proofs.Alone.{moved_others}
 use Rattle.world_facts.proofs.Idle.{none_some, idle_held, idle_stands}
 use Rattle.world_facts.proofs.Kernels.{each}
@@ -33,7 +33,7 @@ nothing_known c g is_c = record {
 }
 
 -- what has to be shown of client 1's account and part
-pub record IsAll (part : Part) (capacity : ℕ) (g : Graph) (a : Account) (p : Client) : Type 0 where
+pub record IsAll (part : WorldPart) (capacity : ℕ) (g : Graph) (a : Account) (p : Client) : Type 0 where
   pub own : (q : ClientPart) → Each q ≢ part → HoldsOf q g a 1 p
   pub closed : p.knows.own ≡ (λ n. None)
   pub free : Book NumbersFree ≢ part → (i : ℕ) → a.numbers i ≡ true → g i ≡ None
@@ -43,7 +43,7 @@ pub record IsAll (part : Part) (capacity : ℕ) (g : Graph) (a : Account) (p : C
   pub sound : IsSound (after_records g (undigested a p)) nobody
   pub known : Agrees p.knows (after_records g (undigested a p)) nobody
 
-module _ (part : Part) (capacity : ℕ) (g : Graph) (a : Account) (p : Client) (is : IsAll part capacity g a p) where
+module _ (part : WorldPart) (capacity : ℕ) (g : Graph) (a : Account) (p : Client) (is : IsAll part capacity g a p) where
   abbrev one : World
   one = moved (idle_world capacity g) 1 g a p
 
@@ -73,7 +73,7 @@ module _ (part : Part) (capacity : ℕ) (g : Graph) (a : Account) (p : Client) (
   one_known : (k : Knowledge) → Agrees k (after_records g (undigested a p)) nobody → Agrees k (whole one) (held one)
   one_known k agrees = both_same (λ s o. Agrees k s o) one_whole one_held agrees
 
-  pub one_others : (q : Part) → q ≢ part → Holds q one
+  pub one_others : (q : WorldPart) → q ≢ part → Holds q one
   one_others = moved_others part (idle_world capacity g) 1 g a p refl one_book is.own
       (λ q off d is_d other. client_parts g (idle_account 0) d (idle_client d 0) (idle_stands g d 0) q)
       (λ off c d is_c is_d other i e. refl)

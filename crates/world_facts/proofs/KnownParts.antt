@@ -6,12 +6,12 @@ use Rattle.call_effects.specs.Fits.{IsNew}
 use Rattle.call_effects.specs.Known.{Agrees}
 use Rattle.world_facts.specs.Logs.{is_made_in}
 use Rattle.world_facts.specs.World.{World, log_of, whole, held}
-use Rattle.world_facts.specs.Parts.{BookPart, NumbersFree, NumbersInRange, NumbersInOneHand, HoldsIn, ClientPart, OwnNumber, MadeBooked, GrantedBooked, GrantedUnused, HoldsOf, Part, Book, Each, WholeKnown, Holds, HasTrueCopies}
+use Rattle.world_facts.specs.Parts.{BookPart, NumbersFree, NumbersInRange, NumbersInOneHand, HoldsIn, ClientPart, OwnNumber, MadeBooked, GrantedBooked, GrantedUnused, HoldsOf, WorldPart, Book, Each, WholeKnown, Holds, HasTrueCopies}
 use Rattle.world_facts.proofs.Made.{clients_none}
 use Rattle.world_facts.proofs.Owners.{client_is}
 use Rattle.world_facts.proofs.Records.{still_false}
 
-module _ (w : World) (has : (q : Part) → q ≢ WholeKnown → Holds q w) (c : ℕ) (is_c : is_client c ≡ true) where
+module _ (w : World) (has : (q : WorldPart) → q ≢ WholeKnown → Holds q w) (c : ℕ) (is_c : is_client c ≡ true) where
   of_client : (q : ClientPart) (d : ℕ) → is_client d ≡ true → HoldsOf q w.kernel.shared (w.kernel.accounts d) d (w.clients d)
   of_client q = has (Each q) (λ e. absurd (cc))
 

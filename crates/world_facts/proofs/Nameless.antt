@@ -20,7 +20,7 @@ use Rattle.file_graph.specs.declared.effect.Effect.TheVariants as effect
 use Rattle.file_graph.specs.declared.effect.Kind.TheVariants as kind
 use Rattle.call_effects.specs.Effects.{stored, effects_by, stored_at, recounted}
 use Rattle.call_effects.specs.Wholes.{IsSound, kind_of, one_if, graph_view}
-use Rattle.call_effects.specs.Fits.{IsNew, IsEmptyDir, Fits}
+use Rattle.call_effects.specs.Fits.{IsNew, IsEmptyDir, OperationFits}
 use Rattle.call_effects.specs.Known.{Knowledge, Agrees, IsPlanned}
 use Rattle.call_effects.proofs.Asked.{bind_ok, given}
 use Rattle.call_effects.proofs.Calls.{place_of, there_is}
@@ -209,7 +209,7 @@ module _ (g : Graph) (d : Descriptors) where
       | inr off ↦ inl off.0
     ]
 
-    spared : (own : Own) (new : ℕ) (operation : Operation) → Fits g d own operation → (makes operation ≡ true → IsNew g new) → NamesNamed g operation → AllSpare i (effects_by (stored_at g (recounted operation)) new operation)
+    spared : (own : Own) (new : ℕ) (operation : Operation) → OperationFits g d own operation → (makes operation ≡ true → IsNew g new) → NamesNamed g operation → AllSpare i (effects_by (stored_at g (recounted operation)) new operation)
     spared own new (Tell answer) fits free fine = tt
     spared own new (NewDir at) fits free fine = let off = not_here new (is_none new ((free refl).none)) in (off, (tt, (inl off, tt)))
     spared own new (NewFile at number r w) fits free fine = let off = not_here new (is_none new ((free refl).none)) in (off, (tt, (inl off, tt)))

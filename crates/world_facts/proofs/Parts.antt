@@ -4,7 +4,7 @@ use Rattle.file_graph.specs.Graph.{Graph}
 use Rattle.world_facts.specs.World.{Account, Client, Kernel, World}
 use Rattle.world_facts.specs.Standing.{IsBooked, Stands}
 use Rattle.world_facts.specs.Invariant.{IsCoherent}
-use Rattle.world_facts.specs.Parts.{BookPart, NumbersFree, NumbersInRange, NumbersInOneHand, NodesWithin, UnitsFit, HoldsIn, ClientPart, OwnNumber, MarkNotBefore, MarkNotPast, AwayHasRecords, BackHasNone, UnwipedHasNone, UnwipedIsIdle, RecordsLeased, RecordsPaid, RecordsNameNone, RecordsKeepLimits, UnitsBooked, MadeBooked, MadeOnce, GrantedBooked, GrantedUnused, CopiesLeased, BlocksLeased, OpenPinned, PinsBooked, BegunPlanned, BegunHasEffects, BegunPinned, SettledClosed, SettledIdle, HoldsOf, Part, Book, Each, LeasesLegal, WholeSound, WholeKnown, Holds}
+use Rattle.world_facts.specs.Parts.{BookPart, NumbersFree, NumbersInRange, NumbersInOneHand, NodesWithin, UnitsFit, HoldsIn, ClientPart, OwnNumber, MarkNotBefore, MarkNotPast, AwayHasRecords, BackHasNone, UnwipedHasNone, UnwipedIsIdle, RecordsLeased, RecordsPaid, RecordsNameNone, RecordsKeepLimits, UnitsBooked, MadeBooked, MadeOnce, GrantedBooked, GrantedUnused, CopiesLeased, BlocksLeased, OpenPinned, PinsBooked, BegunPlanned, BegunHasEffects, BegunPinned, SettledClosed, SettledIdle, HoldsOf, WorldPart, Book, Each, LeasesLegal, WholeSound, WholeKnown, Holds}
 
 pub book_parts : (k : Kernel) → IsBooked k → (q : BookPart) → HoldsIn q k
 book_parts k b NumbersFree = b.free
@@ -40,14 +40,14 @@ client_parts g a c p s BegunPinned = λ b e. (s.pending b e).pinned
 client_parts g a c p s SettledClosed = s.rests.closed
 client_parts g a c p s SettledIdle = s.rests.idle
 
-pub parts_of : (w : World) → IsCoherent w → (q : Part) → Holds q w
+pub parts_of : (w : World) → IsCoherent w → (q : WorldPart) → Holds q w
 parts_of w h (Book q) = book_parts w.kernel h.booked q
 parts_of w h (Each q) = λ c is_c. client_parts w.kernel.shared (w.kernel.accounts c) c (w.clients c) (h.stands c is_c) q
 parts_of w h LeasesLegal = h.beside
 parts_of w h WholeSound = h.sound
 parts_of w h WholeKnown = h.agrees
 
-pub all_parts : (w : World) → ((q : Part) → Holds q w) → IsCoherent w
+pub all_parts : (w : World) → ((q : WorldPart) → Holds q w) → IsCoherent w
 all_parts w has = record {
   booked = record { free = has (Book NumbersFree); range = has (Book NumbersInRange); alone = has (Book NumbersInOneHand); limits = has (Book NodesWithin); fits = has (Book UnitsFit) };
   stands = λ c is_c. record {

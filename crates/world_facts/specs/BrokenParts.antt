@@ -2,7 +2,7 @@
 use Rattle.std.specs.Prelude.{◌+◌, false}
 use Rattle.posix_calls.specs.declared.limits.TheConstants.{MAX_FILE}
 use Rattle.world_facts.specs.World.{World}
-use Rattle.world_facts.specs.Parts.{BookPart, NumbersFree, NumbersInRange, NumbersInOneHand, NodesWithin, UnitsFit, ClientPart, OwnNumber, MarkNotBefore, MarkNotPast, AwayHasRecords, BackHasNone, UnwipedHasNone, UnwipedIsIdle, RecordsLeased, RecordsPaid, RecordsNameNone, RecordsKeepLimits, UnitsBooked, MadeBooked, MadeOnce, GrantedBooked, GrantedUnused, CopiesLeased, BlocksLeased, OpenPinned, PinsBooked, BegunPlanned, BegunHasEffects, BegunPinned, SettledClosed, SettledIdle, Part, Book, Each, LeasesLegal, WholeSound, WholeKnown}
+use Rattle.world_facts.specs.Parts.{BookPart, NumbersFree, NumbersInRange, NumbersInOneHand, NodesWithin, UnitsFit, ClientPart, OwnNumber, MarkNotBefore, MarkNotPast, AwayHasRecords, BackHasNone, UnwipedHasNone, UnwipedIsIdle, RecordsLeased, RecordsPaid, RecordsNameNone, RecordsKeepLimits, UnitsBooked, MadeBooked, MadeOnce, GrantedBooked, GrantedUnused, CopiesLeased, BlocksLeased, OpenPinned, PinsBooked, BegunPlanned, BegunHasEffects, BegunPinned, SettledClosed, SettledIdle, WorldPart, Book, Each, LeasesLegal, WholeSound, WholeKnown}
 use Rattle.world_facts.specs.Broken as broken
 
 abbrev pub broken_book : BookPart → World
@@ -39,7 +39,7 @@ broken_client BegunPinned = broken.unpinned_open
 broken_client SettledClosed = broken.still_open
 broken_client SettledIdle = broken.settled_opening
 
-abbrev pub broken_world : Part → World
+abbrev pub broken_world : WorldPart → World
 broken_world (Book q) = broken_book q
 broken_world (Each q) = broken_client q
 broken_world LeasesLegal = broken.watching broken.root_alone

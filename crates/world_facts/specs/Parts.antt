@@ -94,14 +94,14 @@ HoldsOf SettledIdle g a c p = is_settled p.status ≡ true → p.begun ≡ None
 
 -- ---- of the world
 
-pub data Part : Type 0 where
-  Book : BookPart → Part
-  Each : ClientPart → Part
-  LeasesLegal : Part
-  WholeSound : Part
-  WholeKnown : Part
+pub data WorldPart : Type 0 where
+  Book : BookPart → WorldPart
+  Each : ClientPart → WorldPart
+  LeasesLegal : WorldPart
+  WholeSound : WorldPart
+  WholeKnown : WorldPart
 
-abbrev pub Holds : Part → World → Type 0
+abbrev pub Holds : WorldPart → World → Type 0
 Holds (Book q) w = HoldsIn q w.kernel
 Holds (Each q) w = (c : ℕ) → is_client c ≡ true → HoldsOf q w.kernel.shared (w.kernel.accounts c) c (w.clients c)
 Holds LeasesLegal w = (c d : ℕ) → is_client c ≡ true → is_client d ≡ true → d ≢ c → IsBeside (w.clients c) (w.clients d)
@@ -109,9 +109,9 @@ Holds WholeSound w = IsSound (whole w) (held w)
 Holds WholeKnown w = (c : ℕ) → is_client c ≡ true → Agrees (w.clients c).knows (whole w) (held w)
 
 -- a world that lacks one part of the invariant, and has all others
-pub record BreaksAlone (part : Part) (w : World) : Type 0 where
+pub record BreaksAlone (part : WorldPart) (w : World) : Type 0 where
   pub broken : Holds part w → ⊥
-  pub others : (q : Part) → q ≢ part → Holds q w
+  pub others : (q : WorldPart) → q ≢ part → Holds q w
 
 -- the copies and blocks that a client has are as the whole is, but for files that are gone
 pub record HasTrueCopies (k : Knowledge) (g : Graph) : Type 0 where

@@ -8,7 +8,7 @@ ghost use Rattle.call_effects.specs.Wholes.{IsSound};
 ghost use Rattle.world_facts.specs.Logs.{after_each, LogsAreApart};
 ghost use Rattle.world_facts.specs.World.{log_of, all_of, whole, held, world_state};
 ghost use Rattle.world_facts.specs.Standing.{RestsOnceSettled, StartsWiped, IsNumbered, IsBooked};
-ghost use Rattle.world_facts.specs.Parts.{Part, Book, Each, LeasesLegal, WholeKnown, CopiesLeased, BlocksLeased, BegunHasEffects, Holds, NumbersFree, NumbersInRange, RecordsLeased, RecordsPaid, RecordsNameNone, RecordsKeepLimits, UnitsBooked, MadeOnce, GrantedUnused, WholeSound, NumbersInOneHand, NodesWithin, UnitsFit, OwnNumber, MadeBooked, GrantedBooked, OpenPinned, PinsBooked, BegunPlanned, BegunPinned, SettledClosed, SettledIdle, MarkNotPast, MarkNotBefore, AwayHasRecords, BackHasNone, UnwipedHasNone, UnwipedIsIdle, BreaksAlone};
+ghost use Rattle.world_facts.specs.Parts.{WorldPart, Book, Each, LeasesLegal, WholeKnown, CopiesLeased, BlocksLeased, BegunHasEffects, Holds, NumbersFree, NumbersInRange, RecordsLeased, RecordsPaid, RecordsNameNone, RecordsKeepLimits, UnitsBooked, MadeOnce, GrantedUnused, WholeSound, NumbersInOneHand, NodesWithin, UnitsFit, OwnNumber, MadeBooked, GrantedBooked, OpenPinned, PinsBooked, BegunPlanned, BegunPinned, SettledClosed, SettledIdle, MarkNotPast, MarkNotBefore, AwayHasRecords, BackHasNone, UnwipedHasNone, UnwipedIsIdle, BreaksAlone};
 ghost use Rattle.world_facts.specs.Machine.{CanAccept, sealed_of};
 ghost use Rattle.world_facts.specs.ClientSteps.{CanAnswer, answered, CanBegin, IsBegun, replied};
 ghost use Rattle.world_facts.specs.LeaseSteps.{IsUnheld, CanFetch, CanForgetBlocks, write_taken, fetched, blocks_forgotten};
@@ -26,7 +26,7 @@ ghost use Rattle.world_facts.specs.Broken.{unleased, block_watching, begun_readi
 
 /// No part of the invariant follows from the others: for each there is a small world that lacks this part and has all others.
 pub fn each_part_breaks_alone()
-    ensures { (part : Part) → BreaksAlone part (broken_world part) }
+    ensures { (part : WorldPart) → BreaksAlone part (broken_world part) }
 {}
 
 /// Where two clients write one inode, which takes a lease that one of them doesn't hold, the order of their digests is seen.

@@ -7,7 +7,7 @@ ghost use Rattle.call_effects.specs.Wholes.{IsSound};
 ghost use Rattle.call_effects.specs.Known.{Agrees};
 ghost use Rattle.world_facts.specs.World.{Client, Account, World, undigested, log_of, whole, held, moved};
 ghost use Rattle.world_facts.specs.Standing.{Stands, IsBooked, IsBeside};
-ghost use Rattle.world_facts.specs.Parts.{Part, WholeKnown, Holds, HasTrueCopies};
+ghost use Rattle.world_facts.specs.Parts.{WorldPart, WholeKnown, Holds, HasTrueCopies};
 ghost use Rattle.world_facts.specs.Invariant.{IsCoherent};
 
 /// A client's part, its account and the shared graph may become any others, if the book holds, the part stands beside the kernel's
@@ -24,12 +24,12 @@ pub fn quiet_part_may_move()
 
 /// The invariant is all of its parts, each of which has a name.
 pub fn invariant_is_all_its_parts()
-    ensures each { (w : World) → IsCoherent w → (q : Part) → Holds q w }
-    ensures all { (w : World) → ((q : Part) → Holds q w) → IsCoherent w }
+    ensures each { (w : World) → IsCoherent w → (q : WorldPart) → Holds q w }
+    ensures all { (w : World) → ((q : WorldPart) → Holds q w) → IsCoherent w }
 {}
 
 /// Of what a client knows, its copies and blocks alone are a part of their own: that what it takes for open is open, and that the
 /// numbers that it was granted are free in the whole, follows from the other parts.
 pub fn knowledge_is_of_copies_and_blocks()
-    ensures { (w : World) → ((q : Part) → q ≢ WholeKnown → Holds q w) → (c : ℕ) → is_client c ≡ true → HasTrueCopies (w.clients c).knows (whole w) → Agrees (w.clients c).knows (whole w) (held w) }
+    ensures { (w : World) → ((q : WorldPart) → q ≢ WholeKnown → Holds q w) → (c : ℕ) → is_client c ≡ true → HasTrueCopies (w.clients c).knows (whole w) → Agrees (w.clients c).knows (whole w) (held w) }
 {}

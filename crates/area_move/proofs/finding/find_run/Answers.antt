@@ -10,7 +10,7 @@ use Rattle.area_image.specs.Spelled.{IsOpenable}
 use Rattle.area_image.proofs.Looked.{carried, carried_back}
 use Rattle.area_image.proofs.Parts.{slot_as}
 use Rattle.area_image.proofs.Shown.{slot_limits}
-use Rattle.area_move.specs.Found.{IsFileRun, IsWithinFile}
+use Rattle.area_move.specs.Found.{IsMovableRun, IsWithinFile}
 use Rattle.area_move.specs.Moving.{CanMove}
 use Rattle.area_move.proofs.Movable.{movable_within, no_file}
 use Rattle.area_move.proofs.finding.find_run.Goals as goal
@@ -59,8 +59,8 @@ returns-in-Ok-find_in-clause-found g c =
     let s : Store = store_of (m.seen old.media) in
     let run = c.in-Some.run' in
     let o = c.in-Ok-find_in.found in
-    let here = carried_back m.moment m.seen m.left m.faults (λ h s. IfSome o (IsFileRun h s c.args.inode run.first run.count c.args.to)) old new _ c.in-Ok.ensures.looks c.in-Ok-find_in.ensures.found in
-    subst (λ n. IfSome o (IsFileRun old.geometry s c.args.inode c.args.first n c.args.to)) c.in-Some.ensures.count (subst (λ n. IfSome o (IsFileRun old.geometry s c.args.inode n run.count c.args.to)) c.in-Some.ensures.first here)
+    let here = carried_back m.moment m.seen m.left m.faults (λ h s. IfSome o (IsMovableRun h s c.args.inode run.first run.count c.args.to)) old new _ c.in-Ok.ensures.looks c.in-Ok-find_in.ensures.found in
+    subst (λ n. IfSome o (IsMovableRun old.geometry s c.args.inode c.args.first n c.args.to)) c.in-Some.ensures.count (subst (λ n. IfSome o (IsMovableRun old.geometry s c.args.inode n run.count c.args.to)) c.in-Some.ensures.first here)
 
 pub returns-in-Ok-find_in-clause-none : goal.returns-in-Ok-find_in-clause-none
 returns-in-Ok-find_in-clause-none g c none can =

@@ -6,7 +6,7 @@ use Rattle.layout.specs.declared.slot.Slot.{Slot}
 use Rattle.block_map.specs.Map.{TierRuns}
 use Rattle.area_image.specs.Store.{Store}
 use Rattle.area_image.proofs.Parts.{slot_as}
-use Rattle.area_rewrite.specs.Moved.{IsMoved}
+use Rattle.area_rewrite.specs.Moved.{StaysInode}
 use Rattle.area_commit.specs.Plan.{is_changed}
 use Rattle.area_relocate.proofs.Fitting.{is_fit}
 use Rattle.area_relocate.proofs.Using.{changed_is, changed_here}
@@ -19,7 +19,7 @@ returns c g s i to f x m plan new allowed opens p out =
     let xs : ℕ → Slot = λ _. x in
     let ms : ℕ → TierRuns = λ _. m in
     let anew = c.carried_out_inodes_are_written_anew.ensures g s xs ms plan new opens.spelled planned out in
-    let moved : (j : ℕ) → is_changed plan.slots.items j ≡ true → IsMoved g s new j x m = λ j its. subst (λ n. IsMoved g s new n x m) (changed_is g s i to f x m plan p j its) (written_moved g s i to f x m plan p new out) in
+    let moved : (j : ℕ) → is_changed plan.slots.items j ≡ true → StaysInode g s new j x m = λ j its. subst (λ n. StaysInode g s new n x m) (changed_is g s i to f x m plan p j its) (written_moved g s i to f x m plan p new out) in
     let law = c.moved_store_spells_the_same_graph.ensures in
     let same = law.same_graph g (is_changed plan.slots.items) xs ms s new allowed opens.spelled anew moved in
     let rewrites = law.rewrites g (is_changed plan.slots.items) xs ms s new allowed opens.spelled anew moved in

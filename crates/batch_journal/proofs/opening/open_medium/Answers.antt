@@ -6,7 +6,7 @@ use Rattle.layout.specs.declared.error.What.TheVariants as what
 use Rattle.batch_journal.specs.declared.error.JournalError.{JournalError}
 use Rattle.batch_journal.specs.declared.error.JournalError.TheVariants as errors
 use Rattle.batch_journal.specs.Images.{slice}
-use Rattle.batch_journal.specs.Blocks.{is_open, rest_of_gate}
+use Rattle.batch_journal.specs.Blocks.{is_gate_open, rest_of_gate}
 use Rattle.batch_journal.specs.Volume.{Spells}
 use Rattle.batch_journal.specs.Damage.{TellsNone}
 use Rattle.batch_journal.proofs.Courses.{unmoved_on, left_before, tiers_same, if_ok, if_err, on_damage}
@@ -32,8 +32,8 @@ open_replayed-requires-clause-rest g c x l =
 
 pub open_replayed-requires-clause-opened : goal.open_replayed-requires-clause-opened
 open_replayed-requires-clause-opened g c =
-    let opened : is_open (g.M.Media.seen c.args.media.now Fast) ≡ true = sym c.in-Ok.ensures.gate ∙ c.if-is_open.true in
-    subst (λ (s : List ℕ). is_open s ≡ true) (sym (c.read_gate.ensures.unmoved.reads Fast)) opened
+    let opened : is_gate_open (g.M.Media.seen c.args.media.now Fast) ≡ true = sym c.in-Ok.ensures.gate ∙ c.if-is_open.true in
+    subst (λ (s : List ℕ). is_gate_open s ≡ true) (sym (c.read_gate.ensures.unmoved.reads Fast)) opened
 
 pub open_replayed-requires-clause-gate : goal.open_replayed-requires-clause-gate
 open_replayed-requires-clause-gate g c =
@@ -60,7 +60,7 @@ returns-else-is_open g c =
     let reads = c.read_gate.ensures.unmoved.reads in
     let tiers : t ≡ s = tiers_same s t reads in
     let un = unmoved_on c.read_gate.ensures.unmoved c.read_geometry.ensures.unmoved in
-    let closed : is_open (s Fast) ≡ false = sym c.in-Ok.ensures.gate ∙ c.if-is_open.false in
+    let closed : is_gate_open (s Fast) ≡ false = sym c.in-Ok.ensures.gate ∙ c.if-is_open.false in
     let spells = if_ok r (λ h x. subst (λ (y : Tier → List ℕ). Spells h (slice 0 4096 (y Fast))) tiers x) c.read_geometry.ensures.spells in
     let sizes = if_ok r (λ h z x. sym (ap length (reads x)) ∙ z x) c.read_geometry.ensures.sizes in
     let damaged = if_err r (λ e x. on_damage e (λ w block is. (is.0, is.1, subst (λ (y : Tier → List ℕ). TellsNone (slice 0 4096 (y Fast)) y) tiers is.2)) x) c.read_geometry.ensures.damaged in

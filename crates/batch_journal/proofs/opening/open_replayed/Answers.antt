@@ -1,8 +1,8 @@
 use Rattle.std.proofs.Common.{◌≡◌, ◌∙◌, ◌+◌, ◌*◌, ℕ, List, true, length, sym, ap, subst, arith}
 use Rattle.tier_device.specs.declared.media.Tier.TheVariants.{Fast}
 use Rattle.tier_device.specs.Media.{Rose}
-use Rattle.batch_journal.specs.Images.{slice, count_of, images_of}
-use Rattle.batch_journal.specs.Blocks.{area_of, is_open, Fit}
+use Rattle.batch_journal.specs.Images.{slice, image_count, images_of}
+use Rattle.batch_journal.specs.Blocks.{area_of, is_gate_open, Fit}
 use Rattle.batch_journal.proofs.Courses.{unmoved_on, left_before}
 use Rattle.batch_journal.proofs.Opens.{tells_ok, tells_fault, tells_as, tells_on, opens_err, opens_failed, opens_replayed, few_images, batch_there, run_names, run_fits}
 use Rattle.batch_journal.proofs.opening.open_replayed.Goals as goal
@@ -51,7 +51,7 @@ replay-requires-clause-count g c =
     let is : items ≡ slice 143360 (4096 * n + 4096) (s Fast) = c.in-Ok-read_run.ensures.bytes ∙ ap (slice 143360 (4096 * n + 4096)) (c.read_volume.ensures.unmoved.reads Fast) in
     let there = batch_there c.in-Ok.found.0 s n items c.in-Ok.ensures.is c.requires.opened c.in-Ok.ensures.count is in
     let value : c.deref.result.now ≡ items = c.deref.ensures.value in
-    there.count ∙ ap count_of (sym value)
+    there.count ∙ ap image_count (sym value)
 
 pub replay-requires-clause-few : goal.replay-requires-clause-few
 replay-requires-clause-few g c = (few_images c.in-Ok.found.0 (g.M.Media.seen c.args.media.now) c.in-Ok.found.1 c.in-Ok.ensures.is c.requires.opened c.in-Ok.ensures.count).1
@@ -93,7 +93,7 @@ replay-requires-clause-rest g c x l =
 pub replay-requires-clause-opened : goal.replay-requires-clause-opened
 replay-requires-clause-opened g c =
     let un = unmoved_on c.read_volume.ensures.unmoved c.read_run.ensures.unmoved in
-    subst (λ (x : List ℕ). is_open x ≡ true) (sym (un.reads Fast)) c.requires.opened
+    subst (λ (x : List ℕ). is_gate_open x ≡ true) (sym (un.reads Fast)) c.requires.opened
 
 pub replay-requires-clause-staged : goal.replay-requires-clause-staged
 replay-requires-clause-staged g c =

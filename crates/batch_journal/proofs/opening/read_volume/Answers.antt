@@ -2,7 +2,7 @@ use Rattle.std.proofs.Common.{◌≡◌, ◌∙◌, ◌==◌, ◌≤◌, ℕ, Li
 use Rattle.std.proofs.lemmas.Bool.{false≢true}
 use Rattle.tier_device.specs.declared.media.Tier.{Tier}
 use Rattle.tier_device.specs.declared.media.Tier.TheVariants.{Fast}
-use Rattle.batch_journal.specs.Images.{slice, count_of, target_at}
+use Rattle.batch_journal.specs.Images.{slice, image_count, target_at}
 use Rattle.batch_journal.specs.Blocks.{area_of}
 use Rattle.batch_journal.specs.Volume.{Spells, HasSizes, IsHead}
 use Rattle.batch_journal.specs.Damage.{TellsNone, super_block}
@@ -66,7 +66,7 @@ returns-then-not-is_head-clause-named g c =
     let super : slice at 4096 (t Fast) ≡ super_block (s Fast) = ap (λ (x : List ℕ). slice at 4096 x) (reads Fast) ∙ ap (λ k. slice k 4096 (s Fast)) c.superblock_in.ensures ∙ super_there (s Fast) c.read_head.new.head c.requires.size c.in-Ok.ensures.head c.requires.opened in
     let spells : Spells h (super_block (s Fast)) = subst (λ (x : List ℕ). Spells h x) super c.in-Ok-read_geometry.ensures.spells in
     let sizes : HasSizes h s = λ x. sym (ap length (reads x)) ∙ c.in-Ok-read_geometry.ensures.sizes x in
-    let few : count_of (area_of (s Fast)) ≤ 256 = omega (arith, c.in-Ok.ensures.few, c.in-Ok.ensures.count) in
+    let few : image_count (area_of (s Fast)) ≤ 256 = omega (arith, c.in-Ok.ensures.few, c.in-Ok.ensures.count) in
     let none : IsHead h (area_of (s Fast)) → ⊥ = λ head. false≢true (sym c.if-not-is_head.true ∙ c.is_head.ensures.1 (head_back (s Fast) c.read_head.new.head c.requires.size c.in-Ok.ensures.head few h head)) in
     inr (inl (record { structure = refl; place = refl; size = c.requires.size; rest = c.requires.gate; opened = c.requires.opened; head = inr (inr (h, spells, sizes, none)) }))
 
@@ -84,7 +84,7 @@ returns-clause-is g c =
     let super : slice at 4096 (t Fast) ≡ super_block (s Fast) = ap (λ (x : List ℕ). slice at 4096 x) (reads Fast) ∙ ap (λ k. slice k 4096 (s Fast)) c.superblock_in.ensures ∙ super_there (s Fast) c.read_head.new.head c.requires.size c.in-Ok.ensures.head c.requires.opened in
     let spells : Spells h (super_block (s Fast)) = subst (λ (x : List ℕ). Spells h x) super c.in-Ok-read_geometry.ensures.spells in
     let sizes : HasSizes h s = λ x. sym (ap length (reads x)) ∙ c.in-Ok-read_geometry.ensures.sizes x in
-    let few : count_of (area_of (s Fast)) ≤ 256 = omega (arith, c.in-Ok.ensures.few, c.in-Ok.ensures.count) in
+    let few : image_count (area_of (s Fast)) ≤ 256 = omega (arith, c.in-Ok.ensures.few, c.in-Ok.ensures.count) in
     let head : IsHead h (area_of (s Fast)) = head_whole (s Fast) c.read_head.new.head c.requires.size c.in-Ok.ensures.head few h (c.is_head.ensures.0 c.if-not-is_head.false) in
     open_volume h s c.requires.opened c.requires.gate sizes spells head
 

@@ -1,6 +1,6 @@
 use Rattle.std.proofs.Common.{◌≡◌, ◌∙◌, ◌⊎◌, ◌<◌, inl, inr, ap, refl, arith}
 use Rattle.tier_device.specs.declared.media.Tier.TheVariants.{Fast}
-use Rattle.batch_journal.specs.Images.{slice, count_of}
+use Rattle.batch_journal.specs.Images.{slice, image_count}
 use Rattle.batch_journal.specs.Blocks.{area_of}
 use Rattle.batch_journal.proofs.Found.{count_is}
 use Rattle.batch_journal.proofs.Opens.{head_count}
@@ -12,8 +12,8 @@ returns-then-count-lt1-clause-damaged g c =
     let seen = g.M.Media.seen c.args.media.now Fast in
     let n = c.read_u32-count.result in
     let is : c.fetch.new.out ≡ slice 143360 4096 seen = c.in-Ok.ensures.bytes ∙ ap (λ k. slice 143360 k seen) c.requires.long in
-    let count : n ≡ count_of (area_of seen) = count_is c.fetch.new.out n c.read_u32-count.ensures ∙ head_count seen c.fetch.new.out c.requires.size is in
-    let either : (count_of (area_of seen) < 1) ⊎ (256 < count_of (area_of seen)) = elim c.then-count-lt1.branch [
+    let count : n ≡ image_count (area_of seen) = count_is c.fetch.new.out n c.read_u32-count.ensures ∙ head_count seen c.fetch.new.out c.requires.size is in
+    let either : (image_count (area_of seen) < 1) ⊎ (256 < image_count (area_of seen)) = elim c.then-count-lt1.branch [
       | then-count-lt1-via-then-count-lt1 w ↦ inl (omega (arith, w.if-count-lt1.true, count))
       | then-count-lt1-via-else-count-lt1+then-count-gt256 w ↦ inr (omega (arith, w.if-count-gt256.true, count))
     ] in

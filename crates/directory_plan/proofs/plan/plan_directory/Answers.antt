@@ -1,6 +1,6 @@
 use Rattle.std.proofs.Common.{◌≡◌, ◌∙◌, ℕ, List, length, true, sym, ap, subst, arith}
 use Rattle.layout.specs.declared.extents.Extent.{Extent}
-use Rattle.layout.specs.Slot.{is_root}
+use Rattle.layout.specs.Slot.{is_root_block}
 use Rattle.directory_plan.specs.Blocks.{AreApart, AreNodeBlocks, places_after, root_after}
 use Rattle.directory_plan.proofs.Fits.{few_runs}
 use Rattle.directory_plan.proofs.Lists.{long, after_apart, after_nodes, after_root_node}
@@ -39,5 +39,5 @@ returns-clause-nodes c g can are nodes =
     ∙ ap (λ (bs : List (List ℕ)). places_after x.blocks.places.items spares (length bs)) c.blocks-blocks.ensures.blocks in
     let root : c.root_after-root.result ≡ root_after x.blocks.root spares (length x.entries.blocks) =
     c.root_after-root.ensures ∙ ap (λ (bs : List (List ℕ)). root_after x.blocks.root spares (length bs)) c.blocks-blocks.ensures.blocks in
-    c.in_ok-put_list.ensures.nodes g (subst (λ r. is_root g r ≡ true) (sym root) (after_root_node g x spares can are))
+    c.in_ok-put_list.ensures.nodes g (subst (λ r. is_root_block g r ≡ true) (sym root) (after_root_node g x spares can are))
     (c.in_ok-put_written.ensures.nodes g (subst (AreNodeBlocks g) (sym is) (after_nodes g x spares can are)) nodes)

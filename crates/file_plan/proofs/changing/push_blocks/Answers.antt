@@ -6,8 +6,8 @@ use Rattle.area_image.specs.Store.{Store, store_of, logical}
 use Rattle.area_image.specs.Looks.{looked}
 use Rattle.area_image.specs.Checks.{HasFound, IsOnce}
 use Rattle.area_image.proofs.Looked.{carried, carried_back, looks_on}
-use Rattle.file_plan.specs.Bytes.{IsAfter, blocks_from}
-use Rattle.file_plan.specs.Placed.{number_at}
+use Rattle.file_plan.specs.Bytes.{IsBlockAfter, blocks_from}
+use Rattle.file_plan.specs.Placed.{nth_number}
 use Rattle.file_plan.proofs.Adding.{holds_more}
 use Rattle.file_plan.proofs.changing.push_blocks.Goals as goal
 
@@ -29,7 +29,7 @@ each-preserved g c =
     let added = c.in-Ok.ensures.added in
     let before = c.each.invariant.added in
     let n = c.each.index in
-    let after = carried_back m.moment m.seen m.left m.faults (λ (x : Sizes) (s : Store). IsAfter change (blocks_from c.args.found (logical x s c.args.inode)) (number_at c.args.numbers.now n) added.0) old c.each.journal looked c.each.invariant.looks added.3 in
+    let after = carried_back m.moment m.seen m.left m.faults (λ (x : Sizes) (s : Store). IsBlockAfter change (blocks_from c.args.found (logical x s c.args.inode)) (nth_number c.args.numbers.now n) added.0) old c.each.journal looked c.each.invariant.looks added.3 in
     record {
       looks = looks_on m.moment m.seen m.left m.faults old c.each.journal c.push_block.new.journal tt looked c.each.invariant.looks c.in-Ok.ensures.looks;
       added = (

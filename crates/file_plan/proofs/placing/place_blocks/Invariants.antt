@@ -1,5 +1,5 @@
-use Rattle.file_plan.specs.Placed.{ArePlaced}
+use Rattle.file_plan.specs.Placed.{NumbersArePlaced}
 use Rattle.file_plan.proofs.placing.place_blocks.Given as goal
 
 abbrev pub invariant-each : goal.invariant-each
-invariant-each l = ArePlaced l.numbers l.places l.index l.fn.map l.map
+invariant-each l = NumbersArePlaced l.numbers l.places l.index l.fn.map l.map

@@ -1,6 +1,6 @@
 use Rattle.std.proofs.Common.{Option, subst}
 use Rattle.area_image.specs.Store.{store_of}
-use Rattle.migrator.specs.Picking.{Found, IsCandidate}
+use Rattle.migrator.specs.Picking.{FoundFile, IsCandidate}
 use Rattle.migrator.proofs.Best.{best_or_found, best_stays}
 use Rattle.migrator.proofs.picking.next_best.Goals as goal
 
@@ -10,7 +10,7 @@ returns-in-Ok-Some-clause-best g c =
     let s = store_of (g.M.Media.seen old.media) in
     let found = c.in-Ok-Some in
     best_or_found old.geometry s c.args.tier c.args.inode c.args.best found.found c.first_of.result c.requires
-    (subst (λ (o : Option Found). IsCandidate old.geometry s c.args.tier c.args.inode o) found.field-0-is found.ensures.found) c.first_of.ensures
+    (subst (λ (o : Option FoundFile). IsCandidate old.geometry s c.args.tier c.args.inode o) found.field-0-is found.ensures.found) c.first_of.ensures
 
 pub returns-in-Ok-None-clause-best : goal.returns-in-Ok-None-clause-best
 returns-in-Ok-None-clause-best g c =
@@ -18,4 +18,4 @@ returns-in-Ok-None-clause-best g c =
     let s = store_of (g.M.Media.seen old.media) in
     let found = c.in-Ok-None in
     best_stays old.geometry s c.args.tier c.args.inode c.args.best c.requires
-    (subst (λ (o : Option Found). IsCandidate old.geometry s c.args.tier c.args.inode o) found.field-0-is found.ensures.found)
+    (subst (λ (o : Option FoundFile). IsCandidate old.geometry s c.args.tier c.args.inode o) found.field-0-is found.ensures.found)

@@ -4,12 +4,12 @@ use Rattle.std.proofs.lemmas.List.Sorted.{searchable_from_sorted}
 use Rattle.std.specs.List.Sorted.{IsBinarySearchResult, IsSearchInRange}
 use Rattle.std.specs.Cmp.Lexicographic.{nat_list_cmp_total}
 use Rattle.node_bodies.specs.declared.name_map.NamedEntry.{NamedEntry}
-use Rattle.node_bodies.specs.Named.{place_in, IsInOrder}
+use Rattle.node_bodies.specs.Named.{position_in, IsInOrder}
 use Rattle.node_bodies.proofs.Ordered.{names_cmp, free_place, found_place, sorted_by_name}
 use Rattle.node_bodies.proofs.name_map.place_of.Goals as goal
 
 -- what a search among entries in order finds is the place
-searched : {V : Type 0} (es : List (NamedEntry V)) (q : List ℕ) (r : Result ℕ ℕ) → IsInOrder es → IsSearchInRange r (length es) → IsBinarySearchResult (λ (e : NamedEntry V). names_cmp e.name q) es r → r ≡ place_in q es
+searched : {V : Type 0} (es : List (NamedEntry V)) (q : List ℕ) (r : Result ℕ ℕ) → IsInOrder es → IsSearchInRange r (length es) → IsBinarySearchResult (λ (e : NamedEntry V). names_cmp e.name q) es r → r ≡ position_in q es
 searched es q (Ok i) order within found = sym (found_place q es i order within found)
 searched {V = V} es q (Err i) order within found =
     let split = found (searchable_from_sorted nat_list_cmp_total (λ (e : NamedEntry V). e.name) es q (sorted_by_name es order)) in

@@ -23,16 +23,16 @@ pub returns-in_err-refuse_if-clause-tells : goal.returns-in_err-refuse_if-clause
 returns-in_err-refuse_if-clause-tells g c = exits c.from_residual-in_err-refuse_if.ensures.1 (passes _ _ (or_clear c.in_ok-refuse_root.ensures.clear c.in_ok-refuse_root-2.ensures.clear) (bind_place None c.args.old_path.now _ c.in_ok-from.ensures.tells (λ from_walked from_seen. bind_gives _ (c.in_ok-inode.ensures.tells _) (bind_place (Some c.in_ok-inode.inode) c.args.new_path.now _ c.in_ok-to.ensures.tells (λ to_walked to_seen. fails _ _ c.in_err-refuse_if.ensures.refused.0 (to_seen ∙ c.in_err-refuse_if.ensures.refused.1))))))
 
 pub returns-in_err-is_dir-clause-tells : goal.returns-in_err-is_dir-clause-tells
-returns-in_err-is_dir-clause-tells g c = exits c.from_residual-in_err-is_dir.ensures.1 (passes _ _ (or_clear c.in_ok-refuse_root.ensures.clear c.in_ok-refuse_root-2.ensures.clear) (bind_place None c.args.old_path.now _ c.in_ok-from.ensures.tells (λ from_walked from_seen. bind_gives _ (c.in_ok-inode.ensures.tells _) (bind_place (Some c.in_ok-inode.inode) c.args.new_path.now _ c.in_ok-to.ensures.tells (λ to_walked to_seen. passes _ _ (to_seen ∙ c.in_ok-refuse_if.ensures.clear) (if_fails _ (sym c.is_inode.ensures ∙ c.if-is_inode.false) (bind_stops _ c.in_err-is_dir.ensures.tells)))))))
+returns-in_err-is_dir-clause-tells g c = exits c.from_residual-in_err-is_dir.ensures.1 (passes _ _ (or_clear c.in_ok-refuse_root.ensures.clear c.in_ok-refuse_root-2.ensures.clear) (bind_place None c.args.old_path.now _ c.in_ok-from.ensures.tells (λ from_walked from_seen. bind_gives _ (c.in_ok-inode.ensures.tells _) (bind_place (Some c.in_ok-inode.inode) c.args.new_path.now _ c.in_ok-to.ensures.tells (λ to_walked to_seen. passes _ _ (to_seen ∙ c.in_ok-refuse_if.ensures.clear) (if_fails _ (sym c.leads_to.ensures ∙ c.if-leads_to.false) (bind_stops _ c.in_err-is_dir.ensures.tells)))))))
 
 pub returns-in_err-replaced-clause-tells : goal.returns-in_err-replaced-clause-tells
-returns-in_err-replaced-clause-tells g c = exits c.from_residual-in_err-replaced.ensures.1 (passes _ _ (or_clear c.in_ok-refuse_root.ensures.clear c.in_ok-refuse_root-2.ensures.clear) (bind_place None c.args.old_path.now _ c.in_ok-from.ensures.tells (λ from_walked from_seen. bind_gives _ (c.in_ok-inode.ensures.tells _) (bind_place (Some c.in_ok-inode.inode) c.args.new_path.now _ c.in_ok-to.ensures.tells (λ to_walked to_seen. passes _ _ (to_seen ∙ c.in_ok-refuse_if.ensures.clear) (if_fails _ (sym c.is_inode.ensures ∙ c.if-is_inode.false) (bind_gives _ c.in_ok-is_dir.ensures.tells (bind_stops _ (c.in_err-replaced.ensures.tells c.args.old_path.now c.args.new_path.now from_walked to_walked)))))))))
+returns-in_err-replaced-clause-tells g c = exits c.from_residual-in_err-replaced.ensures.1 (passes _ _ (or_clear c.in_ok-refuse_root.ensures.clear c.in_ok-refuse_root-2.ensures.clear) (bind_place None c.args.old_path.now _ c.in_ok-from.ensures.tells (λ from_walked from_seen. bind_gives _ (c.in_ok-inode.ensures.tells _) (bind_place (Some c.in_ok-inode.inode) c.args.new_path.now _ c.in_ok-to.ensures.tells (λ to_walked to_seen. passes _ _ (to_seen ∙ c.in_ok-refuse_if.ensures.clear) (if_fails _ (sym c.leads_to.ensures ∙ c.if-leads_to.false) (bind_gives _ c.in_ok-is_dir.ensures.tells (bind_stops _ (c.in_err-replaced.ensures.tells c.args.old_path.now c.args.new_path.now from_walked to_walked)))))))))
 
-pub returns-then-is_inode-clause-tells : goal.returns-then-is_inode-clause-tells
-returns-then-is_inode-clause-tells g c = (passes _ _ (or_clear c.in_ok-refuse_root.ensures.clear c.in_ok-refuse_root-2.ensures.clear) (bind_place None c.args.old_path.now _ c.in_ok-from.ensures.tells (λ from_walked from_seen. bind_gives _ (c.in_ok-inode.ensures.tells _) (bind_place (Some c.in_ok-inode.inode) c.args.new_path.now _ c.in_ok-to.ensures.tells (λ to_walked to_seen. passes _ _ (to_seen ∙ c.in_ok-refuse_if.ensures.clear) (if_holds _ (sym c.is_inode.ensures ∙ c.if-is_inode.true) (gives)))))))
+pub returns-then-leads_to-clause-tells : goal.returns-then-leads_to-clause-tells
+returns-then-leads_to-clause-tells g c = (passes _ _ (or_clear c.in_ok-refuse_root.ensures.clear c.in_ok-refuse_root-2.ensures.clear) (bind_place None c.args.old_path.now _ c.in_ok-from.ensures.tells (λ from_walked from_seen. bind_gives _ (c.in_ok-inode.ensures.tells _) (bind_place (Some c.in_ok-inode.inode) c.args.new_path.now _ c.in_ok-to.ensures.tells (λ to_walked to_seen. passes _ _ (to_seen ∙ c.in_ok-refuse_if.ensures.clear) (if_holds _ (sym c.leads_to.ensures ∙ c.if-leads_to.true) (gives)))))))
 
 pub returns-clause-tells : goal.returns-clause-tells
-returns-clause-tells g c = rw (c.in_ok-old_location.ensures.location, c.in_ok-new_location.ensures.location) (passes _ _ (or_clear c.in_ok-refuse_root.ensures.clear c.in_ok-refuse_root-2.ensures.clear) (bind_place None c.args.old_path.now _ c.in_ok-from.ensures.tells (λ from_walked from_seen. bind_gives _ (c.in_ok-inode.ensures.tells _) (bind_place (Some c.in_ok-inode.inode) c.args.new_path.now _ c.in_ok-to.ensures.tells (λ to_walked to_seen. passes _ _ (to_seen ∙ c.in_ok-refuse_if.ensures.clear) (if_fails _ (sym c.is_inode.ensures ∙ c.if-is_inode.false) (bind_gives _ c.in_ok-is_dir.ensures.tells (bind_gives _ (c.in_ok-replaced.ensures.tells c.args.old_path.now c.args.new_path.now from_walked to_walked) (gives)))))))))
+returns-clause-tells g c = rw (c.in_ok-old_location.ensures.location, c.in_ok-new_location.ensures.location) (passes _ _ (or_clear c.in_ok-refuse_root.ensures.clear c.in_ok-refuse_root-2.ensures.clear) (bind_place None c.args.old_path.now _ c.in_ok-from.ensures.tells (λ from_walked from_seen. bind_gives _ (c.in_ok-inode.ensures.tells _) (bind_place (Some c.in_ok-inode.inode) c.args.new_path.now _ c.in_ok-to.ensures.tells (λ to_walked to_seen. passes _ _ (to_seen ∙ c.in_ok-refuse_if.ensures.clear) (if_fails _ (sym c.leads_to.ensures ∙ c.if-leads_to.false) (bind_gives _ c.in_ok-is_dir.ensures.tells (bind_gives _ (c.in_ok-replaced.ensures.tells c.args.old_path.now c.args.new_path.now from_walked to_walked) (gives)))))))))
 
 pub returns-in_err-refuse_root-clause-memory : goal.returns-in_err-refuse_root-clause-memory
 returns-in_err-refuse_root-clause-memory g c = λ want. refused_wants c.from_residual.ensures.1 c.in_err-refuse_root.ensures.refused.0 want

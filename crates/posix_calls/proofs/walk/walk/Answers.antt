@@ -15,7 +15,7 @@ pub returns-in_err-dir-clause-tells : goal.returns-in_err-dir-clause-tells
 returns-in_err-dir-clause-tells g c = exits_untold _ c.from_residual.ensures.1 (walked_stops (drop (c.loop-name.name-index + 1) (take (length c.names.result.now - 1) c.names.result.now)) c.last-item.result (walked_next (take (length c.names.result.now - 1) c.names.result.now) c.loop-name.name-index c.name-item.result c.last-item.result c.loop-name-test.true c.name-item.is c.loop-name.invariant) (rw (← c.as_slice.ensures.bytes) c.in_err-dir.ensures.tells))
 
 pub loop-name-preserved : goal.loop-name-preserved
-loop-name-preserved g c = rw c.is_inode-passed.ensures (walked_on (drop (c.loop-name.name-index + 1) (take (length c.names.result.now - 1) c.names.result.now)) c.last-item.result (walked_next (take (length c.names.result.now - 1) c.names.result.now) c.loop-name.name-index c.name-item.result c.last-item.result c.loop-name-test.true c.name-item.is c.loop-name.invariant) (rw (← c.as_slice.ensures.bytes) c.in_ok-dir.ensures.tells))
+loop-name-preserved g c = rw c.leads_to-passed.ensures (walked_on (drop (c.loop-name.name-index + 1) (take (length c.names.result.now - 1) c.names.result.now)) c.last-item.result (walked_next (take (length c.names.result.now - 1) c.names.result.now) c.loop-name.name-index c.name-item.result c.last-item.result c.loop-name-test.true c.name-item.is c.loop-name.invariant) (rw (← c.as_slice.ensures.bytes) c.in_ok-dir.ensures.tells))
 
 pub returns-in_err-child-clause-tells : goal.returns-in_err-child-clause-tells
 returns-in_err-child-clause-tells g c = exits_untold _ c.from_residual-in_err-child.ensures.1 (walked_missing (entry_in c.as_slice-2.result.now) (walked_last (take (length c.names.result.now - 1) c.names.result.now) c.loop-name.name-index c.last-item.result c.loop-name-test.false c.loop-name.invariant) c.in_err-child.ensures.missing.0 (sym c.entry.ensures.inode ∙ ap (option_map (option_map (λ e. e.inode))) c.in_err-child.ensures.missing.1))
@@ -24,7 +24,7 @@ pub returns-in_err-entries-clause-tells : goal.returns-in_err-entries-clause-tel
 returns-in_err-entries-clause-tells g c = exits_untold _ c.from_residual-in_err-entries.ensures.1 (walked_missing count_in (walked_last (take (length c.names.result.now - 1) c.names.result.now) c.loop-name.name-index c.last-item.result c.loop-name-test.false c.loop-name.invariant) c.in_err-entries.ensures.missing.0 (sym c.entry_count.ensures ∙ c.in_err-entries.ensures.missing.1))
 
 pub returns-clause-tells : goal.returns-clause-tells
-returns-clause-tells g c = rw (c.landing_at.ensures.parent, c.landing_at.ensures.inode, c.landing_at.ensures.entries, c.landing_at.ensures.passed, c.is_inode-passed-2.ensures) (walked_lands (walked_last (take (length c.names.result.now - 1) c.names.result.now) c.loop-name.name-index c.last-item.result c.loop-name-test.false c.loop-name.invariant) (rw (← c.as_slice-2.ensures.bytes) (sym c.entry.ensures.inode ∙ ap (option_map (option_map (λ e. e.inode))) c.in_ok-child.ensures.known)) (sym c.entry_count.ensures ∙ c.in_ok-entries.ensures.known))
+returns-clause-tells g c = rw (c.landing_at.ensures.parent, c.landing_at.ensures.inode, c.landing_at.ensures.entries, c.landing_at.ensures.passed, c.leads_to-passed-2.ensures) (walked_lands (walked_last (take (length c.names.result.now - 1) c.names.result.now) c.loop-name.name-index c.last-item.result c.loop-name-test.false c.loop-name.invariant) (rw (← c.as_slice-2.ensures.bytes) (sym c.entry.ensures.inode ∙ ap (option_map (option_map (λ e. e.inode))) c.in_ok-child.ensures.known)) (sym c.entry_count.ensures ∙ c.in_ok-entries.ensures.known))
 
 pub returns-clause-told : goal.returns-clause-told
 returns-clause-told g c = λ i is_dir at told.

@@ -1,4 +1,4 @@
-use Rattle.tree_blocks.specs.Inode.{IsDirectory}
+use Rattle.tree_blocks.specs.Inode.{AreDirectoryBlocks}
 use Rattle.area_image.specs.Store.{logical}
 use Rattle.area_image.specs.Looks.{looked}
 use Rattle.area_image.specs.Checks.{IsOnce}
@@ -8,7 +8,7 @@ use Rattle.shared_area.proofs.naming.read_entries.Goals as goal
 pub add_part-requires-clause-directory : goal.add_part-requires-clause-directory
 add_part-requires-clause-directory g c =
     let m = g.M.Media in
-    carried m.moment m.seen m.left m.faults (λ x s. IsDirectory c.args.inode c.args.entries (logical x s c.args.inode)) c.args.journal.now c.parts.journal looked c.parts.invariant.looks c.requires.directory
+    carried m.moment m.seen m.left m.faults (λ x s. AreDirectoryBlocks c.args.inode c.args.entries (logical x s c.args.inode)) c.args.journal.now c.parts.journal looked c.parts.invariant.looks c.requires.directory
 
 pub add_part-requires-clause-once : goal.add_part-requires-clause-once
 add_part-requires-clause-once g c =

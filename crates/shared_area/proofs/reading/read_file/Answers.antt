@@ -2,7 +2,7 @@ use Rattle.std.proofs.Common.{Ok, length}
 use Rattle.area_image.specs.Store.{store_of, graph}
 use Rattle.area_image.specs.Spelled.{IsOpenable}
 use Rattle.area_image.proofs.Looked.{carried}
-use Rattle.shared_area.specs.Reading.{bytes_at}
+use Rattle.shared_area.specs.Reading.{bytes_of_inode}
 use Rattle.shared_area.proofs.Sound.{parts_none}
 use Rattle.shared_area.proofs.Files.{no_bytes, none_of}
 use Rattle.shared_area.proofs.reading.read_file.Goals as goal
@@ -17,4 +17,4 @@ pub returns-in-Ok-None-clause-count : goal.returns-in-Ok-None-clause-count
 returns-in-Ok-None-clause-count g c =
     let old = c.args.journal.now in
     let s = store_of (g.M.Media.seen old.media) in
-    none_of (length c.args.out.now) c.args.at (bytes_at (graph old.geometry s) c.args.inode) (no_bytes old.geometry s c.args.inode (parts_none old.geometry s c.args.inode c.in-Ok-None.field-0 c.in-Ok-None.field-0-is c.in-Ok-None.ensures.parts))
+    none_of (length c.args.out.now) c.args.at (bytes_of_inode (graph old.geometry s) c.args.inode) (no_bytes old.geometry s c.args.inode (parts_none old.geometry s c.args.inode c.in-Ok-None.field-0 c.in-Ok-None.field-0-is c.in-Ok-None.ensures.parts))

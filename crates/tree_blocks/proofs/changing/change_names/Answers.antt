@@ -9,7 +9,7 @@ use Rattle.graph_change.specs.Net.{Child, with_entry, with_entries}
 use Rattle.tree_blocks.specs.Inode.{entry_at, named}
 use Rattle.tree_blocks.specs.Directory.{numbered}
 use Rattle.tree_blocks.proofs.NameChanges.{NameChange, behind, none_done, next_behind, all_behind, pair_is, pairs_long, few_behind, grown}
-use Rattle.tree_blocks.specs.Written.{Marks}
+use Rattle.tree_blocks.specs.Written.{WereMarked}
 use Rattle.tree_blocks.proofs.Marking.{mark_none, marks_more}
 use Rattle.tree_blocks.proofs.changing.change_names.Goals as goal
 
@@ -60,4 +60,4 @@ returns c =
     let es : List (NamedEntry (Option Child)) = c.args.changes.now in
     let m : Entries Child = named (entry_at (numbered c.args.blocks.now.items)) c.args.count in
     let end : c.changes.done ≡ length es = omega (arith, c.changes-test.false, c.changes.auto.done-end) in
-    record { held = c.changes.invariant.held; entries = c.changes.invariant.entries ∙ ap (λ (cs : List NameChange). with_entries cs m) (ap (behind es) end ∙ all_behind es); marks = subst (λ (n : ℕ). Marks (2 * n) c.args.marks.now c.changes.marks c.args.blocks.now.items c.changes.blocks.items) end c.changes.invariant.marks }
+    record { held = c.changes.invariant.held; entries = c.changes.invariant.entries ∙ ap (λ (cs : List NameChange). with_entries cs m) (ap (behind es) end ∙ all_behind es); marks = subst (λ (n : ℕ). WereMarked (2 * n) c.args.marks.now c.changes.marks c.args.blocks.now.items c.changes.blocks.items) end c.changes.invariant.marks }

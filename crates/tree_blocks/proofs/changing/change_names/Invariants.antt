@@ -2,7 +2,7 @@ use Rattle.std.proofs.Common.{◌≡◌, ◌≤◌, ◌+◌, ◌*◌, vec_capaci
 use Rattle.graph_change.specs.Net.{with_entries}
 use Rattle.tree_blocks.specs.Inode.{entry_at, named}
 use Rattle.tree_blocks.specs.Directory.{numbered, coming, AreHeld}
-use Rattle.tree_blocks.specs.Written.{Marks}
+use Rattle.tree_blocks.specs.Written.{WereMarked}
 use Rattle.tree_blocks.proofs.NameChanges.{behind}
 use Rattle.tree_blocks.proofs.changing.change_names.Given as goal
 
@@ -11,6 +11,6 @@ invariant-changes l = record {
   held : AreHeld l.owner l.after l.blocks.items;
   entries : named (entry_at (numbered l.blocks.items)) l.after ≡ with_entries (behind l.changes l.done) (named (entry_at (numbered l.fn.blocks.items)) l.count);
   few : l.after ≤ l.count + coming (behind l.changes l.done);
-  marks : Marks (2 * l.done) l.fn.marks l.marks l.fn.blocks.items l.blocks.items;
+  marks : WereMarked (2 * l.done) l.fn.marks l.marks l.fn.blocks.items l.blocks.items;
   room : vec_capacity l.fn.blocks ≤ vec_capacity l.blocks;
 }

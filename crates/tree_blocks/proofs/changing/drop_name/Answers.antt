@@ -1,13 +1,13 @@
 use Rattle.std.proofs.Common.{◌≡◌, ◌+◌, ◌-◌, ◌/◌, ◌∙◌, ℕ, Bool, true, slice_set, ap, arith, subst, sym, List}
 use Rattle.std.specs.FinMap as fin
-use Rattle.tree_blocks.specs.Inode.{entry_at, named, IsDirectory}
+use Rattle.tree_blocks.specs.Inode.{entry_at, named, AreDirectoryBlocks}
 use Rattle.tree_blocks.specs.After.{IsTakenOut}
 use Rattle.tree_blocks.specs.Directory.{numbered}
 use Rattle.tree_blocks.proofs.Directories.{get_missing}
 use Rattle.tree_blocks.proofs.Entering.{named_left}
 use Rattle.tree_blocks.proofs.Lists.{FoundAt, InNone, found_inside, found_nowhere}
 use Rattle.tree_blocks.proofs.NameChanges.{remove_absent}
-use Rattle.tree_blocks.specs.Written.{Marks}
+use Rattle.tree_blocks.specs.Written.{WereMarked}
 use Rattle.tree_blocks.proofs.Marking.{mark_none, mark_two, marks_more}
 use Rattle.tree_blocks.proofs.changing.drop_name.Goals as goal
 
@@ -24,7 +24,7 @@ returns-clause-held c owner held =
     let n : ℕ = c.args.count in
     let at = found_inside owner n bs held c.args.name.now c.in-Some.number (subst (FoundAt c.args.name.now c.in-Some.number) c.deref.ensures.value c.in-Some.ensures.found) in
     let more : n ≡ n - 1 + 1 = omega (arith, at.0) in
-    record { long = c.take_from.ensures.long; directory = (c.take_from.ensures.less owner (subst (λ (k : ℕ). IsDirectory owner k (numbered bs)) more held.directory)).directory }
+    record { long = c.take_from.ensures.long; directory = (c.take_from.ensures.less owner (subst (λ (k : ℕ). AreDirectoryBlocks owner k (numbered bs)) more held.directory)).directory }
 
 pub returns-clause-entries : goal.returns-clause-entries
 returns-clause-entries c =
@@ -35,7 +35,7 @@ returns-clause-entries c =
     let held = c.requires.held.1 in
     let at = found_inside owner n bs held c.args.name.now i (subst (FoundAt c.args.name.now i) c.deref.ensures.value c.in-Some.ensures.found) in
     let more : n ≡ n - 1 + 1 = omega (arith, at.0) in
-    let less = c.take_from.ensures.less owner (subst (λ (k : ℕ). IsDirectory owner k (numbered bs)) more held.directory) in
+    let less = c.take_from.ensures.less owner (subst (λ (k : ℕ). AreDirectoryBlocks owner k (numbered bs)) more held.directory) in
     let taken : IsTakenOut i n (entry_at (numbered bs)) (n - 1) (entry_at (numbered c.take_from.new.blocks.items)) =
     subst (λ (k : ℕ). IsTakenOut i k (entry_at (numbered bs)) (n - 1) (entry_at (numbered c.take_from.new.blocks.items))) (sym more) less.taken in
     named_left i (entry_at (numbered bs)) n held.directory.distinct (n - 1) (entry_at (numbered c.take_from.new.blocks.items)) taken ∙ ap (fin.remove (named (entry_at (numbered bs)) n)) at.1
@@ -49,4 +49,4 @@ returns-clause-marks c =
     let a : ℕ = c.in-Some.number / 56 in
     let b : ℕ = (c.args.count - 1) / 56 in
     let set : c.mark-2.new.marks ≡ slice_set (slice_set marks a true) b true = c.mark-2.ensures ∙ ap (λ (m : List Bool). slice_set m b true) c.mark.ensures in
-    subst (λ (m : List Bool). Marks 2 marks m c.args.blocks.now.items c.take_from.new.blocks.items) (sym set) (mark_two marks a b c.args.blocks.now.items c.take_from.new.blocks.items c.take_from.ensures.others)
+    subst (λ (m : List Bool). WereMarked 2 marks m c.args.blocks.now.items c.take_from.new.blocks.items) (sym set) (mark_two marks a b c.args.blocks.now.items c.take_from.new.blocks.items c.take_from.ensures.others)

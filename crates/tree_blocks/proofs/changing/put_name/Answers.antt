@@ -7,7 +7,7 @@ use Rattle.tree_blocks.specs.Inode.{plain, entry_at, named}
 use Rattle.tree_blocks.specs.Directory.{numbered}
 use Rattle.tree_blocks.proofs.Entering.{named_entered}
 use Rattle.tree_blocks.proofs.Lists.{FoundAt, InNone, found_inside, found_nowhere, read_there, set_entered, set_directory}
-use Rattle.tree_blocks.specs.Written.{Marks}
+use Rattle.tree_blocks.specs.Written.{WereMarked}
 use Rattle.tree_blocks.proofs.Marking.{mark_one}
 use Rattle.tree_blocks.proofs.changing.put_name.Goals as goal
 
@@ -50,10 +50,10 @@ returns-in-Some-clause-marks c =
     let bs : List (List ℕ) = c.args.blocks.now.items in
     let i : ℕ = c.in-Some.number in
     let new : List (List ℕ) = set bs (i / 56) c.set_target.new.block in
-    subst (λ (m : List Bool). Marks 1 c.args.marks.now m bs new) (sym c.mark.ensures) (mark_one c.args.marks.now (i / 56) bs new (λ k off. get_or-set_other bs (i / 56) k c.set_target.new.block [] off))
+    subst (λ (m : List Bool). WereMarked 1 c.args.marks.now m bs new) (sym c.mark.ensures) (mark_one c.args.marks.now (i / 56) bs new (λ k off. get_or-set_other bs (i / 56) k c.set_target.new.block [] off))
 
 pub returns-clause-marks : goal.returns-clause-marks
 returns-clause-marks c =
     let bs : List (List ℕ) = c.args.blocks.now.items in
     let new : List (List ℕ) = c.add_to.new.blocks.items in
-    subst (λ (m : List Bool). Marks 1 c.args.marks.now m bs new) (sym c.mark-2.ensures) (mark_one c.args.marks.now (c.args.count / 56) bs new c.in_ok-add_to.ensures.more.others)
+    subst (λ (m : List Bool). WereMarked 1 c.args.marks.now m bs new) (sym c.mark-2.ensures) (mark_one c.args.marks.now (c.args.count / 56) bs new c.in_ok-add_to.ensures.more.others)

@@ -1,6 +1,6 @@
 use Rattle.std.proofs.Common.{◌≡◌, ◌∙◌, ℕ, arith, subst, sym, List}
 use Rattle.layout.specs.Lent.{owned}
-use Rattle.tree_blocks.specs.Inode.{plain, IsDirectory}
+use Rattle.tree_blocks.specs.Inode.{plain, AreDirectoryBlocks}
 use Rattle.tree_blocks.specs.Directory.{HaveOneMore, numbered}
 use Rattle.tree_blocks.proofs.Lists.{more_opened, written_back}
 use Rattle.tree_blocks.proofs.entry_blocks.add_to.Goals as goal
@@ -9,7 +9,7 @@ pub returns-then-count-ne0-clause-more : goal.returns-then-count-ne0-clause-more
 returns-then-count-ne0-clause-more c =
     let bs : List (List ℕ) = c.args.blocks.now.items in
     let lent : c.deref_mut.result.now ≡ bs = c.deref_mut.ensures.value in
-    let is : IsDirectory c.args.owner c.args.count (numbered c.deref_mut.result.now) = subst (λ (l : List (List ℕ)). IsDirectory c.args.owner c.args.count (numbered l)) (sym lent) c.requires.directory in
+    let is : AreDirectoryBlocks c.args.owner c.args.count (numbered c.deref_mut.result.now) = subst (λ (l : List (List ℕ)). AreDirectoryBlocks c.args.owner c.args.count (numbered l)) (sym lent) c.requires.directory in
     let one : HaveOneMore c.args.owner c.args.count (plain (owned c.args.entry)) c.deref_mut.result.now c.fill_block.new.blocks = c.fill_block.ensures.more c.args.owner is in
     let two : HaveOneMore c.args.owner c.args.count (plain (owned c.args.entry)) bs c.fill_block.new.blocks =
     subst (λ (l : List (List ℕ)). HaveOneMore c.args.owner c.args.count (plain (owned c.args.entry)) l c.fill_block.new.blocks) lent one in

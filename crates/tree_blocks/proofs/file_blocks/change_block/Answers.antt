@@ -2,14 +2,14 @@ use Rattle.std.proofs.Common.{◌≡◌, ◌≤◌, ◌-◌, ◌++◌, ◌∙◌
 use Rattle.std.specs.Prelude.{replicate, option_map}
 use Rattle.graph_change.specs.Bytes.{Length}
 use Rattle.graph_change.specs.Change.{Patch, patched}
-use Rattle.graph_change.specs.View.{length_of, patch_of}
+use Rattle.graph_change.specs.View.{new_length, patch_of}
 use Rattle.tree_blocks.specs.FileBlock.{put_in, kept_in, block_after}
 use Rattle.tree_blocks.proofs.FileBlocks.{block_is, block_is_cut}
 use Rattle.tree_blocks.proofs.file_blocks.change_block.Goals as goal
 
 pub returns-in-Some : goal.returns-in-Some
 returns-in-Some c =
-    let len : Length = length_of c.args.len in
+    let len : Length = new_length c.args.len in
     let k : ℕ = c.args.number in
     let old : List ℕ = c.args.block.now in
     let patch : Patch = patch_of c.in-Some.change.now in
@@ -19,7 +19,7 @@ returns-in-Some c =
 
 pub returns-in-None : goal.returns-in-None
 returns-in-None c =
-    let len : Length = length_of c.args.len in
+    let len : Length = new_length c.args.len in
     let k : ℕ = c.args.number in
     let old : List ℕ = c.args.block.now in
     let few : kept_in len k ≤ 4096 = omega (arith, c.kept_in.ensures.kept, c.kept_in.ensures.few) in

@@ -1,5 +1,5 @@
 use Rattle.std.proofs.Common.{ap, sym}
-use Rattle.layout.specs.Answers.{answer}
+use Rattle.layout.specs.Answers.{or_damaged}
 use Rattle.layout.specs.declared.error.What.TheVariants as what
 use Rattle.layout.specs.Directory.{listed}
 use Rattle.layout.proofs.DirectoryLaws.{entries_of_takes}
@@ -7,7 +7,7 @@ use Rattle.layout.proofs.DirPlaces.{names_differ}
 use Rattle.layout.proofs.dir_entries.DirEntries.read.Goals as goal
 
 pub returns-in-Some-clause-read : goal.returns-in-Some-clause-read
-returns-in-Some-clause-read c = ap (answer what.DirBlock c.args.number) (sym (names_differ c.args.block.now c.in-Some.ensures.read.list c.in-Some.ensures.read.distinct))
+returns-in-Some-clause-read c = ap (or_damaged what.DirBlock c.args.number) (sym (names_differ c.args.block.now c.in-Some.ensures.read.list c.in-Some.ensures.read.distinct))
 
 pub returns-in-Some-clause-entries : goal.returns-in-Some-clause-entries
 returns-in-Some-clause-entries c =

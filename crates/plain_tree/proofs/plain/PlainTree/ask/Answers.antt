@@ -1,5 +1,5 @@
 use Rattle.std.proofs.Common.{◌≡◌, true, refl, Ok, Err, inl, inr, ap, sym, subst, ◌∙◌, arith}
-use Rattle.posix_calls.specs.Query.{run, view_of, whole}
+use Rattle.posix_calls.specs.Query.{run, view_of, whole_part}
 use Rattle.posix_calls.specs.Memory.{takes_memory}
 use Rattle.posix_calls.specs.Decide.{decide}
 use Rattle.posix_calls.specs.Tree.{Own}
@@ -65,4 +65,4 @@ pub returns-in-Err-Memory-clause-exact : goal.returns-in-Err-Memory-clause-exact
 returns-in-Err-Memory-clause-exact c =
     let row = ap (λ (s : Stored). held_of s.rows c.args.client) (sym c.self.view_is) ∙ row_of c.self.inside.rows.items c.args.client c.index.result.now (omega arith) (omega (arith, c.self.invariant.0, c.if-client-gt-MAX_CLIENTS.false)) c.index.ensures in
     let takes = c.decide.ensures.memory (c.in-Err-Memory.is ∙ ap Err c.in-Err-Memory.field-0-is) in
-    inr (inl (refl, among c.args.client (omega arith) (omega (arith, c.if-client-gt-MAX_CLIENTS.false)), subst (λ (own : Own). takes_memory (whole (view_of (stored_tree c.args.self.now.nodes))) own c.args.call.now ≡ true) (sym row) takes), refl)
+    inr (inl (refl, among c.args.client (omega arith) (omega (arith, c.if-client-gt-MAX_CLIENTS.false)), subst (λ (own : Own). takes_memory (whole_part (view_of (stored_tree c.args.self.now.nodes))) own c.args.call.now ≡ true) (sym row) takes), refl)

@@ -2,7 +2,7 @@ use Rattle.std.proofs.Common.{◌≡◌, ◌≢◌, ◌∙◌, List, ℕ, ◌∷
 use Rattle.tier_device.specs.declared.media.Tier.TheVariants.{Fast}
 use Rattle.tier_device.specs.Media.{LeftSince, Puts}
 use Rattle.update_log.specs.declared.stage.Stage.TheVariants as stages
-use Rattle.update_log.specs.Frames.{before_gate, spelled, joined, behind_gate}
+use Rattle.update_log.specs.Frames.{before_gate, spelled, with_record, behind_gate}
 use Rattle.update_log.specs.Stage.{IsAppending, next, payload_in, BeforeOrAfter}
 use Rattle.update_log.specs.Calls.{payloads_after, end_after, seen_after, ShowsCall}
 use Rattle.update_log.specs.View.{RegionView, begun_in, WithOrWithout, header_of, records_of, begun_of}
@@ -52,9 +52,9 @@ returns-in-Ok-clause-appended g c done =
     c.end_after-self-inside.ensures ∙ ap (λ (b : List ℕ). end_after s.stage s.end b) (again ∙ sym same) in
     let more : payloads_after s.stage ps (payload_in c.as_slice.result.now) ≡ ps ++ payload ∷ [] =
     (λ k. payloads_after (last k) ps (payload_in (same k))) in
-    let all : spelled (before_gate (take c.end_after-self-inside.result seen')) ≡ joined (spelled ps) (begun_of (record { media = s.media; end = s.end; stage = s.stage; begun = begun_in s.stage payload })) =
-    ap (λ n. spelled (before_gate (take n seen'))) at_end ∙ ap spelled (moved.payloads_are ∙ more) ∙ spelled_more ps payload ∙ ap (joined (spelled ps)) (sym (begun_appending s.stage payload appending)) in
-    subst (λ (v : RegionView _). spelled (before_gate (take c.end_after-self-inside.result seen')) ≡ joined (records_of m.seen v) (begun_of v)) c.self.view_is all
+    let all : spelled (before_gate (take c.end_after-self-inside.result seen')) ≡ with_record (spelled ps) (begun_of (record { media = s.media; end = s.end; stage = s.stage; begun = begun_in s.stage payload })) =
+    ap (λ n. spelled (before_gate (take n seen'))) at_end ∙ ap spelled (moved.payloads_are ∙ more) ∙ spelled_more ps payload ∙ ap (with_record (spelled ps)) (sym (begun_appending s.stage payload appending)) in
+    subst (λ (v : RegionView _). spelled (before_gate (take c.end_after-self-inside.result seen')) ≡ with_record (records_of m.seen v) (begun_of v)) c.self.view_is all
 
 pub returns-in-Ok-clause-seen : goal.returns-in-Ok-clause-seen
 returns-in-Ok-clause-seen g c =

@@ -1,7 +1,7 @@
 use Rattle.area_image.specs.Store.{store_of}
 use Rattle.shared_area.proofs.Sound.{parts_some, parts_none}
 use Rattle.shared_area.proofs.FirstRuns.{parts_once, parts_within, no_inode_lies}
-use Rattle.shared_area.proofs.running.find_run.Goals as goal
+use Rattle.shared_area.proofs.running.find_first_run.Goals as goal
 
 pub run_of-requires-clause-once : goal.run_of-requires-clause-once
 run_of-requires-clause-once g c =
