@@ -17,7 +17,7 @@ use Rattle.posix_calls.specs.declared.operation.Operation.TheVariants.{Tell, Res
 use Rattle.posix_calls.specs.declared.operation.Replaced.{Replaced}
 use Rattle.posix_calls.specs.declared.operation.Replaced.TheVariants.{OldFile}
 use Rattle.posix_calls.specs.Query.{Seen, File, Dir, Gives, Refuses, Look, View, run}
-use Rattle.posix_calls.specs.Walk.{Place, is_root, is_inode, is_there, is_true, there, prefix, entries_seen, entries_at, kind_at}
+use Rattle.posix_calls.specs.Walk.{Place, is_root, leads_to, is_there, is_true, there, prefix, entries_seen, entries_at, kind_at}
 use Rattle.posix_calls.specs.Decide.{opened, open_there, lowest_free, number_or, replacing, replacing_dir, renamed, write_at, described, mkdir, unlink, rmdir, link, rename, truncate, pwrite, pread, close, open_path, list_path, stat, decide}
 use Rattle.posix_calls.proofs.Open as opens
 use Rattle.file_graph.specs.Graph.{Graph}
@@ -232,7 +232,7 @@ rmdir_fits g d own path operation sound e =
     let yes = ap kind_if (not_not is_dir.0 (not_refused v errno.NotDirectory _ _ refused.1)) in
     fits_as g d own _ operation (given v full.2) (subst (λ k. IsEntry g place.0.location (i.0, k)) yes node.0, empty_seen g d i.0 seen.0 (node.1 ∙ ap Some yes) seen.1 (not_refused v errno.NotEmpty _ _ full.1))
 
-replaced_fits : (g : Graph) (d : Descriptors) (own : Own) (from to : Place) (i : ℕ) (old_dir : Bool) (o : Option ℕ) (replaced : Replaced) → IsFair g d → IsPlace g to → to.inode ≡ o → is_inode i o ≡ false
+replaced_fits : (g : Graph) (d : Descriptors) (own : Own) (from to : Place) (i : ℕ) (old_dir : Bool) (o : Option ℕ) (replaced : Replaced) → IsFair g d → IsPlace g to → to.inode ≡ o → leads_to i o ≡ false
     → run (graph_view g d) (replacing from to old_dir o) ≡ Ok replaced → FitsReplaced g d to.location i replaced
 replaced_fits g d own from to i old_dir None replaced sound at is other e =
     let full = bind_ok (graph_view g d) _ _ _ e in
@@ -256,7 +256,7 @@ replaced_fits g d own from to i old_dir (Some j) replaced sound at is other e =
           subst (FitsReplaced g d to.location i) (given v rest) (apart, file.0, file.1)
     ] refl no_file.2
 
-renamed_fits : (g : Graph) (d : Descriptors) (own : Own) (from to : Place) (i : ℕ) (operation : Operation) → IsFair g d → IsPlace g from → from.inode ≡ Some i → IsPlace g to → IsClear (tree_of (kept g d)) i to.location.parent → is_inode i to.inode ≡ false → run (graph_view g d) (renamed from to i) ≡ Ok operation → OperationFits g d own operation
+renamed_fits : (g : Graph) (d : Descriptors) (own : Own) (from to : Place) (i : ℕ) (operation : Operation) → IsFair g d → IsPlace g from → from.inode ≡ Some i → IsPlace g to → IsClear (tree_of (kept g d)) i to.location.parent → leads_to i to.inode ≡ false → run (graph_view g d) (renamed from to i) ≡ Ok operation → OperationFits g d own operation
 renamed_fits g d own from to i operation sound at is at_to clear other e =
     let v = graph_view g d in
     let old_dir = bind_ok v _ _ _ e in
@@ -283,7 +283,7 @@ rename_fits g d own old new operation sound e =
     let roots = or_left (is_root old_names.0) (is_root new_names.0) (not_refused v errno.Busy _ _ busy.1) in
     let at = beyond g old_names.0 from.0 (place_of g d old_names.0 from.0 sound from.1) roots.0 in
     let at_to = beyond g new_names.0 to.0 (place_of g d new_names.0 to.0 sound to.1) roots.1 in
-    elim (is_inode i.0 to.0.inode) as (λ b. is_inode i.0 to.0.inode ≡ b → run v (cond b (Gives (Tell replies.Done)) (renamed from.0 to.0 i.0)) ≡ Ok operation → OperationFits g d own operation) [
+    elim (leads_to i.0 to.0.inode) as (λ b. leads_to i.0 to.0.inode ≡ b → run v (cond b (Gives (Tell replies.Done)) (renamed from.0 to.0 i.0)) ≡ Ok operation → OperationFits g d own operation) [
       | true ↦ λ same done. fits_as g d own _ operation (given v done) tt
       | false ↦ λ other rest. renamed_fits g d own from.0 to.0 i.0 operation sound at (there_is v from.0.inode i.0 i.1) at_to (clear_of_walk g d i.0 new_names.0 to.0 sound roots.1 to.1 (not_refused v errno.Invalid _ _ under.1)) other rest
     ] refl under.2

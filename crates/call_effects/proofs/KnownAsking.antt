@@ -18,7 +18,7 @@ use Rattle.posix_calls.specs.declared.operation.Operation.TheVariants.{Tell, Clo
 use Rattle.posix_calls.specs.declared.operation.Replaced.TheVariants.{OldFile}
 use Rattle.posix_calls.specs.declared.operation.Missing.TheVariants as missing
 use Rattle.posix_calls.specs.Query.{Seen, File, Dir, Query, Gives, Refuses, IsDir, Look, Range, ◌>>=◌, Part, Found, Known, Unknown, blocks_of, run_part}
-use Rattle.posix_calls.specs.Walk.{Place, root_place, refuse, said, entries_at, size_at, kind_at, directory, directory_if, walk, prefix, is_inode, there}
+use Rattle.posix_calls.specs.Walk.{Place, root_place, refuse, said, entries_at, size_at, kind_at, directory, directory_if, walk, prefix, leads_to, there}
 use Rattle.posix_calls.specs.Decide.{opened, number_or, empties, open_there, bytes_from, write_at, replacing, replacing_dir, renamed, described, open_path, close, pread, pwrite, truncate, mkdir, rmdir, link, unlink, rename, list_path, stat, decide}
 
 -- each inode that is asked of, for its kind, to be looked at, or for a range of bytes, passes, as the part answers what comes before
@@ -340,7 +340,7 @@ module _ (p : Part) (OnDir OnNode : ℕ → Type 0) (OnRange : ℕ → ℕ → �
         query_then _ _ (query_prefix old_names) (λ from q.
         query_then _ _ (query_there from.inode) (λ i t.
         query_then _ _ (query_prefix new_names) (λ to r.
-        query_past _ _ _ (by_node (is_inode i to.inode) old_names new_names from to i q r)))))))
+        query_past _ _ _ (by_node (leads_to i to.inode) old_names new_names from to i q r)))))))
       where
         by_node : (b : Bool) (old_names new_names : List (List ℕ)) (from to : Place) (i : ℕ) → run_part p (prefix old_names) ≡ Known (Ok from) → run_part p (prefix new_names) ≡ Known (Ok to) → QueryIn (cond b (Gives (Tell reply.Done)) (renamed from to i))
         by_node true old_names new_names from to i q r = query_gives _

@@ -7,7 +7,7 @@ use Rattle.posix_calls.specs.Content.{file_units, directory_units}
 use Rattle.posix_calls.specs.Path.{reading}
 use Rattle.posix_calls.specs.Tree.{Own}
 use Rattle.posix_calls.specs.Query.{Seen, File, Dir, Query, Gives, Refuses, IsDir, Look, Range, ◌>>=◌, View, run}
-use Rattle.posix_calls.specs.Walk.{Place, is_inode, refuse, said, entries_at, size_at, names_at, kind_at, prefix, there, entries_seen, size_seen}
+use Rattle.posix_calls.specs.Walk.{Place, leads_to, refuse, said, entries_at, size_at, names_at, kind_at, prefix, there, entries_seen, size_seen}
 use Rattle.posix_calls.specs.Decide.{opened, lowest_free, number_or, empties, open_there, open_path, close, bytes_from, pread, write_at, pwrite, truncate, mkdir, rmdir, link, unlink, replacing, renamed, rename, list_path, described, stat, decide}
 use Rattle.posix_calls.specs.declared.errno.Errno.TheVariants as errno
 use Rattle.posix_calls.specs.declared.limits.TheConstants.{MAX_TRANSFER}
@@ -140,7 +140,7 @@ rename_fine : (old new : List ℕ) → Fine (rename old new)
 unfolding rename
 rename_fine old new =
     after_any HasBytes (said (reading old)) _ (λ old_names. after_any HasBytes (said (reading new)) _ (λ new_names. after_any HasBytes _ _ (λ a. after_any HasBytes (prefix old_names) _ (λ from. after_any HasBytes (there from.inode) _ (λ i.
-    after_any HasBytes (prefix new_names) _ (λ to. after_any HasBytes _ _ (λ b. renamed_fine (is_inode i to.inode) _ from to i)))))))
+    after_any HasBytes (prefix new_names) _ (λ to. after_any HasBytes _ _ (λ b. renamed_fine (leads_to i to.inode) _ from to i)))))))
 
 list_fine : (path : List ℕ) → Fine (list_path path)
 unfolding list_path

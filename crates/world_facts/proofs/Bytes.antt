@@ -3,7 +3,7 @@ use Rattle.std.proofs.Common.{◌≡◌, ◌≢◌, ℕ, cond, Bool, true, false
 use Rattle.std.specs.FinMap as fin
 use Rattle.posix_calls.specs.Tree.{Own}
 use Rattle.posix_calls.specs.Query.{Seen, File, Dir, Query, Gives, Refuses, IsDir, Look, Range, ◌>>=◌, Part, Found, Known, Unknown, run_part}
-use Rattle.posix_calls.specs.Walk.{Place, refuse, said, entries_at, size_at, names_at, kind_at, directory, directory_if, walk, is_inode, there, root_place}
+use Rattle.posix_calls.specs.Walk.{Place, refuse, said, entries_at, size_at, names_at, kind_at, directory, directory_if, walk, leads_to, there, root_place}
 use Rattle.posix_calls.specs.Decide.{opened, number_or, empties, open_there, write_at, replacing, replacing_dir, renamed, described, open_path, close, pread, pwrite, truncate, mkdir, rmdir, link, unlink, rename, list_path, stat, decide}
 use Rattle.posix_calls.specs.declared.call.Call.{Call}
 use Rattle.posix_calls.specs.declared.call.Call.TheVariants as call
@@ -171,7 +171,7 @@ on_replacing from to old_dir (Some j) = on _ _ (on_kind (Some j)) (λ new_dir. o
 
 on_rename : (old new : List ℕ) → AsksNone (rename old new)
 unfolding rename
-on_rename old new = on _ _ (on_said _) (λ old_names. on _ _ (on_said _) (λ new_names. on _ _ (on_refuse _ _) (λ u. on _ _ (on_walk 1 [] old_names) (λ from. on _ _ (on_there _) (λ i. on _ _ (on_walk 1 [] new_names) (λ to. on _ _ (on_refuse _ _) (λ v. moves from to i (is_inode i to.inode))))))))
+on_rename old new = on _ _ (on_said _) (λ old_names. on _ _ (on_said _) (λ new_names. on _ _ (on_refuse _ _) (λ u. on _ _ (on_walk 1 [] old_names) (λ from. on _ _ (on_there _) (λ i. on _ _ (on_walk 1 [] new_names) (λ to. on _ _ (on_refuse _ _) (λ v. moves from to i (leads_to i to.inode))))))))
   where
     moves : (from to : Place) (i : ℕ) (same : Bool) → AsksNone (cond same (Gives (Tell replies.Done)) (renamed from to i))
     moves from to i true = gives _

@@ -3,7 +3,7 @@ use Rattle.std.proofs.Common.{◌≡◌, ◌⊎◌, inl, inr, ℕ, ◌+◌, ◌-
 use Rattle.std.proofs.lemmas.Bool.Decides.{eqb_tells}
 use Rattle.posix_calls.specs.Tree.{Own, Descriptors}
 use Rattle.posix_calls.specs.Query.{Seen, File, Dir, Query, Gives, Look, ◌>>=◌, View, run}
-use Rattle.posix_calls.specs.Walk.{Place, is_inode}
+use Rattle.posix_calls.specs.Walk.{Place, leads_to}
 use Rattle.posix_calls.specs.Decide.{open_there, renamed, write_at, described, mkdir, unlink, rmdir, link, rename, truncate, pwrite, pread, close, open_path, list_path, stat, decide}
 use Rattle.posix_calls.specs.Operations.{makes}
 use Rattle.posix_calls.specs.declared.call.Call.{Call}
@@ -149,7 +149,7 @@ module _ (g : Graph) (d : Descriptors) where
 
   rename_names : (old new : List ℕ) → Comes (rename old new)
   unfolding rename
-  rename_names old new = on _ _ (λ old_names. on _ _ (λ new_names. on _ _ (λ _. on _ _ (λ from. on _ _ (λ i. on _ _ (λ to. on _ _ (λ _. moves from to i (is_inode i to.inode))))))))
+  rename_names old new = on _ _ (λ old_names. on _ _ (λ new_names. on _ _ (λ _. on _ _ (λ from. on _ _ (λ i. on _ _ (λ to. on _ _ (λ _. moves from to i (leads_to i to.inode))))))))
     where
       moves : (from to : Place) (i : ℕ) (same : Bool) → Comes (cond same (Gives (Tell replies.Done)) (renamed from to i))
       moves from to i true = comes _ tt

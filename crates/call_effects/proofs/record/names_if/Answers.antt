@@ -1,4 +1,4 @@
-use Rattle.std.proofs.Common.{◌≡◌, Option, Some, None, true, refl, sym, ◌∙◌}
+use Rattle.std.proofs.Common.{◌≡◌, Option, Some, None, true, refl, sym, ap, ◌∙◌}
 use Rattle.std.specs.Prelude.{option_map, is_some}
 use Rattle.posix_calls.specs.Walk.{names_seen}
 use Rattle.posix_calls.specs.Query.{Gives}
@@ -24,3 +24,6 @@ returns-clause-known g c = rw c.in-Some.is (known_there names_seen _ _ (sym c.fi
 
 pub returns-then-names-clause-memory : goal.returns-then-names-clause-memory
 returns-then-names-clause-memory g c = λ is. rw c.in-Some.is (known_there names_seen _ _ (sym c.file_names.ensures ∙ c.in_ok-names.ensures.known))
+
+pub returns-then-names-clause-full : goal.returns-then-names-clause-full
+returns-then-names-clause-full g c = λ is. rw c.in-Some.is (sym c.file_names.ensures ∙ c.in_ok-names.ensures.known ∙ ap Some c.if-names.true)
