@@ -21,12 +21,12 @@ pub fn append_counts_one_more()
     ensures next { (g done : ℕ) (regions : ℕ → List ℕ) (content : List ℕ) (begun : Option Record) → g < 2 ^ 64 → generation (regions (next_generation g % 2)) ≡ next_generation g
         → WithOrWithout (header (regions (next_generation g % 2))) (records (regions (next_generation g % 2))) begun content
         → (counted g done (with_region regions (next_generation g % 2) content) ≡ counted g done regions)
-        ⊎ (counted g done (with_region regions (next_generation g % 2) content) ≡ joined (counted g done regions) begun) }
+        ⊎ (counted g done (with_region regions (next_generation g % 2) content) ≡ with_record (counted g done regions) begun) }
     ensures own { (g done : ℕ) (regions : ℕ → List ℕ) (content : List ℕ) (begun : Option Record) → g < 2 ^ 64 → generation (regions (g % 2)) ≡ g
         → done ≤ length (records (regions (g % 2))) → records_in regions (next_generation g) ≡ []
         → WithOrWithout (header (regions (g % 2))) (records (regions (g % 2))) begun content
         → (counted g done (with_region regions (g % 2) content) ≡ counted g done regions)
-        ⊎ (counted g done (with_region regions (g % 2) content) ≡ joined (counted g done regions) begun) }
+        ⊎ (counted g done (with_region regions (g % 2) content) ≡ with_record (counted g done regions) begun) }
 {}
 
 /// A mark that moves within its generation takes the digested records away from what counts; one that moves on from a generation
