@@ -2,8 +2,8 @@
 ghost use Rattle.std.specs.Prelude.{IfOk};
 ghost use Rattle.tier_device.specs.Memory.{IsAtRest};
 
+use crate::input::Input;
 use layout::{BLOCK, Geometry};
-use row_tables::{Input, filled, overwrite};
 use std::alloc::{AllocError, Global};
 use tier_device::{MemMedia, Tier};
 
@@ -88,19 +88,6 @@ impl Image {
         }
     }
 
-    /// A medium with these contents.
-    pub fn media(&self) -> Result<MemMedia, AllocError>
-        ensures { IfOk result IsAtRest }
-    {
-        let copy = Image {
-            alloc: self.alloc,
-            fast: self.fast.clone()?,
-            block: self.block.clone()?,
-            slow: self.slow.clone()?,
-        };
-        copy.into_media()
-    }
-
     /// The medium.
     pub fn into_media(self) -> Result<MemMedia, AllocError>
         ensures { IfOk result IsAtRest }
@@ -114,7 +101,16 @@ impl Image {
 
 fn zeros(alloc: Global, geometry: &Geometry, tier: Tier) -> Result<Vec<u8>, AllocError> {
     let count = geometry.tier_blocks(tier) as usize;
-    filled(alloc, 0, BLOCK.saturating_mul(count))
+    vec![in alloc; 0u8; BLOCK.saturating_mul(count)]
+}
+
+// Whether there is room for it.
+fn overwrite(bytes: &mut [u8], at: usize, text: &[u8]) -> bool {
+    if bytes.len() < at || bytes.len() - at < text.len() {
+        return false;
+    }
+    bytes[at..at + text.len()].copy_from_slice(text);
+    true
 }
 
 // So many bytes that a seed leads to.

@@ -5,25 +5,21 @@
 #![tactic(auto)]
 
 mod image;
+mod input;
 mod opened;
-mod paths;
-mod shared;
+mod row;
+mod text;
 mod walk;
 
-use opened::tell_opened;
-use row_tables::{Input, Teller, Text, run_table};
-use std::io;
+use row::Rows;
+use std::io::{self, Read};
 use std::process::ExitCode;
 
 fn main(rt: HostRuntime) -> io::Result<ExitCode> {
-    run_table(&rt, &Worlds)
-}
-
-// The media that are opened.
-struct Worlds;
-
-impl Teller for Worlds {
-    fn tell(&self, rt: &HostRuntime, input: &mut Input<'_>, out: &mut Text) {
-        tell_opened(rt, input, out);
-    }
+    let mut table = String::new(rt.alloc());
+    rt.stdin().read_to_string(&mut table)?;
+    let mut rows = Rows::new(rt.alloc());
+    rows.try_table(&rt, &table);
+    println!(rt; "{}", rows.report())?;
+    Ok(rows.status())
 }

@@ -3,12 +3,12 @@ ghost use Rattle.tier_device.specs.declared.media.Tier.{Tier};
 ghost use Rattle.tier_device.specs.Media.{AtRest};
 
 use crate::image::Image;
-use crate::shared::hold_shared;
+use crate::input::Input;
+use crate::text::Text;
 use crate::walk::put_tree;
 use area_image::{AreaError, OpenArea, open_area};
 use batch_journal::{Journal, JournalError};
-use layout::What;
-use row_tables::{Input, Structure, Text};
+use layout::{Marks, What};
 use std::alloc::Global;
 use std::fs;
 use tier_device::{Media, Tier};
@@ -32,13 +32,9 @@ fn put_image(rt: &HostRuntime, image: Image, input: &mut Input<'_>, out: &mut Te
         Err(_) => input.fail(),
     }
     put_changes(alloc, &mut image, input);
-    match image.media() {
-        Ok(media) => put_medium(alloc, media, out),
-        Err(_) => out.cut(),
-    }
     match image.into_media() {
-        Ok(media) => hold_shared(alloc, media, out),
-        Err(_) => out.cut(),
+        Ok(media) => put_medium(alloc, media, out),
+        Err(_) => out.field("", &AreaError::Memory),
     }
 }
 
@@ -69,7 +65,7 @@ fn put_area<M: Media + Drop>(alloc: Global, journal: Journal<M>, out: &mut Text)
     let mut journal = journal;
     match open_area(alloc, &mut journal) {
         Ok(area) => {
-            area.marks.tell(out);
+            put_marks(&area.marks, out);
             out.field("; charge ", &area.charge);
             put_used(&area, out);
             put_tree(alloc, journal, out);
@@ -79,8 +75,7 @@ fn put_area<M: Media + Drop>(alloc: Global, journal: Journal<M>, out: &mut Text)
     }
 }
 
-/// What is damaged, and the block that shows it.
-pub fn put_damage(what: What, block: u32, out: &mut Text) {
+fn put_damage(what: What, block: u32, out: &mut Text) {
     out.put(match what {
         What::Super => "the superblock",
         What::Slot => "a slot",
@@ -92,6 +87,15 @@ pub fn put_damage(what: What, block: u32, out: &mut Text) {
         What::FileData => "data",
     });
     out.field(" in block ", &block);
+}
+
+fn put_marks(marks: &Marks, out: &mut Text) {
+    out.put("marks");
+    for mark in &marks.clients {
+        out.field(" ", &mark.generation);
+        out.field(":", &mark.done);
+    }
+    out.field(", digests ", &marks.digests);
 }
 
 // The blocks in use of each tier that has some.

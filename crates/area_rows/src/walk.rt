@@ -1,12 +1,12 @@
 // The tree of an opened medium.
 ghost use Rattle.std.specs.Prelude.{◌≤◌};
 
+use crate::text::Text;
 use area_image::{InodeExtents, InodeParts, length_of, read_inode};
 use batch_journal::Journal;
 use file_graph::is_inode;
 use layout::{BLOCK, DirEntries, ExtentBlock, Slot};
 use posix_calls::MAX_INODE;
-use row_tables::Text;
 use std::alloc::Global;
 use tier_device::{Media, Tier};
 

@@ -1,4 +1,0 @@
-pub mod Lists
-pub mod Shared
-pub mod Summed
-pub mod Applied
