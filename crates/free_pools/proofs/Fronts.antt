@@ -20,7 +20,7 @@ rising_behind : (low end a n : ℕ) (ys : List ℕ) → Rising low end (range_wi
 rising_behind low end a zero ys is = let same : a + 1 ≡ a + suc zero = omega arith in subst (λ b. Rising b end ys) same is.2
 rising_behind low end a (suc n) ys is = let same : a + 1 + suc n ≡ a + suc (suc n) = omega arith in subst (λ b. Rising b end ys) same (rising_behind (a + 1) end (a + 1) n ys is.2)
 
-behind : (low end : ℕ) (run : Run) (ys : List ℕ) → 0 < run.count → Rising low end (run_blocks run ++ ys) → Rising (run.first + run.count) end ys
+pub behind : (low end : ℕ) (run : Run) (ys : List ℕ) → 0 < run.count → Rising low end (run_blocks run ++ ys) → Rising (run.first + run.count) end ys
 behind low end run ys some is =
     let n = run.count - 1 in
     let same : run.count ≡ suc n = omega (arith, some) in

@@ -1,4 +1,5 @@
 mod Fronts
+mod Seams
 mod Splits
 pub mod Members
 mod Courses

@@ -1,11 +1,11 @@
 -- What is taken from the pools.
-use Rattle.std.specs.Prelude.{◌≡◌, ◌≤◌, ◌+◌, ◌++◌, ℕ, List, [], length}
+use Rattle.std.specs.Prelude.{◌≡◌, ◌<◌, ◌≤◌, ◌+◌, ◌++◌, ℕ, List, [], length}
 use Rattle.tier_device.specs.declared.media.Tier.{Tier}
 use Rattle.tier_device.specs.declared.media.Tier.TheVariants as tiers
 use Rattle.block_alloc.specs.declared.runs.Run.{Run}
 use Rattle.block_alloc.specs.Runs.{blocks_of, IsNormal, Rising}
 use Rattle.block_alloc.specs.Value.{FreeBlocks, SamePool}
-use Rattle.free_pools.specs.Value.{PoolsView, data_pool, on_tier}
+use Rattle.free_pools.specs.Value.{PoolsView, data_pool, on_tier, AreInOrder}
 use Rattle.free_pools.specs.declared.taking.Taken.{Taken}
 
 -- the runs that were taken of a tier's data blocks
@@ -26,7 +26,7 @@ taken_data taken = tier_places taken.fast.items taken.block.items taken.slow.ite
 pub record WasTaken (old new : FreeBlocks) (runs : List Run) : Type 0 where
   pub apart : IsNormal old.first old.end runs
   pub front : blocks_of runs ++ new.free ≡ old.free
-  pub room : old.room + length runs ≤ new.room + 1
+  pub room : 0 < old.room → length runs ≤ new.room
   pub kept : old.room ≤ new.room
   pub pool : SamePool old new
 
@@ -47,10 +47,20 @@ pub record WereTaken (old new : PoolsView) (taken : Taken) : Type 0 where
   pub nodes : WasTaken old.nodes new.nodes taken.nodes.items
   pub per_tier : (t : Tier) → WasTaken (data_pool old t) (data_pool new t) (runs_of taken t)
 
+-- Once what was taken is given back, each pool has the room that it had, but for one run.
+pub record LeavesRoom (old new : PoolsView) (taken : Taken) : Type 0 where
+  pub nodes : old.nodes.room + length taken.nodes.items ≤ new.nodes.room + 1
+  pub per_tier : (t : Tier) → (data_pool old t).room + length (runs_of taken t) ≤ (data_pool new t).room + 1
+
 -- What was taken can be given back without memory.
 pub record CanUndo (p : PoolsView) (taken : Taken) : Type 0 where
   pub nodes : CanGive p.nodes taken.nodes.items
   pub per_tier : (t : Tier) → CanGive (data_pool p t) (runs_of taken t)
+
+-- More was taken of the same pools: all of it stood at their front, whatever they were before the first of it was taken, and all of it can be given back.
+pub record TakesMore (old : PoolsView) (old_taken : Taken) (new : PoolsView) (new_taken : Taken) : Type 0 where
+  pub took : (before : PoolsView) → AreInOrder before → WereTaken before old old_taken → WereTaken before new new_taken
+  pub undo : CanUndo new new_taken
 
 -- What was taken stands in the pools again.
 pub record WasUndone (old new : PoolsView) (taken : Taken) : Type 0 where

@@ -1,5 +1,5 @@
 -- The free blocks of four pools, as callers see them.
-use Rattle.std.specs.Prelude.{◌≡◌, ◌<◌, ◌≤◌, ◌↔◌, ◌⊎◌, ◌+◌, ◌++◌, ℕ, List, false, Some, map}
+use Rattle.std.specs.Prelude.{◌≡◌, ◌<◌, ◌≤◌, ◌↔◌, ◌⊎◌, ◌+◌, ◌++◌, ◌^◌, ℕ, List, false, Some, map}
 use Rattle.std.specs.List.{Contains}
 use Rattle.tier_device.specs.declared.media.Tier.{Tier}
 use Rattle.tier_device.specs.declared.media.Tier.TheVariants as tiers
@@ -40,6 +40,11 @@ pub record AreInOrder (p : PoolsView) : Type 0 where
   pub fast : InOrder p.fast
   pub block : InOrder p.block
   pub slow : InOrder p.slow
+
+-- So they do, and the block numbers of the node pool have 32 bits.
+pub record AreKept (p : PoolsView) : Type 0 where
+  pub order : AreInOrder p
+  pub fits : p.nodes.end < 2 ^ 32
 
 -- The pools have the ranges that the sizes tell.
 pub record HasRanges (g : Sizes) (p : PoolsView) : Type 0 where

@@ -1,4 +1,4 @@
-ghost use Rattle.std.specs.Prelude.{◌≡◌, ◌≢◌, ◌≤◌, ◌<◌, ◌+◌, ◌^◌, ◌⊎◌, ◌↔◌, ℕ, [], false, length, take, drop, get_or, OnOk, OnErr, IfOk, IfErr, IsErrOf};
+ghost use Rattle.std.specs.Prelude.{◌≡◌, ◌≢◌, ◌≤◌, ◌<◌, ◌+◌, ◌++◌, ◌^◌, ◌⊎◌, ◌↔◌, ℕ, [], false, length, take, drop, get_or, OnOk, OnErr, IfOk, IfErr, IsErrOf};
 ghost use Rattle.tier_device.specs.declared.media.Tier.{Tier};
 ghost use Rattle.tier_device.specs.declared.media.Tier.TheVariants.{Fast};
 ghost use Rattle.layout.specs.declared.places.TheConstants.{FIRST_NODE_BLOCK};
@@ -9,9 +9,9 @@ ghost use Rattle.block_alloc.specs.Value.{InOrder, IsUsed};
 ghost use Rattle.block_alloc.specs.Runs.{blocks_of};
 ghost use Rattle.block_alloc.specs.declared.error.AllocatorError.TheVariants.{NoBlock, Memory};
 ghost use Rattle.free_pools.specs.Value.{data_pool, free_data, AreInOrder, HasRanges, AreFree, GivesRun, HasUnmarked, MarksAll};
-ghost use Rattle.free_pools.specs.Taking.{taken_data, runs_of, WereTaken, CanUndo, WasUndone, IsNone, SameFree, KeepsRoom};
+ghost use Rattle.free_pools.specs.Taking.{taken_data, runs_of, WereTaken, LeavesRoom, CanUndo, TakesMore, WasUndone, IsNone, SameFree, KeepsRoom};
 
-use crate::taking::{Taken, give_run, give_runs, take_runs};
+use crate::taking::{Taken, give_run, give_runs, take_more, take_runs};
 use area_image::UsedBlocks;
 use block_alloc::{AllocatorError, FreeRuns, Run};
 use layout::{FIRST_NODE_BLOCK, Geometry};
@@ -31,13 +31,13 @@ pub struct Pools {
 }
 
 impl Model for Pools {
-    ghost use Rattle.free_pools.specs.Value.{PoolsView, AreInOrder};
+    ghost use Rattle.free_pools.specs.Value.{PoolsView, AreKept};
 
     ghost Value = { PoolsView };
 
     ghost view = { λ p. record { nodes = p.nodes; fast = p.fast; block = p.block; slow = p.slow } };
 
-    ghost invariant = { λ p. AreInOrder (record { nodes = p.nodes; fast = p.fast; block = p.block; slow = p.slow }) };
+    ghost invariant = { λ p. AreKept (record { nodes = p.nodes; fast = p.fast; block = p.block; slow = p.slow }) };
 }
 
 // The blocks of a tier's range that are not marked, one for each mark.
@@ -77,6 +77,7 @@ fn unmarked_nodes(
     requires { length (marks_in used.now Fast) ≡ tier_blocks geometry.now Fast }
     ensures first { IfOk result (λ v. v.first ≡ FIRST_NODE_BLOCK) }
     ensures end { IfOk result (λ v. v.end ≡ node_end geometry.now) }
+    ensures fits { IfOk result (λ v. v.end < 2 ^ 32) }
     ensures free { IfOk result (HasUnmarked used.now Fast) }
     ensures ordered { IfOk result InOrder }
 {
@@ -160,6 +161,7 @@ impl Pools {
     ) -> Result<(), AllocatorError>
         requires { IsNone taken.old }
         ensures taken { WereTaken self.old self.new taken.new }
+        ensures spare { LeavesRoom self.old self.new taken.new }
         ensures nodes { OnOk result (length (blocks_of taken.new.nodes.items) ≡ nodes) }
         ensures fast { OnOk result (length (blocks_of taken.new.fast.items) ≡ fast) }
         ensures block { OnOk result (length (blocks_of taken.new.block.items) ≡ block) }
@@ -186,6 +188,7 @@ impl Pools {
         requires block { block ≤ length self.old.block.free }
         requires slow { slow ≤ length self.old.slow.free }
         ensures fronts { IfOk result (WereTaken self.old self.new) }
+        ensures spare { IfOk result (LeavesRoom self.old self.new) }
         ensures room { OnOk result (KeepsRoom self.old self.new) }
         ensures undone { IfOk result (CanUndo self.new) }
         ensures nodes { IfOk result (λ taken. length (blocks_of taken.nodes.items) ≡ nodes) }
@@ -223,6 +226,7 @@ impl Pools {
         ensures left_nodes { OnOk result (self.new.nodes.free ≡ drop nodes self.old.nodes.free) }
         ensures left_data { OnOk result (free_data self.new ≡ drop blocks (free_data self.old)) }
         ensures fronts { IfOk result (WereTaken self.old self.new) }
+        ensures spare { IfOk result (LeavesRoom self.old self.new) }
         ensures room { OnOk result (KeepsRoom self.old self.new) }
         // What was taken can be given back without memory.
         ensures undone { IfOk result (CanUndo self.new) }
@@ -247,6 +251,7 @@ impl Pools {
         ensures left { OnOk result ((data_pool self.new tier).free ≡ drop blocks (data_pool self.old tier).free) }
         ensures others { IfOk result (λ taken. (t : Tier) → t ≢ tier → blocks_of (runs_of taken t) ≡ []) }
         ensures fronts { IfOk result (WereTaken self.old self.new) }
+        ensures spare { IfOk result (LeavesRoom self.old self.new) }
         ensures room { OnOk result (KeepsRoom self.old self.new) }
         // What was taken can be given back without memory.
         ensures undone { IfOk result (CanUndo self.new) }
@@ -261,6 +266,23 @@ impl Pools {
             Tier::Block => self.take_parts(nodes, 0, blocks, 0),
             Tier::Slow => self.take_parts(nodes, 0, 0, blocks),
         }
+    }
+
+    /// Takes so many blocks of the node pool more than were taken before: the lowest that are free, which stand behind those. Where the first new run goes on where the last
+    /// old one ends, they become one, so that the runs still rise and none touches the next. `NoBlock` exactly where fewer are free, `Memory` where the answer found no room:
+    /// after a refusal the pools have the same free blocks, and the same blocks are taken.
+    pub fn take_nodes(&mut self, count: u32, taken: &mut Taken) -> Result<(), AllocatorError>
+        requires { CanUndo self.old taken.old }
+        ensures took { OnOk result (TakesMore self.old taken.old self.new taken.new) }
+        ensures nodes { OnOk result (blocks_of taken.new.nodes.items ≡ blocks_of taken.old.nodes.items ++ take count self.old.nodes.free) }
+        ensures data { (t : Tier) → runs_of taken.new t ≡ runs_of taken.old t }
+        ensures left { OnOk result (self.new.nodes.free ≡ drop count self.old.nodes.free) }
+        ensures others { (t : Tier) → data_pool self.new t ≡ data_pool self.old t }
+        ensures room { KeepsRoom self.old self.new }
+        ensures few { IsErrOf result NoBlock ↔ (length self.old.nodes.free < count) }
+        ensures err { OnErr result (SameFree self.old self.new × (taken.new ≡ taken.old) × CanUndo self.new taken.old) }
+    {
+        take_more(self.alloc, &mut self.nodes, count, &mut taken.nodes)
     }
 
     /// Gives back what was taken, without memory.
