@@ -3,3 +3,4 @@ mod Blocks
 mod Images
 mod ByNumber
 mod Put
+mod Listed
