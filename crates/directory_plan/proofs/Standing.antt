@@ -1,5 +1,6 @@
 -- What stands on the media once the images of a planned directory do.
-use Rattle.std.proofs.Common.{◌≡◌, ◌≢◌, ◌<◌, ◌∷◌, ◌∙◌, ◌↔◌, ℕ, zero, suc, List, [], length, Option, Some, None, refl, sym, ap, subst, arith, inl, inr, ◌⊎◌}
+use Rattle.std.proofs.Common.{◌≡◌, ◌≢◌, ◌≤◌, ◌<◌, ◌∷◌, ◌∙◌, ◌↔◌, true, ℕ, zero, suc, List, [], length, Option, Some, None, refl, sym, ap, subst, arith, inl, inr, ◌⊎◌}
+use Rattle.std.specs.Prelude.{IsSome}
 use Rattle.std.specs.List.{Contains}
 use Rattle.std.proofs.lemmas.Bool.{cases_lt, cases_eq}
 use Rattle.std.proofs.lemmas.List.Elements.{All-get_or}
@@ -9,7 +10,7 @@ use Rattle.graph_change.specs.Change.{Change}
 use Rattle.graph_change.specs.Net.{names_after}
 use Rattle.layout.specs.declared.slot.Slot.{Slot}
 use Rattle.layout.specs.declared.slot.Slot.TheVariants as slots
-use Rattle.layout.specs.Places.{Sizes}
+use Rattle.layout.specs.Places.{Sizes, is_node}
 use Rattle.layout.specs.Extents.{extents_spelling}
 use Rattle.batch_journal.specs.Images.{image_for, or_else, with_images}
 use Rattle.block_map.specs.Map.{runs_in}
@@ -30,7 +31,7 @@ use Rattle.directory_plan.specs.declared.started.StartedDirectory.{StartedDirect
 use Rattle.directory_plan.specs.declared.changing.ChangedDirectory.{ChangedDirectory}
 use Rattle.directory_plan.specs.declared.plan.DirectoryPlan.{DirectoryPlan}
 use Rattle.directory_plan.proofs.Fits.{is_fit, no_places}
-use Rattle.directory_plan.proofs.Uses.{nth_contained, contains_nth, use_root, use_place, block_is_use, fast_use, use_fast, kept_on_fast, once_on_fast, spare_used, lost_was, lost_is, lost_apart}
+use Rattle.directory_plan.proofs.Uses.{nth_contained, contains_nth, root_use, use_root, place_use, use_place, use_node, block_is_use, FastUse, fast_use, use_fast, kept_on_fast, once_on_fast, spare_used, lost_was, lost_is, each_lost, lost_apart}
 use Rattle.directory_plan.proofs.Given.{blocks_are, all_used}
 use Rattle.directory_plan.proofs.Lists.{RootCase, NoRoot, OldRoot, NewRoot}
 use Rattle.directory_plan.proofs.Lists as lists
@@ -203,6 +204,36 @@ module _ (g : Sizes) (s : Store) (c : Change) (i touch : ℕ) (start : StartedDi
       not (Some (nth_block x.written n)) (its_use Fast (Some (nth_block x.written n)) ∙ use_fast root places (Some (nth_block x.written n)) q (use_place root places (nth_block x.written n) inside ∙ ap Some same))) in
       p.planned.images_are.listing.others q no_root ∙ blocks.others q no_place
 
+  pub nodes : (t : Tier) (k : Option ℕ) (b : Tier × ℕ) → block_by plan.slot (on_fast plan.list.extents) t k ≡ Some b → (b.0 ≡ Fast) × (is_node g b.1 ≡ true)
+  nodes t k b is =
+      let f = fast_use root places t k b (sym (its_use t k) ∙ is) in
+      (ap (λ (d : Tier × ℕ). d.0) f.block_is, use_node g root places (lists.after_root_node g x spares p.can p.spare) (lists.after_nodes g x spares p.can p.spare) k b.1 f.use_is)
+
+  -- a spare block is written: it is the new root, or a block that comes
+  spare_imaged : (q : ℕ) → Contains spares q → (k : Option ℕ) → use_on_fast root places k ≡ Some q → IsSome (image_for q now)
+  spare_imaged q has None is =
+      let r = root_use root places q is in
+      let at = nth_contained spares q has in
+      elim (p.planned.images_are.listing.image r.0) [
+        | inl stays ↦ absurd (p.spare.not_root at.0 at.1 (at.2 ∙ sym r.1 ∙ stays.same_root))
+        | inr new_list ↦ subst (λ b. IsSome (image_for b now)) r.1 (subst IsSome (sym new_list.image) refl)
+      ]
+  spare_imaged q has (Some k) is =
+      let r = place_use root places k q is in
+      let at = nth_contained spares q has in
+      let there = lists.after_at g x spares p.can p.spare k r.0 in
+      elim (cases_lt k (length x.blocks.places.items)) [
+        | inl here ↦ absurd (p.spare.not_places at.0 k at.1 here (at.2 ∙ sym r.1 ∙ there ∙ lists.old_at g x spares p.can p.spare k here))
+        | inr past ↦
+            let behind : length start.entries.blocks ≤ k = subst (λ n. n ≤ k) (ap length old_is ∙ p.sound.long) past in
+            let n = nth_contained x.written k (p.changed.written_are.added k behind (subst (λ m. k < m) long r.0)) in
+            let image : IsSome (image_for (nth_block places k) p.planned.images_are.mid) = subst (λ j. IsSome (image_for (nth_block places j) p.planned.images_are.mid)) n.2 (subst IsSome (sym (blocks.there n.0 n.1)) refl) in
+            subst (λ b. IsSome (image_for b now)) r.1 (subst IsSome (sym (past_list k r.0)) image)
+      ]
+
+  pub imaged : (q : ℕ) → Contains spares q → IsSome (image_for q now)
+  imaged q has = let u = spare_used g x spares p.can p.spare q has in spare_imaged q has u.0 u.1
+
   -- ---- what is given up
 
   lost_are : blocks_of plan.lost.items ≡ lost_blocks x.blocks.root x.blocks.places.items (length x.entries.blocks)
@@ -219,6 +250,21 @@ module _ (g : Sizes) (s : Store) (c : Change) (i touch : ℕ) (start : StartedDi
         (let f = fast_use x.blocks.root x.blocks.places.items Fast both.0.0 (Fast, q) (had both.0.0 ∙ both.0.1) in
         subst (λ xs. Contains xs q) (sym lost_are) (lost_is g x spares p.can p.spare q (both.0.0, f.use_is) (λ k is. both.1 k (its_use Fast k ∙ use_fast root places k q is)))),
   )
+
+  -- what it had, on any tier
+  had_by : (t : Tier) (k : Option ℕ) (b : Tier × ℕ) → use_from c.base (used g s (record { inode = i; tier = t; logical = k })) ≡ Some b → FastUse x.blocks.root x.blocks.places.items t k b
+  had_by t k b was = fast_use x.blocks.root x.blocks.places.items t k b (ap (λ d. use_of d t k) p.changed.blocks_are ∙ p.starts.uses t k ∙ was)
+
+  pub had_nodes : (t : Tier) (k : Option ℕ) (b : Tier × ℕ) → use_from c.base (used g s (record { inode = i; tier = t; logical = k })) ≡ Some b → (b.0 ≡ Fast) × (is_node g b.1 ≡ true)
+  had_nodes t k b was =
+      let f = had_by t k b was in
+      (ap (λ (d : Tier × ℕ). d.0) f.block_is, use_node g x.blocks.root x.blocks.places.items p.can.blocks_are.root_node p.can.blocks_are.nodes k b.1 f.use_is)
+
+  pub each : (t : Tier) (k : Option ℕ) (b : Tier × ℕ) → use_from c.base (used g s (record { inode = i; tier = t; logical = k })) ≡ Some b → block_by plan.slot (on_fast plan.list.extents) t k ≢ Some b → Contains (blocks_of plan.lost.items) b.1
+  each t k b was none =
+      let f = had_by t k b was in
+      let none_then : use_on_fast root places k ≢ Some b.1 = λ is. none (its_use t k ∙ ap (λ (u : Tier). use_in root places u k) f.tier_is ∙ use_fast root places k b.1 is ∙ ap Some (sym f.block_is)) in
+      subst (λ xs. Contains xs b.1) (sym lost_are) (each_lost g x spares p.can p.spare k b.1 f.use_is none_then)
 
   pub given : (pool : FreeBlocks) → ((k : Option ℕ) (b : ℕ) → use_from c.base (used g s (record { inode = i; tier = Fast; logical = k })) ≡ Some (Fast, b) → IsInUse pool b) → AreUsed pool plan.lost.items
   given pool each = subst (AreUsed pool) (sym p.planned.lost_are) (all_used pool (lost_blocks x.blocks.root x.blocks.places.items (length x.entries.blocks)) (lost_apart g x spares p.can p.spare)

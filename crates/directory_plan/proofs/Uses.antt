@@ -1,5 +1,5 @@
 -- What a planned directory has a use for, and what it gives up.
-use Rattle.std.proofs.Common.{◌≡◌, ◌≢◌, ◌≤◌, ◌<◌, ◌+◌, ◌-◌, ◌∷◌, ◌∙◌, ℕ, zero, suc, List, [], length, drop, Bool, Option, Some, None, refl, sym, ap, subst, arith, inl, inr, ◌⊎◌}
+use Rattle.std.proofs.Common.{◌≡◌, ◌≢◌, ◌≤◌, ◌<◌, ◌+◌, ◌-◌, ◌∷◌, ◌∙◌, ◌||◌, true, ℕ, zero, suc, List, [], length, drop, Bool, Option, Some, None, refl, sym, ap, subst, arith, inl, inr, ◌⊎◌}
 use Rattle.std.specs.Prelude.{◌==◌, option_map, if◌then◌else◌}
 use Rattle.std.specs.List.{Contains}
 use Rattle.std.proofs.lemmas.Bool.{cases_lt, cases_eq, eq-eqb, ne_eqb, lt-ltb, le-ltb}
@@ -10,10 +10,11 @@ use Rattle.tier_device.specs.declared.media.Tier.{Tier}
 use Rattle.tier_device.specs.declared.media.Tier.TheVariants.{Fast, Block, Slow}
 use Rattle.layout.specs.declared.slot.Slot.TheVariants as slots
 use Rattle.layout.specs.declared.extents.Extent.{Extent}
-use Rattle.layout.specs.Places.{Sizes}
+use Rattle.layout.specs.Places.{Sizes, is_node}
+use Rattle.layout.specs.Slot.{is_root_block}
 use Rattle.extent_nodes.specs.Places.{place_of}
 use Rattle.area_rewrite.specs.Written.{block_by}
-use Rattle.directory_plan.specs.Blocks.{nth_block, AreApart, use_on_fast, use_in, root_blocks, lost_blocks}
+use Rattle.directory_plan.specs.Blocks.{nth_block, AreApart, AreNodeBlocks, use_on_fast, use_in, root_blocks, lost_blocks}
 use Rattle.directory_plan.specs.Spare.{CanBeWritten, AreSpares}
 use Rattle.directory_plan.specs.Placed.{ListPlaces}
 use Rattle.directory_plan.specs.Planned.{on_fast}
@@ -111,6 +112,16 @@ use_once root places apart root_apart (Some j) (Some k) p one two =
     let a = place_use root places j p one in
     let b = place_use root places k p two in
     ap Some (apart j k a.0 b.0 (a.1 ∙ sym b.1))
+
+-- ---- of the node pool
+
+root_is_node : (g : Sizes) (root : ℕ) → is_root_block g root ≡ true → root ≢ 0 → is_node g root ≡ true
+root_is_node g root is some = subst (λ (b : Bool). (b || is_node g root) ≡ true) (ne_eqb root 0 some) is
+
+-- root and places of the node pool are the blocks of all uses
+pub use_node : (g : Sizes) (root : ℕ) (places : List ℕ) → is_root_block g root ≡ true → AreNodeBlocks g places → (k : Option ℕ) (p : ℕ) → use_on_fast root places k ≡ Some p → is_node g p ≡ true
+use_node g root places root_node nodes None p is = let r = root_use root places p is in subst (λ b. is_node g b ≡ true) r.1 (root_is_node g root root_node r.0)
+use_node g root places root_node nodes (Some k) p is = let q = place_use root places k p is in subst (λ b. is_node g b ≡ true) q.1 (nodes k q.0)
 
 -- ---- kept or spare
 
@@ -263,6 +274,18 @@ module _ (g : Sizes) (x : ChangedDirectory) (spares : List ℕ) (can : CanBeWrit
             let is : nth_block (drop new old) (m - new) ≡ p = get_or-drop new old (m - new) 0 ∙ ap (nth_block old) at ∙ q.1 in
             Contains-append_left (drop new old) (if new == 0 then root_blocks x.blocks.root else []) p (subst (Contains (drop new old)) is (contains_nth (drop new old) (m - new) lt))
       ]
+
+  -- what it had for a use is no spare block
+  spare_unused : (k : Option ℕ) (p : ℕ) → use_on_fast x.blocks.root old k ≡ Some p → Contains spares p → ⊥
+  spare_unused None p was has = let r = root_use x.blocks.root old p was in let at = nth_contained spares p has in are.not_root at.0 at.1 (at.2 ∙ sym r.1)
+  spare_unused (Some m) p was has = let q = place_use x.blocks.root old m p was in let at = nth_contained spares p has in are.not_places at.0 m at.1 q.0 (at.2 ∙ sym q.1)
+
+  -- what it had for a use, and has not for that one, is given up
+  pub each_lost : (k : Option ℕ) (p : ℕ) → use_on_fast x.blocks.root old k ≡ Some p → use_on_fast root_then after k ≢ Some p → Contains lost p
+  each_lost k p was none = lost_is p (k, was) (λ j is. elim (kept_on_fast j p is) [
+    | inl had ↦ none (subst (λ (l : Option ℕ). use_on_fast root_then after l ≡ Some p) (use_once x.blocks.root old can.blocks_are.apart can.blocks_are.root_apart j k p had was) is)
+    | inr spare ↦ spare_unused k p was spare
+  ])
 
   -- ---- no block is given up twice
 

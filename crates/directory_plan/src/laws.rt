@@ -1,11 +1,11 @@
 //! What holds of a directory once what was planned of it is written.
 
-ghost use Rattle.std.specs.Prelude.{◌≡◌, ◌≢◌, ◌⊎◌, ◌↔◌, ◌++◌, ℕ, List, map, Option, Some};
+ghost use Rattle.std.specs.Prelude.{◌≡◌, ◌≢◌, ◌⊎◌, ◌↔◌, ◌++◌, ℕ, List, map, Option, Some, IsSome, true};
 ghost use Rattle.std.specs.List.{Contains};
 ghost use Rattle.tier_device.specs.declared.media.Tier.{Tier};
 ghost use Rattle.tier_device.specs.declared.media.Tier.TheVariants.{Fast};
 ghost use Rattle.graph_change.specs.Change.{Change};
-ghost use Rattle.layout.specs.Places.{Sizes};
+ghost use Rattle.layout.specs.Places.{Sizes, is_node};
 ghost use Rattle.batch_journal.specs.Images.{image_for, with_images};
 ghost use Rattle.block_alloc.specs.Runs.{blocks_of};
 ghost use Rattle.block_alloc.specs.Value.{FreeBlocks};
@@ -45,16 +45,22 @@ pub fn planned_directory_is_written()
     ensures written { (g : Sizes) (s : Store) (c : Change) (i touch : ℕ) (start : StartedDirectory) (x : ChangedDirectory) (spares : List ℕ) (old new : List (ℕ × List ℕ)) (plan : DirectoryPlan) → IsPlannedFrom g s c i start x touch spares old new plan → (after : Store) → StandThere new s after (on_fast plan.list.extents) → IsDirectoryWritten g c start.entries x.entries s after i plan.slot (on_fast plan.list.extents) }
 {}
 
-/// Each block of a planned directory is one that it had for the same use, or a spare one, and has one use; each spare block has one; and there are images for its own blocks alone.
+/// Each block of a planned directory is one of the node pool that it had for the same use, or a spare one, and has one use; each spare block has one, and an image; and there are images
+/// for its own blocks alone.
 pub fn planned_blocks_are_kept_or_spare()
     ensures kept { (g : Sizes) (s : Store) (c : Change) (i touch : ℕ) (start : StartedDirectory) (x : ChangedDirectory) (spares : List ℕ) (old new : List (ℕ × List ℕ)) (plan : DirectoryPlan) → IsPlannedFrom g s c i start x touch spares old new plan → (t : Tier) (k : Option ℕ) (b : Tier × ℕ) → block_by plan.slot (on_fast plan.list.extents) t k ≡ Some b → (use_from c.base (used g s (record { inode = i; tier = t; logical = k })) ≡ Some b) ⊎ ((b.0 ≡ Fast) × Contains spares b.1) }
     ensures once { (g : Sizes) (s : Store) (c : Change) (i touch : ℕ) (start : StartedDirectory) (x : ChangedDirectory) (spares : List ℕ) (old new : List (ℕ × List ℕ)) (plan : DirectoryPlan) → IsPlannedFrom g s c i start x touch spares old new plan → (t u : Tier) (j k : Option ℕ) (b : Tier × ℕ) → block_by plan.slot (on_fast plan.list.extents) t j ≡ Some b → block_by plan.slot (on_fast plan.list.extents) u k ≡ Some b → (t ≡ u) × (j ≡ k) }
     ensures all { (g : Sizes) (s : Store) (c : Change) (i touch : ℕ) (start : StartedDirectory) (x : ChangedDirectory) (spares : List ℕ) (old new : List (ℕ × List ℕ)) (plan : DirectoryPlan) → IsPlannedFrom g s c i start x touch spares old new plan → (p : ℕ) → Contains spares p → (k : Option ℕ) × (block_by plan.slot (on_fast plan.list.extents) Fast k ≡ Some (Fast, p)) }
     ensures images { (g : Sizes) (s : Store) (c : Change) (i touch : ℕ) (start : StartedDirectory) (x : ChangedDirectory) (spares : List ℕ) (old new : List (ℕ × List ℕ)) (plan : DirectoryPlan) → IsPlannedFrom g s c i start x touch spares old new plan → (p : ℕ) → ((k : Option ℕ) → block_by plan.slot (on_fast plan.list.extents) Fast k ≢ Some (Fast, p)) → image_for p new ≡ image_for p old }
+    ensures imaged { (g : Sizes) (s : Store) (c : Change) (i touch : ℕ) (start : StartedDirectory) (x : ChangedDirectory) (spares : List ℕ) (old new : List (ℕ × List ℕ)) (plan : DirectoryPlan) → IsPlannedFrom g s c i start x touch spares old new plan → (p : ℕ) → Contains spares p → IsSome (image_for p new) }
+    ensures nodes { (g : Sizes) (s : Store) (c : Change) (i touch : ℕ) (start : StartedDirectory) (x : ChangedDirectory) (spares : List ℕ) (old new : List (ℕ × List ℕ)) (plan : DirectoryPlan) → IsPlannedFrom g s c i start x touch spares old new plan → (t : Tier) (k : Option ℕ) (b : Tier × ℕ) → block_by plan.slot (on_fast plan.list.extents) t k ≡ Some b → (b.0 ≡ Fast) × (is_node g b.1 ≡ true) }
 {}
 
-/// A planned directory gives up exactly the blocks that it had a use for and has none; they can be given to the pool in which they are in use.
+/// A planned directory gives up exactly the blocks that it had a use for and has none; it had blocks of the node pool alone, and each that it has for the same use no more is given up.
+/// They can be given to the pool in which they are in use.
 pub fn planned_losses_are_exact()
     ensures exact { (g : Sizes) (s : Store) (c : Change) (i touch : ℕ) (start : StartedDirectory) (x : ChangedDirectory) (spares : List ℕ) (old new : List (ℕ × List ℕ)) (plan : DirectoryPlan) → IsPlannedFrom g s c i start x touch spares old new plan → (p : ℕ) → Contains (blocks_of plan.lost.items) p ↔ (((k : Option ℕ) × (use_from c.base (used g s (record { inode = i; tier = Fast; logical = k })) ≡ Some (Fast, p))) × ((k : Option ℕ) → block_by plan.slot (on_fast plan.list.extents) Fast k ≢ Some (Fast, p))) }
+    ensures had { (g : Sizes) (s : Store) (c : Change) (i touch : ℕ) (start : StartedDirectory) (x : ChangedDirectory) (spares : List ℕ) (old new : List (ℕ × List ℕ)) (plan : DirectoryPlan) → IsPlannedFrom g s c i start x touch spares old new plan → (t : Tier) (k : Option ℕ) (b : Tier × ℕ) → use_from c.base (used g s (record { inode = i; tier = t; logical = k })) ≡ Some b → (b.0 ≡ Fast) × (is_node g b.1 ≡ true) }
+    ensures each { (g : Sizes) (s : Store) (c : Change) (i touch : ℕ) (start : StartedDirectory) (x : ChangedDirectory) (spares : List ℕ) (old new : List (ℕ × List ℕ)) (plan : DirectoryPlan) → IsPlannedFrom g s c i start x touch spares old new plan → (t : Tier) (k : Option ℕ) (b : Tier × ℕ) → use_from c.base (used g s (record { inode = i; tier = t; logical = k })) ≡ Some b → block_by plan.slot (on_fast plan.list.extents) t k ≢ Some b → Contains (blocks_of plan.lost.items) b.1 }
     ensures given { (g : Sizes) (s : Store) (c : Change) (i touch : ℕ) (start : StartedDirectory) (x : ChangedDirectory) (spares : List ℕ) (old new : List (ℕ × List ℕ)) (plan : DirectoryPlan) (p : FreeBlocks) → IsPlannedFrom g s c i start x touch spares old new plan → ((k : Option ℕ) (b : ℕ) → use_from c.base (used g s (record { inode = i; tier = Fast; logical = k })) ≡ Some (Fast, b) → IsInUse p b) → AreUsed p plan.lost.items }
 {}

@@ -1,4 +1,4 @@
-use Rattle.directory_plan.proofs.Standing.{kept, once, all, own_images}
+use Rattle.directory_plan.proofs.Standing.{kept, once, all, own_images, imaged, nodes}
 use Rattle.directory_plan.proofs.laws.planned_blocks_are_kept_or_spare.Goals as goal
 
 pub returns : goal.returns
@@ -7,4 +7,6 @@ returns c = record {
   once = λ g s c i touch start x spares old new plan p. once g s c i touch start x spares old new plan p;
   all = λ g s c i touch start x spares old new plan p. all g s c i touch start x spares old new plan p;
   images = λ g s c i touch start x spares old new plan p. own_images g s c i touch start x spares old new plan p;
+  imaged = λ g s c i touch start x spares old new plan p. imaged g s c i touch start x spares old new plan p;
+  nodes = λ g s c i touch start x spares old new plan p. nodes g s c i touch start x spares old new plan p;
 }

@@ -1,8 +1,10 @@
-use Rattle.directory_plan.proofs.Standing.{exact, given}
+use Rattle.directory_plan.proofs.Standing.{exact, had_nodes, each, given}
 use Rattle.directory_plan.proofs.laws.planned_losses_are_exact.Goals as goal
 
 pub returns : goal.returns
 returns c = record {
   exact = λ g s c i touch start x spares old new plan p. exact g s c i touch start x spares old new plan p;
+  had = λ g s c i touch start x spares old new plan p. had_nodes g s c i touch start x spares old new plan p;
+  each = λ g s c i touch start x spares old new plan p. each g s c i touch start x spares old new plan p;
   given = λ g s c i touch start x spares old new plan pool p. given g s c i touch start x spares old new plan p pool;
 }
