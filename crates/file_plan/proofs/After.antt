@@ -161,10 +161,10 @@ module _ (c : Change) (numbers : List ℕ) (places : List Place) (old new : Tier
           | inr taken ↦ fresh.free taken.at was.0 taken.inside (subst (λ u. lies_at old u was.0 ≡ Some (nth_place places taken.at).block) (sym taken.tier) (was.2 ∙ ap (λ q. Some q) (sym taken.block)))
         ]
 
-  pub lost_is_left : (t : Tier) (left : List ℕ) → AreLeft c old t left → (p k : ℕ) → lies_at old t k ≡ Some p → ((j : ℕ) → lies_at new t j ≡ Some p → ⊥) → Contains left p
+  pub lost_is_left : (t : Tier) (left : List ℕ) → AreLeft c old t left → (p k : ℕ) → lies_at old t k ≡ Some p → (lies_at new t k ≡ Some p → ⊥) → Contains left p
   lost_is_left t left is p k was none = elim (cases_Bool (leaves c k)) [
     | inl away ↦ (is p).1 (k, away, was)
-    | inr here ↦ (let both = neither (writes_block c k) (is_cut_off c.length k) here in absurd (none k (after.others t k both.0 both.1 ∙ was)))
+    | inr here ↦ (let both = neither (writes_block c k) (is_cut_off c.length k) here in absurd (none (after.others t k both.0 both.1 ∙ was)))
   ]
 
   pub after_within : (g : Sizes) → IsTidyChange c → end c.length ≤ 1048576 → AreData g places (length numbers) → ((t : Tier) → LiesWithin g (space.Data t) (runs_in old t)) → (t : Tier) → LiesWithin g (space.Data t) (runs_in new t)

@@ -10,3 +10,4 @@ pub mod Roots
 pub mod Taking
 pub mod Stores
 pub mod Listed
+pub mod Vacant

@@ -24,7 +24,7 @@ use Rattle.extent_nodes.specs.Normal.{IsNormal}
 use Rattle.extent_nodes.specs.Spelled.{LiesWithin, IsOneToOne}
 use Rattle.block_map.specs.Map.{TierRuns, runs_in, lies_at, LieOnce, LieBelow}
 use Rattle.block_map.specs.declared.map.Place.{Place}
-use Rattle.area_image.specs.Store.{Store, slot, place, logical, inode}
+use Rattle.area_image.specs.Store.{Store, slot, logical, inode}
 use Rattle.area_rewrite.specs.Written.{IsFit, logical_by}
 use Rattle.area_rewrite.specs.Changed.{place_from, LieAsChanged, IsFileSlot}
 use Rattle.area_rewrite.proofs.Places.{by_there}
@@ -35,12 +35,13 @@ use Rattle.file_plan.specs.Mapped.{IsMapAfter, AreFresh, AreData}
 use Rattle.file_plan.specs.Planned.{pair_of, StartsFrom, HasData}
 use Rattle.file_plan.proofs.After.{stands, written_at, in_place, keeps_or_takes, after_once, after_below, after_apart, after_within}
 
-from_kept : (base : Base) (o : Option ℕ) (p : ℕ) → place_from base o ≡ Some p → o ≡ Some p
+-- what a change starts from was there
+pub from_kept : (base : Base) (o : Option ℕ) (p : ℕ) → place_from base o ≡ Some p → o ≡ Some p
 from_kept Kept o p is = is
 from_kept (Made kind) o p is = absurd (none-some p is)
 from_kept Gone o p is = absurd (none-some p is)
 
-module _ (g : Sizes) (c : Change) (old new : Store) (i : ℕ) (before after : TierRuns) (numbers : List ℕ) (places : List Place) (bytes : List ℕ) (blocks : Blocks) (starts : StartsFrom g old i c.base before) (once : LieOnce before) (are : AreNumbers c numbers) (is : IsMapAfter c numbers places before after) (enough : length numbers ≤ length places) (holds : HoldsBlocks c blocks numbers (length numbers) bytes) (has : HasData g old new i places bytes) where
+module _ (g : Sizes) (c : Change) (old new : Store) (i : ℕ) (before after : TierRuns) (numbers : List ℕ) (places : List Place) (bytes : List ℕ) (blocks : Blocks) (starts : StartsFrom g old i c.base before) (once : LieOnce before) (are : AreNumbers c numbers) (is : IsMapAfter c numbers places before after) (enough : length numbers ≤ length places) (holds : HoldsBlocks c blocks numbers (length numbers) bytes) (has : HasData g c.base old new i places bytes) where
   data_at : (n : ℕ) → n < length numbers → new (nth_place places n).tier (nth_place places n).block ≡ slice (4096 * n) 4096 bytes
   data_at n lt =
       let inside : n < length places = omega (arith, lt, enough) in
@@ -58,7 +59,7 @@ module _ (g : Sizes) (c : Change) (old new : Store) (i : ℕ) (before after : Ti
 
   same : (t : Tier) (k p : ℕ) → writes_block c k ≡ false → lies_at after t k ≡ Some p → new t p ≡ old t p
   same t k p out at = elim (keeps_or_takes c numbers places before after are is t k p at) [
-    | inl kept ↦ has.stays t k p (from_kept c.base (place g old i t k) p (sym (starts t k) ∙ kept.was))
+    | inl kept ↦ has.stays t k p (sym (starts t k) ∙ kept.was)
     | inr taken ↦ absurd (false≢true (sym out ∙ subst (λ (j : ℕ). writes_block c j ≡ true) taken.number (written_at c numbers are taken.at taken.inside)))
   ]
 

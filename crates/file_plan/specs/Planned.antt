@@ -30,7 +30,7 @@ pairs_of places = map pair_of places
 abbrev pub StartsFrom : Sizes → Store → ℕ → Base → TierRuns → Type 0
 StartsFrom g s i base m = (t : Tier) (k : ℕ) → lies_at m t k ≡ place_from base (place g s i t k)
 
--- The bytes stand in the blocks of these places, and each block that held one of the inode's is as it was.
-pub record HasData (g : Sizes) (old new : Store) (i : ℕ) (places : List Place) (bytes : List ℕ) : Type 0 where
+-- The bytes stand in the blocks of these places, and each block in which one lay that the change starts from is as it was: of a file that is made none.
+pub record HasData (g : Sizes) (base : Base) (old new : Store) (i : ℕ) (places : List Place) (bytes : List ℕ) : Type 0 where
   pub holds : HoldData new (pairs_of places) bytes
-  pub stays : (t : Tier) (k p : ℕ) → place g old i t k ≡ Some p → new t p ≡ old t p
+  pub stays : (t : Tier) (k p : ℕ) → place_from base (place g old i t k) ≡ Some p → new t p ≡ old t p

@@ -24,7 +24,7 @@ ghost use Rattle.area_image.specs.Store.{Store, root_of, logical, inode};
 ghost use Rattle.area_image.specs.declared.tiers.InodeExtents.{InodeExtents};
 ghost use Rattle.area_rewrite.specs.Written.{IsFit, IsListed};
 ghost use Rattle.area_rewrite.specs.Changed.{IsFileSlot, IsFileWritten};
-ghost use Rattle.area_move.specs.Lists.{AreListsOf};
+ghost use Rattle.area_move.specs.Lists.{AreListsOf, roots_left};
 ghost use Rattle.file_plan.specs.Placed.{nth_place, nth_number};
 ghost use Rattle.file_plan.specs.Written.{AreNumbers};
 ghost use Rattle.file_plan.specs.Bytes.{HoldsBlocks};
@@ -53,7 +53,7 @@ pub fn planned_file_is_written()
     ensures { (g : Sizes) (c : Change) (old new : Store) (i : ℕ) (x : Slot) (before after : TierRuns) (numbers : List ℕ) (places : List Place) (bytes : List ℕ)
         → (started c.base (inode g old i)).kind ≡ Some kind.File → IsFileSlot (names_after c.names (started c.base (inode g old i)).names) (length_after c.length (started c.base (inode g old i)).size) x
         → StartsFrom g old i c.base before → LieOnce before → AreNumbers c numbers → IsMapAfter c numbers places before after → length numbers ≤ length places
-        → HoldsBlocks c (started c.base (inode g old i)).blocks numbers (length numbers) bytes → HasData g old new i places bytes → IsFileWritten g c old new i x after }
+        → HoldsBlocks c (started c.base (inode g old i)).blocks numbers (length numbers) bytes → HasData g c.base old new i places bytes → IsFileWritten g c old new i x after }
 {}
 
 /// The blocks that a change of a file that is there starts from are those of the inode, which `read_changed` reads.
@@ -69,9 +69,12 @@ pub fn planned_file_is_fit()
 {}
 
 /// In each tier the block that the slot names lists the runs, where it has the image of the extents there, and there is none where there are none. Each such block is the one that
-/// the old slot named there, or one of the spare ones, and each spare one is named.
+/// the old slot named there, or one of the spare ones, and each spare one is named. No block is named for two tiers, where the slot keeps the limits; and those that listed some, and
+/// that the slot names no more where they were, are the ones that are left.
 pub fn planned_roots_list_the_runs()
     ensures listed { (g : Sizes) (fast : Blocks) (i : ℕ) (m : TierRuns) (x : InodeExtents) (spare : List ℕ) (old new : Slot) → AreListsOf i m x → HasRootsOf x spare old new → SparesFit g old spare → length spare ≡ roots_wanted old x → HasImages fast new x → (t : Tier) → IsListed fast i (root_of new t) (runs_in m t) }
     ensures uses { (x : InodeExtents) (spare : List ℕ) (old new : Slot) (t : Tier) → HasRootsOf x spare old new → length spare ≡ roots_wanted old x → root_of new t ≢ 0 → (root_of new t ≡ root_of old t) ⊎ Contains spare (root_of new t) }
     ensures all { (x : InodeExtents) (spare : List ℕ) (old new : Slot) (n : ℕ) → HasRootsOf x spare old new → length spare ≡ roots_wanted old x → n < length spare → (t : Tier) × (root_of new t ≡ get_or spare n 0) }
+    ensures once { (g : Sizes) (new : Slot) (t u : Tier) → fits_slot g new ≡ true → root_of new t ≢ 0 → root_of new t ≡ root_of new u → t ≡ u }
+    ensures left { (x : InodeExtents) (spare : List ℕ) (old new : Slot) (k : ℕ) → HasRootsOf x spare old new → Contains (roots_left old new) k ↔ ((t : Tier) × (root_of old t ≢ 0) × (root_of old t ≡ k) × (root_of new t ≢ k)) }
 {}
