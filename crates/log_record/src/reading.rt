@@ -1,4 +1,4 @@
-ghost use Rattle.std.specs.Prelude.{◌≡◌, IfOk, drop, option_map, is_some};
+ghost use Rattle.std.specs.Prelude.{◌≡◌, IfOk, drop, option_map, is_some, true};
 ghost use Rattle.log_record.specs.Outcome.{Gives, owned};
 ghost use Rattle.log_record.specs.Grammar.{Begins, NoneBegins, IsRecord, spelling, make_at, enter_at, leave_at, names_at, size_at, bytes_at, dropped_at, fields_at, effect_at, effects_at, header_at, record_at, record_of};
 
@@ -173,25 +173,31 @@ fn record_front(alloc: Global, bytes: &[u8]) -> Result<(Record, &[u8]), RecordEr
 }
 
 /// The record that the bytes begin with, and how many of them spell it. `NoRecord` says that no beginning of them is a
-/// spelling; `Memory` says nothing of them.
+/// spelling; that takes no memory. `Memory` where there was none for the record.
 pub fn read_record(alloc: Global, bytes: &[u8]) -> Result<(Record, usize), RecordError>
     ensures found { IfOk result (λ r. Begins bytes.now r.0 r.1) }
     ensures none { result ≡ Err RecordError.NoRecord → NoneBegins bytes.now }
+    ensures memory { result ≡ Err RecordError.Memory → is_some (record_at bytes.now) ≡ true }
     ensures exact { Gives (λ r. (r.0, drop r.1 bytes.now)) result (record_at bytes.now) }
 {
+    if !begins_record(bytes) {
+        return Err(RecordError::NoRecord);
+    }
     let (found, rest) = record_front(alloc, bytes)?;
     Ok((found, bytes.len() - rest.len()))
 }
 
-/// The record that exactly these bytes spell. `NoRecord` says that they spell none; `Memory` says nothing of them.
+/// The record that exactly these bytes spell. `NoRecord` says that they spell none; that takes no memory. `Memory` where there was
+/// none for the record.
 pub fn read_payload(alloc: Global, bytes: &[u8]) -> Result<Record, RecordError>
     ensures found { IfOk result (λ r. IsRecord r × (bytes.now ≡ spelling r)) }
+    ensures memory { result ≡ Err RecordError.Memory → is_some (record_of bytes.now) ≡ true }
     ensures exact { Gives (λ r. r) result (record_of bytes.now) }
 {
-    let (found, rest) = record_front(alloc, bytes)?;
-    if !rest.is_empty() {
+    if !is_payload(bytes) {
         return Err(RecordError::NoRecord);
     }
+    let (found, _) = record_front(alloc, bytes)?;
     Ok(found)
 }
 
@@ -202,6 +208,13 @@ fn skip_record(bytes: &[u8]) -> Option<&[u8]>
 {
     let ((_, count), rest) = header_of(bytes)?;
     skip_effects(count, rest)
+}
+
+// Whether a record stands at the front.
+fn begins_record(bytes: &[u8]) -> bool
+    ensures { result ≡ is_some (record_at bytes.now) }
+{
+    skip_record(bytes).is_some()
 }
 
 /// Whether exactly these bytes spell a record. It takes no memory.

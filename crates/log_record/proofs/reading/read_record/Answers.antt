@@ -1,4 +1,5 @@
-use Rattle.std.proofs.Common.{◌≡◌, Some, ap, sym, ◌∙◌, List, ℕ, arith}
+use Rattle.std.proofs.Common.{◌≡◌, Option, Some, None, refl, ap, sym, ◌∙◌, List, ℕ, arith, false}
+use Rattle.std.specs.Prelude.{is_some}
 use Rattle.std.proofs.lemmas.Result.{err_from_is_err_and}
 use Rattle.log_record.specs.declared.format.RecordError.{RecordError}
 use Rattle.log_record.specs.declared.format.RecordError.TheVariants as errors
@@ -11,6 +12,13 @@ use Rattle.log_record.proofs.reading.read_record.Goals as goal
 refused : (bytes : List ℕ) (f : RecordError) → Fails f (record_at bytes) → f ≡ errors.NoRecord → NoneBegins bytes
 refused bytes errors.Memory fails e = absurd cc
 refused bytes errors.NoRecord fails e = none_begins bytes fails
+
+is_none : {A : Type 0} (x : Option A) → is_some x ≡ false → x ≡ None
+is_none (Some y) e = absurd cc
+is_none None e = refl
+
+pub returns-then-not-begins_record-clause-none : goal.returns-then-not-begins_record-clause-none
+returns-then-not-begins_record-clause-none c = λ e. none_begins c.args.bytes.now (is_none (record_at c.args.bytes.now) (sym c.begins_record.ensures ∙ c.if-not-begins_record.true))
 
 pub returns-in_err-found-clause-none : goal.returns-in_err-found-clause-none
 returns-in_err-found-clause-none c = λ e.
