@@ -1,5 +1,5 @@
 -- Extents, roots and places of one file.
-use Rattle.std.proofs.Common.{◌≡◌, ◌≢◌, ◌≤◌, ◌<◌, ◌⊎◌, inl, inr, ℕ, zero, suc, ◌+◌, ◌∙◌, List, [], ◌∷◌, ◌++◌, length, get_or, Option, Some, None, refl, sym, ap, subst, arith, true, false}
+use Rattle.std.proofs.Common.{◌≡◌, ◌≢◌, ◌<◌, inl, inr, ℕ, suc, ◌∙◌, List, [], ◌∷◌, length, get_or, Option, Some, None, refl, sym, ap, subst, arith, true}
 use Rattle.std.specs.Prelude.{IsSome, unwrap_or, if◌then◌else◌}
 use Rattle.std.specs.Option.{option_map}
 use Rattle.std.specs.List.{Contains}
@@ -8,16 +8,15 @@ use Rattle.tier_device.specs.declared.media.Tier.{Tier}
 use Rattle.tier_device.specs.declared.media.Tier.TheVariants as tiers
 use Rattle.file_graph.specs.declared.effect.Kind.TheVariants as kind
 use Rattle.layout.specs.declared.extents.Extent.{Extent}
-use Rattle.layout.specs.declared.geometry.Space.{Space}
 use Rattle.layout.specs.declared.geometry.Space.TheVariants as space
 use Rattle.layout.specs.declared.slot.Slot.{Slot}
 use Rattle.layout.specs.declared.slot.Slot.TheVariants as slots
 use Rattle.layout.specs.Extents.{ExtentList}
 use Rattle.layout.specs.Places.{Sizes}
-use Rattle.extent_nodes.specs.Places.{place_of, place_in, extent_at, has}
+use Rattle.extent_nodes.specs.Places.{place_of, place_in, extent_at}
 use Rattle.extent_nodes.specs.Normal.{IsNormal}
 use Rattle.block_map.specs.Map.{TierRuns, runs_in}
-use Rattle.tree_blocks.specs.Inode.{Blocks, inode_of}
+use Rattle.tree_blocks.specs.Inode.{inode_of}
 use Rattle.area_image.specs.Store.{Store, slot, root_of, touch_of, length_of, space_of, extents_read, place}
 use Rattle.area_image.proofs.Shown.{extents_none}
 use Rattle.area_move.specs.Lists.{IsListOf}

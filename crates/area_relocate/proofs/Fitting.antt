@@ -1,6 +1,6 @@
 -- The slot and the runs of a file of which a run is moved keep the limits.
 use Rattle.std.proofs.Common.{◌≡◌, ◌≢◌, ◌≤◌, ◌<◌, ◌+◌, ◌∙◌, inl, inr, ℕ, List, [], ◌∷◌, length, Option, Some, None, refl, sym, ap, subst, arith, true}
-use Rattle.std.specs.Prelude.{IsSome, ◌==◌, ◌&&◌, ◌||◌, nat_le, nat_lt}
+use Rattle.std.specs.Prelude.{IsSome, ◌==◌, nat_le, nat_lt}
 use Rattle.std.specs.List.{Contains}
 use Rattle.std.proofs.lemmas.Bool.{false≢true, and_from, and_parts, or_right, le-leb, lt-ltb, leb-true, ltb-true}
 use Rattle.std.proofs.lemmas.Option.{none-some}
@@ -9,14 +9,13 @@ use Rattle.tier_device.specs.declared.media.Tier.TheVariants as tiers
 use Rattle.layout.specs.declared.geometry.Space.{Space}
 use Rattle.layout.specs.declared.geometry.Space.TheVariants as space
 use Rattle.layout.specs.declared.slot.Slot.{Slot}
-use Rattle.layout.specs.Extents.{ExtentList}
 use Rattle.layout.specs.Places.{Sizes, is_node, node_end, data_first, tier_blocks, is_run}
 use Rattle.layout.specs.Slot.{fits_slot, is_root_block}
 use Rattle.block_alloc.specs.Runs.{Rising, blocks_of}
 use Rattle.block_alloc.proofs.Blocks.{normal-rising}
 use Rattle.extent_nodes.specs.Spelled.{LiesWithin}
 use Rattle.block_map.specs.Map.{TierRuns, runs_in, lies_at, LieBelow}
-use Rattle.area_image.specs.Store.{Store, slot, root_of, length_of, space_of, place}
+use Rattle.area_image.specs.Store.{Store, slot, root_of, length_of, space_of}
 use Rattle.area_image.specs.Reads.{Free}
 use Rattle.area_image.specs.Map.{in_tier}
 use Rattle.area_image.proofs.Parts.{slot_as}

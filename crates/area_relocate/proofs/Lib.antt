@@ -4,3 +4,7 @@ pub mod Fitting
 pub mod Using
 pub mod Losing
 pub mod Storing
+pub mod Fresh
+pub mod Planned
+pub mod Ending
+pub mod Pooled

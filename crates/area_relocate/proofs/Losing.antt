@@ -1,8 +1,8 @@
 -- Which blocks a file gives up where a run of it is moved.
-use Rattle.std.proofs.Common.{◌≡◌, ◌≢◌, ◌≤◌, ◌<◌, ◌⊎◌, ◌+◌, ◌∙◌, inl, inr, ℕ, zero, suc, List, [], ◌∷◌, ◌++◌, length, Bool, Option, Some, None, refl, sym, ap, subst, arith, true, false}
+use Rattle.std.proofs.Common.{◌≡◌, ◌≢◌, ◌≤◌, ◌<◌, ◌⊎◌, ◌+◌, ◌∙◌, inl, inr, ℕ, zero, suc, List, [], ◌∷◌, ◌++◌, length, Option, Some, None, refl, sym, ap, subst, arith, true, false}
 use Rattle.std.specs.Prelude.{IsSome, ◌==◌, ◌||◌, not, if◌then◌else◌}
 use Rattle.std.specs.List.{Contains, AllByRecursion}
-use Rattle.std.proofs.lemmas.Bool.{false≢true, true≢false, cases_Bool, cases_lt, or_parts, or_from, eqb-true, eqb-false, cond-true, cond-false}
+use Rattle.std.proofs.lemmas.Bool.{false≢true, true≢false, cases_Bool, cases_lt, or_parts, or_from, eqb-true, eqb-false}
 use Rattle.std.proofs.lemmas.List.Elements.{Contains-append_left, Contains-append_right, Contains-append_cases}
 use Rattle.std.proofs.lemmas.Option.{none-some}
 use Rattle.tier_device.specs.declared.media.Tier.{Tier}
@@ -15,7 +15,7 @@ use Rattle.block_alloc.specs.declared.runs.Run.{Run}
 use Rattle.block_alloc.specs.Runs.{run_blocks, blocks_of}
 use Rattle.extent_nodes.specs.Places.{place_of}
 use Rattle.block_map.specs.Map.{TierRuns, runs_in, lies_at, places_of, place_list, HasBlock}
-use Rattle.area_image.specs.Store.{Store, slot, root_of, place}
+use Rattle.area_image.specs.Store.{Store, root_of, place}
 use Rattle.area_image.specs.Spelled.{used}
 use Rattle.free_pools.specs.Taking.{runs_of}
 use Rattle.area_move.specs.declared.finding.MovableRun.{MovableRun}

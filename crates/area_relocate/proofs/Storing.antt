@@ -1,10 +1,9 @@
 -- The store in which a move is carried out.
-use Rattle.std.proofs.Common.{◌≡◌, ◌≢◌, ◌≤◌, ◌<◌, ◌⊎◌, ◌+◌, ◌-◌, ◌*◌, ◌∙◌, inl, inr, ℕ, List, [], ◌∷◌, ◌++◌, length, get_or, Bool, Option, Some, None, refl, sym, ap, subst, arith, true, false}
-use Rattle.std.specs.Prelude.{IsSome, IfSome, ◌↔◌, ◌==◌, ◌||◌, nat_le, nat_lt, map, unwrap_or, option_map, if◌then◌else◌}
+use Rattle.std.proofs.Common.{◌≡◌, ◌≢◌, ◌≤◌, ◌<◌, ◌⊎◌, ◌+◌, ◌-◌, ◌*◌, ◌∙◌, inl, inr, ℕ, List, [], ◌++◌, length, get_or, Option, Some, None, refl, sym, ap, subst, arith, true, false}
+use Rattle.std.specs.Prelude.{IsSome, IfSome, ◌==◌, nat_le, nat_lt, unwrap_or, option_map, if◌then◌else◌}
 use Rattle.std.specs.List.{Contains}
 use Rattle.std.proofs.lemmas.Bool.{false≢true, true≢false, cases_Bool, and_parts, or_from, leb-true, ltb-true, eqb-true, eqb-false, cond-false}
 use Rattle.std.proofs.lemmas.List.{append-nil, length-map, get_or-map}
-use Rattle.std.proofs.lemmas.Option.{none-some}
 use Rattle.tier_device.specs.declared.media.Tier.{Tier}
 use Rattle.tier_device.specs.declared.media.Tier.TheVariants as tiers
 use Rattle.layout.specs.declared.slot.Slot.{Slot}
@@ -43,7 +42,7 @@ use Rattle.area_commit.specs.Plan.{IsPlanned, IsPlannedInode, is_changed}
 use Rattle.area_relocate.specs.Made.{IsMovePlan}
 use Rattle.area_relocate.proofs.Basics.{some_block, list_some, roots_touch}
 use Rattle.area_relocate.proofs.Fitting.{node_within, slot_here, is_fit, old_data}
-use Rattle.area_relocate.proofs.Using.{changed_is, changed_here, listed, uses, once, all, imaged, images, image_node, some_root, root_some, run_there}
+use Rattle.area_relocate.proofs.Using.{changed_is, listed, uses, once, all, imaged, images, image_node, some_root, root_some, run_there}
 use Rattle.area_relocate.proofs.Losing.{hold_lost}
 
 -- ---- data of one tier

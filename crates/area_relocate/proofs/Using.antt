@@ -1,5 +1,5 @@
 -- Which blocks a file has a use for once a run of it is moved.
-use Rattle.std.proofs.Common.{◌≡◌, ◌≢◌, ◌≤◌, ◌<◌, ◌⊎◌, ◌+◌, ◌-◌, ◌∙◌, inl, inr, ℕ, List, [], ◌∷◌, length, get_or, Bool, Option, Some, None, refl, sym, ap, subst, arith, true, false, eq-eqb}
+use Rattle.std.proofs.Common.{◌≡◌, ◌≢◌, ◌≤◌, ◌<◌, ◌⊎◌, ◌+◌, ◌-◌, ◌∙◌, inl, inr, ℕ, [], length, get_or, Option, Some, None, refl, sym, ap, subst, arith, true, false, eq-eqb}
 use Rattle.std.specs.Prelude.{IsSome, ◌==◌, ◌||◌, ◌&&◌, ◌^◌, nat_le, nat_lt, if◌then◌else◌, option_map}
 use Rattle.std.specs.List.{Contains}
 use Rattle.std.proofs.lemmas.List.Elements.{Contains-get_or}
@@ -10,13 +10,12 @@ use Rattle.tier_device.specs.declared.media.Tier.TheVariants as tiers
 use Rattle.layout.specs.declared.slot.Slot.{Slot}
 use Rattle.layout.specs.declared.slot.Slot.TheVariants as slots
 use Rattle.layout.specs.Extents.{ExtentList, extents_spelling}
-use Rattle.layout.specs.Places.{Sizes, is_node, node_end}
+use Rattle.layout.specs.Places.{Sizes, is_node}
 use Rattle.layout.specs.Slot.{fits_slot, is_root_block, roots_apart}
-use Rattle.block_alloc.specs.declared.runs.Run.{Run}
 use Rattle.block_alloc.specs.Runs.{blocks_of}
 use Rattle.batch_journal.specs.Images.{image_for, or_else, with_images}
 use Rattle.block_map.specs.Map.{TierRuns, runs_in, lies_at}
-use Rattle.area_image.specs.Store.{Store, slot, root_of, place}
+use Rattle.area_image.specs.Store.{Store, root_of, place}
 use Rattle.area_image.specs.Spelled.{Use, used}
 use Rattle.area_image.specs.Map.{in_tier}
 use Rattle.free_pools.specs.Taking.{runs_of}
@@ -25,14 +24,13 @@ use Rattle.area_move.specs.Lists.{IsListOf, root_for}
 use Rattle.area_move.proofs.Given.{cons_here, nothing}
 use Rattle.area_move.proofs.Fits.{tier_is, run_cases, there, gone, stays}
 use Rattle.area_move.proofs.Roots.{apart_parts}
-use Rattle.area_rewrite.specs.Written.{IsListed, list_of, block_by}
+use Rattle.area_rewrite.specs.Written.{IsListed, block_by}
 use Rattle.area_rewrite.specs.Many.{HasBlockFor}
-use Rattle.area_batch.specs.declared.slots.ChangedSlot.{ChangedSlot}
 use Rattle.area_room.specs.Changing.{BlockIsTaken}
 use Rattle.area_commit.specs.declared.plan.Rewrite.{Rewrite}
 use Rattle.area_commit.specs.Plan.{is_changed}
 use Rattle.area_relocate.specs.Made.{first_block, IsSpareFor, IsMovePlan}
-use Rattle.area_relocate.proofs.Basics.{contains_at, list_some, list_from, no_runs}
+use Rattle.area_relocate.proofs.Basics.{contains_at, list_from, no_runs}
 use Rattle.area_relocate.proofs.Fitting.{one_block, node_within, slot_here, spare_free, lacks_to, limits, is_fit, new_data, root_node}
 
 -- ---- blocks of uses

@@ -1,5 +1,5 @@
 -- What a file is once a run of it is moved, in memory.
-use Rattle.std.specs.Prelude.{◌≡◌, ◌≢◌, ◌≤◌, ◌*◌, ◌⊎◌, ℕ, List, [], ◌∷◌, length, Option, None, Some, IsSome, true}
+use Rattle.std.specs.Prelude.{◌≡◌, ◌≢◌, ◌≤◌, ◌*◌, ◌⊎◌, ◌==◌, if◌then◌else◌, ℕ, List, [], ◌∷◌, length, Option, None, Some, IsSome, true}
 use Rattle.std.specs.List.{AllByRecursion}
 use Rattle.tier_device.specs.declared.media.Tier.{Tier}
 use Rattle.layout.specs.declared.places.TheConstants.{BLOCK}
@@ -19,11 +19,13 @@ use Rattle.area_rewrite.specs.Moved.{with_roots}
 use Rattle.area_batch.specs.Batches.{PutsImage}
 use Rattle.area_batch.specs.declared.slots.ChangedSlot.{ChangedSlot}
 use Rattle.free_pools.specs.declared.taking.Taken.{Taken}
-use Rattle.free_pools.specs.Taking.{runs_of}
+use Rattle.free_pools.specs.Taking.{runs_of, WereTaken, CanUndo}
+use Rattle.free_pools.specs.Value.{PoolsView, data_pool, AreInOrder, HasRanges, AreFree}
 use Rattle.area_move.specs.declared.finding.MovableRun.{MovableRun}
 use Rattle.area_move.specs.Found.{IsMovableRun}
 use Rattle.area_move.specs.Lists.{AreListsOf, HasRoots, SpareFits, HoldsRun, roots_left}
 use Rattle.area_move.specs.Placed.{ArePlaced}
+use Rattle.area_commit.specs.declared.plan.Lost.{Lost}
 use Rattle.area_commit.specs.declared.plan.Rewrite.{Rewrite}
 use Rattle.area_commit.specs.Plan.{WereFree, lost_in}
 
@@ -37,6 +39,10 @@ first_block (r ∷ rs) = r.first
 -- One block is taken to list extents where none does, else no block.
 abbrev pub IsSpareFor : ℕ → List Run → Type 0
 IsSpareFor root nodes = ((root ≢ 0) × (nodes ≡ [])) ⊎ ((root ≡ 0) × (blocks_of nodes ≡ first_block nodes ∷ []))
+
+-- how many blocks are taken to list extents, by the block that does
+abbrev pub spare_count : ℕ → ℕ
+spare_count root = if root == 0 then 1 else 0
 
 -- Free blocks were taken: as many of the tier as the run has, none of another tier, and one to list extents where none does.
 pub record IsTakenFor (g : Sizes) (s : Store) (f : MovableRun) (to : Tier) (taken : Taken) : Type 0 where
@@ -85,3 +91,44 @@ pub record IsMovePlan (g : Sizes) (s : Store) (i : ℕ) (to : Tier) (f : Movable
   pub holds : HoldsRun (logical g s i) f.run.first f.run.count plan.bytes.items
   pub size : length plan.bytes.items ≡ BLOCK * f.run.count
   pub marks : plan.marks ≡ None
+
+-- ---- before the plan
+
+-- A run of file i that may be moved, with its bytes, and its places, which it gives up.
+pub record IsReadRun (g : Sizes) (s : Store) (i : ℕ) (to : Tier) (f : MovableRun) (bytes : List ℕ) (lost : Lost) : Type 0 where
+  pub file : IsMovableRun g s i f.run.first f.run.count to f
+  pub holds : HoldsRun (logical g s i) f.run.first f.run.count bytes
+  pub size : length bytes ≡ BLOCK * f.run.count
+  pub places : (t : Tier) → blocks_of (lost_in lost t) ≡ places_of (runs_in f.map t) f.run.first f.run.count
+  pub some : (t : Tier) → AllByRecursion HasBlock (lost_in lost t)
+
+-- And free blocks were taken for it.
+pub record IsReadyMove (g : Sizes) (s : Store) (i : ℕ) (to : Tier) (f : MovableRun) (bytes : List ℕ) (lost : Lost) (taken : Taken) : Type 0 where
+  pub run : IsReadRun g s i to f bytes lost
+  pub took : IsTakenFor g s f to taken
+
+-- The plan is that of a move of this run.
+pub record IsPlanOfMove (g : Sizes) (s : Store) (i first count : ℕ) (to : Tier) (plan : Rewrite) : Type 0 where
+  pub file : MovableRun
+  pub slot : Slot
+  pub map : TierRuns
+  pub is_plan : IsMovePlan g s i to file slot map plan
+  pub first_is : file.run.first ≡ first
+  pub count_is : file.run.count ≡ count
+
+-- ---- the pools
+
+-- There is room for what a move gives up: these runs, and three of the node pool.
+pub record HasRoomFor (pools : PoolsView) (lost : Lost) : Type 0 where
+  pub nodes : 3 ≤ pools.nodes.room
+  pub per_tier : (t : Tier) → length (lost_in lost t) ≤ (data_pool pools t).room
+
+-- The pools had exactly the free blocks of a store until these were taken, which can be given back; and there is room for what a move gives up.
+pub record AreReadyToMove (g : Sizes) (s : Store) (left : PoolsView) (taken : Taken) (lost : Lost) : Type 0 where
+  pub before : PoolsView
+  pub order : AreInOrder before
+  pub ranges : HasRanges g before
+  pub free : AreFree g s before
+  pub took : WereTaken before left taken
+  pub undo : CanUndo left taken
+  pub room : HasRoomFor left lost

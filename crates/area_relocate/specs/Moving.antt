@@ -1,5 +1,5 @@
 -- What a move leaves.
-use Rattle.std.specs.Prelude.{◌≡◌, ◌≤◌, ◌⊎◌, ◌+◌, ℕ, List, true, false, Result, OnOk, IfErr, IsErrOf}
+use Rattle.std.specs.Prelude.{◌≡◌, ◌≢◌, ◌≤◌, ◌⊎◌, ◌+◌, ℕ, List, true, false, Result, OnOk, IfErr, IsErrOf}
 use Rattle.tier_device.specs.declared.media.Tier.{Tier}
 use Rattle.tier_device.specs.Media.{Left, AtRest, Rose}
 use Rattle.layout.specs.Places.{Sizes}
@@ -12,7 +12,7 @@ use Rattle.area_image.specs.Spelled.{IsOpenable}
 use Rattle.free_pools.specs.Value.{PoolsView, HasRanges, AreFree}
 use Rattle.area_move.specs.Moving.{IsMoved}
 use Rattle.area_move.specs.declared.error.RelocateError.{RelocateError}
-use Rattle.area_move.specs.declared.error.RelocateError.TheVariants.{DeviceFault, Memory}
+use Rattle.area_move.specs.declared.error.RelocateError.TheVariants.{DeviceFault}
 
 -- The media spell a graph, and nothing is pending on them; the pools have the free blocks.
 pub record IsSettled (g : Sizes) (seen : Tier → List ℕ) (may_leave : Tier → List ℕ → Type 0) (pools : PoolsView) : Type 0 where
@@ -40,15 +40,19 @@ pub record Moves (g : Sizes) (s : Store) (i first count : ℕ) (to : Tier) (befo
   pub kept : (m : ℕ) (t : Tier) (c : List ℕ) → m ≤ before → old m t c → new m t c
   pub any_moment : (m : ℕ) (content : Tier → List ℕ) → before ≤ m → m ≤ now → Left new m content → IsMovedOrNot g s i first count to content
 
--- How a move ends: at each moment a stop leaves the run where it lay, or moved; after Ok it is moved, and after a want of memory nothing has moved; and all is settled where no
--- device has failed.
+-- Nothing has moved, and no device has failed.
+pub record StaysStill {M : Type 0} (moment : M → ℕ) (seen : M → Tier → List ℕ) (left : M → ℕ → Tier → List ℕ → Type 0) (faults : M → ℕ) (old new : JournalView M) : Type 0 where
+  pub still : Unmoved (moment old.media) (moment new.media) (seen old.media) (seen new.media) (left old.media) (left new.media)
+  pub going : new.failed ≡ false
+  pub quiet : faults new.media ≡ faults old.media
+
+-- How a move ends: at each moment a stop leaves the run where it lay, or moved; after Ok it is moved; after a refusal beside a device fault nothing has moved; and all is settled
+-- where no device has failed.
 pub record Ends {M : Type 0} (moment : M → ℕ) (seen : M → Tier → List ℕ) (left : M → ℕ → Tier → List ℕ → Type 0) (faults : M → ℕ) (i first count : ℕ) (to : Tier) (old new : JournalView M) (pools : PoolsView) (result : Result (Unit {0}) RelocateError) : Type 0 where
   pub any_moment : Moves old.geometry (store_of (seen old.media)) i first count to (moment old.media) (moment new.media) (left old.media) (left new.media)
   pub moved : OnOk result (IsMovedStore old.geometry (store_of (seen old.media)) i first count to (store_of (seen new.media)))
-  pub settled : new.failed ≡ false → IsSettled old.geometry (seen new.media) (left new.media (moment new.media)) pools
-  pub only : IfErr result (λ e. (e ≡ DeviceFault) ⊎ (e ≡ Memory))
-  pub unmoved : IsErrOf result Memory → Unmoved (moment old.media) (moment new.media) (seen old.media) (seen new.media) (left old.media) (left new.media)
-  pub refused : IsErrOf result Memory → (new.failed ≡ false) × (faults new.media ≡ faults old.media)
+  pub settled : new.failed ≡ false → IsSettled new.geometry (seen new.media) (left new.media (moment new.media)) pools
+  pub unmoved : IfErr result (λ e. e ≢ DeviceFault → StaysStill moment seen left faults old new)
   pub fault : IsErrOf result DeviceFault → (new.failed ≡ true) × Rose (faults old.media) (faults new.media)
   pub quiet : OnOk result ((new.failed ≡ false) × (faults new.media ≡ faults old.media))
   pub geometry : new.geometry ≡ old.geometry

@@ -1,11 +1,11 @@
 // What a run gives up.
-ghost use Rattle.std.specs.Prelude.{◌≡◌, ◌≤◌, ◌<◌, ◌+◌, ◌^◌, length, OnOk, IfOk};
+ghost use Rattle.std.specs.Prelude.{◌≡◌, ◌≤◌, ◌<◌, ◌+◌, ◌^◌, [], length, OnOk, IfOk};
 ghost use Rattle.std.specs.List.{AllByRecursion};
 ghost use Rattle.tier_device.specs.declared.media.Tier.{Tier};
 ghost use Rattle.block_alloc.specs.Runs.{blocks_of};
 ghost use Rattle.block_map.specs.Map.{runs_in, places_of, HasBlock};
 ghost use Rattle.free_pools.specs.Value.{data_pool};
-ghost use Rattle.free_pools.specs.Taking.{SameFree};
+ghost use Rattle.free_pools.specs.Taking.{SameFree, KeepsRoom};
 ghost use Rattle.area_commit.specs.Plan.{lost_in};
 
 use area_commit::Lost;
@@ -28,7 +28,9 @@ pub fn lost_places(
     ensures some { IfOk result (λ lost. (t : Tier) → AllByRecursion HasBlock (lost_in lost t)) }
     ensures room { IfOk result (λ lost. (t : Tier) → length (lost_in lost t) ≤ (data_pool pools.new t).room) }
     ensures nodes { OnOk result (3 ≤ pools.new.nodes.room) }
+    ensures no_nodes { IfOk result (λ lost. lost.nodes.items ≡ []) }
     ensures same { SameFree pools.old pools.new }
+    ensures kept { KeepsRoom pools.old pools.new }
 {
     let fast = places_in(alloc, map, Tier::Fast, run)?;
     let block = places_in(alloc, map, Tier::Block, run)?;

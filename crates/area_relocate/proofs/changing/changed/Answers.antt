@@ -1,9 +1,8 @@
-use Rattle.std.proofs.Common.{◌≡◌, ◌≤◌, ◌+◌, ◌∙◌, ℕ, List, [], ◌∷◌, ◌++◌, length, Option, Some, None, sym, ap, subst, arith, rules}
+use Rattle.std.proofs.Common.{◌≤◌, ℕ, [], length, Option, Some, None, sym, ap, subst, arith, rules}
 use Rattle.std.specs.Prelude.{IfSome, is_some}
 use Rattle.std.proofs.lemmas.Grind.{common_steps}
 use Rattle.tier_device.specs.declared.media.Tier.{Tier}
 use Rattle.layout.specs.Extents.{ExtentList}
-use Rattle.layout.specs.Places.{Sizes}
 use Rattle.block_alloc.specs.Runs.{blocks_of}
 use Rattle.block_map.specs.Map.{TierRuns, runs_in, LieBelow}
 use Rattle.area_image.specs.Map.{in_tier}

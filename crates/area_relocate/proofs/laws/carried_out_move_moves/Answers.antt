@@ -1,10 +1,8 @@
-use Rattle.std.proofs.Common.{◌≡◌, ◌≤◌, ℕ, Option, true, sym, subst}
-use Rattle.tier_device.specs.declared.media.Tier.{Tier}
+use Rattle.std.proofs.Common.{◌≡◌, ◌≤◌, ℕ, true, sym, subst}
 use Rattle.file_graph.specs.Graph.{Graph}
 use Rattle.file_graph.specs.Units.{charge}
 use Rattle.layout.specs.declared.slot.Slot.{Slot}
 use Rattle.block_map.specs.Map.{TierRuns}
-use Rattle.area_image.specs.Store.{Store}
 use Rattle.area_image.proofs.Parts.{slot_as}
 use Rattle.area_rewrite.specs.Moved.{StaysInode}
 use Rattle.area_commit.specs.Plan.{is_changed}

@@ -1,0 +1,58 @@
+use Rattle.std.proofs.Common.{◌∙◌, inl, inr, refl, sym}
+use Rattle.std.proofs.lemmas.Bool.{true≢false}
+use Rattle.area_move.specs.declared.error.RelocateError.TheVariants.{DeviceFault, NotMapped, NoBlock}
+use Rattle.area_relocate.proofs.Ending.{mapped_fault, block_fault, err_same}
+use Rattle.area_relocate.proofs.Pooled.{same_self}
+use Rattle.area_relocate.proofs.relocating.relocate.Goals as goal
+
+-- ---- where a device has failed
+
+pub returns-then-has_failed-clause-any_moment : goal.returns-then-has_failed-clause-any_moment
+returns-then-has_failed-clause-any_moment g c going = absurd (true≢false (sym c.if-has_failed.true ∙ c.has_failed.ensures ∙ going))
+
+pub returns-then-has_failed-clause-not_mapped : goal.returns-then-has_failed-clause-not_mapped
+returns-then-has_failed-clause-not_mapped g c is = absurd (mapped_fault (sym (err_same DeviceFault NotMapped is)))
+
+pub returns-then-has_failed-clause-no_block : goal.returns-then-has_failed-clause-no_block
+returns-then-has_failed-clause-no_block g c is = absurd (block_fault (sym (err_same DeviceFault NoBlock is)))
+
+pub returns-then-has_failed-clause-unmoved : goal.returns-then-has_failed-clause-unmoved
+returns-then-has_failed-clause-unmoved g c other = absurd (other refl)
+
+pub returns-then-has_failed-clause-same : goal.returns-then-has_failed-clause-same
+returns-then-has_failed-clause-same g c = same_self c.args.pools.now
+
+pub returns-then-has_failed-clause-fault : goal.returns-then-has_failed-clause-fault
+returns-then-has_failed-clause-fault g c is = (sym c.has_failed.ensures ∙ c.if-has_failed.true, inl (sym c.has_failed.ensures ∙ c.if-has_failed.true))
+
+pub returns-then-has_failed-clause-stays_failed : goal.returns-then-has_failed-clause-stays_failed
+returns-then-has_failed-clause-stays_failed g c was = (refl, refl, refl)
+
+-- ---- where none has
+
+pub find_and_move-requires-clause-going : goal.find_and_move-requires-clause-going
+find_and_move-requires-clause-going g c = sym c.has_failed.ensures ∙ c.if-has_failed.false
+
+pub find_and_move-requires-clause-settled : goal.find_and_move-requires-clause-settled
+find_and_move-requires-clause-settled g c = c.requires (sym c.has_failed.ensures ∙ c.if-has_failed.false)
+
+pub returns-clause-any_moment : goal.returns-clause-any_moment
+returns-clause-any_moment g c going = c.find_and_move.ensures.ends.any_moment
+
+pub returns-clause-fault : goal.returns-clause-fault
+returns-clause-fault g c is = (let fault = c.find_and_move.ensures.ends.fault is in (fault.0, inr fault.1))
+
+pub returns-clause-stays_failed : goal.returns-clause-stays_failed
+returns-clause-stays_failed g c was = absurd (true≢false (sym was ∙ sym c.has_failed.ensures ∙ c.if-has_failed.false))
+
+pub returns-clause-moved : goal.returns-clause-moved
+returns-clause-moved g c = c.find_and_move.ensures.ends.moved
+
+pub returns-clause-settled : goal.returns-clause-settled
+returns-clause-settled g c = c.find_and_move.ensures.ends.settled
+
+pub returns-clause-unmoved : goal.returns-clause-unmoved
+returns-clause-unmoved g c = c.find_and_move.ensures.ends.unmoved
+
+pub returns-clause-quiet : goal.returns-clause-quiet
+returns-clause-quiet g c = c.find_and_move.ensures.ends.quiet
