@@ -6,3 +6,4 @@ pub mod FirstRuns
 pub mod Counts
 pub mod Entries
 pub mod Wants
+pub mod Moved

@@ -46,7 +46,7 @@ module _ {M : Type 0} (moment : M → ℕ) (seen : M → Tier → List ℕ) (lef
       }
 
 -- a store that differs in free blocks alone keeps the units
-keeps_opens : (g : Sizes) (s x : Store) → IsOpenable g s → Loose g s x → IsOpenable g x
+pub keeps_opens : (g : Sizes) (s x : Store) → IsOpenable g s → Loose g s x → IsOpenable g x
 keeps_opens g s x opens loose = record {
   spelled = loose_spelled g s x loose opens.spelled;
   units = subst (λ (h : Graph). charge h ≤ g.units) (sym (loose_graph g s x loose)) opens.units;

@@ -4,3 +4,4 @@ pub mod Opening
 pub mod Reading
 pub mod Naming
 pub mod Running
+pub mod Moving

@@ -1,14 +1,15 @@
 -- What is kept of shared media in memory, and what a stop may leave of them.
-use Rattle.std.specs.Prelude.{◌≡◌, ◌↔◌, ℕ, List, length, Some}
+use Rattle.std.specs.Prelude.{◌≡◌, ◌≤◌, ◌↔◌, ℕ, List, length, Some}
 use Rattle.std.specs.List.{Contains}
 use Rattle.tier_device.specs.declared.media.Tier.{Tier}
 use Rattle.tier_device.specs.Media.{AtRest}
 use Rattle.file_graph.specs.Units.{charge}
 use Rattle.layout.specs.declared.marks.Marks.{Marks}
-use Rattle.layout.specs.Places.{Sizes}
+use Rattle.layout.specs.Places.{Sizes, data_first, tier_blocks}
 use Rattle.block_alloc.specs.Runs.{Rising}
 use Rattle.batch_journal.specs.Volume.{IsVolume}
 use Rattle.area_image.specs.Store.{Store, store_of, graph, marks}
+use Rattle.area_image.specs.Reads.{Free}
 use Rattle.area_image.specs.Spelled.{IsOpenable}
 use Rattle.free_pools.specs.Value.{PoolsView, HasRanges, AreFree}
 
@@ -27,6 +28,10 @@ pub record HasCount (first end : ℕ) (P : ℕ → Type 0) (count : ℕ) : Type 
   pub rises : Rising first end blocks
   pub each : (k : ℕ) → Contains blocks k ↔ P k
   pub many : length blocks ≡ count
+
+-- So many data blocks of a tier are free.
+abbrev pub HasFree : Sizes → Store → Tier → ℕ → Type 0
+HasFree g s t count = HasCount (data_first g t) (tier_blocks g t) (λ k. Free g s t k × (data_first g t ≤ k)) count
 
 -- The contents of three tiers can be opened, and spell the graph and the marks of that store.
 pub record OpensAs (g : Sizes) (s : Store) (content : Tier → List ℕ) : Type 0 where

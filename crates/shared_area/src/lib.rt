@@ -13,4 +13,5 @@ mod shared;
 mod touching;
 
 pub use area_image::AreaError;
+pub use area_move::RelocateError;
 pub use shared::Shared;

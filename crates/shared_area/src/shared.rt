@@ -1,4 +1,4 @@
-ghost use Rattle.std.specs.Prelude.{◌≡◌, ◌≢◌, ◌≤◌, ◌<◌, ◌+◌, ◌-◌, ℕ, List, min, length, false, Some, OnErr, IfOk, IfErr};
+ghost use Rattle.std.specs.Prelude.{◌≡◌, ◌≢◌, ◌≤◌, ◌<◌, ◌+◌, ◌-◌, ℕ, List, min, length, false, Some, OnOk, OnErr, IfOk, IfErr, IsErrOf};
 ghost use Rattle.tier_device.specs.declared.media.Tier.{Tier};
 ghost use Rattle.tier_device.specs.declared.media.Tier.TheVariants.{Fast};
 ghost use Rattle.tier_device.specs.Media.{AtRest, Left, Rose};
@@ -9,7 +9,7 @@ ghost use Rattle.batch_journal.specs.Volume.{IsVolume, SameJournal};
 ghost use Rattle.file_graph.specs.Units.{charge};
 ghost use Rattle.call_effects.specs.NodeView.{view_at};
 ghost use Rattle.layout.specs.declared.places.TheConstants.{FIRST_NODE_BLOCK};
-ghost use Rattle.layout.specs.Places.{data_first, tier_blocks, node_end};
+ghost use Rattle.layout.specs.Places.{node_end};
 ghost use Rattle.area_image.specs.Store.{store_of, graph, slot, touch_of, marks as marks_of};
 ghost use Rattle.area_image.specs.Reads.{Free, Loose};
 ghost use Rattle.area_image.specs.Spelled.{IsOpenable};
@@ -17,8 +17,11 @@ ghost use Rattle.area_image.specs.Looks.{Looks};
 ghost use Rattle.area_image.specs.Map.{WantsMemory};
 ghost use Rattle.area_image.specs.declared.error.AreaError.TheVariants.{DeviceFault, Memory};
 ghost use Rattle.area_image.specs.Damage.{OnDamage};
+ghost use Rattle.area_move.specs.Moving.{CanMove, IsMoved};
+ghost use Rattle.area_move.specs.declared.error.RelocateError.TheVariants.{NotMapped, NoBlock};
 ghost use Rattle.shared_area.specs.Opening.{SpellsNone, IsMediumDamage, TakesMemory};
-ghost use Rattle.shared_area.specs.Ready.{OpensAs, HasCount};
+ghost use Rattle.shared_area.specs.Ready.{OpensAs, HasCount, HasFree};
+ghost use Rattle.shared_area.specs.Moving.{HasTooFew, HasEnough, StaysOpen, MovesOrStays};
 ghost use Rattle.shared_area.specs.Reading.{bytes_of_inode, IsReadFrom};
 ghost use Rattle.shared_area.specs.Parts.{IsNoDamage, IsTierOf};
 ghost use Rattle.shared_area.specs.Running.{FindsRun, file_lies};
@@ -30,6 +33,8 @@ use crate::reading::read_file;
 use crate::running::find_first_run;
 use crate::touching::find_touch;
 use area_image::AreaError;
+use area_move::RelocateError;
+use area_relocate::relocate;
 use batch_journal::Journal;
 use block_alloc::Run;
 use free_pools::Pools;
@@ -179,6 +184,43 @@ impl<M: Media> Shared<M> {
         find_touch(&mut self.journal, inode)
     }
 
+    /// Moves a run of a file's logical blocks, `count` of them from block `first` on, to a tier that is slower than those in which they lie. Graph and marks stay: a stop at any
+    /// moment leaves the run where it lay, or all of it moved. The cost is one read for each block of the run, and a few calls besides.
+    ///
+    /// `NotMapped` exactly where there is no file at the inode, the run has no block or more than 256, or some block of it lies in no tier that is faster than `to`; `NoBlock`
+    /// exactly where the run could be moved, but fewer data blocks of `to` are free than it has. `Memory` where there was none, before the first write. After each of these
+    /// nothing has changed. `DeviceFault` where a device failed: the area answers nothing else then, until the medium is opened again.
+    pub fn relocate(
+        &mut self,
+        inode: u32,
+        first: u64,
+        count: u32,
+        to: Tier,
+    ) -> Result<(), RelocateError>
+        // At each moment a stop leaves contents that are opened with the same graph and marks, with the run where it lay, or moved.
+        ensures any_moment { self.old.failed ≡ false → StaysOpen self.old.geometry (store_of (M.seen self.old.media)) inode first count to (M.moment self.old.media) (M.moment self.new.media) (M.left self.old.media) (M.left self.new.media) }
+        ensures moved { OnOk result (IsMoved self.old.geometry (store_of (M.seen self.old.media)) (store_of (M.seen self.new.media)) inode first count to) }
+        ensures same_graph { OnOk result (graph self.old.geometry (store_of (M.seen self.new.media)) ≡ graph self.old.geometry (store_of (M.seen self.old.media))) }
+        ensures same_marks { OnOk result (marks_of (store_of (M.seen self.new.media)) ≡ marks_of (store_of (M.seen self.old.media))) }
+
+        ensures not_mapped { IsErrOf result NotMapped → CanMove self.old.geometry (store_of (M.seen self.old.media)) inode first count to → ⊥ }
+        ensures no_block { IsErrOf result NoBlock → CanMove self.old.geometry (store_of (M.seen self.old.media)) inode first count to × HasTooFew self.old.geometry (store_of (M.seen self.old.media)) to count }
+        ensures can { OnOk result (CanMove self.old.geometry (store_of (M.seen self.old.media)) inode first count to × HasEnough self.old.geometry (store_of (M.seen self.old.media)) to count) }
+        ensures moves { MovesOrStays M.moment M.seen M.left M.faults self.old self.new result }
+    {
+        let alloc = self.alloc;
+        let _free = self.pools.free(to);
+        relocate(
+            alloc,
+            &mut self.journal,
+            &mut self.pools,
+            inode,
+            first,
+            count,
+            to,
+        )
+    }
+
     /// What the graph costs, in units: one for each inode and one for each logical block, holes too.
     pub fn charge(&self) -> u64
         ensures { self.now.failed ≡ false → result ≡ charge (graph self.now.geometry (store_of (M.seen self.now.media))) }
@@ -195,8 +237,7 @@ impl<M: Media> Shared<M> {
 
     /// How many data blocks of a tier are free.
     pub fn free(&self, tier: Tier) -> u32
-        ensures { self.now.failed ≡ false → HasCount (data_first self.now.geometry tier) (tier_blocks self.now.geometry tier)
-            (λ k. Free self.now.geometry (store_of (M.seen self.now.media)) tier k × (data_first self.now.geometry tier ≤ k)) result }
+        ensures { self.now.failed ≡ false → HasFree self.now.geometry (store_of (M.seen self.now.media)) tier result }
     {
         self.pools.free(tier)
     }

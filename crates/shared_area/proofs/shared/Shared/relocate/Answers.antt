@@ -1,0 +1,86 @@
+use Rattle.std.proofs.Common.{◌≡◌, false, length, refl, subst}
+use Rattle.std.specs.Prelude.{OnOk, IsErrOf}
+use Rattle.batch_journal.specs.View.{JournalView}
+use Rattle.area_image.specs.Store.{store_of, graph, marks}
+use Rattle.free_pools.specs.Value.{data_pool}
+use Rattle.area_move.specs.Moving.{CanMove, IsMoved}
+use Rattle.area_move.specs.declared.error.RelocateError.TheVariants.{NoBlock}
+use Rattle.shared_area.specs.Moving.{HasTooFew, HasEnough, StaysOpen, MovesOrStays}
+use Rattle.shared_area.proofs.Counts.{data_count}
+use Rattle.shared_area.proofs.Moved.{ready_moved, stays_open, moves_or_stays, ok_moved, ok_graph, ok_marks, ok_enough, err_few}
+use Rattle.shared_area.proofs.shared.Shared.relocate.Goals as goal
+
+pub relocate-requires : goal.relocate-requires
+relocate-requires g c = λ going. let ready = c.self.invariant going in record { opens = ready.opens; rests = ready.rests; ranges = ready.ranges; free = ready.free }
+
+pub invariant_of-self : goal.invariant_of-self
+invariant_of-self g c =
+    let m = g.M.Media in
+    let is = c.relocate.ensures in
+    ready_moved m.moment m.seen m.left m.faults c.self.inside.journal c.relocate.new.journal c.relocate.result c.self.inside.pools c.relocate.new.pools c.self.inside.marks c.self.inside.units c.args.inode c.args.first c.args.count c.args.to
+    is.moved is.unmoved (λ fault. (is.fault fault).0) is.settled (λ failed. (is.stays_failed failed).1) is.geometry c.self.invariant
+
+pub returns-clause-any_moment : goal.returns-clause-any_moment
+returns-clause-any_moment g c =
+    let m = g.M.Media in
+    let old = c.self.inside.journal in
+    let new = c.relocate.new.journal in
+    subst
+    (λ (v : JournalView _). v.failed ≡ false → StaysOpen v.geometry (store_of (m.seen v.media)) c.args.inode c.args.first c.args.count c.args.to (m.moment v.media) (m.moment new.media) (m.left v.media) (m.left new.media))
+    c.self.view_is
+    (λ going. stays_open old.geometry (store_of (m.seen old.media)) c.args.inode c.args.first c.args.count c.args.to (m.moment old.media) (m.moment new.media) (m.left old.media) (m.left new.media) (c.self.invariant going).opens (c.relocate.ensures.any_moment going))
+
+pub returns-clause-moved : goal.returns-clause-moved
+returns-clause-moved g c =
+    let m = g.M.Media in
+    let old = c.self.inside.journal in
+    let left = store_of (m.seen c.relocate.new.journal.media) in
+    subst (λ (v : JournalView _). OnOk c.relocate.result (IsMoved v.geometry (store_of (m.seen v.media)) left c.args.inode c.args.first c.args.count c.args.to)) c.self.view_is
+    (ok_moved old.geometry (store_of (m.seen old.media)) c.args.inode c.args.first c.args.count c.args.to left c.relocate.result c.relocate.ensures.moved)
+
+pub returns-clause-same_graph : goal.returns-clause-same_graph
+returns-clause-same_graph g c =
+    let m = g.M.Media in
+    let old = c.self.inside.journal in
+    let left = store_of (m.seen c.relocate.new.journal.media) in
+    subst (λ (v : JournalView _). OnOk c.relocate.result (graph v.geometry left ≡ graph v.geometry (store_of (m.seen v.media)))) c.self.view_is
+    (ok_graph old.geometry (store_of (m.seen old.media)) c.args.inode c.args.first c.args.count c.args.to left c.relocate.result c.relocate.ensures.moved)
+
+pub returns-clause-same_marks : goal.returns-clause-same_marks
+returns-clause-same_marks g c =
+    let m = g.M.Media in
+    let old = c.self.inside.journal in
+    let left = store_of (m.seen c.relocate.new.journal.media) in
+    subst (λ (v : JournalView _). OnOk c.relocate.result (marks left ≡ marks (store_of (m.seen v.media)))) c.self.view_is
+    (ok_marks old.geometry (store_of (m.seen old.media)) c.args.inode c.args.first c.args.count c.args.to left c.relocate.result c.relocate.ensures.moved)
+
+pub returns-clause-no_block : goal.returns-clause-no_block
+returns-clause-no_block g c =
+    let m = g.M.Media in
+    let old = c.self.inside.journal in
+    let s = store_of (m.seen old.media) in
+    let pools = c.self.inside.pools in
+    let t = c.args.to in
+    subst (λ (v : JournalView _). IsErrOf c.relocate.result NoBlock → CanMove v.geometry (store_of (m.seen v.media)) c.args.inode c.args.first c.args.count t × HasTooFew v.geometry (store_of (m.seen v.media)) t c.args.count) c.self.view_is
+    (err_few old.failed old.geometry s t (length (data_pool pools t).free) c.args.count
+    (λ going. let ready = c.self.invariant going in data_count old.geometry s pools ready.ranges ready.free c.free-free.ensures.ordered (length (data_pool pools t).free) t refl)
+    (CanMove old.geometry s c.args.inode c.args.first c.args.count t) c.relocate.result (λ was. (c.relocate.ensures.stays_failed was).0) c.relocate.ensures.no_block)
+
+pub returns-clause-can : goal.returns-clause-can
+returns-clause-can g c =
+    let m = g.M.Media in
+    let old = c.self.inside.journal in
+    let s = store_of (m.seen old.media) in
+    let pools = c.self.inside.pools in
+    let t = c.args.to in
+    subst (λ (v : JournalView _). OnOk c.relocate.result (CanMove v.geometry (store_of (m.seen v.media)) c.args.inode c.args.first c.args.count t × HasEnough v.geometry (store_of (m.seen v.media)) t c.args.count)) c.self.view_is
+    (ok_enough old.failed old.geometry s t (length (data_pool pools t).free) c.args.count
+    (λ going. let ready = c.self.invariant going in data_count old.geometry s pools ready.ranges ready.free c.free-free.ensures.ordered (length (data_pool pools t).free) t refl)
+    (CanMove old.geometry s c.args.inode c.args.first c.args.count t) c.relocate.result (λ was. (c.relocate.ensures.stays_failed was).0) c.relocate.ensures.can)
+
+pub returns-clause-moves : goal.returns-clause-moves
+returns-clause-moves g c =
+    let m = g.M.Media in
+    let is = c.relocate.ensures in
+    subst (λ (v : JournalView _). MovesOrStays m.moment m.seen m.left m.faults v c.relocate.new.journal c.relocate.result) c.self.view_is
+    (moves_or_stays m.moment m.seen m.left m.faults c.self.inside.journal c.relocate.new.journal c.relocate.result is.unmoved is.fault (λ was. ((is.stays_failed was).0, (is.stays_failed was).1)) is.quiet is.geometry is.faults is.one_fault)
