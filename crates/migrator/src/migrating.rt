@@ -1,0 +1,34 @@
+// A run is moved down.
+ghost use Rattle.std.specs.Prelude.{◌≡◌, false, OnOk, IsErrOf};
+ghost use Rattle.area_image.specs.Store.{store_of, graph, marks};
+ghost use Rattle.area_move.specs.Moving.{CanMove, IsMoved};
+ghost use Rattle.area_move.specs.declared.error.RelocateError.TheVariants.{NotMapped, NoBlock};
+ghost use Rattle.shared_area.specs.Moving.{HasTooFew, HasEnough, StaysOpen, MovesOrStays};
+
+use shared_area::{RelocateError, Shared};
+use tier_device::{Media, Tier};
+
+/// Moves a run of a file's logical blocks, `count` of them from block `first` on, to a tier that is slower than those in which they lie. The graph stays: a stop at any moment
+/// leaves the run where it lay, or all of it moved.
+///
+/// The refusals, in this order: `NotMapped` exactly where there is no file at the inode, the run has no block or more than 256, or some block of it lies in no tier that is
+/// faster than `to`; `NoBlock` exactly where fewer data blocks of `to` are free than the run has. After these, and after `Memory`, nothing has changed. `DeviceFault` where a
+/// device failed: the area answers nothing else then, until the medium is opened again.
+pub fn migrate<M: Media>(
+    area: &mut Shared<M>,
+    inode: u32,
+    first: u64,
+    count: u32,
+    to: Tier,
+) -> Result<(), RelocateError>
+    ensures any_moment { area.old.failed ≡ false → StaysOpen area.old.geometry (store_of (M.seen area.old.media)) inode first count to (M.moment area.old.media) (M.moment area.new.media) (M.left area.old.media) (M.left area.new.media) }
+    ensures moved { OnOk result (IsMoved area.old.geometry (store_of (M.seen area.old.media)) (store_of (M.seen area.new.media)) inode first count to) }
+    ensures same_graph { OnOk result (graph area.old.geometry (store_of (M.seen area.new.media)) ≡ graph area.old.geometry (store_of (M.seen area.old.media))) }
+    ensures same_marks { OnOk result (marks (store_of (M.seen area.new.media)) ≡ marks (store_of (M.seen area.old.media))) }
+    ensures not_mapped { IsErrOf result NotMapped → CanMove area.old.geometry (store_of (M.seen area.old.media)) inode first count to → ⊥ }
+    ensures no_block { IsErrOf result NoBlock → CanMove area.old.geometry (store_of (M.seen area.old.media)) inode first count to × HasTooFew area.old.geometry (store_of (M.seen area.old.media)) to count }
+    ensures can { OnOk result (CanMove area.old.geometry (store_of (M.seen area.old.media)) inode first count to × HasEnough area.old.geometry (store_of (M.seen area.old.media)) to count) }
+    ensures moves { MovesOrStays M.moment M.seen M.left M.faults area.old area.new result }
+{
+    area.relocate(inode, first, count, to)
+}
