@@ -1,9 +1,10 @@
 // A client's region: what is logged there, and what a stop leaves.
-ghost use Rattle.std.specs.Prelude.{◌≡◌, IfOk, OnOk, Ok, true, false, Some, drop};
+ghost use Rattle.std.specs.Prelude.{◌≡◌, ◌-◌, IfOk, OnOk, IfSome, IfNone, Ok, true, false, Some, None, drop};
 ghost use Rattle.tier_device.specs.declared.media.Tier.TheVariants.{Fast};
 ghost use Rattle.tier_device.specs.Media.{AtRest, Rose};
 ghost use Rattle.tier_device.specs.Memory.{IsAtRest, memory_seen};
-ghost use Rattle.tier_device.specs.Stop.{medium_of};
+ghost use Rattle.tier_device.specs.Stop.{medium_of, armed};
+ghost use Rattle.tier_device.specs.declared.fill.Fill.TheVariants.{Byte};
 ghost use Rattle.file_graph.specs.Graph.{graph_of, after_effects};
 ghost use Rattle.update_log.specs.Frames.{with_record, records};
 ghost use Rattle.update_log.specs.View.{records_of};
@@ -45,7 +46,9 @@ impl Stopping for StopMedia {
 }
 
 fn armed(media: MemMedia, stop: Option<Stop>) -> StopMedia
-    ensures { medium_of result ≡ media }
+    ensures inner { medium_of result ≡ media }
+    ensures stops { IfSome stop (λ s. armed result ≡ Some (s.call - 1, Byte s.fill)) }
+    ensures runs { IfNone stop (armed result ≡ None) }
 {
     let mut media = StopMedia::new(media);
     match stop {

@@ -5,4 +5,4 @@ use Rattle.workload_cli.proofs.regions.StopMediaStopping.new.Goals as goal
 
 -- the medium is the one that was given
 pub returns : goal.returns
-returns c = subst IsAtRest (sym c.armed.ensures) c.requires Fast
+returns c = subst IsAtRest (sym c.armed.ensures.inner) c.requires Fast
