@@ -11,9 +11,9 @@ use Rattle.block_alloc.specs.Runs.{run_blocks, blocks_of, IsNormal, Rising}
 use Rattle.block_alloc.specs.Value.{FreeBlocks, SamePool}
 use Rattle.block_alloc.proofs.Blocks.{range-split, blocks-push}
 use Rattle.block_alloc.proofs.Joins.{normal-two, last-replaced, last-within, normal-wider, length-run}
-use Rattle.free_pools.specs.Value.{PoolsView, data_pool, AreInOrder}
+use Rattle.free_pools.specs.Value.{PoolsView, data_pool}
 use Rattle.free_pools.specs.declared.taking.Taken.{Taken}
-use Rattle.free_pools.specs.Taking.{CanGive, CanUndo, SameBlocks, WasTaken, WereTaken, TakesMore, runs_of}
+use Rattle.free_pools.specs.Taking.{CanGive, CanUndo, SameBlocks, WasTaken, TakesMore, runs_of}
 use Rattle.free_pools.proofs.Fronts.{behind, rising-right}
 
 -- ---- rising lists

@@ -1,8 +1,8 @@
-use Rattle.std.proofs.Common.{◌≡◌, ◌≤◌, ◌+◌, ◌++◌, ◌∙◌, arith, ap, sym, subst, length, take, List}
+use Rattle.std.proofs.Common.{◌≡◌, ◌++◌, ◌∙◌, arith, ap, sym, subst, length, List}
 use Rattle.std.proofs.lemmas.List.{length-take-le}
 use Rattle.block_alloc.specs.declared.runs.Run.{Run}
 use Rattle.block_alloc.specs.Runs.{blocks_of, IsNormal, Rising}
-use Rattle.free_pools.proofs.Seams.{length-runs, old_wide, more_wide, both_rise, can_give_all}
+use Rattle.free_pools.proofs.Seams.{length-runs, old_wide, more_wide, both_rise}
 use Rattle.free_pools.proofs.taking.take_more.Goals as goal
 
 pub put_behind-requires-clause-room : goal.put_behind-requires-clause-room
