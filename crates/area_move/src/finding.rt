@@ -59,8 +59,9 @@ fn run_of(slot: &Slot, first: u64, count: u32) -> Option<Run>
     }
 }
 
-// Where the blocks of an inode lie that has this slot.
-fn read_map<M: Media>(
+/// Where the blocks of an inode lie that has this slot: each of its extent blocks is read once. A damage names one that spells none that are the inode's; `Memory` where
+/// there was none for what one spells, or for the runs.
+pub fn read_map<M: Media>(
     alloc: Global,
     journal: &mut Journal<M>,
     inode: u32,

@@ -16,7 +16,7 @@ mod rooting;
 mod testing;
 
 pub use error::{RelocateError, told};
-pub use finding::{MovableRun, find_run};
+pub use finding::{MovableRun, find_run, read_map};
 pub use giving::{give_data, give_nodes};
 pub use laws::{placed_blocks_are_fit, places_can_be_given};
 pub use leaving::{places_in, roots_left};
