@@ -176,9 +176,9 @@ module _ {M : Type 0} (moment : M → ℕ) (seen : M → Tier → List ℕ) (lef
 
     -- ---- refusals
 
-    pub ends_fault : (old new : JournalView M) (pools : PoolsView) → MovesTo old new → (new.failed ≡ true) × Rose (faults old.media) (faults new.media) → new.geometry ≡ old.geometry → faults old.media ≤ faults new.media → faults new.media ≤ faults old.media + 1
+    pub ends_fault : (old new : JournalView M) (pools : PoolsView) → MovesTo old new → moment new.media ≤ moment old.media + count + 13 → (new.failed ≡ true) × Rose (faults old.media) (faults new.media) → new.geometry ≡ old.geometry → faults old.media ≤ faults new.media → faults new.media ≤ faults old.media + 1
         → EndsAt old new pools (Err errors.DeviceFault)
-    ends_fault old new pools moves fault geometry more one = record {
+    ends_fault old new pools moves few fault geometry more one = record {
       any_moment = moves;
       moved = tt;
       settled = λ going. absurd (true≢false (sym fault.0 ∙ going));
@@ -188,6 +188,7 @@ module _ {M : Type 0} (moment : M → ℕ) (seen : M → Tier → List ℕ) (lef
       geometry = geometry;
       more_faults = more;
       one_fault = one;
+      at_most = few;
     }
 
     pub ends_refused : (old new : JournalView M) (pools : PoolsView) (e : RelocateError) → e ≢ errors.DeviceFault → Rests moment seen left old.geometry old.media → StillAt old new → new.geometry ≡ old.geometry → new.failed ≡ false → faults new.media ≡ faults old.media
@@ -202,6 +203,7 @@ module _ {M : Type 0} (moment : M → ℕ) (seen : M → Tier → List ℕ) (lef
       geometry = geometry;
       more_faults = omega (arith, quiet);
       one_fault = omega (arith, quiet);
+      at_most = (let clock = still.clock in omega (arith, clock));
     }
 
     failed_now : {A B C : Type 0} → A × (B ⊎ C) → (B → ⊥) → A × C
@@ -211,7 +213,7 @@ module _ {M : Type 0} (moment : M → ℕ) (seen : M → Tier → List ℕ) (lef
     pub ends_told : {T : Type 0} (old new : JournalView M) (pools : PoolsView) (e : AreaError) (f : RelocateError) → IsTold e f → Looks {T = T} moment seen left faults old new (Err e) → old.failed ≡ false → Rests moment seen left old.geometry old.media → SettledAt old pools
         → EndsAt old new pools (Err f)
     ends_told old new pools area.DeviceFault f is looks going rests settled = subst (λ (x : RelocateError). EndsAt old new pools (Err x)) (sym is) (
-        ends_fault old new pools (moves_still old new rests looks.unmoved) (failed_now (looks.fault refl) (λ was. true≢false (sym was ∙ going))) looks.geometry looks.more_faults looks.one_fault
+        ends_fault old new pools (moves_still old new rests looks.unmoved) (let clock = looks.unmoved.clock in omega (arith, clock)) (failed_now (looks.fault refl) (λ was. true≢false (sym was ∙ going))) looks.geometry looks.more_faults looks.one_fault
         )
     ends_told old new pools (area.Damaged w b) f is looks going rests settled = absurd is
     ends_told old new pools area.Memory f is looks going rests settled =
@@ -253,6 +255,7 @@ module _ {M : Type 0} (moment : M → ℕ) (seen : M → Tier → List ℕ) (lef
       geometry = ends.geometry ∙ geometry;
       more_faults = (let more = ends.more_faults in omega (arith, more, quiet));
       one_fault = (let one = ends.one_fault in omega (arith, one, quiet));
+      at_most = (let few = ends.at_most in let clock = still.clock in omega (arith, few, clock));
     }
     ends_on old mid new pools (Err e) still geometry quiet ends = record {
       any_moment = moves_on old mid new still geometry ends.any_moment;
@@ -264,6 +267,7 @@ module _ {M : Type 0} (moment : M → ℕ) (seen : M → Tier → List ℕ) (lef
       geometry = ends.geometry ∙ geometry;
       more_faults = (let more = ends.more_faults in omega (arith, more, quiet));
       one_fault = (let one = ends.one_fault in omega (arith, one, quiet));
+      at_most = (let few = ends.at_most in let clock = still.clock in omega (arith, few, clock));
     }
 
     -- ---- a plan that is carried out
@@ -280,8 +284,8 @@ module _ {M : Type 0} (moment : M → ℕ) (seen : M → Tier → List ℕ) (lef
             record { volume = at.volume; store = elim at.store [ inl loose ↦ inl loose | inr out ↦ inr (done (store_of content) out) ] };
       }
 
-      pub ends_done : (u : Unit {0}) (pools : PoolsView) → IsCarriedOut old.geometry (store_of (seen old.media)) plan (store_of (seen new.media)) → SettledAt new pools → (new.failed ≡ false) × (faults new.media ≡ faults old.media) → new.geometry ≡ old.geometry → EndsAt old new pools (Ok u)
-      ends_done u pools out settled quiet geometry = record {
+      pub ends_done : (u : Unit {0}) (pools : PoolsView) → moment new.media ≤ moment old.media + count + 13 → IsCarriedOut old.geometry (store_of (seen old.media)) plan (store_of (seen new.media)) → SettledAt new pools → (new.failed ≡ false) × (faults new.media ≡ faults old.media) → new.geometry ≡ old.geometry → EndsAt old new pools (Ok u)
+      ends_done u pools few out settled quiet geometry = record {
         any_moment = moves_all;
         moved = done (store_of (seen new.media)) out;
         settled = λ g. settled;
@@ -291,10 +295,11 @@ module _ {M : Type 0} (moment : M → ℕ) (seen : M → Tier → List ℕ) (lef
         geometry = geometry;
         more_faults = (let q = quiet.1 in omega (arith, q));
         one_fault = (let q = quiet.1 in omega (arith, q));
+        at_most = few;
       }
 
-      pub ends_undone : (pools : PoolsView) (e : AreaError) (f : RelocateError) → IsTold e f → (e ≡ area.DeviceFault → (new.failed ≡ true) × Rose (faults old.media) (faults new.media)) → (e ≡ area.Memory → Looks {T = Unit {0}} moment seen left faults old new (Err e)) → new.geometry ≡ old.geometry → faults old.media ≤ faults new.media
+      pub ends_undone : (pools : PoolsView) (e : AreaError) (f : RelocateError) → moment new.media ≤ moment old.media + count + 13 → IsTold e f → (e ≡ area.DeviceFault → (new.failed ≡ true) × Rose (faults old.media) (faults new.media)) → (e ≡ area.Memory → Looks {T = Unit {0}} moment seen left faults old new (Err e)) → new.geometry ≡ old.geometry → faults old.media ≤ faults new.media
           → faults new.media ≤ faults old.media + 1 → old.failed ≡ false → Rests moment seen left old.geometry old.media → SettledAt old pools → EndsAt old new pools (Err f)
-      ends_undone pools area.DeviceFault f is fault memory geometry more one going rests settled = subst (λ (x : RelocateError). EndsAt old new pools (Err x)) (sym is) (ends_fault old new pools moves_all (fault refl) geometry more one)
-      ends_undone pools (area.Damaged w b) f is fault memory geometry more one going rests settled = absurd is
-      ends_undone pools area.Memory f is fault memory geometry more one going rests settled = ends_told old new pools area.Memory f is (memory refl) going rests settled
+      ends_undone pools area.DeviceFault f few is fault memory geometry more one going rests settled = subst (λ (x : RelocateError). EndsAt old new pools (Err x)) (sym is) (ends_fault old new pools moves_all few (fault refl) geometry more one)
+      ends_undone pools (area.Damaged w b) f few is fault memory geometry more one going rests settled = absurd is
+      ends_undone pools area.Memory f few is fault memory geometry more one going rests settled = ends_told old new pools area.Memory f is (memory refl) going rests settled

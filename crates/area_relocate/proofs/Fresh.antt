@@ -23,7 +23,7 @@ use Rattle.area_relocate.specs.Made.{first_block, spare_count, IsSpareFor, IsTak
 -- ---- runs
 
 -- runs in normal form have a first block each
-no_blocks : (low end : ℕ) (rs : List Run) → IsNormal low end rs → blocks_of rs ≡ [] → rs ≡ []
+pub no_blocks : (low end : ℕ) (rs : List Run) → IsNormal low end rs → blocks_of rs ≡ [] → rs ≡ []
 no_blocks low end [] normal none = refl
 no_blocks low end (r ∷ rs) normal none = (let long = ap length none in absurd (omega (arith, long, length-append (run_blocks r) (blocks_of rs), length-range_with_len r.first r.count, normal.1)))
 

@@ -1,23 +1,28 @@
 -- The plan of a move, put together.
-use Rattle.std.proofs.Common.{◌≡◌, ◌<◌, ◌∙◌, ℕ, List, None, length, sym, ap, subst, arith}
-use Rattle.std.specs.Prelude.{◌^◌}
+use Rattle.std.proofs.Common.{◌≡◌, ◌≢◌, ◌≤◌, ◌<◌, ◌+◌, ◌∙◌, ℕ, List, [], ◌∷◌, None, length, sym, ap, subst, arith}
+use Rattle.std.specs.Prelude.{◌^◌, min}
 use Rattle.std.specs.List.{AllByRecursion}
+use Rattle.std.proofs.lemmas.List.{length-append}
+use Rattle.std.proofs.lemmas.List.FromFn.{length-range_with_len}
 use Rattle.tier_device.specs.declared.media.Tier.{Tier}
 use Rattle.tier_device.specs.declared.media.Tier.TheVariants as tiers
 use Rattle.layout.specs.declared.slot.Slot.{Slot}
-use Rattle.layout.specs.Places.{Sizes, IsAllowed, tier_blocks}
+use Rattle.layout.specs.Places.{Sizes, IsAllowed, data_first, tier_blocks}
 use Rattle.block_alloc.specs.declared.runs.Run.{Run}
-use Rattle.block_alloc.specs.Runs.{blocks_of}
+use Rattle.block_alloc.specs.Runs.{run_blocks, blocks_of, IsNormal}
 use Rattle.block_map.specs.Map.{TierRuns, HasBlock}
 use Rattle.area_image.specs.Store.{Store, logical}
 use Rattle.area_batch.specs.declared.slots.ChangedSlot.{ChangedSlot}
 use Rattle.free_pools.specs.declared.taking.Taken.{Taken}
+use Rattle.free_pools.specs.Taking.{runs_of}
+use Rattle.free_pools.specs.Writing.{fences_of, tier_calls, calls_for}
 use Rattle.area_move.specs.declared.finding.MovableRun.{MovableRun}
 use Rattle.area_move.specs.Lists.{HoldsRun}
 use Rattle.area_commit.specs.declared.plan.Lost.{Lost}
 use Rattle.area_commit.specs.declared.plan.Rewrite.{Rewrite}
 use Rattle.area_commit.specs.Plan.{lost_in}
-use Rattle.area_relocate.specs.Made.{IsTakenFor, IsMade, IsReadyMove, IsMovePlan}
+use Rattle.area_relocate.specs.Made.{IsTakenFor, IsMade, IsReadyMove, IsMovePlan, IsPlanOfMove}
+use Rattle.area_relocate.proofs.Fresh.{no_blocks}
 
 -- each block of a tier has a number of 32 bits
 pub tier_fits : (g : Sizes) (t : Tier) → IsAllowed g → tier_blocks g t < 2 ^ 32
@@ -43,3 +48,38 @@ module _ (g : Sizes) (s : Store) (i : ℕ) (to : Tier) (f : MovableRun) (bytes :
     size = ap length bytes_are ∙ ready.run.size;
     marks = marks_are;
   }
+
+-- ---- calls
+
+few_runs : (low end : ℕ) (rs : List Run) → IsNormal low end rs → length rs ≤ length (blocks_of rs)
+few_runs low end [] normal = omega arith
+few_runs low end (r ∷ rs) normal = omega (arith, length-append (run_blocks r) (blocks_of rs), length-range_with_len r.first r.count, normal.1, few_runs (r.first + r.count + 1) end rs normal.3)
+
+one_fence : (rs : List Run) → fences_of rs ≤ 1
+one_fence [] = omega arith
+one_fence (r ∷ rs) = omega arith
+
+calls_in : (low end n : ℕ) (rs : List Run) → IsNormal low end rs → length (blocks_of rs) ≡ n → tier_calls rs ≤ n + 1
+calls_in low end n rs normal many = omega (arith, few_runs low end rs normal, one_fence rs, many)
+
+module _ (g : Sizes) (s : Store) (f : MovableRun) (to : Tier) (taken : Taken) (took : IsTakenFor g s f to taken) where
+  none_in : (t : Tier) → t ≢ to → tier_calls (runs_of taken t) ≡ 0
+  none_in t other = ap tier_calls (no_blocks (data_first g t) (tier_blocks g t) (runs_of taken t) (took.free.apart t) (took.others t other))
+
+  some_in : tier_calls (runs_of taken to) ≤ f.run.count + 1
+  some_in = calls_in (data_first g to) (tier_blocks g to) f.run.count (runs_of taken to) (took.free.apart to) took.many
+
+-- the device calls that write what was taken
+taken_calls : (g : Sizes) (s : Store) (f : MovableRun) (to : Tier) (taken : Taken) → IsTakenFor g s f to taken → calls_for taken ≤ f.run.count + 1
+taken_calls g s f tiers.Fast taken took = omega (arith, some_in g s f tiers.Fast taken took, none_in g s f tiers.Fast taken took tiers.Block (λ e. cc), none_in g s f tiers.Fast taken took tiers.Slow (λ e. cc))
+taken_calls g s f tiers.Block taken took = omega (arith, some_in g s f tiers.Block taken took, none_in g s f tiers.Block taken took tiers.Fast (λ e. cc), none_in g s f tiers.Block taken took tiers.Slow (λ e. cc))
+taken_calls g s f tiers.Slow taken took = omega (arith, some_in g s f tiers.Slow taken took, none_in g s f tiers.Slow taken took tiers.Fast (λ e. cc), none_in g s f tiers.Slow taken took tiers.Block (λ e. cc))
+
+-- and those that carry out the plan of a move
+pub plan_calls : (g : Sizes) (s : Store) (i first count : ℕ) (to : Tier) (plan : Rewrite) → IsPlanOfMove g s i first count to plan → calls_for plan.taken + min (length plan.slots.items) 32 + length plan.nodes ≤ count + 5
+plan_calls g s i first count to plan p =
+    let taken = taken_calls g s p.file to plan.taken p.is_plan.took in
+    let same = p.count_is in
+    let slots = ap length p.is_plan.made.slots_are in
+    let images = p.is_plan.made.images.few in
+    omega (arith, taken, same, slots, images)

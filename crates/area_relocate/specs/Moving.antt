@@ -58,3 +58,4 @@ pub record Ends {M : Type 0} (moment : M → ℕ) (seen : M → Tier → List �
   pub geometry : new.geometry ≡ old.geometry
   pub more_faults : faults old.media ≤ faults new.media
   pub one_fault : faults new.media ≤ faults old.media + 1
+  pub at_most : moment new.media ≤ moment old.media + count + 13

@@ -59,7 +59,9 @@ pub fn changed(
     requires places { EndsFit (runs_of taken.now to) }
     requires few { file.old.run.first + length (blocks_of (runs_of taken.now to)) ≤ 256 }
     requires below { LieBelow 256 file.old.map }
-    ensures { IfOk result (λ n. (x : Slot) × IsMade inode file.old to taken.now n.slots.items n.nodes n.left.items x file.new.map) }
+    ensures made { IfOk result (λ n. (x : Slot) × IsMade inode file.old to taken.now n.slots.items n.nodes n.left.items x file.new.map) }
+    ensures same_slot { file.new.slot ≡ file.old.slot }
+    ensures same_run { file.new.run ≡ file.old.run }
 {
     few_blocks_are_few_runs();
     put_runs(&mut file.map, file.run.first, to, runs_of(taken, to))?;

@@ -16,7 +16,6 @@ pub use changing::{NewInode, changed};
 pub use images::images_of;
 pub use laws::{carried_out_move_moves, move_is_planned};
 pub use leaving::lost_places;
-pub use moving::move_run;
 pub use planning::plan_move;
 pub use relocating::relocate;
 pub use taking::take_blocks;

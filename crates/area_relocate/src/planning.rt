@@ -38,8 +38,8 @@ fn rewrite_of(new: NewInode, bytes: Vec<u8>, lost: Lost, taken: Taken) -> Rewrit
     }
 }
 
-/// The plan of a move: the run's bytes go into the blocks that were taken, and its places are given up, with the blocks of the node pool that list no extents any more. Where there is no
-/// memory for it, what was taken is handed back.
+/// The plan of a move: the run's bytes go into the blocks that were taken, and its places are given up, with the blocks of the node pool that list no extents any more. Where
+/// there is no memory for it, what was taken is handed back.
 pub fn plan_move(
     alloc: Global,
     inode: u32,

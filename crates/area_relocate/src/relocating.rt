@@ -41,13 +41,13 @@ fn find_and_move<M: Media>(
     }
 }
 
-/// Moves a run of logical blocks of a file, `count` of them from block `first` on, to a tier that is slower than those in which they lie: into the lowest blocks that are free there. The
-/// bytes go to their new places and are fenced first; then one batch writes what the file is; then the old places are free. So a stop at any moment leaves the run where it lay, or all of it
-/// moved, and in both cases the same files with the same bytes. The cost is one read for each block of the run, and a few calls besides.
+/// Moves a run of logical blocks of a file, `count` of them from block `first` on, to a tier that is slower than those in which they lie: into the lowest blocks that are free
+/// there. The bytes go to their new places and are fenced first; then one batch writes what the file is; then the old places are free. So a stop at any moment leaves the run
+/// where it lay, or all of it moved, and in both cases the same files with the same bytes. The cost is one read for each block of the run, and a few calls besides.
 ///
-/// The refusals, in this order: `DeviceFault` where a device has failed before, and nothing is touched then; `NotMapped` where there is no file, the run has no block or more than 256, or
-/// some block of it lies in no faster tier; `NoBlock` where fewer than `count` blocks are free in the tier. After these two, and after `Memory` where there was none, the media and the
-/// free blocks are as before. `DeviceFault` also where a device fails in the call; the journal answers nothing else then until it is opened again.
+/// The refusals, in this order: `DeviceFault` where a device has failed before, and nothing is touched then; `NotMapped` where there is no file, the run has no block or more
+/// than 256, or some block of it lies in no faster tier; `NoBlock` where fewer than `count` blocks are free in the tier. After these two, and after `Memory` where there was
+/// none, the media and the free blocks are as before. `DeviceFault` also where a device fails in the call; the journal answers nothing else then until it is opened again.
 pub fn relocate<M: Media>(
     alloc: Global,
     journal: &mut Journal<M>,
@@ -77,6 +77,8 @@ pub fn relocate<M: Media>(
     ensures geometry { journal.new.geometry ≡ journal.old.geometry }
     ensures faults { M.faults journal.old.media ≤ M.faults journal.new.media }
     ensures one_fault { M.faults journal.new.media ≤ M.faults journal.old.media + 1 }
+    // A write for each run of blocks that is taken, a fence, and the batch; what is read is not counted.
+    ensures at_most { M.moment journal.new.media ≤ M.moment journal.old.media + count + 13 }
 {
     if journal.has_failed() {
         return Err(RelocateError::DeviceFault);

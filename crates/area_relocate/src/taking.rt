@@ -22,8 +22,8 @@ fn spare_count(slot: &Slot, to: Tier) -> u32
     if root_of(slot, to) == 0 { 1 } else { 0 }
 }
 
-/// Takes as many free blocks of a tier as a run has, and one of the node pool where the file has no extents there. `NoBlock` exactly where fewer are free, of the node pool or in the tier;
-/// `Memory` where the answer found no room. After a refusal the pools have the same free blocks.
+/// Takes as many free blocks of a tier as a run has, and one of the node pool where the file has no extents there. `NoBlock` exactly where fewer are free, of the node pool or in
+/// the tier; `Memory` where the answer found no room. After a refusal the pools have the same free blocks.
 pub fn take_blocks(pools: &mut Pools, file: &MovableRun, to: Tier) -> Result<Taken, AllocatorError>
     ensures taken { IfOk result (λ taken. (g : Sizes) (s : Store) → HasRanges g pools.old → AreFree g s pools.old → IsTakenFor g s file.now to taken) }
     ensures fronts { IfOk result (WereTaken pools.old pools.new) }

@@ -25,8 +25,8 @@ images_of-requires c t =
     let below : LieBelow 256 m = placed_below f.run.first c.args.to (blocks_of (runs_of c.args.taken.now c.args.to)) f.map m placed 256 c.requires.few c.requires.below in
     few_lists c.args.inode m t (in_tier c.in_ok-lists.lists t) (c.in_ok-lists.ensures.lists t) (c.few_blocks_are_few_runs.ensures.few 256 (runs_in m t) (c.in_ok-lists.ensures.normal t) (λ k p at. below t k (ap is_some at)))
 
-pub returns : goal.returns
-returns c =
+pub returns-clause-made : goal.returns-clause-made
+returns-clause-made c =
     let f = c.args.file.now in
     let m = c.put_runs.new.map in
     let x = c.slot_for-slot.result in

@@ -35,9 +35,9 @@ returns-in-Ok-clause-plan c g s ready =
     let out = c.rewrite_of.ensures in
     record {
       file = c.args.file;
-      slot = c.in-Ok.ensures.0;
+      slot = c.in-Ok.ensures.made.0;
       map = c.changed.new.file.map;
-      is_plan = is_move_plan g s c.args.inode c.args.to c.args.file c.args.bytes.items c.args.lost c.args.taken ready c.in-Ok.ensures.0 c.changed.new.file.map c.in-Ok.new.slots.items c.in-Ok.new.nodes c.in-Ok.new.left.items c.rewrite_of.result c.in-Ok.ensures.1
+      is_plan = is_move_plan g s c.args.inode c.args.to c.args.file c.args.bytes.items c.args.lost c.args.taken ready c.in-Ok.ensures.made.0 c.changed.new.file.map c.in-Ok.new.slots.items c.in-Ok.new.nodes c.in-Ok.new.left.items c.rewrite_of.result c.in-Ok.ensures.made.1
           out.slots out.marks out.nodes out.taken out.bytes out.left out.lost;
       first_is = refl;
       count_is = refl;
@@ -45,6 +45,6 @@ returns-in-Ok-clause-plan c g s ready =
 
 pub returns-in-Ok-clause-few : goal.returns-in-Ok-clause-few
 returns-in-Ok-clause-few c =
-    let few = c.in-Ok.ensures.1.left_few in
+    let few = c.in-Ok.ensures.made.1.left_few in
     let left = ap length c.rewrite_of.ensures.left in
     omega (arith, few, left)

@@ -56,3 +56,6 @@ returns-clause-unmoved g c = c.find_and_move.ensures.ends.unmoved
 
 pub returns-clause-quiet : goal.returns-clause-quiet
 returns-clause-quiet g c = c.find_and_move.ensures.ends.quiet
+
+pub returns-clause-at_most : goal.returns-clause-at_most
+returns-clause-at_most g c = c.find_and_move.ensures.ends.at_most
