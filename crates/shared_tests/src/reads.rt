@@ -11,7 +11,7 @@ use std::test::Fail;
 use tier_device::{Media, Tier};
 
 // Over any medium: the area is then one value to the check of borrows.
-fn opened<M: Media + Drop>(alloc: Global, media: M) -> Result<Shared<M>, AreaError>
+pub fn opened<M: Media + Drop>(alloc: Global, media: M) -> Result<Shared<M>, AreaError>
     requires { (t : Tier) → AtRest (M.seen media) (M.left media (M.moment media)) t }
 {
     match Shared::reopen(alloc, media) {
@@ -31,7 +31,7 @@ fn tells_the_whole<M: Media>(area: &Shared<M>) -> bool {
         && area.free(Tier::Slow) == 1
 }
 
-fn tells_the_root<M: Media + Drop>(area: &mut Shared<M>) -> Result<bool, AreaError> {
+pub fn tells_the_root<M: Media + Drop>(area: &mut Shared<M>) -> Result<bool, AreaError> {
     let counts = NodeCounts::Directory {
         names: 1,
         entries: 1,

@@ -1,5 +1,5 @@
-// A small world: the root with one entry, which leads to a file.
-ghost use Rattle.std.specs.Prelude.{IfOk};
+// Small worlds: the root with one entry, which leads to a file.
+ghost use Rattle.std.specs.Prelude.{◌≤◌, length, IfOk};
 ghost use Rattle.tier_device.specs.Memory.{IsAtRest};
 
 use file_graph::Kind;
@@ -13,6 +13,9 @@ use tier_device::MemMedia;
 
 /// The size of the file: 5 bytes in its fourth block.
 pub const SIZE: u64 = 12_293;
+
+/// The file's size in a world where it has no hole: 5 bytes in its fifth block.
+pub const LONG_SIZE: u64 = 16_389;
 
 /// What the tiers hold. The fast one has 3,380 blocks before its data.
 #[derive(Drop)]
@@ -34,6 +37,14 @@ pub fn put(bytes: &mut [u8], block: usize, byte: usize, text: &[u8]) {
     }
 }
 
+const fn extent(logical: u32, length: u32, place: u32) -> Extent {
+    Extent {
+        logical,
+        length,
+        place,
+    }
+}
+
 impl World {
     /// The world: 8 units, of which 7 are taken.
     pub fn new(alloc: Global) -> Result<Self, AllocError> {
@@ -42,23 +53,42 @@ impl World {
             block: zeros(alloc, 514)?,
             slow: zeros(alloc, 2)?,
         };
-        world.put_head();
-        world.put_slots();
-        world.put_extents(alloc, 292, 1, 0, 293)?;
-        world.put_entry(alloc)?;
-        world.put_extents(alloc, 294, 2, 0, 3_381)?;
-        world.put_extents(alloc, 295, 2, 2, 7)?;
-        world.put_extents(alloc, 296, 2, 3, 1)?;
+        world.put_head(2);
+        world.put_root(alloc)?;
+        world.put_file(SIZE, 296);
+        world.put_extents(alloc, 294, 2, &[extent(0, 1, 3_381)])?;
+        world.put_extents(alloc, 295, 2, &[extent(2, 1, 7)])?;
+        world.put_extents(alloc, 296, 2, &[extent(3, 1, 1)])?;
         put(&mut world.fast, 3_381, 0, &[b'a'; BLOCK]);
         put(&mut world.block, 7, 0, &[b'c'; BLOCK]);
         put(&mut world.slow, 1, 0, b"ddddd");
         Ok(world)
     }
 
+    /// The other world: four slow blocks, all of them free; the file has blocks 0, 1 and 3 on the fast tier, 2 and 4 on the block tier, and takes all units that are left.
+    pub fn without_hole(alloc: Global) -> Result<Self, AllocError> {
+        let mut world = World {
+            fast: zeros(alloc, 3_384)?,
+            block: zeros(alloc, 514)?,
+            slow: zeros(alloc, 4)?,
+        };
+        world.put_head(4);
+        world.put_root(alloc)?;
+        world.put_file(LONG_SIZE, 0);
+        world.put_extents(alloc, 294, 2, &[extent(0, 2, 3_381), extent(3, 1, 3_380)])?;
+        world.put_extents(alloc, 295, 2, &[extent(2, 1, 7), extent(4, 1, 9)])?;
+        put(&mut world.fast, 3_381, 0, &[b'a'; BLOCK]);
+        put(&mut world.fast, 3_382, 0, &[b'b'; BLOCK]);
+        put(&mut world.block, 7, 0, &[b'c'; BLOCK]);
+        put(&mut world.fast, 3_380, 0, &[b'd'; BLOCK]);
+        put(&mut world.block, 9, 0, b"eeeee");
+        Ok(world)
+    }
+
     // The superblock, and the marks of clients none of whose records is digested.
-    fn put_head(&mut self) {
+    fn put_head(&mut self, slow: u32) {
         let mut block = [0u8; BLOCK];
-        if let Some(geometry) = Geometry::new(8, 4, 514, 2) {
+        if let Some(geometry) = Geometry::new(8, 4, 514, slow) {
             Super { geometry }.encode(&mut block);
         }
         put(&mut self.fast, 0, 0, &block);
@@ -74,7 +104,8 @@ impl World {
         put(&mut self.fast, MARKS_BLOCK as usize, 0, &block);
     }
 
-    fn put_slots(&mut self) {
+    // The root, whose entries stand in one block of the node pool.
+    fn put_root(&mut self, alloc: Global) -> Result<(), AllocError> {
         let mut slot = [0u8; SLOT_SIZE];
         let root = Slot::Directory {
             names: 1,
@@ -84,33 +115,35 @@ impl World {
         };
         root.encode(&mut slot);
         put(&mut self.fast, 1, 0, &slot);
+        self.put_extents(alloc, 292, 1, &[extent(0, 1, 293)])?;
+        self.put_entry(alloc)
+    }
+
+    fn put_file(&mut self, size: u64, slow: u32) {
+        let mut slot = [0u8; SLOT_SIZE];
         let file = Slot::File {
             names: 1,
-            size: SIZE,
+            size,
             touch: 4,
             fast: 294,
             block: 295,
-            slow: 296,
+            slow,
         };
         file.encode(&mut slot);
         put(&mut self.fast, 1, SLOT_SIZE, &slot);
     }
 
-    // An extent block with one extent of one block.
+    // An extent block with these extents.
     fn put_extents(
         &mut self,
         alloc: Global,
         number: usize,
         inode: u32,
-        logical: u32,
-        place: u32,
-    ) -> Result<(), AllocError> {
-        let extent = Extent {
-            logical,
-            length: 1,
-            place,
-        };
-        let list = vec![in alloc; extent; 1]?;
+        extents: &[Extent],
+    ) -> Result<(), AllocError>
+        requires { length extents.now ≤ 340 }
+    {
+        let list = extents.to_vec(alloc)?;
         let mut block = [0u8; BLOCK];
         ExtentBlock::new(inode, list).encode(&mut block);
         put(&mut self.fast, number, 0, &block);
