@@ -3,7 +3,6 @@
 //! `plan` asks the area for each node that a test of the records needs. It takes no lock and changes no device.
 #![tactic(auto)]
 
-mod asking;
 mod planning;
 
 pub use digest_plan::{Chunk, Plan};

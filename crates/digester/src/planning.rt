@@ -9,7 +9,6 @@ ghost use Rattle.area_image.specs.Looks.{Looks};
 ghost use Rattle.shared_area.specs.Parts.{IsNoDamage};
 ghost use Rattle.digest_plan.specs.Plan.{PlanTells};
 
-use crate::asking::Asked;
 use area_image::AreaError;
 use digest_plan::{Plan, PlanError, prepare};
 use log_record::Record;
@@ -40,8 +39,7 @@ pub fn plan<M: Media>(
     }
     let used = area.charge();
     let capacity = capacity_of(area);
-    let mut asked = Asked { area };
-    plan_over(alloc, &mut asked, used, capacity, held, records)
+    plan_over(alloc, area, used, capacity, held, records)
 }
 
 // How many units there are in all.
@@ -51,10 +49,10 @@ fn capacity_of<M: Media>(area: &Shared<M>) -> u64
     area.geometry().units() as u64
 }
 
-// The same over an area that is asked.
+// The same over an area of which no device has failed.
 fn plan_over<M: Media>(
     alloc: Global,
-    asked: &mut Asked<'_, M>,
+    area: &mut Shared<M>,
     used: u64,
     capacity: u64,
     held: &[u32],
@@ -62,15 +60,14 @@ fn plan_over<M: Media>(
 ) -> Result<Plan, AreaError>
     requires spelled { AllByRecursion IsRecord records.now }
     requires rising { IsNonDecreasing held.now }
-    requires going { asked.old.area.now.failed ≡ false }
-    requires used { charge (graph asked.old.area.now.geometry (store_of (M.seen asked.old.area.now.media))) ≡ used }
-    ensures same_area { asked.new.area.ghost_name ≡ asked.old.area.ghost_name }
-    ensures tells { IfOk result (λ plan. PlanTells held.now capacity (graph asked.old.area.now.geometry (store_of (M.seen asked.old.area.now.media))) records.now plan) }
+    requires going { area.old.failed ≡ false }
+    requires used { charge (graph area.old.geometry (store_of (M.seen area.old.media))) ≡ used }
+    ensures tells { IfOk result (λ plan. PlanTells held.now capacity (graph area.old.geometry (store_of (M.seen area.old.media))) records.now plan) }
     ensures only { IfErr result IsNoDamage }
     ensures some { IfErr result (λ e. 0 < length records.now) }
-    ensures looks { Looks M.moment M.seen M.left M.faults asked.old.area.now asked.new.area.now result }
+    ensures looks { Looks M.moment M.seen M.left M.faults area.old area.new result }
 {
-    match prepare(alloc, asked, used, capacity, held, records) {
+    match prepare(alloc, area, used, capacity, held, records) {
         Ok(plan) => Ok(plan),
         Err(PlanError::Memory) => Err(AreaError::Memory),
         Err(PlanError::Nodes(error)) => Err(error),

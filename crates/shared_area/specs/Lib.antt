@@ -5,3 +5,4 @@ pub mod Reading
 pub mod Naming
 pub mod Running
 pub mod Moving
+pub mod Asking

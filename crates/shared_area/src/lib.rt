@@ -3,6 +3,7 @@
 //! Contracts speak of the medium alone, through `store_of`, `graph` and `marks` of `area_image`.
 #![tactic(auto)]
 
+mod asking;
 mod finding;
 mod naming;
 mod node;

@@ -1,26 +1,26 @@
 use Rattle.std.proofs.Common.{◌≡◌, refl, Ok, Err}
 use Rattle.area_image.specs.Store.{store_of, graph}
 use Rattle.area_image.proofs.Looked.{carried, looks_err, looks_answer}
-use Rattle.digester.proofs.asking.AskedNodes.node.Goals as goal
+use Rattle.shared_area.proofs.asking.SharedNodes.node.Goals as goal
 
 pub returns-in-Ok-clause-stays : goal.returns-in-Ok-clause-stays
 returns-in-Ok-clause-stays g c =
     let m = g.M.Media in
-    let old = c.args.self.now.area.now in
+    let old = c.args.self.now in
     carried m.moment m.seen m.left m.faults (λ x s. graph x s ≡ graph old.geometry (store_of (m.seen old.media))) old c.node.new.self (Ok c.in-Ok.node) c.in-Ok.ensures.looks refl
 
 pub returns-in-Err-clause-stays : goal.returns-in-Err-clause-stays
 returns-in-Err-clause-stays g c =
     let m = g.M.Media in
-    let old = c.args.self.now.area.now in
+    let old = c.args.self.now in
     carried m.moment m.seen m.left m.faults (λ x s. graph x s ≡ graph old.geometry (store_of (m.seen old.media))) old c.node.new.self (Err c.in-Err.error) c.in-Err.ensures.looks refl
 
 pub returns-in-Ok-clause-answered : goal.returns-in-Ok-clause-answered
 returns-in-Ok-clause-answered g c =
     let m = g.M.Media in
-    (λ going. (looks_answer m.moment m.seen m.left m.faults c.args.self.now.area.now c.node.new.self c.in-Ok.node tt c.in-Ok.ensures.looks, tt), refl)
+    λ going. (looks_answer m.moment m.seen m.left m.faults c.args.self.now c.node.new.self c.in-Ok.node tt c.in-Ok.ensures.looks, tt)
 
 pub returns-in-Err-clause-refused : goal.returns-in-Err-clause-refused
 returns-in-Err-clause-refused g c =
     let m = g.M.Media in
-    (λ going. (looks_err m.moment m.seen m.left m.faults c.args.self.now.area.now c.node.new.self c.in-Err.error c.in-Err.ensures.looks, c.in-Err.ensures.only), refl)
+    λ going. (looks_err m.moment m.seen m.left m.faults c.args.self.now c.node.new.self c.in-Err.error c.in-Err.ensures.looks, c.in-Err.ensures.only)

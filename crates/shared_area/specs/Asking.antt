@@ -1,5 +1,5 @@
--- What comes of the questions that a plan asks the shared area.
-use Rattle.std.specs.Prelude.{◌≡◌, ℕ, false, List, Option, Some, None, Result, Ok, Err}
+-- What comes of questions that the shared area is asked.
+use Rattle.std.specs.Prelude.{◌≡◌, ℕ, false, List, Option, Some, None, Result, Err}
 use Rattle.tier_device.specs.declared.media.Tier.{Tier}
 use Rattle.batch_journal.specs.View.{JournalView}
 use Rattle.area_image.specs.declared.error.AreaError.{AreaError}
