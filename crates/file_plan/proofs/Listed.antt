@@ -35,7 +35,7 @@ listed_one fast i root old spare runs m t (Some v) same list is node image = inr
 )
 
 -- a tier's spare block is one of them
-inside : (slot : Slot) (x : InodeExtents) (t : Tier) (count : ℕ) → count ≡ roots_wanted slot x → lacking (root_of slot t) (in_tier x t) ≡ 1 → wanted_before slot x t < count
+pub inside : (slot : Slot) (x : InodeExtents) (t : Tier) (count : ℕ) → count ≡ roots_wanted slot x → lacking (root_of slot t) (in_tier x t) ≡ 1 → wanted_before slot x t < count
 inside slot x tiers.Fast count many lacks = omega (arith, many, lacks)
 inside slot x tiers.Block count many lacks = omega (arith, many, lacks)
 inside slot x tiers.Slow count many lacks = omega (arith, many, lacks)

@@ -1,0 +1,37 @@
+-- Blocks of runs, one after the other, and the ones of them that were taken last.
+use Rattle.std.proofs.Common.{◌<◌, ◌≡◌, ◌≤◌, ◌+◌, ◌-◌, ◌∙◌, ℕ, zero, suc, List, [], ◌∷◌, ◌++◌, ap, sym, arith}
+use Rattle.std.specs.List.{range_with_len}
+use Rattle.std.proofs.lemmas.List.{append_assoc}
+use Rattle.tier_device.specs.declared.media.Tier.{Tier}
+use Rattle.tier_device.specs.declared.media.Tier.TheVariants.{Fast, Block, Slow}
+use Rattle.block_alloc.specs.declared.runs.Run.{Run}
+use Rattle.block_alloc.specs.Runs.{IsNormal}
+use Rattle.free_pools.specs.declared.taking.Taken.{Taken}
+use Rattle.free_pools.specs.Taking.{runs_of, tier_places, taken_data}
+use Rattle.area_move.specs.Placed.{EndsFit}
+
+range_more : (a n : ℕ) → range_with_len a (n + 1) ≡ range_with_len a n ++ (a + n) ∷ []
+range_more a zero = let e : a ≡ a + 0 = omega arith in ap (λ (x : ℕ). x ∷ []) e
+range_more a (suc n) =
+    let more : suc n + 1 ≡ suc (n + 1) = omega arith in
+    let last : a + 1 + n ≡ a + suc n = omega arith in
+    ap (range_with_len a) more ∙ ap (λ (xs : List ℕ). a ∷ xs) (range_more (a + 1) n) ∙ ap (λ (x : ℕ). a ∷ (range_with_len (a + 1) n ++ x ∷ [])) last
+
+pub block_more : (first block : ℕ) (start out new : List ℕ) → first ≤ block → new ≡ out ++ block ∷ [] → out ≡ start ++ range_with_len first (block - first) → new ≡ start ++ range_with_len first (block + 1 - first)
+block_more first block start out new le is was =
+    let count : block + 1 - first ≡ (block - first) + 1 = omega (arith, le) in
+    let last : first + (block - first) ≡ block = omega (arith, le) in
+    let old = range_with_len first (block - first) in
+    let grown : range_with_len first (block + 1 - first) ≡ old ++ block ∷ [] = ap (range_with_len first) count ∙ range_more first (block - first) ∙ ap (λ (k : ℕ). old ++ k ∷ []) last in
+    is ∙ ap (λ (xs : List ℕ). xs ++ block ∷ []) was ∙ append_assoc start old (block ∷ []) ∙ ap (λ (xs : List ℕ). start ++ xs) (sym grown)
+
+-- ---- what was taken
+
+pub normal_ends : (low end : ℕ) (runs : List Run) → IsNormal low end runs → end < 4294967296 → EndsFit runs
+normal_ends low end [] is lt = tt
+normal_ends low end (r ∷ rs) is lt = (let high = is.2 in omega (arith, high, lt), normal_ends (r.first + r.count + 1) end rs is.3 lt)
+
+pub same_data : (old new : Taken) → ((t : Tier) → runs_of new t ≡ runs_of old t) → taken_data new ≡ taken_data old
+same_data old new same =
+    ap (λ (rs : List Run). tier_places rs new.block.items new.slow.items) (same Fast)
+    ∙ (ap (λ (rs : List Run). tier_places old.fast.items rs new.slow.items) (same Block) ∙ ap (λ (rs : List Run). tier_places old.fast.items old.block.items rs) (same Slow))
