@@ -6,3 +6,5 @@ pub mod Directory
 pub mod Gone
 pub mod File
 pub mod Started
+pub mod Next
+pub mod Wanted
