@@ -98,6 +98,11 @@ pub err_other : (r : Result (Unit {0}) RelocateError) (f : RelocateError) → If
 err_other (Ok u) f other is = ok_no_err u f is
 err_other (Err e) f other is = other (err_same e f is)
 
+pub told_memory : (e : AreaError) (r : RelocateError) → IsTold e r → IsErrOf {T = Unit {0}} {E = RelocateError} (Err r) errors.Memory → e ≡ area.Memory
+told_memory area.DeviceFault r is full = absurd (memory_fault (sym (err_same r errors.Memory full) ∙ is))
+told_memory (area.Damaged w b) r is full = absurd is
+told_memory area.Memory r is full = refl
+
 pub told_forced : (e : AreaError) (r : RelocateError) → IsTold e r → IsForced r
 told_forced area.DeviceFault r is = inl is
 told_forced (area.Damaged w b) r is = absurd is

@@ -141,7 +141,7 @@ fn move_bytes<M: Media>(
     }
 }
 
-/// Moves a run that may be moved: its bytes are read first.
+/// Moves a run that may be moved. The free blocks are counted first, so that no byte is read for a tier that has too few; then its bytes are read.
 pub fn move_run<M: Media>(
     alloc: Global,
     journal: &mut Journal<M>,
@@ -160,6 +160,10 @@ pub fn move_run<M: Media>(
     ensures mapped { IfErr result (λ e. e ≢ NotMapped) }
 {
     journal.left_now();
+    let free = pools.free(to);
+    if free < file.run.count {
+        return Err(RelocateError::NoBlock);
+    }
     match read_run(alloc, journal, inode, &file.map, file.run) {
         Ok(bytes) => move_bytes(alloc, journal, pools, inode, to, file, bytes),
         Err(error) => Err(told(error)),

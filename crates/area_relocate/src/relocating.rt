@@ -4,8 +4,9 @@ ghost use Rattle.tier_device.specs.Media.{Rose};
 ghost use Rattle.area_image.specs.Store.{store_of};
 ghost use Rattle.free_pools.specs.Value.{data_pool};
 ghost use Rattle.free_pools.specs.Taking.{SameFree};
+ghost use Rattle.area_move.specs.Found.{HasFileRun};
 ghost use Rattle.area_move.specs.Moving.{CanMove};
-ghost use Rattle.area_move.specs.declared.error.RelocateError.TheVariants.{DeviceFault, NotMapped, NoBlock};
+ghost use Rattle.area_move.specs.declared.error.RelocateError.TheVariants.{DeviceFault, NotMapped, NoBlock, Memory};
 ghost use Rattle.area_relocate.specs.Moving.{IsSettled, IsMovedStore, Moves, StaysStill, Ends};
 
 use crate::moving::move_run;
@@ -32,6 +33,7 @@ fn find_and_move<M: Media>(
     ensures can { OnOk result (CanMove journal.old.geometry (store_of (M.seen journal.old.media)) inode first count to × (count ≤ length (data_pool pools.old to).free)) }
     ensures not_mapped { IsErrOf result NotMapped → CanMove journal.old.geometry (store_of (M.seen journal.old.media)) inode first count to → ⊥ }
     ensures no_block { IsErrOf result NoBlock → CanMove journal.old.geometry (store_of (M.seen journal.old.media)) inode first count to × (length (data_pool pools.old to).free < count) }
+    ensures memory { IsErrOf result Memory → HasFileRun journal.old.geometry (store_of (M.seen journal.old.media)) inode first count }
 {
     journal.left_now();
     match find_run(alloc, journal, inode, first, count, to) {
@@ -43,11 +45,13 @@ fn find_and_move<M: Media>(
 
 /// Moves a run of logical blocks of a file, `count` of them from block `first` on, to a tier that is slower than those in which they lie: into the lowest blocks that are free
 /// there. The bytes go to their new places and are fenced first; then one batch writes what the file is; then the old places are free. So a stop at any moment leaves the run
-/// where it lay, or all of it moved, and in both cases the same files with the same bytes. The cost is one read for each block of the run, and a few calls besides.
+/// where it lay, or all of it moved, and in both cases the same files with the same bytes. The cost is one read for each block of the run, and a few calls besides; the free blocks
+/// are counted before the first of these reads.
 ///
 /// The refusals, in this order: `DeviceFault` where a device has failed before, and nothing is touched then; `NotMapped` where there is no file, the run has no block or more
-/// than 256, or some block of it lies in no faster tier; `NoBlock` where fewer than `count` blocks are free in the tier. After these two, and after `Memory` where there was
-/// none, the media and the free blocks are as before. `DeviceFault` also where a device fails in the call; the journal answers nothing else then until it is opened again.
+/// than 256, or some block of it lies in no faster tier; `NoBlock` where fewer than `count` blocks are free in the tier. After these two, and after `Memory`, which
+/// comes only where there is a file that the run lies within, the media and the free blocks are as before. `DeviceFault` also where a device fails in the call; the journal answers
+/// nothing else then until it is opened again.
 pub fn relocate<M: Media>(
     alloc: Global,
     journal: &mut Journal<M>,
@@ -68,6 +72,7 @@ pub fn relocate<M: Media>(
 
     ensures not_mapped { IsErrOf result NotMapped → CanMove journal.old.geometry (store_of (M.seen journal.old.media)) inode first count to → ⊥ }
     ensures no_block { IsErrOf result NoBlock → CanMove journal.old.geometry (store_of (M.seen journal.old.media)) inode first count to × (length (data_pool pools.old to).free < count) }
+    ensures memory { IsErrOf result Memory → HasFileRun journal.old.geometry (store_of (M.seen journal.old.media)) inode first count }
     ensures unmoved { IfErr result (λ e. e ≢ DeviceFault → StaysStill M.moment M.seen M.left M.faults journal.old journal.new) }
     ensures same { OnErr result (SameFree pools.old pools.new) }
     ensures fault { IsErrOf result DeviceFault → (journal.new.failed ≡ true) × ((journal.old.failed ≡ true) ⊎ Rose (M.faults journal.old.media) (M.faults journal.new.media)) }

@@ -1,4 +1,4 @@
-use Rattle.std.proofs.Common.{◌+◌, sym, subst, arith}
+use Rattle.std.proofs.Common.{◌<◌, ◌+◌, ℕ, refl, sym, subst, arith}
 use Rattle.std.specs.Prelude.{IsSome}
 use Rattle.area_image.specs.Store.{logical}
 use Rattle.area_image.proofs.Looked.{carried}
@@ -8,10 +8,31 @@ use Rattle.area_move.specs.Found.{IsMovableRun}
 use Rattle.area_move.specs.Lists.{HoldsRun}
 use Rattle.area_move.specs.declared.error.RelocateError.TheVariants.{NoBlock}
 use Rattle.area_move.proofs.Steps.{inside}
-use Rattle.area_relocate.proofs.Ending.{block_fault, block_memory, told_forced, forced_only, forced_mapped, no_damage, settled_still, ends_told, ends_on}
+use Rattle.area_relocate.proofs.Ending.{block_fault, block_memory, block_mapped, told_forced, forced_only, forced_mapped, no_damage, settled_still, still_self, ends_refused, ends_told, ends_on}
 use Rattle.area_relocate.proofs.Pooled.{same_self}
 use Rattle.std.specs.Prelude.{Err}
 use Rattle.area_relocate.proofs.moving.move_run.Goals as goal
+
+-- ---- where too few blocks are free
+
+pub returns-then-free-file-clause-ends : goal.returns-then-free-file-clause-ends
+returns-then-free-file-clause-ends g c =
+    let m = g.M.Media in
+    let old = c.args.journal.now in
+    let f = c.args.file in
+    let rests : Rests m.moment m.seen m.left old.geometry old.media = record { sizes = c.left_now.ensures.sizes c.requires.going; journal = c.left_now.ensures.journal c.requires.going; rest = c.requires.settled.rests } in
+    ends_refused m.moment m.seen m.left m.faults g.met.M.Media.sized c.args.inode f.run.first f.run.count c.args.to old old c.args.pools.now NoBlock block_fault rests (still_self m.moment m.seen m.left m.faults g.met.M.Media.sized old) refl c.requires.going refl c.requires.settled
+
+pub returns-then-free-file-clause-same : goal.returns-then-free-file-clause-same
+returns-then-free-file-clause-same g c = same_self c.args.pools.now
+
+pub returns-then-free-file-clause-few : goal.returns-then-free-file-clause-few
+returns-then-free-file-clause-few g c is = subst (λ (n : ℕ). n < c.args.file.run.count) c.free-free.ensures.count c.if-free-file.true
+
+pub returns-then-free-file-clause-mapped : goal.returns-then-free-file-clause-mapped
+returns-then-free-file-clause-mapped g c = block_mapped
+
+-- ---- else
 
 pub read_run-requires-clause-few : goal.read_run-requires-clause-few
 read_run-requires-clause-few g c =

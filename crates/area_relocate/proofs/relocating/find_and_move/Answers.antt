@@ -5,9 +5,9 @@ use Rattle.area_image.proofs.Looked.{carried}
 use Rattle.free_pools.specs.Value.{data_pool}
 use Rattle.area_commit.proofs.Course.{Rests}
 use Rattle.area_move.specs.Found.{IsMovableRun}
-use Rattle.area_move.specs.declared.error.RelocateError.TheVariants.{NotMapped, NoBlock}
+use Rattle.area_move.specs.declared.error.RelocateError.TheVariants.{NotMapped, NoBlock, Memory}
 use Rattle.area_relocate.specs.Moving.{Ends}
-use Rattle.area_relocate.proofs.Ending.{mapped_fault, mapped_memory, mapped_block, block_fault, block_memory, err_same, ok_with, err_other, told_forced, forced_only, settled_still, ends_refused, ends_told, ends_on}
+use Rattle.area_relocate.proofs.Ending.{mapped_fault, mapped_memory, mapped_block, block_fault, block_memory, err_same, ok_with, err_other, told_memory, told_forced, forced_only, settled_still, ends_refused, ends_told, ends_on}
 use Rattle.area_relocate.proofs.Pooled.{same_self, own_run, found_run}
 use Rattle.area_relocate.proofs.relocating.find_and_move.Goals as goal
 
@@ -60,6 +60,13 @@ returns-in-Ok-Some-clause-no_block g c none =
     let is = found_run old.geometry (store_of (g.M.Media.seen old.media)) c.args.inode c.args.first c.args.count c.args.to c.in-Ok-Some.field-0 c.in-Ok-Some.file c.in-Ok-Some.field-0-is c.in-Ok-Some.ensures.found in
     (is.can, subst (λ (n : ℕ). free < n) is.count_is (c.move_run.ensures.few none))
 
+pub returns-in-Ok-Some-clause-memory : goal.returns-in-Ok-Some-clause-memory
+returns-in-Ok-Some-clause-memory g c full =
+    let old = c.args.journal.now in
+    let f = c.in-Ok-Some.file in
+    let is = found_run old.geometry (store_of (g.M.Media.seen old.media)) c.args.inode c.args.first c.args.count c.args.to c.in-Ok-Some.field-0 f c.in-Ok-Some.field-0-is c.in-Ok-Some.ensures.found in
+    record { file = f.slot; slot_is = is.slot_is; within = is.within_file }
+
 pub returns-in-Ok-None-clause-ends : goal.returns-in-Ok-None-clause-ends
 returns-in-Ok-None-clause-ends g c =
     let m = g.M.Media in
@@ -77,6 +84,9 @@ returns-in-Ok-None-clause-not_mapped g c is = c.in-Ok-None.ensures.none c.in-Ok-
 pub returns-in-Ok-None-clause-no_block : goal.returns-in-Ok-None-clause-no_block
 returns-in-Ok-None-clause-no_block g c is = absurd (mapped_block (err_same NotMapped NoBlock is))
 
+pub returns-in-Ok-None-clause-memory : goal.returns-in-Ok-None-clause-memory
+returns-in-Ok-None-clause-memory g c is = absurd (mapped_memory (err_same NotMapped Memory is))
+
 pub returns-in-Err-clause-ends : goal.returns-in-Err-clause-ends
 returns-in-Err-clause-ends g c =
     let m = g.M.Media in
@@ -92,3 +102,6 @@ returns-in-Err-clause-not_mapped g c is = absurd (forced_only (Err c.told.result
 
 pub returns-in-Err-clause-no_block : goal.returns-in-Err-clause-no_block
 returns-in-Err-clause-no_block g c is = absurd (forced_only (Err c.told.result) NoBlock (told_forced c.in-Err.error c.told.result c.told.ensures) block_fault block_memory is)
+
+pub returns-in-Err-clause-memory : goal.returns-in-Err-clause-memory
+returns-in-Err-clause-memory g c is = c.in-Err.ensures.memory (told_memory c.in-Err.error c.told.result c.told.ensures is)

@@ -1,7 +1,7 @@
 use Rattle.std.proofs.Common.{◌∙◌, inl, inr, refl, sym}
 use Rattle.std.proofs.lemmas.Bool.{true≢false}
-use Rattle.area_move.specs.declared.error.RelocateError.TheVariants.{DeviceFault, NotMapped, NoBlock}
-use Rattle.area_relocate.proofs.Ending.{mapped_fault, block_fault, err_same}
+use Rattle.area_move.specs.declared.error.RelocateError.TheVariants.{DeviceFault, NotMapped, NoBlock, Memory}
+use Rattle.area_relocate.proofs.Ending.{memory_fault, mapped_fault, block_fault, err_same}
 use Rattle.area_relocate.proofs.Pooled.{same_self}
 use Rattle.area_relocate.proofs.relocating.relocate.Goals as goal
 
@@ -15,6 +15,9 @@ returns-then-has_failed-clause-not_mapped g c is = absurd (mapped_fault (sym (er
 
 pub returns-then-has_failed-clause-no_block : goal.returns-then-has_failed-clause-no_block
 returns-then-has_failed-clause-no_block g c is = absurd (block_fault (sym (err_same DeviceFault NoBlock is)))
+
+pub returns-then-has_failed-clause-memory : goal.returns-then-has_failed-clause-memory
+returns-then-has_failed-clause-memory g c is = absurd (memory_fault (sym (err_same DeviceFault Memory is)))
 
 pub returns-then-has_failed-clause-unmoved : goal.returns-then-has_failed-clause-unmoved
 returns-then-has_failed-clause-unmoved g c other = absurd (other refl)
