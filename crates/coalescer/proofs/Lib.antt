@@ -2,6 +2,7 @@ mod Counted
 mod Counts
 mod Exchanges
 pub mod Folds
+pub mod Images
 mod Runs
 pub mod Single
-mod Within
+pub mod Within

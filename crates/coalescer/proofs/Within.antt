@@ -211,7 +211,7 @@ any_subject : (es : List Effect) (q : ℕ) → changes_inode es q ≡ is_member 
 any_subject [] q = refl
 any_subject (e ∷ es) q = ap (λ t. (q == subject e) || t) (any_subject es q)
 
-less_is_apart : (r : Ordering) → is_lt r ≡ true → is_eq r ≡ false
+pub less_is_apart : (r : Ordering) → is_lt r ≡ true → is_eq r ≡ false
 less_is_apart Less h = refl
 less_is_apart Equal h = absurd (false≢true h)
 less_is_apart Greater h = absurd (false≢true h)
@@ -228,7 +228,7 @@ keys_apart (e ∷ es) h =
     let both = and_true (below_all nat_cmp e.0 es) (is_sorted nat_cmp es) h in
     IsDistinct-cons nat_eq e.0 (map (λ x. x.0) es) (below_apart e.0 es both.0) (keys_apart es both.1)
 
-holds : (b : Bool) → T b → b ≡ true
+pub holds : (b : Bool) → T b → b ≡ true
 holds true h = refl
 holds false h = absurd h
 

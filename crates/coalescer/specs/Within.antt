@@ -1,6 +1,6 @@
 -- What a change changes, as lists of entries and of blocks.
-use Rattle.std.specs.Prelude.{◌≡◌, ℕ, ◌==◌, List, [], ◌∷◌, Bool, true, ◌&&◌}
-use Rattle.std.specs.List.{IsDistinct, AllByRecursion}
+use Rattle.std.specs.Prelude.{◌≡◌, ℕ, ◌+◌, ◌*◌, ◌==◌, List, [], ◌∷◌, Bool, true, ◌&&◌}
+use Rattle.std.specs.List.{IsDistinct, AllByRecursion, sum_by}
 use Rattle.std.specs.Ordering.{nat_cmp, eq_by_cmp}
 use Rattle.std.specs.Cmp.Lexicographic.{slice_cmp}
 use Rattle.std.specs.FinMap as fin
@@ -30,3 +30,7 @@ AreEntriesIn cs ns = IsDistinct same_entry ns × AllByRecursion (λ n. fin.conta
 -- some blocks of files, no two of them one, each of which is written for a change
 abbrev pub AreBlocksIn : Changes → List (ℕ × ℕ) → Type 0
 AreBlocksIn cs bs = IsDistinct same_block bs × AllByRecursion (λ b. writes_block (change_at cs b.0) b.1 ≡ true) bs
+
+-- how many images a batch takes for the nodes of a change at most: four for each inode, and two for each entry that changes
+abbrev pub images_of : Changes → ℕ
+images_of cs = sum_by (λ e. 4 + 2 * fin.len e.1.entries) (fin.entries cs)

@@ -1,6 +1,6 @@
 //! What holds of every list of effects.
 
-ghost use Rattle.std.specs.Prelude.{◌≡◌, ◌≤◌, ℕ, List, length, take, true, false, nat_eq, map, count_by};
+ghost use Rattle.std.specs.Prelude.{◌≡◌, ◌≤◌, ◌+◌, ℕ, List, length, take, true, false, nat_eq, map, count_by};
 ghost use Rattle.std.specs.List.{AllByRecursion};
 ghost use Rattle.std.specs.Set.{distinct_count};
 ghost use Rattle.std.specs.FinMap as fin;
@@ -12,7 +12,7 @@ ghost use Rattle.log_record.specs.Grammar.{IsRecord};
 ghost use Rattle.coalescer.specs.declared.weight.TheConstants.{CHUNK_IMAGES, CHUNK_BLOCKS};
 ghost use Rattle.coalescer.specs.Records.{effects_of};
 ghost use Rattle.coalescer.specs.Weight.{is_entry, images, blocks, fits, IsLongestRun};
-ghost use Rattle.coalescer.specs.Within.{AreEntriesIn, AreBlocksIn};
+ghost use Rattle.coalescer.specs.Within.{AreEntriesIn, AreBlocksIn, images_of};
 ghost use Rattle.coalescer.specs.Exchange.{EntryPlace, exchanged, each, front, rest};
 
 /// An exchange of two entries depends on the graph, and changes two directories, so no change of single inodes has it. It has its place
@@ -24,11 +24,12 @@ pub fn exchange_has_its_place()
 {}
 
 /// A change takes no more than its effects weigh: it has as many inodes as they are on, changes no more entries than they change, and
-/// writes no more blocks than they write.
+/// writes no more blocks than they write; with the image of the mark, it takes no more images of a batch than they do.
 pub fn change_is_within_its_weight()
     ensures inodes { (es : List Effect) → fin.len (coalesced es) ≡ distinct_count nat_eq (map subject es) }
     ensures entries { (es : List Effect) (ns : List (ℕ × List ℕ)) → AreEntriesIn (coalesced es) ns → length ns ≤ count_by is_entry es }
     ensures blocks { (es : List Effect) (bs : List (ℕ × ℕ)) → AreBlocksIn (coalesced es) bs → length bs ≤ blocks es }
+    ensures images { (es : List Effect) → images_of (coalesced es) + 1 ≤ images es }
 {}
 
 /// How much is taken at once.
