@@ -1,3 +1,4 @@
+pub mod Applied
 mod Asks
 pub mod Covered
 pub mod Known

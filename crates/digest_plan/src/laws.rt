@@ -1,13 +1,19 @@
 //! What holds of every plan.
 
-ghost use Rattle.std.specs.Prelude.{◌≡◌, ◌<◌, ◌≤◌, ◌+◌, ℕ, List, length, take, get_or};
+ghost use Rattle.std.specs.Prelude.{◌≡◌, ◌<◌, ◌≤◌, ◌+◌, ℕ, List, true, false, length, take, get_or};
+ghost use Rattle.std.specs.FinMap as fin;
 ghost use Rattle.file_graph.specs.Graph.{Graph, after_effects, touches};
 ghost use Rattle.file_graph.specs.Units.{charge};
+ghost use Rattle.graph_change.specs.Bounds.{AreBounded};
+ghost use Rattle.graph_change.specs.Change.{changed, coalesced};
 ghost use Rattle.log_record.specs.declared.format.Record.{Record};
+ghost use Rattle.call_effects.specs.NodeView.{view_at};
 ghost use Rattle.layout.specs.declared.places.TheConstants.{MAX_IMAGES, SPARE_BLOCKS};
 ghost use Rattle.coalescer.specs.declared.weight.TheConstants.{CHUNK_IMAGES, CHUNK_BLOCKS};
 ghost use Rattle.coalescer.specs.Records.{effects_of};
-ghost use Rattle.record_check.specs.Good.{IsGood};
+ghost use Rattle.coalescer.specs.Weight.{fits};
+ghost use Rattle.coalescer.specs.Within.{AreBlocksIn, images_of};
+ghost use Rattle.record_check.specs.Good.{IsGood, KeepsLimits};
 ghost use Rattle.digest_plan.specs.Covered.{AreCovered, AreSameAt, units_of};
 ghost use Rattle.digest_plan.specs.Plan.{AreGood, IsFirstBad, PlanTells};
 ghost use Rattle.digest_plan.specs.declared.planning.Plan.TheVariants as plan;
@@ -34,4 +40,16 @@ pub fn covered_records_are_never_bad()
     ensures local { (held : List ℕ) (g h : Graph) (rs : List Record) → AreCovered held g rs → AreSameAt (touches (effects_of rs)) g h → AreCovered held h rs }
     ensures good { (held : List ℕ) (capacity : ℕ) (g : Graph) (rs : List Record) → AreCovered held g rs → charge g + units_of rs ≤ capacity → AreGood held capacity g rs }
     ensures never { (held : List ℕ) (capacity : ℕ) (g h : Graph) (rs : List Record) (place : ℕ) → AreCovered held g rs → AreSameAt (touches (effects_of rs)) g h → charge h + units_of rs ≤ capacity → PlanTells held capacity h rs (plan.Bad place) → ⊥ }
+{}
+
+/// What good records of one chunk come to is a change that the shared media take in one batch: it keeps to the limits of the format, with the
+/// image of the marks it has no more images than a batch, and it writes no more blocks than are spare. Over the graph before them, each node
+/// that it changes keeps the limits, all others stay, and the graph after it costs no more than there is.
+pub fn a_chunk_can_be_applied()
+    ensures bounded { (held : List ℕ) (capacity : ℕ) (g : Graph) (rs : List Record) → AreGood held capacity g rs → AreBounded (coalesced (effects_of rs)) }
+    ensures images { (rs : List Record) → fits (effects_of rs) ≡ true → images_of (coalesced (effects_of rs)) ≤ 255 }
+    ensures blocks { (rs : List Record) (bs : List (ℕ × ℕ)) → fits (effects_of rs) ≡ true → AreBlocksIn (coalesced (effects_of rs)) bs → length bs ≤ SPARE_BLOCKS }
+    ensures limits { (held : List ℕ) (capacity : ℕ) (g : Graph) (rs : List Record) (i : ℕ) → AreGood held capacity g rs → fin.contains_key (coalesced (effects_of rs)) i ≡ true → KeepsLimits (view_at (changed (coalesced (effects_of rs)) g) i) }
+    ensures others { (g : Graph) (rs : List Record) (i : ℕ) → fin.contains_key (coalesced (effects_of rs)) i ≡ false → changed (coalesced (effects_of rs)) g i ≡ g i }
+    ensures charge { (held : List ℕ) (capacity : ℕ) (g : Graph) (rs : List Record) → 0 < length rs → AreGood held capacity g rs → charge (changed (coalesced (effects_of rs)) g) ≤ capacity }
 {}

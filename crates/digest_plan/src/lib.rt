@@ -17,7 +17,8 @@ mod testing;
 
 pub use error::PlanError;
 pub use laws::{
-    a_chunk_is_a_batch, a_first_bad_record_is_the_only_one, covered_records_are_never_bad,
+    a_chunk_can_be_applied, a_chunk_is_a_batch, a_first_bad_record_is_the_only_one,
+    covered_records_are_never_bad,
 };
 pub use planning::{Chunk, Plan, prepare};
 pub use testing::{Found, test_records};

@@ -1,0 +1,13 @@
+use Rattle.coalescer.specs.Records.{effects_of}
+use Rattle.digest_plan.proofs.Applied as applied
+use Rattle.digest_plan.proofs.laws.a_chunk_can_be_applied.Goals as goal
+
+pub returns : goal.returns
+returns c = record {
+  bounded = applied.good_bounded;
+  images = λ rs. applied.fit_images (effects_of rs);
+  blocks = λ rs. applied.fit_blocks (effects_of rs);
+  limits = applied.good_limits;
+  others = λ g rs. applied.others_stay g (effects_of rs);
+  charge = applied.good_charge;
+}
