@@ -55,9 +55,10 @@ pub fn take_spares(
     requires before { (before : PoolsView) × AreInOrder before × WereTaken before pools.old taken.old × (before.nodes.end < 2 ^ 32) }
     requires undo { CanUndo pools.old taken.old }
     requires enough { count ≤ length pools.old.nodes.free }
-    requires few { count ≤ 3 }
+    requires few { count < 2 ^ 32 }
     ensures spares { IfOk result (λ v. v.items ≡ take count pools.old.nodes.free) }
     ensures nodes { OnOk result (blocks_of taken.new.nodes.items ≡ blocks_of taken.old.nodes.items ++ take count pools.old.nodes.free) }
+    ensures left { OnOk result (pools.new.nodes.free ≡ drop count pools.old.nodes.free) }
     ensures took { TakesMoreNodes pools.old taken.old pools.new taken.new }
 {
     match pools.take_nodes(count as u32, taken) {
