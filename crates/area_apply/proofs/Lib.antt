@@ -9,6 +9,9 @@ mod NoDamage
 mod Giving
 mod PlannedPart
 mod SpareNodes
+mod FewEntries
+mod FewBlocks
+mod NextFits
 pub mod Blocked
 pub mod FileUses
 pub mod FileLost

@@ -3,6 +3,7 @@ pub mod Parts
 pub mod Adding
 pub mod First
 pub mod Directory
+pub mod Changed
 pub mod Gone
 pub mod File
 pub mod Started

@@ -5,6 +5,7 @@
 #![tactic(auto)]
 
 mod directories;
+mod directory_part;
 mod files;
 mod first;
 mod gone;
@@ -17,6 +18,7 @@ mod spares;
 mod starting;
 
 pub use directories::{plan_over_spares, start_directory};
+pub use directory_part::plan_directory_part;
 pub use files::{next_nodes_were_free, placed_file_is_planned, planned_file_is_a_part};
 pub use first::{added_part_stands_with_the_first, whole_change_can_be_carried_out, whole_plan};
 pub use gone::{give_all, plan_gone_part};
