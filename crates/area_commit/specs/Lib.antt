@@ -1,3 +1,4 @@
 pub mod Plan
 pub mod Done
 pub mod Room
+pub mod Settled

@@ -1,25 +1,18 @@
 -- What a move leaves.
 use Rattle.std.specs.Prelude.{◌≡◌, ◌≢◌, ◌≤◌, ◌⊎◌, ◌+◌, ℕ, List, true, false, Result, OnOk, IfErr, IsErrOf}
 use Rattle.tier_device.specs.declared.media.Tier.{Tier}
-use Rattle.tier_device.specs.Media.{Left, AtRest, Rose}
+use Rattle.tier_device.specs.Media.{Left, Rose}
 use Rattle.layout.specs.Places.{Sizes}
-use Rattle.batch_journal.specs.Course.{Unmoved}
 use Rattle.batch_journal.specs.View.{JournalView}
 use Rattle.batch_journal.specs.Volume.{IsVolume}
 use Rattle.area_image.specs.Store.{Store, store_of, graph, marks}
 use Rattle.area_image.specs.Reads.{Loose}
 use Rattle.area_image.specs.Spelled.{IsOpenable}
-use Rattle.free_pools.specs.Value.{PoolsView, HasRanges, AreFree}
+use Rattle.free_pools.specs.Value.{PoolsView}
 use Rattle.area_move.specs.Moving.{IsMoved}
 use Rattle.area_move.specs.declared.error.RelocateError.{RelocateError}
 use Rattle.area_move.specs.declared.error.RelocateError.TheVariants.{DeviceFault}
-
--- The media spell a graph, and nothing is pending on them; the pools have the free blocks.
-pub record IsSettled (g : Sizes) (seen : Tier → List ℕ) (may_leave : Tier → List ℕ → Type 0) (pools : PoolsView) : Type 0 where
-  pub opens : IsOpenable g (store_of seen)
-  pub rests : (t : Tier) → AtRest seen may_leave t
-  pub ranges : HasRanges g pools
-  pub free : AreFree g (store_of seen) pools
+pub use Rattle.area_commit.specs.Settled.{IsSettled, StaysStill}
 
 -- A store in which the run is moved: it can be opened, and spells the same graph and marks.
 pub record IsMovedStore (g : Sizes) (s : Store) (i first count : ℕ) (to : Tier) (new : Store) : Type 0 where
@@ -39,12 +32,6 @@ pub record Moves (g : Sizes) (s : Store) (i first count : ℕ) (to : Tier) (befo
   pub past : (m : ℕ) (t : Tier) (c : List ℕ) → m ≤ before → new m t c → old m t c
   pub kept : (m : ℕ) (t : Tier) (c : List ℕ) → m ≤ before → old m t c → new m t c
   pub any_moment : (m : ℕ) (content : Tier → List ℕ) → before ≤ m → m ≤ now → Left new m content → IsMovedOrNot g s i first count to content
-
--- Nothing has moved, and no device has failed.
-pub record StaysStill {M : Type 0} (moment : M → ℕ) (seen : M → Tier → List ℕ) (left : M → ℕ → Tier → List ℕ → Type 0) (faults : M → ℕ) (old new : JournalView M) : Type 0 where
-  pub still : Unmoved (moment old.media) (moment new.media) (seen old.media) (seen new.media) (left old.media) (left new.media)
-  pub going : new.failed ≡ false
-  pub quiet : faults new.media ≡ faults old.media
 
 -- How a move ends: at each moment a stop leaves the run where it lay, or moved; after Ok it is moved; after a refusal beside a device fault nothing has moved; and all is settled
 -- where no device has failed.

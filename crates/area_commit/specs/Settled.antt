@@ -1,0 +1,23 @@
+-- What stands between two changes of the media, and after one that is not made.
+use Rattle.std.specs.Prelude.{◌≡◌, ℕ, List, false}
+use Rattle.tier_device.specs.declared.media.Tier.{Tier}
+use Rattle.tier_device.specs.Media.{AtRest}
+use Rattle.layout.specs.Places.{Sizes}
+use Rattle.batch_journal.specs.Course.{Unmoved}
+use Rattle.batch_journal.specs.View.{JournalView}
+use Rattle.area_image.specs.Store.{store_of}
+use Rattle.area_image.specs.Spelled.{IsOpenable}
+use Rattle.free_pools.specs.Value.{PoolsView, HasRanges, AreFree}
+
+-- The media spell a graph, and nothing is pending on them; the pools have the free blocks.
+pub record IsSettled (g : Sizes) (seen : Tier → List ℕ) (may_leave : Tier → List ℕ → Type 0) (pools : PoolsView) : Type 0 where
+  pub opens : IsOpenable g (store_of seen)
+  pub rests : (t : Tier) → AtRest seen may_leave t
+  pub ranges : HasRanges g pools
+  pub free : AreFree g (store_of seen) pools
+
+-- Nothing has moved, and no device has failed.
+pub record StaysStill {M : Type 0} (moment : M → ℕ) (seen : M → Tier → List ℕ) (left : M → ℕ → Tier → List ℕ → Type 0) (faults : M → ℕ) (old new : JournalView M) : Type 0 where
+  pub still : Unmoved (moment old.media) (moment new.media) (seen old.media) (seen new.media) (left old.media) (left new.media)
+  pub going : new.failed ≡ false
+  pub quiet : faults new.media ≡ faults old.media
