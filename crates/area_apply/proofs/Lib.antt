@@ -20,3 +20,7 @@ pub mod FileWhole
 pub mod StartsFile
 pub mod Sparing
 pub mod NextNodes
+pub mod Ending
+pub mod Pooled
+pub mod MadeStore
+pub mod Charged

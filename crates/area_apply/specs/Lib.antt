@@ -9,3 +9,6 @@ pub mod File
 pub mod Started
 pub mod Next
 pub mod Wanted
+pub mod Errors
+pub mod Applying
+pub mod Costs

@@ -4,8 +4,11 @@
 //! carries out; and then the store spells the graph after the change.
 #![tactic(auto)]
 
+mod applied;
+mod costing;
 mod directories;
 mod directory_part;
+mod error;
 mod files;
 mod first;
 mod gone;
@@ -16,9 +19,13 @@ mod partial;
 mod placing;
 mod spares;
 mod starting;
+mod writing;
 
+pub use applied::carried_out_change_is_made;
+pub use costing::{charge_follows_the_change, units_of_change};
 pub use directories::{plan_over_spares, start_directory};
 pub use directory_part::plan_directory_part;
+pub use error::ApplyError;
 pub use files::{next_nodes_were_free, placed_file_is_planned, planned_file_is_a_part};
 pub use first::{added_part_stands_with_the_first, whole_change_can_be_carried_out, whole_plan};
 pub use gone::{give_all, plan_gone_part};
@@ -29,3 +36,4 @@ pub use partial::PartialPlan;
 pub use placing::{PlacedFile, RootedFile, place_file, root_file};
 pub use spares::{last_blocks, take_spares};
 pub use starting::{StartedFile, made_file, read_file};
+pub use writing::reserve_and_write;

@@ -1,0 +1,67 @@
+-- What a change of the graph leaves of the media.
+use Rattle.std.specs.Prelude.{◌≡◌, ◌≢◌, ◌≤◌, ◌⊎◌, ◌+◌, ℕ, List, Some, true, false, Result, OnOk, IfErr, IsErrOf}
+use Rattle.std.specs.FinMap as fin
+use Rattle.tier_device.specs.declared.media.Tier.{Tier}
+use Rattle.tier_device.specs.Media.{Left, Rose}
+use Rattle.file_graph.specs.Units.{charge}
+use Rattle.graph_change.specs.Bounds.{AreBounded}
+use Rattle.graph_change.specs.Change.{Changes, changed}
+use Rattle.graph_change.specs.Tidy.{AreTidyChanges}
+use Rattle.layout.specs.declared.marks.Marks.{Marks}
+use Rattle.layout.specs.Marks.{fits_marks}
+use Rattle.layout.specs.Places.{Sizes}
+use Rattle.batch_journal.specs.View.{JournalView}
+use Rattle.batch_journal.specs.Volume.{IsVolume}
+use Rattle.area_image.specs.Store.{Store, store_of, slot, graph, marks}
+use Rattle.area_image.specs.Reads.{Loose}
+use Rattle.area_image.specs.Spelled.{IsOpenable}
+use Rattle.free_pools.specs.Value.{PoolsView}
+use Rattle.area_commit.specs.Settled.{IsSettled, StaysStill}
+use Rattle.area_apply.specs.Next.{HasFewEntries}
+use Rattle.area_apply.specs.Part.{IsTouchedBy}
+use Rattle.area_apply.specs.Wanted.{images_for}
+use Rattle.area_apply.specs.declared.error.ApplyError.{ApplyError}
+use Rattle.area_apply.specs.declared.error.ApplyError.TheVariants.{DeviceFault}
+
+-- The change keeps to the limits, and so does the graph after it, which keeps the units; one batch is enough for it; and the marks can be written.
+pub record CanApply (g : Sizes) (s : Store) (cs : Changes) (v : Marks) : Type 0 where
+  pub bounded : AreBounded cs
+  pub tidy : AreTidyChanges cs
+  pub entries : (i : ℕ) → fin.contains_key cs i ≡ true → HasFewEntries (changed cs (graph g s) i)
+  pub images : images_for cs ≤ 255
+  pub units : charge (changed cs (graph g s)) ≤ g.units
+  pub fits : fits_marks v ≡ true
+
+-- A store in which the change is made: it can be opened, and spells the graph after the change, and these marks; each slot that was written tells the digest that wrote it, and each
+-- other slot is as it was.
+pub record IsAppliedStore (g : Sizes) (s : Store) (cs : Changes) (v : Marks) (new : Store) : Type 0 where
+  pub opens : IsOpenable g new
+  pub graph_after : graph g new ≡ changed cs (graph g s)
+  pub new_marks : marks new ≡ Some v
+  pub touched : (i : ℕ) → fin.contains_key cs i ≡ true → IsTouchedBy v.digests (slot g new i)
+  pub others : (i : ℕ) → fin.contains_key cs i ≡ false → slot g new i ≡ slot g s i
+
+-- Contents from which a journal opens: a store that is as that one but for free blocks, or one in which the change is made.
+pub record IsAppliedOrNot (g : Sizes) (s : Store) (cs : Changes) (v : Marks) (content : Tier → List ℕ) : Type 0 where
+  pub volume : IsVolume g content
+  pub store : Loose g s (store_of content) ⊎ IsAppliedStore g s cs v (store_of content)
+
+-- The past stays. At each moment from the old one to the new one a stop leaves such contents.
+pub record Applies (g : Sizes) (s : Store) (cs : Changes) (v : Marks) (before now : ℕ) (old new : ℕ → Tier → List ℕ → Type 0) : Type 0 where
+  pub later : before ≤ now
+  pub past : (m : ℕ) (t : Tier) (c : List ℕ) → m ≤ before → new m t c → old m t c
+  pub kept : (m : ℕ) (t : Tier) (c : List ℕ) → m ≤ before → old m t c → new m t c
+  pub any_moment : (m : ℕ) (content : Tier → List ℕ) → before ≤ m → m ≤ now → Left new m content → IsAppliedOrNot g s cs v content
+
+-- How a change ends: at each moment a stop leaves the store from before, or all of the change; after Ok it is made; after a refusal beside a device fault nothing has moved; and all is
+-- settled where no device has failed.
+pub record Ends {M : Type 0} (moment : M → ℕ) (seen : M → Tier → List ℕ) (left : M → ℕ → Tier → List ℕ → Type 0) (faults : M → ℕ) (cs : Changes) (v : Marks) (old new : JournalView M) (pools : PoolsView) (result : Result (Unit {0}) ApplyError) : Type 0 where
+  pub any_moment : Applies old.geometry (store_of (seen old.media)) cs v (moment old.media) (moment new.media) (left old.media) (left new.media)
+  pub applied : OnOk result (IsAppliedStore old.geometry (store_of (seen old.media)) cs v (store_of (seen new.media)))
+  pub settled : new.failed ≡ false → IsSettled new.geometry (seen new.media) (left new.media (moment new.media)) pools
+  pub unmoved : IfErr result (λ e. e ≢ DeviceFault → StaysStill moment seen left faults old new)
+  pub fault : IsErrOf result DeviceFault → (new.failed ≡ true) × Rose (faults old.media) (faults new.media)
+  pub quiet : OnOk result ((new.failed ≡ false) × (faults new.media ≡ faults old.media))
+  pub geometry : new.geometry ≡ old.geometry
+  pub more_faults : faults old.media ≤ faults new.media
+  pub one_fault : faults new.media ≤ faults old.media + 1

@@ -1,0 +1,25 @@
+//! What holds of a whole change that is carried out.
+
+ghost use Rattle.std.specs.Prelude.{Some};
+ghost use Rattle.graph_change.specs.Change.{Changes};
+ghost use Rattle.layout.specs.declared.marks.Marks.{Marks};
+ghost use Rattle.layout.specs.Places.{Sizes, IsAllowed};
+ghost use Rattle.area_image.specs.Store.{Store};
+ghost use Rattle.area_image.specs.Spelled.{IsSpelled};
+ghost use Rattle.free_pools.specs.declared.taking.Taken.{Taken};
+ghost use Rattle.area_commit.specs.Done.{IsCarriedOut};
+ghost use Rattle.area_apply.specs.First.{IsWhole, whole_of};
+ghost use Rattle.area_apply.specs.Applying.{CanApply, IsAppliedStore};
+ghost use Rattle.area_apply.specs.declared.partial.PartialPlan.{PartialPlan};
+
+use crate::first::whole_change_can_be_carried_out;
+use area_commit::carried_out_marks;
+
+/// Where the whole plan of a change is carried out, with new marks, the change is made.
+pub fn carried_out_change_is_made()
+    ensures { (g : Sizes) (s : Store) (cs : Changes) (plan : PartialPlan) (taken : Taken) (v : Marks) (new : Store)
+        → IsAllowed g → IsSpelled g s → CanApply g s cs v → IsWhole g s cs v.digests plan taken (Some v) → IsCarriedOut g s (whole_of plan taken (Some v)) new → IsAppliedStore g s cs v new }
+{
+    whole_change_can_be_carried_out();
+    carried_out_marks();
+}

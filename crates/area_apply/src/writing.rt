@@ -1,0 +1,92 @@
+// The whole plan of a change is carried out.
+ghost use Rattle.std.specs.Prelude.{◌≡◌, ◌≤◌, false, Some, length, OnErr, IfErr};
+ghost use Rattle.tier_device.specs.declared.media.Tier.{Tier};
+ghost use Rattle.tier_device.specs.Media.{AtRest};
+ghost use Rattle.graph_change.specs.View.{changes_of};
+ghost use Rattle.area_image.specs.Store.{store_of};
+ghost use Rattle.area_image.specs.Spelled.{IsOpenable};
+ghost use Rattle.free_pools.specs.Value.{PoolsView, data_pool, AreInOrder};
+ghost use Rattle.free_pools.specs.Taking.{WereTaken, SameFree};
+ghost use Rattle.area_commit.specs.Plan.{lost_in};
+ghost use Rattle.area_apply.specs.Adding.{HasTaken};
+ghost use Rattle.area_apply.specs.Applying.{CanApply, Ends};
+ghost use Rattle.area_apply.specs.Errors.{IsForced};
+ghost use Rattle.area_apply.specs.First.{IsWhole};
+
+use crate::applied::carried_out_change_is_made;
+use crate::error::{ApplyError, told};
+use crate::first::{whole_change_can_be_carried_out, whole_plan};
+use crate::partial::PartialPlan;
+use area_commit::carry_out;
+use batch_journal::Journal;
+use free_pools::{Pools, Taken};
+use graph_change::GraphChange;
+use layout::Marks;
+use std::alloc::Global;
+use tier_device::Media;
+
+// Carries out the whole plan of a change, once the pools have room for what is given up.
+fn write_change<M: Media>(
+    alloc: Global,
+    journal: &mut Journal<M>,
+    pools: &mut Pools,
+    change: &GraphChange,
+    marks: Marks,
+    plan: PartialPlan,
+    taken: Taken,
+) -> Result<(), ApplyError>
+    requires going { journal.old.failed ≡ false }
+    requires opens { IsOpenable journal.old.geometry (store_of (M.seen journal.old.media)) }
+    requires rests { (t : Tier) → AtRest (M.seen journal.old.media) (M.left journal.old.media (M.moment journal.old.media)) t }
+    requires can { CanApply journal.old.geometry (store_of (M.seen journal.old.media)) (changes_of change.now) marks }
+    requires whole { IsWhole journal.old.geometry (store_of (M.seen journal.old.media)) (changes_of change.now) marks.digests plan taken (Some marks) }
+    requires took { HasTaken journal.old.geometry (store_of (M.seen journal.old.media)) pools.old taken }
+    requires nodes_room { length plan.lost.nodes.items ≤ pools.old.nodes.room }
+    requires room { (t : Tier) → length (lost_in plan.lost t) ≤ (data_pool pools.old t).room }
+    ensures ends { Ends M.moment M.seen M.left M.faults (changes_of change.now) marks journal.old journal.new pools.new result }
+    ensures same { (before : PoolsView) → AreInOrder before → WereTaken before pools.old taken → OnErr result (SameFree before pools.new) }
+    ensures only { IfErr result IsForced }
+{
+    journal.left_now();
+    let _units = journal.geometry().units();
+    whole_change_can_be_carried_out();
+    carried_out_change_is_made();
+    match carry_out(alloc, journal, pools, whole_plan(plan, taken, Some(marks))) {
+        Ok(()) => Ok(()),
+        Err(error) => Err(told(error)),
+    }
+}
+
+/// Makes room in the pools for what the plan of a change gives up, and carries it out. Where it is refused, what was taken stands in the pools again.
+pub fn reserve_and_write<M: Media>(
+    alloc: Global,
+    journal: &mut Journal<M>,
+    pools: &mut Pools,
+    change: &GraphChange,
+    marks: Marks,
+    plan: PartialPlan,
+    taken: Taken,
+) -> Result<(), ApplyError>
+    requires going { journal.old.failed ≡ false }
+    requires opens { IsOpenable journal.old.geometry (store_of (M.seen journal.old.media)) }
+    requires rests { (t : Tier) → AtRest (M.seen journal.old.media) (M.left journal.old.media (M.moment journal.old.media)) t }
+    requires can { CanApply journal.old.geometry (store_of (M.seen journal.old.media)) (changes_of change.now) marks }
+    requires whole { IsWhole journal.old.geometry (store_of (M.seen journal.old.media)) (changes_of change.now) marks.digests plan taken (Some marks) }
+    requires took { HasTaken journal.old.geometry (store_of (M.seen journal.old.media)) pools.old taken }
+    ensures ends { Ends M.moment M.seen M.left M.faults (changes_of change.now) marks journal.old journal.new pools.new result }
+    ensures same { (before : PoolsView) → AreInOrder before → WereTaken before pools.old taken → OnErr result (SameFree before pools.new) }
+    ensures only { IfErr result IsForced }
+{
+    journal.left_now();
+    let nodes = plan.lost.nodes.len();
+    let fast = plan.lost.fast.len();
+    let block = plan.lost.block.len();
+    let slow = plan.lost.slow.len();
+    match pools.reserve(nodes, fast, block, slow) {
+        Ok(()) => write_change(alloc, journal, pools, change, marks, plan, taken),
+        Err(_) => {
+            pools.undo(taken);
+            Err(ApplyError::Memory)
+        }
+    }
+}
