@@ -78,7 +78,7 @@ can_still p q runs same more can = record {
   apart = subst (λ (n : ℕ). IsNormal n q.end runs) (sym same.pool.first) (subst (λ (n : ℕ). IsNormal p.first n runs) (sym same.pool.end) can.apart);
   before = subst (λ (xs : List ℕ). Rising q.first q.end (blocks_of runs ++ xs)) (sym same.free) (
       subst (λ (n : ℕ). Rising n q.end (blocks_of runs ++ p.free)) (sym same.pool.first) (subst (λ (n : ℕ). Rising p.first n (blocks_of runs ++ p.free)) (sym same.pool.end) can.before)
-  );
+      );
   room = (let r = can.room in omega (arith, r, more));
 }
 

@@ -60,7 +60,7 @@ put_more k d c [] rise few = let none = none_new Kept in omega (arith, few, none
 put_more k d c (e ∷ es) rise few =
     let both = and_true (below_all nat_cmp e.0 es) (is_sorted nat_cmp es) rise in
     elim (nat_cmp k e.0) as (λ r. nat_cmp k e.0 ≡ r → fin.len c.entries ≤ entries_at (cond (is_eq r) (Some e.1) (find nat_cmp k es)) + d
-        → all_entries (by_order r ((k, c) ∷ e ∷ es) ((e.0, c) ∷ es) (e ∷ put nat_cmp k c es)) ≤ fin.len e.1.entries + all_entries es + d) [
+    → all_entries (by_order r ((k, c) ∷ e ∷ es) ((e.0, c) ∷ es) (e ∷ put nat_cmp k c es)) ≤ fin.len e.1.entries + all_entries es + d) [
       | Less ↦ λ less more.
           let none = not_there k es (below_less k e.0 es less both.0) in
           let alone = subst (λ o. fin.len c.entries ≤ entries_at o + d) none more in
