@@ -34,7 +34,7 @@ use Rattle.free_pools.specs.Writing.{HoldData}
 use Rattle.file_plan.specs.Placed.{nth_number, nth_place}
 use Rattle.file_plan.specs.Mapped.{AreFresh, AreData, TakesPlace}
 use Rattle.file_plan.specs.Planned.{pair_of, pairs_of, HasData}
-use Rattle.file_plan.specs.Roots.{lacking, wanted_before, SparesFit, HasImages}
+use Rattle.file_plan.specs.Roots.{lacking, wanted_before, SparesFit, ListsStand}
 use Rattle.file_plan.proofs.After.{keeps_or_takes, after_within}
 use Rattle.file_plan.proofs.Stores.{from_kept, file_is_fit, as_changed}
 use Rattle.file_plan.proofs.Listed.{inside as spare_inside, all_listed, root_uses, all_used}
@@ -134,7 +134,7 @@ module _ (g : Sizes) (s : Store) (c : Change) (touch i : ℕ) (x : Slot) (m : Ti
   image_of t None is = tt
   image_of t (Some v) is = ap (λ o. or_else o (s tiers.Fast (root_of x t))) (p.images.each own_roots t v is)
 
-  has_images : HasImages (with_images new (s tiers.Fast)) x p.lists
+  has_images : ListsStand (with_images new (s tiers.Fast)) x p.lists
   has_images t = image_of t (in_tier p.lists t) refl
 
   pub listed : (t : Tier) → IsListed (with_images new (s tiers.Fast)) i (root_of x t) (runs_in m t)

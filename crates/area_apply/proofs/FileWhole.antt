@@ -14,7 +14,7 @@ use Rattle.block_alloc.specs.Runs.{blocks_of}
 use Rattle.block_map.specs.Map.{HasBlock}
 use Rattle.block_map.specs.declared.map.Place.{Place}
 use Rattle.tree_blocks.specs.After.{started}
-use Rattle.tree_blocks.specs.Inode.{Blocks, Inode, inode_of}
+use Rattle.tree_blocks.specs.Inode.{LogicalBlocks, Inode, inode_of}
 use Rattle.area_image.specs.Store.{Store, slot, logical, inode}
 use Rattle.area_rewrite.specs.Changed.{IsFileSlot}
 use Rattle.area_move.specs.Lists.{roots_left}
@@ -30,7 +30,7 @@ use Rattle.area_apply.specs.Started.{IsPlacedFile, IsRootedFile, LosesOf, LosesF
 use Rattle.area_apply.specs.declared.placing.PlacedFile.{PlacedFile}
 
 -- the slot from which a change starts tells what it starts from
-same_start : (base : Base) (y : Slot) (blocks : Blocks) → started base (inode_of (slot_from base y) blocks) ≡ started base (inode_of y blocks)
+same_start : (base : Base) (y : Slot) (blocks : LogicalBlocks) → started base (inode_of (slot_from base y) blocks) ≡ started base (inode_of y blocks)
 same_start Kept y blocks = refl
 same_start (Made kind) y blocks = refl
 same_start Gone y blocks = refl
@@ -65,7 +65,7 @@ module _ (g : Sizes) (s : Store) (c : Change) (touch i : ℕ) (numbers : List �
     many = many;
     places_are = free;
     stored = refl;
-    bytes_are = subst (λ (b : Blocks). HoldsBlocks c b numbers (length numbers) bytes) (sym placed.blocks) holds;
+    bytes_are = subst (λ (b : LogicalBlocks). HoldsBlocks c b numbers (length numbers) bytes) (sym placed.blocks) holds;
     map = placed.map;
     normal = placed.normal;
     lists = f.plan.lists;

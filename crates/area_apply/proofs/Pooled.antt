@@ -9,7 +9,7 @@ use Rattle.tier_device.specs.declared.media.Tier.{Tier}
 use Rattle.tier_device.specs.declared.media.Tier.TheVariants.{Fast, Block, Slow}
 use Rattle.layout.specs.Places.{Sizes, IsAllowed, node_end, data_first, tier_blocks}
 use Rattle.block_alloc.specs.declared.runs.Run.{Run}
-use Rattle.block_alloc.specs.Runs.{run_blocks, blocks_of, IsNormal, Rising}
+use Rattle.block_alloc.specs.Runs.{run_blocks, blocks_of, AreNormalRuns, Rising}
 use Rattle.block_alloc.specs.Value.{FreeBlocks, InOrder}
 use Rattle.block_alloc.specs.declared.error.AllocatorError.{AllocatorError}
 use Rattle.block_alloc.specs.declared.error.AllocatorError.TheVariants as refusal
@@ -75,7 +75,7 @@ was_still old p q runs same more took = record {
 
 can_still : (p q : FreeBlocks) (runs : List Run) → SameBlocks p q → p.room ≤ q.room → CanGive p runs → CanGive q runs
 can_still p q runs same more can = record {
-  apart = subst (λ (n : ℕ). IsNormal n q.end runs) (sym same.pool.first) (subst (λ (n : ℕ). IsNormal p.first n runs) (sym same.pool.end) can.apart);
+  apart = subst (λ (n : ℕ). AreNormalRuns n q.end runs) (sym same.pool.first) (subst (λ (n : ℕ). AreNormalRuns p.first n runs) (sym same.pool.end) can.apart);
   before = subst (λ (xs : List ℕ). Rising q.first q.end (blocks_of runs ++ xs)) (sym same.free) (
       subst (λ (n : ℕ). Rising n q.end (blocks_of runs ++ p.free)) (sym same.pool.first) (subst (λ (n : ℕ). Rising p.first n (blocks_of runs ++ p.free)) (sym same.pool.end) can.before)
       );
@@ -107,7 +107,7 @@ has_still g s a b taken same kept has = record {
 -- ---- numbers
 
 -- no run where there is no block
-pub no_runs_of : (low end : ℕ) (rs : List Run) → IsNormal low end rs → blocks_of rs ≡ [] → rs ≡ []
+pub no_runs_of : (low end : ℕ) (rs : List Run) → AreNormalRuns low end rs → blocks_of rs ≡ [] → rs ≡ []
 no_runs_of low end [] normal none = refl
 no_runs_of low end (r ∷ rs) normal none = (let long = ap length none in absurd (omega (arith, long, length-append (run_blocks r) (blocks_of rs), length-range_with_len r.first r.count, normal.1)))
 

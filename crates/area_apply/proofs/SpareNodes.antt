@@ -17,7 +17,7 @@ use Rattle.free_pools.specs.Value.{PoolsView}
 use Rattle.free_pools.specs.declared.taking.Taken.{Taken}
 use Rattle.area_commit.proofs.Chosen.{no_use}
 use Rattle.area_commit.proofs.Returned.{were_free}
-use Rattle.directory_plan.specs.Blocks.{nth_block, AreApart, use_of, use_on_fast}
+use Rattle.directory_plan.specs.Blocks.{nth_block, HaveOwnPlaces, use_of, use_on_fast}
 use Rattle.directory_plan.specs.Planned.{HaveNoImage}
 use Rattle.directory_plan.specs.Spare.{spares_for, CanBeWritten, AreSpares}
 use Rattle.directory_plan.specs.Started.{IsStarted, IsSoundStart, IsChanged}
@@ -34,7 +34,7 @@ rising_above low end [] r k lt = absurd (omega (arith, lt))
 rising_above low end (x ∷ xs) r zero lt = r.0
 rising_above low end (x ∷ xs) r (suc k) lt = let more = rising_above (x + 1) end xs r.2 k (omega (arith, lt)) in omega (arith, more, r.0)
 
-rising_apart : (low end : ℕ) (xs : List ℕ) → Rising low end xs → AreApart xs
+rising_apart : (low end : ℕ) (xs : List ℕ) → Rising low end xs → HaveOwnPlaces xs
 rising_apart low end [] r j k lj lk same = absurd (omega (arith, lj))
 rising_apart low end (x ∷ xs) r zero zero lj lk same = refl
 rising_apart low end (x ∷ xs) r zero (suc k) lj lk same = let more = rising_above (x + 1) end xs r.2 k (omega (arith, lk)) in absurd (omega (arith, more, same))
@@ -83,7 +83,7 @@ module _ (g : Sizes) (s : Store) (c : Change) (i : ℕ) (start : StartedDirector
       let low : 292 ≤ p = f.0.room.first in
       and_from (nat_le 292 p) (nat_lt p (node_end g)) (le-leb 292 p low) (lt-ltb p (node_end g) f.1)
 
-  all_apart : AreApart (first ++ free)
+  all_apart : HaveOwnPlaces (first ++ free)
   all_apart = rising_apart left.nodes.first left.nodes.end (first ++ free) has.undo.nodes.before
 
   behind : (k : ℕ) → nth_block (first ++ free) (length first + k) ≡ nth_block free k
@@ -115,7 +115,7 @@ module _ (g : Sizes) (s : Store) (c : Change) (i : ℕ) (start : StartedDirector
   spare_one : (p : ℕ) → Contains spares p → Contains free p
   spare_one p at = let k = place_of_one spares p at in subst (Contains free) k.2 (spare_free k.0 k.1)
 
-  spares_apart : AreApart spares
+  spares_apart : HaveOwnPlaces spares
   spares_apart j k lj lk same =
       let j_in = spare_in j lj in
       let k_in = spare_in k lk in

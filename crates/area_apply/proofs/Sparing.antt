@@ -5,7 +5,7 @@ use Rattle.std.proofs.lemmas.List.{append_assoc}
 use Rattle.tier_device.specs.declared.media.Tier.{Tier}
 use Rattle.tier_device.specs.declared.media.Tier.TheVariants.{Fast, Block, Slow}
 use Rattle.block_alloc.specs.declared.runs.Run.{Run}
-use Rattle.block_alloc.specs.Runs.{IsNormal}
+use Rattle.block_alloc.specs.Runs.{AreNormalRuns}
 use Rattle.free_pools.specs.declared.taking.Taken.{Taken}
 use Rattle.free_pools.specs.Taking.{runs_of, tier_places, taken_data}
 use Rattle.area_move.specs.Placed.{EndsFit}
@@ -27,7 +27,7 @@ block_more first block start out new le is was =
 
 -- ---- what was taken
 
-pub normal_ends : (low end : ℕ) (runs : List Run) → IsNormal low end runs → end < 4294967296 → EndsFit runs
+pub normal_ends : (low end : ℕ) (runs : List Run) → AreNormalRuns low end runs → end < 4294967296 → EndsFit runs
 normal_ends low end [] is lt = tt
 normal_ends low end (r ∷ rs) is lt = (let high = is.2 in omega (arith, high, lt), normal_ends (r.first + r.count + 1) end rs is.3 lt)
 

@@ -15,7 +15,7 @@ use Rattle.layout.specs.Places.{Sizes}
 use Rattle.extent_nodes.specs.Places.{place_of}
 use Rattle.extent_nodes.specs.Spelled.{LiesWithin}
 use Rattle.block_map.specs.Map.{TierRuns, runs_in, lies_at}
-use Rattle.tree_blocks.specs.Inode.{Blocks, inode_of}
+use Rattle.tree_blocks.specs.Inode.{LogicalBlocks, inode_of}
 use Rattle.area_image.specs.declared.error.AreaError.{AreaError}
 use Rattle.area_image.specs.declared.error.AreaError.TheVariants as errors
 use Rattle.area_image.specs.Damage.{OnDamage}
@@ -38,13 +38,13 @@ file_only (slots.Directory names entries touch root) P each is = absurd cc
 data_space : (x : Slot) (t : Tier) → (inode_of x (λ k. [])).kind ≡ Some kind.File → space_of x t ≡ space.Data t
 data_space x t is = file_only x (λ y. space_of y t ≡ space.Data t) (λ names size touch fast block slow. refl) is
 
-file_long : (x : Slot) (blocks : Blocks) → (inode_of x (λ k. [])).kind ≡ Some kind.File → length_of x ≡ ((inode_of x blocks).size + 4095) / 4096
+file_long : (x : Slot) (blocks : LogicalBlocks) → (inode_of x (λ k. [])).kind ≡ Some kind.File → length_of x ≡ ((inode_of x blocks).size + 4095) / 4096
 file_long x blocks is = file_only x (λ y. length_of y ≡ ((inode_of y blocks).size + 4095) / 4096) (λ names size touch fast block slow. refl) is
 
-file_kind : (x : Slot) (blocks : Blocks) → (inode_of x (λ k. [])).kind ≡ Some kind.File → (inode_of x blocks).kind ≡ Some kind.File
+file_kind : (x : Slot) (blocks : LogicalBlocks) → (inode_of x (λ k. [])).kind ≡ Some kind.File → (inode_of x blocks).kind ≡ Some kind.File
 file_kind x blocks is = file_only x (λ y. (inode_of y blocks).kind ≡ Some kind.File) (λ names size touch fast block slow. refl) is
 
-file_blocks : (x : Slot) (blocks : Blocks) → (inode_of x (λ k. [])).kind ≡ Some kind.File → (inode_of x blocks).blocks ≡ blocks
+file_blocks : (x : Slot) (blocks : LogicalBlocks) → (inode_of x (λ k. [])).kind ≡ Some kind.File → (inode_of x blocks).blocks ≡ blocks
 file_blocks x blocks is = file_only x (λ y. (inode_of y blocks).blocks ≡ blocks) (λ names size touch fast block slow. refl) is
 
 module _ (g : Sizes) (s : Store) (i : ℕ) (x : Slot) (is : slot_read g s i ≡ Some x) (file : (inode_of x (λ k. [])).kind ≡ Some kind.File) where

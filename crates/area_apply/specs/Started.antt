@@ -15,7 +15,7 @@ use Rattle.extent_nodes.specs.Normal.{IsNormal}
 use Rattle.block_map.specs.Map.{TierRuns, runs_in, HasBlock}
 use Rattle.block_map.specs.declared.map.Place.{Place}
 use Rattle.tree_blocks.specs.After.{started}
-use Rattle.tree_blocks.specs.Inode.{Blocks, inode_of}
+use Rattle.tree_blocks.specs.Inode.{LogicalBlocks, inode_of}
 use Rattle.area_image.specs.Store.{Store, slot, touch_of, logical, inode}
 use Rattle.area_image.specs.Checks.{HasFound}
 use Rattle.area_rewrite.specs.Changed.{IsFileSlot}
@@ -56,7 +56,7 @@ pub record IsPlacedFile (g : Sizes) (s : Store) (c : Change) (i : ℕ) (numbers 
 
 -- The file has a slot after the change of it, with these spare blocks to list extents; the images of those are put, and the blocks that list none any more are known.
 pub record IsRootedFile (c : Change) (touch : ℕ) (f : PlacedFile) (spare : List ℕ) (old new : List (ℕ × List ℕ)) (x : Slot) (left : List Run) : Type 0 where
-  pub slot_is : (blocks : Blocks) → IsFileSlot (names_after c.names (started c.base (inode_of f.slot blocks)).names) (length_after c.length (started c.base (inode_of f.slot blocks)).size) x
+  pub slot_is : (blocks : LogicalBlocks) → IsFileSlot (names_after c.names (started c.base (inode_of f.slot blocks)).names) (length_after c.length (started c.base (inode_of f.slot blocks)).size) x
   pub touch_is : touch_of x ≡ touch
   pub roots : HasRootsOf f.plan.lists spare f.slot x
   pub limits : (g : Sizes) → fits_slot g f.slot ≡ true → SparesFit g f.slot spare → fits_slot g x ≡ true

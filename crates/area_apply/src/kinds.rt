@@ -3,7 +3,7 @@ ghost use Rattle.std.specs.Prelude.{◌≡◌, ℕ, Some};
 ghost use Rattle.graph_change.specs.View.{base_of};
 ghost use Rattle.layout.specs.Places.{Sizes};
 ghost use Rattle.tree_blocks.specs.After.{started};
-ghost use Rattle.tree_blocks.specs.Inode.{Blocks, inode_of};
+ghost use Rattle.tree_blocks.specs.Inode.{LogicalBlocks, inode_of};
 ghost use Rattle.area_image.specs.Store.{Store, slot_read, inode};
 
 use file_graph::Kind;
@@ -12,7 +12,7 @@ use layout::Slot;
 
 // The kind of the inode that a slot tells.
 fn kind_in(slot: &Slot) -> Option<Kind>
-    ensures { (blocks : Blocks) → (inode_of slot.now blocks).kind ≡ result }
+    ensures { (blocks : LogicalBlocks) → (inode_of slot.now blocks).kind ≡ result }
 {
     match *slot {
         Slot::Free => None,

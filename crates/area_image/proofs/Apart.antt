@@ -9,7 +9,7 @@ use Rattle.layout.specs.declared.extents.Extent.{Extent}
 use Rattle.layout.specs.Extents.{is_sound, is_apart, places_apart, extents_of}
 use Rattle.layout.specs.declared.geometry.Space.{Space}
 use Rattle.layout.specs.Places.{Sizes}
-use Rattle.extent_nodes.specs.Places.{has, place_in, extent_at as first_extent, place_of}
+use Rattle.extent_nodes.specs.Places.{has, place_in, extent_with as first_extent, place_of}
 use Rattle.area_image.specs.Store.{Store, slot, root_of, space_of, length_of, is_own, own_extents, extents_read, place}
 use Rattle.area_image.proofs.Lists.{bind_some, test_some, some_is, extents_fit}
 

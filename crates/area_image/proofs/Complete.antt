@@ -18,7 +18,7 @@ use Rattle.layout.specs.Slot.{slot_of}
 use Rattle.layout.specs.Directory.{listed, fits_entries, entries_spelling}
 use Rattle.extent_nodes.specs.Places.{place_of}
 use Rattle.batch_journal.specs.Volume.{Spells}
-use Rattle.tree_blocks.specs.Inode.{IsConsistent, IsConsistentBy, IsDirectoryBlock, AreDistinct, byte_of, entry_at, entries_in, blocks_for, Blocks}
+use Rattle.tree_blocks.specs.Inode.{IsConsistent, IsConsistentBy, IsDirectoryBlock, AreDistinct, byte_of, entry_at, entries_in, blocks_for, LogicalBlocks}
 use Rattle.area_image.specs.Store.{Store, slot, slot_bytes, slot_read, root_of, length_of, extents_read, place, logical, inode, graph, marks}
 use Rattle.area_image.specs.Spelled.{Use, used, AreUsedOnce, IsOpenable}
 use Rattle.area_image.specs.Damage.{IsDamaged, byte_in}
@@ -191,8 +191,8 @@ module _ (g : Sizes) (s : Store) (sound : (w : What) (b : ℕ) → IsDamaged g s
   consistent i number = by_kind (inode g s i).kind refl where
     by_kind : (o : Option Kind) → (inode g s i).kind ≡ o → IsConsistentBy i o (inode g s i).size (inode g s i).blocks
     by_kind None is = tt
-    by_kind (Some kind.File) is = subst (λ (b : Blocks). IsConsistentBy i (Some kind.File) (inode g s i).size b) (sym (blocks_is (slot g s i) (logical g s i) kind.File is)) (tail_zero i number is)
-    by_kind (Some kind.Directory) is = subst (λ (b : Blocks). IsConsistentBy i (Some kind.Directory) (inode g s i).size b) (sym (blocks_is (slot g s i) (logical g s i) kind.Directory is)) (record { parts = part i number is; distinct = no_twins i number is })
+    by_kind (Some kind.File) is = subst (λ (b : LogicalBlocks). IsConsistentBy i (Some kind.File) (inode g s i).size b) (sym (blocks_is (slot g s i) (logical g s i) kind.File is)) (tail_zero i number is)
+    by_kind (Some kind.Directory) is = subst (λ (b : LogicalBlocks). IsConsistentBy i (Some kind.Directory) (inode g s i).size b) (sym (blocks_is (slot g s i) (logical g s i) kind.Directory is)) (record { parts = part i number is; distinct = no_twins i number is })
 
   used_once : AreUsedOnce g s
   used_once u v b here there = elim (use_cases u v) [

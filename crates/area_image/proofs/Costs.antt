@@ -10,7 +10,7 @@ use Rattle.file_graph.specs.Graph.{Graph, cost}
 use Rattle.layout.specs.declared.slot.Slot.{Slot}
 use Rattle.layout.specs.declared.slot.Slot.TheVariants as slots
 use Rattle.layout.specs.Places.{Sizes}
-use Rattle.tree_blocks.specs.Inode.{Blocks, IsConsistent, inode_of, node_of}
+use Rattle.tree_blocks.specs.Inode.{LogicalBlocks, IsConsistent, inode_of, node_of}
 use Rattle.tree_blocks.proofs.Files.{length_file}
 use Rattle.tree_blocks.proofs.Directories.{len_named}
 use Rattle.tree_blocks.specs.Inode.{entry_at}
@@ -18,7 +18,7 @@ use Rattle.area_image.specs.Store.{Store, slot, slot_read, length_of, logical, g
 use Rattle.area_image.specs.Spelled.{SpellsInode}
 use Rattle.area_image.specs.Units.{slot_units}
 
-by_slot : (i : ℕ) (x : Slot) (blocks : Blocks) → IsConsistent i (inode_of x blocks) → cost (node_of (inode_of x blocks)) ≡ slot_units x
+by_slot : (i : ℕ) (x : Slot) (blocks : LogicalBlocks) → IsConsistent i (inode_of x blocks) → cost (node_of (inode_of x blocks)) ≡ slot_units x
 by_slot i slots.Free blocks consistent = refl
 by_slot i (slots.File names size touch fast block slow) blocks consistent = ap file_units (length_file blocks size)
 by_slot i (slots.Directory names entries touch root) blocks consistent = ap directory_units (len_named (entry_at blocks) entries consistent.distinct)

@@ -13,7 +13,7 @@ use Rattle.layout.specs.Places.{Sizes, is_inode}
 use Rattle.layout.specs.Directory.{listed}
 use Rattle.layout.specs.declared.places.TheConstants.{BLOCK}
 use Rattle.extent_nodes.specs.Places.{place_of}
-use Rattle.tree_blocks.specs.Inode.{IsConsistent, IsConsistentBy, AreDirectoryBlocks, IsDirectoryBlock, IsZeroFrom, Inode, inode_of, blocks_for, byte_of, entry_at, Blocks}
+use Rattle.tree_blocks.specs.Inode.{IsConsistent, IsConsistentBy, AreDirectoryBlocks, IsDirectoryBlock, IsZeroFrom, Inode, inode_of, blocks_for, byte_of, entry_at, LogicalBlocks}
 use Rattle.area_image.specs.Store.{Store, slot, length_of, extents_by, extents_read, place, at_or, logical, inode}
 use Rattle.area_image.specs.Spelled.{SpellsInode, IsSpelled, KeepsUnits}
 use Rattle.area_image.specs.Damage.{LacksBlock, IsMappedTwice, IsShared, HasTwin, byte_in, IsDamaged}
@@ -28,18 +28,18 @@ as_directory i x is consistent = subst (λ k. IsConsistentBy i k x.size x.blocks
 as_file : (i : ℕ) (x : Inode) → x.kind ≡ Some kind.File → IsConsistent i x → IsZeroFrom x.size x.blocks
 as_file i x is consistent = subst (λ k. IsConsistentBy i k x.size x.blocks) is consistent
 
-pub length_is : (x : Slot) (blocks : Blocks) → (inode_of x blocks).kind ≡ Some kind.Directory → length_of x ≡ blocks_for (inode_of x blocks).size
+pub length_is : (x : Slot) (blocks : LogicalBlocks) → (inode_of x blocks).kind ≡ Some kind.Directory → length_of x ≡ blocks_for (inode_of x blocks).size
 length_is slots.Free blocks is = cc
 length_is (slots.File names size touch fast block slow) blocks is = cc
 length_is (slots.Directory names entries touch root) blocks is = refl
 
-pub blocks_is : (x : Slot) (blocks : Blocks) (k : Kind) → (inode_of x blocks).kind ≡ Some k → (inode_of x blocks).blocks ≡ blocks
+pub blocks_is : (x : Slot) (blocks : LogicalBlocks) (k : Kind) → (inode_of x blocks).kind ≡ Some k → (inode_of x blocks).blocks ≡ blocks
 blocks_is slots.Free blocks k is = cc
 blocks_is (slots.File names size touch fast block slow) blocks k is = refl
 blocks_is (slots.Directory names entries touch root) blocks k is = refl
 
 -- a directory has its blocks in one tier
-other_root : (g : Sizes) (fast : Blocks) (i : ℕ) (x : Slot) (blocks : Blocks) (t : Tier) → t ≢ Fast → (inode_of x blocks).kind ≡ Some kind.Directory → extents_by g fast i x t ≡ Some []
+other_root : (g : Sizes) (fast : LogicalBlocks) (i : ℕ) (x : Slot) (blocks : LogicalBlocks) (t : Tier) → t ≢ Fast → (inode_of x blocks).kind ≡ Some kind.Directory → extents_by g fast i x t ≡ Some []
 other_root g fast i slots.Free blocks t other is = cc
 other_root g fast i (slots.File names size touch one two three) blocks t other is = cc
 other_root g fast i (slots.Directory names entries touch root) blocks Fast other is = absurd (other refl)
@@ -114,7 +114,7 @@ module _ (g : Sizes) (s : Store) (i : ℕ) (number : is_inode i ≡ true) (is : 
   no_lack lack =
       let whole = as_directory i (inode g s i) lack.kind is.consistent in
       let lt : lack.block < blocks_for (inode g s i).size = subst (λ n. lack.block < n) (length_is (slot g s i) (logical g s i) lack.kind) lack.within in
-      let part = subst (λ (b : Blocks). IsDirectoryBlock i (inode g s i).size lack.block (b lack.block)) (blocks_is (slot g s i) (logical g s i) kind.Directory lack.kind) (whole.parts lack.block lt) in
+      let part = subst (λ (b : LogicalBlocks). IsDirectoryBlock i (inode g s i).size lack.block (b lack.block)) (blocks_is (slot g s i) (logical g s i) kind.Directory lack.kind) (whole.parts lack.block lt) in
       no_entries i (inode g s i).size lack.block number (subst (IsDirectoryBlock i (inode g s i).size lack.block) (none_read g s i lack.block lack.kind lack.none) part)
 
   no_twice : (t : Tier) → IsMappedTwice g s i t → ⊥
@@ -124,19 +124,19 @@ module _ (g : Sizes) (s : Store) (i : ℕ) (number : is_inode i ≡ true) (is : 
   no_part dir k lt wrong =
       let whole = as_directory i (inode g s i) dir is.consistent in
       let lt' : k < blocks_for (inode g s i).size = subst (λ n. k < n) (length_is (slot g s i) (logical g s i) dir) lt in
-      wrong (subst (λ (b : Blocks). IsDirectoryBlock i (inode g s i).size k (b k)) (blocks_is (slot g s i) (logical g s i) kind.Directory dir) (whole.parts k lt'))
+      wrong (subst (λ (b : LogicalBlocks). IsDirectoryBlock i (inode g s i).size k (b k)) (blocks_is (slot g s i) (logical g s i) kind.Directory dir) (whole.parts k lt'))
 
   no_twin : (inode g s i).kind ≡ Some kind.Directory → (k : ℕ) → HasTwin g s i k → ⊥
   no_twin dir k twin =
       let whole = as_directory i (inode g s i) dir is.consistent in
       let b = blocks_is (slot g s i) (logical g s i) kind.Directory dir in
-      twin.differ (whole.distinct twin.entry twin.other twin.one_within twin.other_within (subst (λ (b : Blocks). (entry_at b twin.entry).0 ≡ (entry_at b twin.other).0) (sym b) twin.same))
+      twin.differ (whole.distinct twin.entry twin.other twin.one_within twin.other_within (subst (λ (b : LogicalBlocks). (entry_at b twin.entry).0 ≡ (entry_at b twin.other).0) (sym b) twin.same))
 
   no_tail : (inode g s i).kind ≡ Some kind.File → (t : Tier) (p at : ℕ) → (inode g s i).size ≤ at → place g s i t (at / BLOCK) ≡ Some p → byte_in (s t p) at ≢ 0 → ⊥
   unfolding byte_of
   no_tail file t p at behind there wrong =
       let zero = as_file i (inode g s i) file is.consistent in
-      let here : byte_of (logical g s i) at ≡ 0 = subst (λ (b : Blocks). byte_of b at ≡ 0) (blocks_is (slot g s i) (logical g s i) kind.File file) (zero at behind) in
+      let here : byte_of (logical g s i) at ≡ 0 = subst (λ (b : LogicalBlocks). byte_of b at ≡ 0) (blocks_is (slot g s i) (logical g s i) kind.File file) (zero at behind) in
       wrong (ap (λ b. byte_in b at) (sym (logical_is g s i is.once t (at / BLOCK) p there)) ∙ here)
 
 no_shared : (g : Sizes) (s : Store) (i : ℕ) (t : Tier) → IsSpelled g s → IsShared g s i t → ⊥

@@ -11,7 +11,7 @@ use Rattle.layout.specs.declared.slot.Slot.{Slot}
 use Rattle.layout.specs.declared.slot.Slot.TheVariants as slots
 use Rattle.layout.specs.Places.{Sizes, is_inode}
 use Rattle.layout.specs.Slot.{fits_slot, is_root_block}
-use Rattle.tree_blocks.specs.Inode.{Blocks, IsConsistent, IsConsistentBy, IsZeroFrom, AreDirectoryBlocks, inode_of}
+use Rattle.tree_blocks.specs.Inode.{LogicalBlocks, IsConsistent, IsConsistentBy, IsZeroFrom, AreDirectoryBlocks, inode_of}
 use Rattle.area_image.specs.Store.{Store, slot, slot_read, root_of, length_of, extents_read, place, logical, inode}
 use Rattle.area_image.specs.Spelled.{SpellsInode}
 use Rattle.area_image.specs.Map.{IsOnceAt, IsTwiceAt}
@@ -56,13 +56,13 @@ module _ (g : Sizes) (s : Store) (i : ℕ) where
 
   pub file_consistent : (size : ℕ) → IsFileOfSize g s i size → IsZeroFrom size (logical g s i) → IsConsistent i (inode g s i)
   file_consistent size file zero' =
-      let blocks = subst (λ (b : Blocks). IsConsistentBy i (Some kind.File) size b) (sym (blocks_is (slot g s i) (logical g s i) kind.File file.kind_is)) zero' in
+      let blocks = subst (λ (b : LogicalBlocks). IsConsistentBy i (Some kind.File) size b) (sym (blocks_is (slot g s i) (logical g s i) kind.File file.kind_is)) zero' in
       let sized = subst (λ (n : ℕ). IsConsistentBy i (Some kind.File) n (inode g s i).blocks) (sym file.size_is) blocks in
       subst (λ (k : Option Kind). IsConsistentBy i k (inode g s i).size (inode g s i).blocks) (sym file.kind_is) sized
 
   pub directory_consistent : (entries : ℕ) → IsEntries g s i entries → AreDirectoryBlocks i entries (logical g s i) → IsConsistent i (inode g s i)
   directory_consistent entries dir whole =
-      let blocks = subst (λ (b : Blocks). IsConsistentBy i (Some kind.Directory) entries b) (sym (blocks_is (slot g s i) (logical g s i) kind.Directory dir.kind_is)) whole in
+      let blocks = subst (λ (b : LogicalBlocks). IsConsistentBy i (Some kind.Directory) entries b) (sym (blocks_is (slot g s i) (logical g s i) kind.Directory dir.kind_is)) whole in
       let sized = subst (λ (n : ℕ). IsConsistentBy i (Some kind.Directory) n (inode g s i).blocks) (sym dir.size_is) blocks in
       subst (λ (k : Option Kind). IsConsistentBy i k (inode g s i).size (inode g s i).blocks) (sym dir.kind_is) sized
 

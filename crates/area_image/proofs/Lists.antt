@@ -14,7 +14,7 @@ use Rattle.layout.specs.declared.slot.Slot.TheVariants as slots
 use Rattle.layout.specs.Extents.{ExtentList, ExtentHead, is_extent, is_sound, fits_extents, header_at, extent_at, extents_at, extents_of}
 use Rattle.layout.specs.Places.{Sizes, is_inode, is_run, data_first, tier_blocks, node_end}
 use Rattle.layout.specs.Slot.{slot_at, slot_from, slot_of, fits_slot}
-use Rattle.extent_nodes.specs.Places.{has, end_of, place_in, extent_at as first_extent, place_of}
+use Rattle.extent_nodes.specs.Places.{has, end_of, place_in, extent_with as first_extent, place_of}
 use Rattle.area_image.specs.Store.{Store, slot_bytes, slot_read, slot, root_of, space_of, length_of, is_own, own_extents, extents_read, place}
 use Rattle.area_image.specs.Reads.{IsRoom, IsPlaced, first_room}
 

@@ -20,7 +20,7 @@ use Rattle.layout.specs.declared.error.LayoutError.{LayoutError}
 use Rattle.layout.specs.declared.error.What.{What}
 use Rattle.layout.specs.declared.error.What.TheVariants as what
 use Rattle.layout.specs.Places.{Sizes, slot_block}
-use Rattle.tree_blocks.specs.Inode.{Blocks, Entry, IsDirectoryBlock, AreDirectoryBlocks, AreDistinct, entry_at, entries_in, blocks_for}
+use Rattle.tree_blocks.specs.Inode.{LogicalBlocks, Entry, IsDirectoryBlock, AreDirectoryBlocks, AreDistinct, entry_at, entries_in, blocks_for}
 use Rattle.tree_blocks.proofs.Held.{entry_is}
 use Rattle.area_image.specs.Store.{Store, extents_read, place, logical, inode}
 use Rattle.area_image.specs.Reads.{IsRoom}
@@ -52,13 +52,13 @@ one_name (x ∷ es) d zero (suc j) li lj same = absurd (same_names x (get_or es 
 one_name (x ∷ es) d (suc i) zero li lj same = absurd (same_names x (get_or es i no_entry) (all_at (differ x) es i no_entry (and_parts (list_all (differ x) es) (all_pairs differ es) d).0 (omega arith)) (sym same))
 one_name (x ∷ es) d (suc i) (suc j) li lj same = ap suc (one_name es (and_parts (list_all (differ x) es) (all_pairs differ es) d).1 i j (omega arith) (omega arith) same)
 
-pub name_of : (b : Blocks) (e : ℕ) → (entry_at b e).0 ≡ (entry_of (listed (b (e / 56))) (e % 56)).name
+pub name_of : (b : LogicalBlocks) (e : ℕ) → (entry_at b e).0 ≡ (entry_of (listed (b (e / 56))) (e % 56)).name
 name_of b e = ap (λ (x : Entry). x.0) (entry_is b e (listed (b (e / 56))) refl)
 
 pub count_small : (n k e : ℕ) → e < n → e / 56 ≡ k → e % 56 < entries_in n k
 count_small n k e lt at = omega (arith, lt, at)
 
-module _ (i n : ℕ) (b : Blocks) where
+module _ (i n : ℕ) (b : LogicalBlocks) where
   entry_inside : (e : ℕ) → e < n → IsDirectoryBlock i n (e / 56) (b (e / 56)) → e % 56 < length (listed (b (e / 56))).entries
   entry_inside e lt part = let small : e % 56 < entries_in n (e / 56) = count_small n (e / 56) e lt refl in subst (λ m. e % 56 < m) (sym part.count_is) small
 
@@ -172,7 +172,7 @@ module _ (g : Sizes) (s : Store) (i n : ℕ) (dir : IsEntries g s i n) where
       let f_block : f / 56 ≡ o.block = omega (arith, inside_f) in
       let e_rest : e % 56 ≡ x.entry = omega (arith, inside_e) in
       let f_rest : f % 56 ≡ o.entry = omega (arith, inside_f) in
-      let b : Blocks = logical g s i in
+      let b : LogicalBlocks = logical g s i in
       let name_e : (entry_at b e).0 ≡ (entry_of (listed (b k)) x.entry).name = name_of b e ∙ (λ q. (entry_of (listed (b (e_block q))) (e_rest q)).name) in
       let name_f : (entry_at b f).0 ≡ (entry_of (listed (b o.block)) o.entry).name = name_of b f ∙ (λ q. (entry_of (listed (b (f_block q))) (f_rest q)).name) in
       let e_in : e < n = omega (arith, inside_e) in

@@ -7,7 +7,7 @@ use Rattle.layout.specs.declared.places.TheConstants.{BLOCK}
 use Rattle.layout.specs.declared.directory.TheConstants.{MAX_IN_BLOCK}
 use Rattle.layout.specs.Places.{Sizes, is_inode}
 use Rattle.layout.specs.Directory.{listed, entry_of}
-use Rattle.tree_blocks.specs.Inode.{Blocks, IsDirectoryBlock, AreDistinct, entry_at}
+use Rattle.tree_blocks.specs.Inode.{LogicalBlocks, IsDirectoryBlock, AreDistinct, entry_at}
 use Rattle.area_image.specs.Store.{Store, logical, slot, length_of, extents_read, place, inode}
 use Rattle.area_image.specs.Damage.{IsSlotDamage, IsExtentDamage, IsEntryDamage, IsTailDamage}
 use Rattle.area_image.specs.Map.{in_tier, extents_in}
@@ -65,7 +65,7 @@ IsOwnDamage g s i part block = IsSlotDamageOf g s i part block ⊎ IsExtentDamag
 -- ---- a directory, block by block
 
 -- Some entry of the first so many blocks has this name.
-pub record HasName (blocks : Blocks) (count : ℕ) (name : List ℕ) : Type 0 where
+pub record HasName (blocks : LogicalBlocks) (count : ℕ) (name : List ℕ) : Type 0 where
   pub block : ℕ
   pub within : block < count
   pub entry : ℕ
@@ -73,7 +73,7 @@ pub record HasName (blocks : Blocks) (count : ℕ) (name : List ℕ) : Type 0 wh
   pub same : (entry_of (listed (blocks block)) entry).name ≡ name
 
 -- Some entry of a block has the name of one of the first so many blocks.
-pub record HasSameName (blocks : Blocks) (count : ℕ) (block : List ℕ) : Type 0 where
+pub record HasSameName (blocks : LogicalBlocks) (count : ℕ) (block : List ℕ) : Type 0 where
   pub entry : ℕ
   pub inside : entry < length (listed block).entries
   pub other : HasName blocks count (entry_of (listed block) entry).name

@@ -7,14 +7,14 @@ use Rattle.file_graph.specs.declared.effect.Kind.TheVariants as kind
 use Rattle.layout.specs.Places.{Sizes}
 use Rattle.layout.specs.declared.slot.Slot.{Slot}
 use Rattle.layout.specs.declared.slot.Slot.TheVariants as slots
-use Rattle.tree_blocks.specs.Inode.{Blocks, inode_of}
+use Rattle.tree_blocks.specs.Inode.{LogicalBlocks, inode_of}
 use Rattle.area_image.specs.Store.{Store, slot, logical, length_of}
 use Rattle.area_image.proofs.Tails.{place_past}
 use Rattle.area_move.specs.Found.{IsWithinFile}
 use Rattle.area_move.specs.Moving.{CanMove}
 use Rattle.area_move.proofs.Steps.{inside}
 
-pub any_blocks : (x : Slot) (a b : Blocks) → (inode_of x a).kind ≡ (inode_of x b).kind
+pub any_blocks : (x : Slot) (a b : LogicalBlocks) → (inode_of x a).kind ≡ (inode_of x b).kind
 any_blocks slots.Free a b = refl
 any_blocks (slots.File names size touch fast block slow) a b = refl
 any_blocks (slots.Directory names entries touch root) a b = refl

@@ -5,10 +5,10 @@ use Rattle.tier_device.specs.Media.{overwritten}
 use Rattle.tier_device.specs.RecordLaws.{torn_overwritten}
 use Rattle.batch_journal.specs.Images.{slice}
 use Rattle.batch_journal.proofs.Bytes.{slice_before, slice_written}
-use Rattle.tree_blocks.specs.Inode.{Blocks}
+use Rattle.tree_blocks.specs.Inode.{LogicalBlocks}
 use Rattle.area_move.specs.Lists.{HoldsRun}
 
-pub holds_more : (blocks : Blocks) (first n : ℕ) (old new : List ℕ) → HoldsRun blocks first n old → length new ≡ 4096 → 4096 * n + 4096 ≤ length old → new ≡ blocks (first + n) → HoldsRun blocks first (n + 1) (overwritten old (4096 * n) new)
+pub holds_more : (blocks : LogicalBlocks) (first n : ℕ) (old new : List ℕ) → HoldsRun blocks first n old → length new ≡ 4096 → 4096 * n + 4096 ≤ length old → new ≡ blocks (first + n) → HoldsRun blocks first (n + 1) (overwritten old (4096 * n) new)
 holds_more blocks first n old new holds long fits is k lt = elim (cases_lt k n) [
   | inl before ↦ slice_before (4096 * n) (length new) old (overwritten old (4096 * n) new) (torn_overwritten old (4096 * n) new (omega (arith, fits, long))) (4096 * k) 4096 (omega (arith, before)) ∙ holds k before
   | inr past ↦ (let same : n ≡ k = omega (arith, past, lt) in

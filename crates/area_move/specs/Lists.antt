@@ -9,7 +9,7 @@ use Rattle.layout.specs.Places.{Sizes}
 use Rattle.layout.specs.Slot.{is_root_block}
 use Rattle.batch_journal.specs.Images.{slice}
 use Rattle.block_map.specs.Map.{TierRuns, runs_in, lies_at}
-use Rattle.tree_blocks.specs.Inode.{Blocks}
+use Rattle.tree_blocks.specs.Inode.{LogicalBlocks}
 use Rattle.area_image.specs.Store.{Store, place, root_of, space_of}
 use Rattle.area_image.specs.Map.{in_tier, place_by, IsOwnList}
 use Rattle.area_image.specs.declared.tiers.InodeExtents.{InodeExtents}
@@ -40,7 +40,7 @@ abbrev pub LiesSomewhere : TierRuns → ℕ → Type 0
 LiesSomewhere m k = (t : Tier) × IsSome (lies_at m t k)
 
 -- The bytes are those of a run of blocks, one after the other.
-abbrev pub HoldsRun : Blocks → ℕ → ℕ → List ℕ → Type 0
+abbrev pub HoldsRun : LogicalBlocks → ℕ → ℕ → List ℕ → Type 0
 HoldsRun blocks first count bytes = (n : ℕ) → n < count → slice (BLOCK * n) BLOCK bytes ≡ blocks (first + n)
 
 -- the root of a tier for new extents: none where there are none, else the old one, or where that is none a block that is spare

@@ -4,7 +4,7 @@ ghost use Rattle.file_graph.specs.declared.effect.Kind.TheVariants as kind;
 ghost use Rattle.tier_device.specs.declared.media.Tier.{Tier};
 ghost use Rattle.layout.specs.Places.{Sizes};
 ghost use Rattle.layout.specs.Slot.{fits_slot};
-ghost use Rattle.tree_blocks.specs.Inode.{Blocks, inode_of};
+ghost use Rattle.tree_blocks.specs.Inode.{LogicalBlocks, inode_of};
 ghost use Rattle.area_image.specs.Store.{touch_of, length_of, space_of};
 ghost use Rattle.area_move.specs.Lists.{root_for, HasRoots, SpareFits};
 
@@ -25,7 +25,7 @@ pub fn root_for(old: u32, list: &Option<ExtentBlock>, spare: u32) -> u32
 pub fn slot_for(slot: &Slot, found: &InodeExtents, spare: u32) -> Slot
     requires { (inode_of slot.now (λ k. [])).kind ≡ Some kind.File }
     ensures roots { HasRoots found.now spare slot.now result }
-    ensures same { (blocks : Blocks) → inode_of result blocks ≡ inode_of slot.now blocks }
+    ensures same { (blocks : LogicalBlocks) → inode_of result blocks ≡ inode_of slot.now blocks }
     ensures touch { touch_of result ≡ touch_of slot.now }
     ensures long { length_of result ≡ length_of slot.now }
     ensures spaces { (t : Tier) → space_of result t ≡ space_of slot.now t }

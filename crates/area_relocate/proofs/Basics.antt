@@ -13,7 +13,7 @@ use Rattle.layout.specs.declared.slot.Slot.{Slot}
 use Rattle.layout.specs.declared.slot.Slot.TheVariants as slots
 use Rattle.layout.specs.Extents.{ExtentList}
 use Rattle.layout.specs.Places.{Sizes}
-use Rattle.extent_nodes.specs.Places.{place_of, place_in, extent_at}
+use Rattle.extent_nodes.specs.Places.{place_of, place_in, extent_with}
 use Rattle.extent_nodes.specs.Normal.{IsNormal}
 use Rattle.block_map.specs.Map.{TierRuns, runs_in}
 use Rattle.tree_blocks.specs.Inode.{inode_of}
@@ -38,8 +38,8 @@ contains_at (x ∷ xs) y at = elim (cons_cases x xs y at) [
 pub some_block : (es : List Extent) → IsNormal es → es ≢ [] → (k : ℕ) × IsSome (place_of es k)
 some_block [] normal some = absurd (some refl)
 some_block (e ∷ es) normal some =
-    let there : IsSome (option_map (place_in e.logical) (if true then Some e else extent_at e.logical es)) = refl in
-    (e.logical, subst (λ b. IsSome (option_map (place_in e.logical) (if b then Some e else extent_at e.logical es))) (sym (inside e.logical e.length e.logical (omega arith) (omega (arith, normal.rising.1)))) there)
+    let there : IsSome (option_map (place_in e.logical) (if true then Some e else extent_with e.logical es)) = refl in
+    (e.logical, subst (λ b. IsSome (option_map (place_in e.logical) (if b then Some e else extent_with e.logical es))) (sym (inside e.logical e.length e.logical (omega arith) (omega (arith, normal.rising.1)))) there)
 
 pub list_some : (i : ℕ) (m : TierRuns) (t : Tier) (o : Option ExtentList) → IsListOf i m t o → IsSome o → runs_in m t ≢ []
 list_some i m t None is some = absurd (false≢true some)

@@ -27,7 +27,7 @@ use Rattle.area_move.proofs.Given.{cons_cases, cons_here, nothing}
 use Rattle.area_move.proofs.Fits.{tier_is, placed_once, placed_below, placed_apart, placed_within, placed_elsewhere, elsewhere_within}
 use Rattle.area_rewrite.specs.Written.{IsFit}
 use Rattle.area_commit.specs.declared.plan.Rewrite.{Rewrite}
-use Rattle.area_relocate.specs.Made.{first_block, IsSpareFor, IsMovePlan}
+use Rattle.area_relocate.specs.Made.{first_of, IsSpareFor, IsMovePlan}
 use Rattle.area_relocate.proofs.Basics.{some_block, list_some, rootless, data_space, roots_long, roots_space}
 
 -- ---- numbers
@@ -72,18 +72,18 @@ module _ (g : Sizes) (s : Store) (i : ℕ) (to : Tier) (f : MovableRun) (x : Slo
   pub spare_free : (b : ℕ) → Contains (blocks_of plan.taken.nodes.items) b → Free g s tiers.Fast b
   spare_free b at = (p.took.free.nodes b at).0
 
-  spare_node : IsSpareFor (root_of f.slot to) plan.taken.nodes.items → is_root_block g (first_block plan.taken.nodes.items) ≡ true
-  spare_node (inl (some, none)) = subst (λ rs. is_root_block g (first_block rs) ≡ true) (sym none) refl
+  spare_node : IsSpareFor (root_of f.slot to) plan.taken.nodes.items → is_root_block g (first_of plan.taken.nodes.items) ≡ true
+  spare_node (inl (some, none)) = subst (λ rs. is_root_block g (first_of rs) ≡ true) (sym none) refl
   spare_node (inr (zero, is)) =
-      let b = first_block plan.taken.nodes.items in
-      let at : Contains (blocks_of plan.taken.nodes.items) (first_block plan.taken.nodes.items) = subst (λ bs. Contains bs b) (sym is) (cons_here b [] b refl) in
+      let b = first_of plan.taken.nodes.items in
+      let at : Contains (blocks_of plan.taken.nodes.items) (first_of plan.taken.nodes.items) = subst (λ bs. Contains bs b) (sym is) (cons_here b [] b refl) in
       let here = p.took.free.nodes b at in
       or_right (b == 0) (is_node g b) (node_is g b here.0.room.first here.1)
 
-  spare_fresh : IsSpareFor (root_of f.slot to) plan.taken.nodes.items → (t : Tier) → root_of f.slot t ≢ 0 → root_of f.slot t ≢ first_block plan.taken.nodes.items
-  spare_fresh (inl (some, none)) t here same = here (same ∙ ap first_block none)
+  spare_fresh : IsSpareFor (root_of f.slot to) plan.taken.nodes.items → (t : Tier) → root_of f.slot t ≢ 0 → root_of f.slot t ≢ first_of plan.taken.nodes.items
+  spare_fresh (inl (some, none)) t here same = here (same ∙ ap first_of none)
   spare_fresh (inr (zero, is)) t here same =
-      let b = first_block plan.taken.nodes.items in
+      let b = first_of plan.taken.nodes.items in
       free_no_root t b (spare_free b (subst (λ bs. Contains bs b) (sym is) (cons_here b [] b refl))) here (sym same)
 
   -- a tier with extents that had no block for them is the one that the run goes to
@@ -99,7 +99,7 @@ module _ (g : Sizes) (s : Store) (i : ℕ) (to : Tier) (f : MovableRun) (x : Slo
       nowhere t k other zero None at is = false≢true is
       nowhere t k other zero (Some b) at is = none-some b (sym (rootless g s i t k (ap (λ (y : Slot). root_of y t) slot_here ∙ zero)) ∙ (sym (p.file.places t k) ∙ placed_elsewhere f.run.first to (blocks_of (runs_of plan.taken to)) f.map m p.made.placed t other k b at))
 
-  spare_fits : SpareFits g f.slot p.made.lists (first_block plan.taken.nodes.items)
+  spare_fits : SpareFits g f.slot p.made.lists (first_of plan.taken.nodes.items)
   spare_fits = record {
     node = spare_node p.took.spare;
     fresh = spare_fresh p.took.spare;

@@ -10,7 +10,7 @@ use Rattle.layout.specs.Places.{Sizes}
 use Rattle.block_alloc.specs.declared.runs.Run.{Run}
 use Rattle.block_alloc.specs.declared.error.AllocatorError.{AllocatorError}
 use Rattle.block_alloc.specs.declared.error.AllocatorError.TheVariants.{NoBlock}
-use Rattle.block_alloc.specs.Runs.{run_blocks, blocks_of, IsNormal}
+use Rattle.block_alloc.specs.Runs.{run_blocks, blocks_of, AreNormalRuns}
 use Rattle.area_image.specs.Store.{Store, root_of}
 use Rattle.free_pools.specs.Value.{PoolsView, data_pool, HasRanges, AreFree}
 use Rattle.free_pools.specs.declared.taking.Taken.{Taken}
@@ -18,12 +18,12 @@ use Rattle.free_pools.specs.Taking.{runs_of, WereTaken}
 use Rattle.area_move.specs.declared.finding.MovableRun.{MovableRun}
 use Rattle.area_move.specs.Placed.{EndsFit}
 use Rattle.area_commit.specs.Plan.{WereFree}
-use Rattle.area_relocate.specs.Made.{first_block, spare_count, IsSpareFor, IsTakenFor}
+use Rattle.area_relocate.specs.Made.{first_of, spare_count, IsSpareFor, IsTakenFor}
 
 -- ---- runs
 
 -- runs in normal form have a first block each
-pub no_blocks : (low end : ℕ) (rs : List Run) → IsNormal low end rs → blocks_of rs ≡ [] → rs ≡ []
+pub no_blocks : (low end : ℕ) (rs : List Run) → AreNormalRuns low end rs → blocks_of rs ≡ [] → rs ≡ []
 no_blocks low end [] normal none = refl
 no_blocks low end (r ∷ rs) normal none = (let long = ap length none in absurd (omega (arith, long, length-append (run_blocks r) (blocks_of rs), length-range_with_len r.first r.count, normal.1)))
 
@@ -36,16 +36,16 @@ first_is r rest b some is = by r.count refl
         let front : range_with_len r.first (suc n) ++ rest ≡ b ∷ [] = subst (λ c. range_with_len r.first c ++ rest ≡ b ∷ []) same is in
         cc
 
-one_block : (low end : ℕ) (rs : List Run) (b : ℕ) → IsNormal low end rs → blocks_of rs ≡ b ∷ [] → blocks_of rs ≡ first_block rs ∷ []
+one_block : (low end : ℕ) (rs : List Run) (b : ℕ) → AreNormalRuns low end rs → blocks_of rs ≡ b ∷ [] → blocks_of rs ≡ first_of rs ∷ []
 one_block low end [] b normal is = (let long = ap length is in absurd (omega (arith, long)))
 one_block low end (r ∷ rs) b normal is = is ∙ ap (λ k. k ∷ []) (first_is r (blocks_of rs) b normal.1 is)
 
-one_taken : (low end : ℕ) (rs : List Run) (free : List ℕ) → IsNormal low end rs → 1 ≤ length free → blocks_of rs ≡ take 1 free → blocks_of rs ≡ first_block rs ∷ []
+one_taken : (low end : ℕ) (rs : List Run) (free : List ℕ) → AreNormalRuns low end rs → 1 ≤ length free → blocks_of rs ≡ take 1 free → blocks_of rs ≡ first_of rs ∷ []
 one_taken low end rs [] normal some is = absurd (omega (arith, some))
 one_taken low end rs (k ∷ ks) normal some is = one_block low end rs k normal is
 
 -- runs that end by a number of 32 bits
-pub ends_below : (low end : ℕ) (rs : List Run) → end < 2 ^ 32 → IsNormal low end rs → EndsFit rs
+pub ends_below : (low end : ℕ) (rs : List Run) → end < 2 ^ 32 → AreNormalRuns low end rs → EndsFit rs
 ends_below low end [] fits normal = tt
 ends_below low end (r ∷ rs) fits normal = (omega (arith, fits, normal.2), ends_below (r.first + r.count + 1) end rs fits normal.3)
 

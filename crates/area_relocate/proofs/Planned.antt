@@ -9,7 +9,7 @@ use Rattle.tier_device.specs.declared.media.Tier.TheVariants as tiers
 use Rattle.layout.specs.declared.slot.Slot.{Slot}
 use Rattle.layout.specs.Places.{Sizes, IsAllowed, data_first, tier_blocks}
 use Rattle.block_alloc.specs.declared.runs.Run.{Run}
-use Rattle.block_alloc.specs.Runs.{run_blocks, blocks_of, IsNormal}
+use Rattle.block_alloc.specs.Runs.{run_blocks, blocks_of, AreNormalRuns}
 use Rattle.block_map.specs.Map.{TierRuns, HasBlock}
 use Rattle.area_image.specs.Store.{Store, logical}
 use Rattle.area_batch.specs.declared.slots.ChangedSlot.{ChangedSlot}
@@ -51,7 +51,7 @@ module _ (g : Sizes) (s : Store) (i : ℕ) (to : Tier) (f : MovableRun) (bytes :
 
 -- ---- calls
 
-few_runs : (low end : ℕ) (rs : List Run) → IsNormal low end rs → length rs ≤ length (blocks_of rs)
+few_runs : (low end : ℕ) (rs : List Run) → AreNormalRuns low end rs → length rs ≤ length (blocks_of rs)
 few_runs low end [] normal = omega arith
 few_runs low end (r ∷ rs) normal = omega (arith, length-append (run_blocks r) (blocks_of rs), length-range_with_len r.first r.count, normal.1, few_runs (r.first + r.count + 1) end rs normal.3)
 
@@ -59,7 +59,7 @@ one_fence : (rs : List Run) → fences_of rs ≤ 1
 one_fence [] = omega arith
 one_fence (r ∷ rs) = omega arith
 
-calls_in : (low end n : ℕ) (rs : List Run) → IsNormal low end rs → length (blocks_of rs) ≡ n → tier_calls rs ≤ n + 1
+calls_in : (low end n : ℕ) (rs : List Run) → AreNormalRuns low end rs → length (blocks_of rs) ≡ n → tier_calls rs ≤ n + 1
 calls_in low end n rs normal many = omega (arith, few_runs low end rs normal, one_fence rs, many)
 
 module _ (g : Sizes) (s : Store) (f : MovableRun) (to : Tier) (taken : Taken) (took : IsTakenFor g s f to taken) where

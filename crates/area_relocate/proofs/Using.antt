@@ -29,7 +29,7 @@ use Rattle.area_rewrite.specs.Many.{HasBlockFor}
 use Rattle.area_room.specs.Changing.{BlockIsTaken}
 use Rattle.area_commit.specs.declared.plan.Rewrite.{Rewrite}
 use Rattle.area_commit.specs.Plan.{is_changed}
-use Rattle.area_relocate.specs.Made.{first_block, IsSpareFor, IsMovePlan}
+use Rattle.area_relocate.specs.Made.{first_of, IsSpareFor, IsMovePlan}
 use Rattle.area_relocate.proofs.Basics.{contains_at, list_from, no_runs}
 use Rattle.area_relocate.proofs.Fitting.{one_block, node_within, slot_here, spare_free, lacks_to, limits, is_fit, new_data, root_node}
 
@@ -122,36 +122,36 @@ module _ (g : Sizes) (s : Store) (i : ℕ) (to : Tier) (f : MovableRun) (x : Slo
   -- the root of a tier that has extents is the one that it had, or of the tier that the run goes to the one that was taken
   pub data Root (t : Tier) : Type 0 where
     is_kept : root_of f.slot t ≢ 0 → root_of x t ≡ root_of f.slot t → Root t
-    is_new : t ≡ to → root_of f.slot t ≡ 0 → root_of x t ≡ first_block plan.taken.nodes.items → Contains (blocks_of plan.taken.nodes.items) (first_block plan.taken.nodes.items) → Root t
+    is_new : t ≡ to → root_of f.slot t ≡ 0 → root_of x t ≡ first_of plan.taken.nodes.items → Contains (blocks_of plan.taken.nodes.items) (first_of plan.taken.nodes.items) → Root t
 
-  spare_there : IsSpareFor (root_of f.slot to) plan.taken.nodes.items → root_of f.slot to ≡ 0 → Contains (blocks_of plan.taken.nodes.items) (first_block plan.taken.nodes.items)
+  spare_there : IsSpareFor (root_of f.slot to) plan.taken.nodes.items → root_of f.slot to ≡ 0 → Contains (blocks_of plan.taken.nodes.items) (first_of plan.taken.nodes.items)
   spare_there (inl (some, none)) zero = absurd (some zero)
-  spare_there (inr (none, is)) zero = let b = first_block plan.taken.nodes.items in subst (λ bs. Contains bs b) (sym is) (cons_here b [] b refl)
+  spare_there (inr (none, is)) zero = let b = first_of plan.taken.nodes.items in subst (λ bs. Contains bs b) (sym is) (cons_here b [] b refl)
 
-  root_by : (t : Tier) (v : ExtentList) → in_tier p.made.lists t ≡ Some v → root_of x t ≡ root_for (root_of f.slot t) (Some v) (first_block plan.taken.nodes.items) → Root t
+  root_by : (t : Tier) (v : ExtentList) → in_tier p.made.lists t ≡ Some v → root_of x t ≡ root_for (root_of f.slot t) (Some v) (first_of plan.taken.nodes.items) → Root t
   root_by t v is root = elim (cases_Bool (root_of f.slot t == 0)) [
     | inl zero ↦
         let z = eqb-true (root_of f.slot t) 0 zero in
         let some : IsSome (in_tier p.made.lists t) = subst IsSome (sym is) refl in
         let here = lacks_to g s i to f x m plan p t (z, some) in
-        is_new here z (root ∙ cond-true (root_of f.slot t == 0) (first_block plan.taken.nodes.items) (root_of f.slot t) zero) (spare_there p.took.spare (ap (λ (u : Tier). root_of f.slot u) (sym here) ∙ z))
-    | inr some ↦ is_kept (eqb-false (root_of f.slot t) 0 some) (root ∙ cond-false (root_of f.slot t == 0) (first_block plan.taken.nodes.items) (root_of f.slot t) some)
+        is_new here z (root ∙ cond-true (root_of f.slot t == 0) (first_of plan.taken.nodes.items) (root_of f.slot t) zero) (spare_there p.took.spare (ap (λ (u : Tier). root_of f.slot u) (sym here) ∙ z))
+    | inr some ↦ is_kept (eqb-false (root_of f.slot t) 0 some) (root ∙ cond-false (root_of f.slot t == 0) (first_of plan.taken.nodes.items) (root_of f.slot t) some)
   ]
 
   pub root_cases : (t : Tier) → IsSome (in_tier p.made.lists t) → Root t
   root_cases t some =
       let v = some_value (in_tier p.made.lists t) some in
-      root_by t v.0 v.1 (p.made.roots t ∙ ap (λ o. root_for (root_of f.slot t) o (first_block plan.taken.nodes.items)) v.1)
+      root_by t v.0 v.1 (p.made.roots t ∙ ap (λ o. root_for (root_of f.slot t) o (first_of plan.taken.nodes.items)) v.1)
 
   root_is_some : (t : Tier) → Root t → root_of x t ≢ 0
   root_is_some t (is_kept some is) zero = some (sym is ∙ zero)
-  root_is_some t (is_new here none is at) zero = let low = (spare_free g s i to f x m plan p (first_block plan.taken.nodes.items) at).room.first in let e = sym is ∙ zero in omega (arith, low, e)
+  root_is_some t (is_new here none is at) zero = let low = (spare_free g s i to f x m plan p (first_of plan.taken.nodes.items) at).room.first in let e = sym is ∙ zero in omega (arith, low, e)
 
   pub some_root : (t : Tier) → IsSome (in_tier p.made.lists t) → root_of x t ≢ 0
   some_root t some = root_is_some t (root_cases t some)
 
   list_of_root : (t : Tier) → root_of x t ≢ 0 → (o : Option ExtentList) → in_tier p.made.lists t ≡ o → IsSome o
-  list_of_root t some None is = absurd (some (p.made.roots t ∙ ap (λ o. root_for (root_of f.slot t) o (first_block plan.taken.nodes.items)) is))
+  list_of_root t some None is = absurd (some (p.made.roots t ∙ ap (λ o. root_for (root_of f.slot t) o (first_of plan.taken.nodes.items)) is))
   list_of_root t some (Some v) is = refl
 
   pub root_some : (t : Tier) → root_of x t ≢ 0 → IsSome (in_tier p.made.lists t)
@@ -165,7 +165,7 @@ module _ (g : Sizes) (s : Store) (i : ℕ) (to : Tier) (f : MovableRun) (x : Slo
 
   -- ---- what is listed
 
-  listed_by : (t : Tier) (o : Option ExtentList) → in_tier p.made.lists t ≡ o → IsListOf i m t o → root_of x t ≡ root_for (root_of f.slot t) o (first_block plan.taken.nodes.items) → IsListed (with_images plan.nodes (s tiers.Fast)) i (root_of x t) (runs_in m t)
+  listed_by : (t : Tier) (o : Option ExtentList) → in_tier p.made.lists t ≡ o → IsListOf i m t o → root_of x t ≡ root_for (root_of f.slot t) o (first_of plan.taken.nodes.items) → IsListed (with_images plan.nodes (s tiers.Fast)) i (root_of x t) (runs_in m t)
   listed_by t None is list root = inl (root, list)
   listed_by t (Some v) is list root = inr (
     some_root t (subst IsSome (sym is) refl),
@@ -254,7 +254,7 @@ module _ (g : Sizes) (s : Store) (i : ℕ) (to : Tier) (f : MovableRun) (x : Slo
   takes_root : (t : Tier) → root_of x t ≢ 0 → (u : Use) × HasBlockFor (is_changed plan.slots.items) (λ _. x) (λ _. m) u (tiers.Fast, root_of x t)
   takes_root t some = (record { inode = i; tier = t; logical = None }, (changed_here, block_root (root_of x t) some))
 
-  new_root : Root to → root_of f.slot to ≡ 0 → root_of x to ≡ first_block plan.taken.nodes.items
+  new_root : Root to → root_of f.slot to ≡ 0 → root_of x to ≡ first_of plan.taken.nodes.items
   new_root (is_kept some is) zero = absurd (some zero)
   new_root (is_new here none is at) zero = is
 
@@ -264,7 +264,7 @@ module _ (g : Sizes) (s : Store) (i : ℕ) (to : Tier) (f : MovableRun) (x : Slo
     where
       by : IsSpareFor (root_of f.slot to) plan.taken.nodes.items → root_of x to ≡ k
       by (inl (some, none)) = absurd (nothing k (subst (λ rs. Contains (blocks_of rs) k) none at))
-      by (inr (zero, is)) = new_root (root_cases to to_list) zero ∙ sym (one_block k (first_block plan.taken.nodes.items) (subst (λ bs. Contains bs k) is at))
+      by (inr (zero, is)) = new_root (root_cases to to_list) zero ∙ sym (one_block k (first_of plan.taken.nodes.items) (subst (λ bs. Contains bs k) is at))
 
   pub all : (t : Tier) (k : ℕ) → BlockIsTaken plan.taken t k → (u : Use) × HasBlockFor (is_changed plan.slots.items) (λ _. x) (λ _. m) u (t, k)
   all t k (inl (fast, at)) = subst (λ (c : Tier × ℕ). (u : Use) × HasBlockFor (is_changed plan.slots.items) (λ _. x) (λ _. m) u c) (pair fast (spare_is k at)) (takes_root to (some_root to to_list))

@@ -32,13 +32,13 @@ use Rattle.area_commit.specs.Plan.{WereFree, lost_in}
 -- ---- what is taken
 
 -- the first block of some runs, 0 where there is none
-abbrev pub first_block : List Run → ℕ
-first_block [] = 0
-first_block (r ∷ rs) = r.first
+abbrev pub first_of : List Run → ℕ
+first_of [] = 0
+first_of (r ∷ rs) = r.first
 
 -- One block is taken to list extents where none does, else no block.
 abbrev pub IsSpareFor : ℕ → List Run → Type 0
-IsSpareFor root nodes = ((root ≢ 0) × (nodes ≡ [])) ⊎ ((root ≡ 0) × (blocks_of nodes ≡ first_block nodes ∷ []))
+IsSpareFor root nodes = ((root ≢ 0) × (nodes ≡ [])) ⊎ ((root ≡ 0) × (blocks_of nodes ≡ first_of nodes ∷ []))
 
 -- how many blocks are taken to list extents, by the block that does
 abbrev pub spare_count : ℕ → ℕ
@@ -70,9 +70,9 @@ pub record IsMade (i : ℕ) (f : MovableRun) (to : Tier) (taken : Taken) (slots 
   pub placed : ArePlaced f.run.first to (blocks_of (runs_of taken to)) f.map m
   pub normal : (t : Tier) → IsNormal (runs_in m t)
   pub are_lists : AreListsOf i m lists
-  pub roots : HasRoots lists (first_block taken.nodes.items) f.slot x
+  pub roots : HasRoots lists (first_of taken.nodes.items) f.slot x
   pub slot_is : x ≡ with_roots (root_of x) f.slot
-  pub limits : (g : Sizes) → fits_slot g f.slot ≡ true → SpareFits g f.slot lists (first_block taken.nodes.items) → fits_slot g x ≡ true
+  pub limits : (g : Sizes) → fits_slot g f.slot ≡ true → SpareFits g f.slot lists (first_of taken.nodes.items) → fits_slot g x ≡ true
   pub slots_are : slots ≡ record { inode = i; slot = x } ∷ []
   pub images : HasImages x lists nodes
   pub left_is : blocks_of left ≡ roots_left f.slot x

@@ -7,7 +7,7 @@ ghost use Rattle.block_map.specs.Map.{LieBelow};
 ghost use Rattle.tree_blocks.specs.Inode.{inode_of};
 ghost use Rattle.free_pools.specs.Taking.{runs_of};
 ghost use Rattle.area_move.specs.Placed.{EndsFit};
-ghost use Rattle.area_relocate.specs.Made.{first_block, IsMade};
+ghost use Rattle.area_relocate.specs.Made.{first_of, IsMade};
 
 use crate::images::images_of;
 use area_batch::{ChangedSlot, NodeImages};
@@ -39,7 +39,7 @@ fn runs_of(taken: &Taken, tier: Tier) -> &[Run]
 
 // The block of the node pool that was taken, if there is one.
 fn spare_of(taken: &Taken) -> u32
-    ensures { result ≡ first_block taken.now.nodes.items }
+    ensures { result ≡ first_of taken.now.nodes.items }
 {
     if taken.nodes.is_empty() {
         return 0;

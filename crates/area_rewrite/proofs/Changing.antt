@@ -9,7 +9,7 @@ use Rattle.graph_change.specs.Change.{Change}
 use Rattle.layout.specs.declared.slot.Slot.{Slot}
 use Rattle.layout.specs.declared.slot.Slot.TheVariants as slots
 use Rattle.layout.specs.Places.{Sizes}
-use Rattle.tree_blocks.specs.Inode.{Blocks, inode_of, blocks_for}
+use Rattle.tree_blocks.specs.Inode.{LogicalBlocks, inode_of, blocks_for}
 use Rattle.tree_blocks.specs.After.{started}
 use Rattle.tree_blocks.specs.Directory.{EntryBlocks, numbered}
 use Rattle.tree_blocks.specs.FileBlock.{AreWritten}
@@ -21,14 +21,14 @@ use Rattle.area_rewrite.specs.Changed.{place_from, LieAsChanged, IsFileWritten, 
 use Rattle.area_rewrite.proofs.Places.{by_nowhere, by_same}
 
 -- an inode that is some node has the blocks of its slot
-blocks_of_kind : (y : Slot) (b : Blocks) → (inode_of y b).kind ≡ Some kind.File → (inode_of y b).blocks ≡ b
+blocks_of_kind : (y : Slot) (b : LogicalBlocks) → (inode_of y b).kind ≡ Some kind.File → (inode_of y b).blocks ≡ b
 blocks_of_kind slots.Free b is = absurd cc
 blocks_of_kind (slots.File names size touch fast block slow) b is = refl
 blocks_of_kind (slots.Directory names entries touch root) b is = refl
 
 module _ (g : Sizes) (old new : Store) (i : ℕ) (m : TierRuns) (k : ℕ) (same : (t : Tier) (p : ℕ) → lies_at m t k ≡ Some p → new t p ≡ old t p) where
   other_block : (base : Base) → (started base (inode g old i)).kind ≡ Some kind.File → ((t : Tier) → lies_at m t k ≡ place_from base (place g old i t k)) → logical_by new m k ≡ (started base (inode g old i)).blocks k
-  other_block Kept is there = by_same g old new i m k there (λ t p at. same t p (there t ∙ at)) ∙ ap (λ (b : Blocks). b k) (sym (blocks_of_kind (slot g old i) (logical g old i) is))
+  other_block Kept is there = by_same g old new i m k there (λ t p at. same t p (there t ∙ at)) ∙ ap (λ (b : LogicalBlocks). b k) (sym (blocks_of_kind (slot g old i) (logical g old i) is))
   other_block (Made kind) is there = by_nowhere new m k there
   other_block Gone is there = by_nowhere new m k there
 

@@ -6,7 +6,7 @@ use Rattle.tier_device.specs.declared.media.Tier.{Tier}
 use Rattle.layout.specs.declared.slot.Slot.{Slot}
 use Rattle.layout.specs.declared.slot.Slot.TheVariants as slots
 use Rattle.layout.specs.Places.{Sizes}
-use Rattle.tree_blocks.specs.Inode.{Blocks, byte_of, inode_of, AreAlike}
+use Rattle.tree_blocks.specs.Inode.{LogicalBlocks, byte_of, inode_of, AreAlike}
 use Rattle.block_map.specs.Map.{TierRuns, LieBelow}
 use Rattle.area_image.specs.Store.{Store, slot, root_of, length_of, place, logical, inode}
 use Rattle.area_image.specs.Reads.{IsPlaced}
@@ -15,19 +15,19 @@ use Rattle.area_rewrite.specs.Moved.{with_roots, StaysBlock, StaysInode}
 use Rattle.area_rewrite.proofs.Places.{by_nowhere, read_nowhere, none_past}
 
 -- blocks read the same below the length, and there are none from there on
-record StayBlocks (x : Slot) (b c : Blocks) : Type 0 where
+record StayBlocks (x : Slot) (b c : LogicalBlocks) : Type 0 where
   below : (k : ℕ) → k < length_of x → StaysBlock x (b k) (c k)
   old_past : (k : ℕ) → length_of x ≤ k → b k ≡ []
   new_past : (k : ℕ) → length_of x ≤ k → c k ≡ []
 
-same_byte : (names size touch fast block slow : ℕ) (b c : Blocks) → StayBlocks (slots.File names size touch fast block slow) b c → (at : ℕ) → byte_of c at ≡ byte_of b at
+same_byte : (names size touch fast block slow : ℕ) (b c : LogicalBlocks) → StayBlocks (slots.File names size touch fast block slow) b c → (at : ℕ) → byte_of c at ≡ byte_of b at
 unfolding byte_of
 same_byte names size touch fast block slow b c stay at = elim (cases_lt (at / 4096) ((size + 4095) / 4096)) [
   | inl lt ↦ stay.below (at / 4096) lt (at % 4096) (omega arith)
   | inr past ↦ ap (λ l. get_or l (at % 4096) 0) (stay.new_past (at / 4096) past ∙ sym (stay.old_past (at / 4096) past))
 ]
 
-alike_roots : (y : Slot) (roots : Tier → ℕ) (b c : Blocks) → StayBlocks (with_roots roots y) b c → AreAlike (inode_of y b) (inode_of (with_roots roots y) c)
+alike_roots : (y : Slot) (roots : Tier → ℕ) (b c : LogicalBlocks) → StayBlocks (with_roots roots y) b c → AreAlike (inode_of y b) (inode_of (with_roots roots y) c)
 alike_roots slots.Free roots b c stay = record { kind = refl; names = refl; size = refl; blocks = tt }
 alike_roots (slots.File names size touch fast block slow) roots b c stay = record { kind = refl; names = refl; size = refl; blocks = same_byte names size touch _ _ _ b c stay }
 alike_roots (slots.Directory names entries touch root) roots b c stay = record { kind = refl; names = refl; size = refl; blocks = stay.below }

@@ -9,7 +9,7 @@ use Rattle.layout.specs.declared.slot.Slot.{Slot}
 use Rattle.layout.specs.declared.slot.Slot.TheVariants as slots
 use Rattle.layout.specs.Places.{Sizes, is_inode, is_node, node_end}
 use Rattle.layout.specs.Slot.{slot_of}
-use Rattle.tree_blocks.specs.Inode.{Inode, IsConsistent, inode_of, AreAlike, ReadAlike, Blocks}
+use Rattle.tree_blocks.specs.Inode.{Inode, IsConsistent, inode_of, AreAlike, ReadAlike, LogicalBlocks}
 use Rattle.file_graph.specs.declared.effect.Kind.{Kind}
 use Rattle.file_graph.specs.declared.effect.Kind.TheVariants as kind
 use Rattle.block_map.specs.Map.{TierRuns}
@@ -143,7 +143,7 @@ all_consistent g s inodes i = elim (cases_Bool (is_inode i)) [
   | inr other ↦ subst (λ (y : Slot). IsConsistent i (inode_of y (logical g s i))) (sym (no_slot g s i other)) tt
 ]
 
-read_self : (k : Option Kind) (size : ℕ) (b : Blocks) → ReadAlike k size b b
+read_self : (k : Option Kind) (size : ℕ) (b : LogicalBlocks) → ReadAlike k size b b
 read_self None size b = tt
 read_self (Some kind.File) size b = λ at. refl
 read_self (Some kind.Directory) size b = λ k lt. refl

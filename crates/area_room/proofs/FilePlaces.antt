@@ -10,7 +10,7 @@ use Rattle.layout.specs.declared.geometry.Space.TheVariants as space
 use Rattle.layout.specs.declared.extents.Extent.{Extent}
 use Rattle.layout.specs.Extents.{is_extent, is_sound, extents_of}
 use Rattle.layout.specs.Places.{Sizes, is_run, data_first, tier_blocks}
-use Rattle.extent_nodes.specs.Places.{has, place_in, extent_at as first_extent, place_of}
+use Rattle.extent_nodes.specs.Places.{has, place_in, extent_with as first_extent, place_of}
 use Rattle.area_image.specs.Store.{Store, slot, root_of, space_of, length_of, is_own, own_extents, extents_read, place}
 use Rattle.area_image.proofs.Lists.{bind_some, test_some, some_is, extents_fit}
 

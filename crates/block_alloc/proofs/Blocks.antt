@@ -7,7 +7,7 @@ use Rattle.std.proofs.lemmas.List.FromFn.{length-range_with_len}
 use Rattle.std.proofs.Math.Seq.{take-append-add, drop-append-add}
 use Rattle.std.proofs.lemmas.Bool.{cases_lt}
 use Rattle.block_alloc.specs.declared.runs.Run.{Run}
-use Rattle.block_alloc.specs.Runs.{run_blocks, blocks_of, unused, IsNormal, EndsBefore, Rising}
+use Rattle.block_alloc.specs.Runs.{run_blocks, blocks_of, unused, AreNormalRuns, EndsBefore, Rising}
 
 -- ---- ranges
 
@@ -76,21 +76,21 @@ rest_part runs i left d below part =
 
 -- ---- runs in normal form
 
-pub normal-weaker : (low low' end : ℕ) (runs : List Run) → low ≤ low' → IsNormal low' end runs → IsNormal low end runs
+pub normal-weaker : (low low' end : ℕ) (runs : List Run) → low ≤ low' → AreNormalRuns low' end runs → AreNormalRuns low end runs
 normal-weaker low low' end [] below is = tt
 normal-weaker low low' end (r ∷ rs) below is = (omega (arith, below, is.0), is.1, is.2, is.3)
 
-pub normal-drop : (low end i : ℕ) (runs : List Run) → IsNormal low end runs → IsNormal low end (drop i runs)
+pub normal-drop : (low end i : ℕ) (runs : List Run) → AreNormalRuns low end runs → AreNormalRuns low end (drop i runs)
 normal-drop low end zero runs is = is
 normal-drop low end (suc i) [] is = tt
 normal-drop low end (suc i) (r ∷ rs) is = normal-weaker low (r.first + r.count + 1) end (drop i rs) (omega (arith, is.0)) (normal-drop (r.first + r.count + 1) end i rs is.3)
 
-pub normal-trim : (low end left : ℕ) (r : Run) (rs : List Run) → left < r.count → IsNormal low end (r ∷ rs) → IsNormal low end (record { first = r.first + left; count = r.count - left } ∷ rs)
+pub normal-trim : (low end left : ℕ) (r : Run) (rs : List Run) → left < r.count → AreNormalRuns low end (r ∷ rs) → AreNormalRuns low end (record { first = r.first + left; count = r.count - left } ∷ rs)
 normal-trim low end left r rs part is =
     let same : r.first + r.count + 1 ≡ r.first + left + (r.count - left) + 1 = omega (arith, part) in
-    (omega (arith, is.0), omega (arith, part), omega (arith, part, is.2), subst (λ n. IsNormal n end rs) same is.3)
+    (omega (arith, is.0), omega (arith, part), omega (arith, part, is.2), subst (λ n. AreNormalRuns n end rs) same is.3)
 
-pub normal-push : (low end start count : ℕ) (runs : List Run) → IsNormal low end runs → EndsBefore start runs → low ≤ start → 0 < count → start + count ≤ end → IsNormal low end (runs ++ record { first = start; count = count } ∷ [])
+pub normal-push : (low end start count : ℕ) (runs : List Run) → AreNormalRuns low end runs → EndsBefore start runs → low ≤ start → 0 < count → start + count ≤ end → AreNormalRuns low end (runs ++ record { first = start; count = count } ∷ [])
 normal-push low end start count [] is before above some within = (above, some, within, tt)
 normal-push low end start count (r ∷ rs) is before above some within = (is.0, is.1, is.2, normal-push (r.first + r.count + 1) end start count rs is.3 before.1 (omega (arith, before.0)) some within)
 
@@ -117,7 +117,7 @@ rising-range low end a (suc n) ys below within is =
     let same : a + suc n ≡ a + 1 + n = omega arith in
     (below, omega (arith, within), rising-range (a + 1) end (a + 1) n ys (omega arith) (omega (arith, within)) (subst (λ b. Rising b end ys) same is))
 
-pub normal-rising : (low end : ℕ) (runs : List Run) → IsNormal low end runs → Rising low end (blocks_of runs)
+pub normal-rising : (low end : ℕ) (runs : List Run) → AreNormalRuns low end runs → Rising low end (blocks_of runs)
 normal-rising low end [] is = tt
 normal-rising low end (r ∷ rs) is = rising-range low end r.first r.count (blocks_of rs) is.0 is.2 (rising-weaker (r.first + r.count) (r.first + r.count + 1) end (blocks_of rs) (omega arith) (normal-rising (r.first + r.count + 1) end rs is.3))
 
@@ -126,7 +126,7 @@ length-rising low end [] below is = omega (arith, below)
 length-rising low end (k ∷ ks) below is = omega (arith, length-rising (k + 1) end ks (omega (arith, is.1)) is.2, is.0)
 
 -- each run ends within the range
-pub normal-fits : (low end bound : ℕ) (runs : List Run) → end < bound → IsNormal low end runs → AllByRecursion (λ r. r.first + r.count < bound) runs
+pub normal-fits : (low end bound : ℕ) (runs : List Run) → end < bound → AreNormalRuns low end runs → AllByRecursion (λ r. r.first + r.count < bound) runs
 normal-fits low end bound [] below is = tt
 normal-fits low end bound (r ∷ rs) below is = (omega (arith, below, is.2), normal-fits (r.first + r.count + 1) end bound rs below is.3)
 
@@ -141,11 +141,11 @@ trimmed_blocks runs new i left r below is part trimmed =
     let count_is : left ≤ (get_or runs i r).count = subst (λ x. left ≤ x.count) is part in
     ap blocks_of (trimmed ∙ place ∙ ap (λ x. record { first = x.first + left; count = x.count - left } ∷ drop (i + 1) runs) is) ∙ rest_part runs i left r below count_is
 
-pub trimmed_normal : (runs new : List Run) (i left low end : ℕ) (r : Run) → i < length runs → r ≡ get_or runs i r → left < r.count → new ≡ drop i (set runs i (record { first = r.first + left; count = r.count - left })) → IsNormal low end runs → IsNormal low end new
+pub trimmed_normal : (runs new : List Run) (i left low end : ℕ) (r : Run) → i < length runs → r ≡ get_or runs i r → left < r.count → new ≡ drop i (set runs i (record { first = r.first + left; count = r.count - left })) → AreNormalRuns low end runs → AreNormalRuns low end new
 trimmed_normal runs new i left low end r below is part trimmed normal =
     let place = drop-set runs i (record { first = r.first + left; count = r.count - left }) below in
     let front : drop i runs ≡ r ∷ drop (i + 1) runs = drop_more runs i r below ∙ ap (λ x. x ∷ drop (i + 1) runs) (sym is) in
-    subst (IsNormal low end) (sym (trimmed ∙ place)) (normal-trim low end left r (drop (i + 1) runs) part (subst (IsNormal low end) front (normal-drop low end i runs normal)))
+    subst (AreNormalRuns low end) (sym (trimmed ∙ place)) (normal-trim low end left r (drop (i + 1) runs) part (subst (AreNormalRuns low end) front (normal-drop low end i runs normal)))
 
 pub nothing_left : (ks : List ℕ) (n left : ℕ) → left ≡ 0 → take (n + 0) ks ≡ take (n + left) ks
 nothing_left ks n left none = ap (λ k. take (n + k) ks) (sym none)

@@ -6,20 +6,20 @@ use Rattle.std.proofs.lemmas.List.{take_at, drop_at, set_at, get_or_at, drop_mor
 use Rattle.std.proofs.lemmas.List.Concat.{flat_map-append}
 use Rattle.std.proofs.lemmas.List.FromFn.{length-range_with_len}
 use Rattle.block_alloc.specs.declared.runs.Run.{Run}
-use Rattle.block_alloc.specs.Runs.{run_blocks, blocks_of, IsNormal, EndsBefore, Apart, PutIn, Seamed}
+use Rattle.block_alloc.specs.Runs.{run_blocks, blocks_of, AreNormalRuns, EndsBefore, Apart, PutIn, Seamed}
 use Rattle.block_alloc.proofs.Blocks.{range-split, split_blocks, blocks-push}
 
 -- ---- normal form, put together
 
-pub normal-two : (low end : ℕ) (front : List Run) (r : Run) (rest : List Run) → IsNormal low end (front ++ r ∷ []) → IsNormal (r.first + r.count + 1) end rest → IsNormal low end (front ++ r ∷ rest)
+pub normal-two : (low end : ℕ) (front : List Run) (r : Run) (rest : List Run) → AreNormalRuns low end (front ++ r ∷ []) → AreNormalRuns (r.first + r.count + 1) end rest → AreNormalRuns low end (front ++ r ∷ rest)
 normal-two low end [] r rest is after = (is.0, is.1, is.2, after)
 normal-two low end (x ∷ xs) r rest is after = (is.0, is.1, is.2, normal-two (x.first + x.count + 1) end xs r rest is.3 after)
 
-pub last-replaced : (low end : ℕ) (front : List Run) (r j : Run) → IsNormal low end (front ++ r ∷ []) → j.first ≡ r.first → 0 < j.count → j.first + j.count ≤ end → IsNormal low end (front ++ j ∷ [])
+pub last-replaced : (low end : ℕ) (front : List Run) (r j : Run) → AreNormalRuns low end (front ++ r ∷ []) → j.first ≡ r.first → 0 < j.count → j.first + j.count ≤ end → AreNormalRuns low end (front ++ j ∷ [])
 last-replaced low end [] r j is same some within = (omega (arith, is.0, same), some, within, tt)
 last-replaced low end (x ∷ xs) r j is same some within = (is.0, is.1, is.2, last-replaced (x.first + x.count + 1) end xs r j is.3 same some within)
 
-pub last-within : (low end : ℕ) (front : List Run) (r : Run) → IsNormal low end (front ++ r ∷ []) → (0 < r.count) × (r.first + r.count ≤ end) × (low ≤ r.first)
+pub last-within : (low end : ℕ) (front : List Run) (r : Run) → AreNormalRuns low end (front ++ r ∷ []) → (0 < r.count) × (r.first + r.count ≤ end) × (low ≤ r.first)
 last-within low end [] r is = (is.1, is.2, is.0)
 last-within low end (x ∷ xs) r is = let rest = last-within (x.first + x.count + 1) end xs r is.3 in (rest.0, rest.1, omega (arith, rest.2, is.0))
 
@@ -45,10 +45,10 @@ pub record Met (low end place : ℕ) (runs : List Run) (r t : Run) : Type 0 wher
   pub rest : List Run
   pub parts : runs ≡ front ++ r ∷ t ∷ rest
   pub place_is : length front ≡ place
-  pub before : IsNormal low end (front ++ r ∷ [])
-  pub after : IsNormal (r.first + r.count) end (t ∷ rest)
+  pub before : AreNormalRuns low end (front ++ r ∷ [])
+  pub after : AreNormalRuns (r.first + r.count) end (t ∷ rest)
 
-met_by : (low end place : ℕ) (runs front rest : List Run) (run r t : Run) → runs ≡ front ++ run ∷ rest → length front ≡ place → IsNormal low end (front ++ run ∷ []) → IsNormal (run.first + run.count) end rest → place + 1 < length runs → r ≡ get_or runs place r → t ≡ get_or runs (place + 1) t → Met low end place runs r t
+met_by : (low end place : ℕ) (runs front rest : List Run) (run r t : Run) → runs ≡ front ++ run ∷ rest → length front ≡ place → AreNormalRuns low end (front ++ run ∷ []) → AreNormalRuns (run.first + run.count) end rest → place + 1 < length runs → r ≡ get_or runs place r → t ≡ get_or runs (place + 1) t → Met low end place runs r t
 met_by low end place runs front [] run r t parts at before after room is_r is_t = absurd (omega (arith, ap length parts, length-append front (run ∷ []), at, room))
 met_by low end place runs front (x ∷ xs) run r t parts at before after room is_r is_t =
     let first : r ≡ run = is_r ∙ ap (λ l. get_or l place r) parts ∙ get_or_at front run (x ∷ xs) r place at in
@@ -59,18 +59,18 @@ met_by low end place runs front (x ∷ xs) run r t parts at before after room is
       rest = xs;
       parts = parts ∙ sym (λ i. front ++ first i ∷ second i ∷ xs);
       place_is = at;
-      before = subst (λ y. IsNormal low end (front ++ y ∷ [])) (sym first) before;
-      after = subst (λ y. IsNormal (y.first + y.count) end (t ∷ xs)) (sym first) (subst (λ y. IsNormal (run.first + run.count) end (y ∷ xs)) (sym second) after);
+      before = subst (λ y. AreNormalRuns low end (front ++ y ∷ [])) (sym first) before;
+      after = subst (λ y. AreNormalRuns (y.first + y.count) end (t ∷ xs)) (sym first) (subst (λ y. AreNormalRuns (run.first + run.count) end (y ∷ xs)) (sym second) after);
     }
 
 pub met : (low end place : ℕ) (runs : List Run) (r t : Run) → Seamed low end place runs → place + 1 < length runs → r ≡ get_or runs place r → t ≡ get_or runs (place + 1) t → Met low end place runs r t
 met low end place runs r t seam room is_r is_t = met_by low end place runs seam.front seam.rest seam.run r t seam.parts seam.place_is seam.before seam.after room is_r is_t
 
 -- they do not touch: nothing is to be done
-pub apart_normal : (low end place : ℕ) (runs : List Run) (r t : Run) → Met low end place runs r t → (r.first + r.count ≡ t.first → ⊥) → IsNormal low end runs
+pub apart_normal : (low end place : ℕ) (runs : List Run) (r t : Run) → Met low end place runs r t → (r.first + r.count ≡ t.first → ⊥) → AreNormalRuns low end runs
 apart_normal low end place runs r t m apart =
     let gap : r.first + r.count + 1 ≤ t.first = elim (cases_lt (r.first + r.count) t.first) [ inl below ↦ omega (arith, below) | inr past ↦ absurd (apart (omega (arith, past, m.after.0))) ] in
-    subst (IsNormal low end) (sym m.parts) (normal-two low end m.front r (t ∷ m.rest) m.before (gap, m.after.1, m.after.2, m.after.3))
+    subst (AreNormalRuns low end) (sym m.parts) (normal-two low end m.front r (t ∷ m.rest) m.before (gap, m.after.1, m.after.2, m.after.3))
 
 joined_list : (low end place : ℕ) (runs new : List Run) (r t j : Run) (m : Met low end place runs r t) → new ≡ take (place + 1) (set runs place j) ++ drop (suc (place + 1)) (set runs place j) → new ≡ m.front ++ j ∷ m.rest
 joined_list low end place runs new r t j m is =
@@ -85,13 +85,13 @@ joined_same_blocks low end place runs new r t m touch is =
     ∙ ap (λ xs. blocks_of m.front ++ xs) (append_assoc (run_blocks r) (run_blocks t) (blocks_of m.rest))
     ∙ sym (blocks_around m.front (t ∷ m.rest) r) ∙ ap blocks_of (sym m.parts)
 
-pub joined_normal : (low end place : ℕ) (runs new : List Run) (r t : Run) → Met low end place runs r t → r.first + r.count ≡ t.first → new ≡ take (place + 1) (set runs place (record { first = r.first; count = r.count + t.count })) ++ drop (suc (place + 1)) (set runs place (record { first = r.first; count = r.count + t.count })) → IsNormal low end new
+pub joined_normal : (low end place : ℕ) (runs new : List Run) (r t : Run) → Met low end place runs r t → r.first + r.count ≡ t.first → new ≡ take (place + 1) (set runs place (record { first = r.first; count = r.count + t.count })) ++ drop (suc (place + 1)) (set runs place (record { first = r.first; count = r.count + t.count })) → AreNormalRuns low end new
 joined_normal low end place runs new r t m touch is =
     let j : Run = record { first = r.first; count = r.count + t.count } in
     let last = last-within low end m.front r m.before in
     let ends : t.first + t.count + 1 ≡ r.first + (r.count + t.count) + 1 = omega (arith, touch) in
     let before = last-replaced low end m.front r j m.before refl (omega (arith, last.0)) (omega (arith, m.after.2, touch)) in
-    subst (IsNormal low end) (sym (joined_list low end place runs new r t j m is)) (normal-two low end m.front j m.rest before (subst (λ n. IsNormal n end m.rest) ends m.after.3))
+    subst (AreNormalRuns low end) (sym (joined_list low end place runs new r t j m is)) (normal-two low end m.front j m.rest before (subst (λ n. AreNormalRuns n end m.rest) ends m.after.3))
 
 -- ---- a run that is put in
 
@@ -126,15 +126,15 @@ apart_front run front rest s apart =
     let tail = all_right P (blocks_of front) (run_blocks s ++ blocks_of rest) (subst (AllByRecursion P) (flat_map-append run_blocks front (s ∷ rest)) apart) in
     (all_left P (run_blocks s) (blocks_of rest) tail, all_right P (run_blocks s) (blocks_of rest) tail)
 
-pub normal_tail : (low end : ℕ) (front rest : List Run) (s : Run) → IsNormal low end (front ++ s ∷ rest) → IsNormal low end (front ++ s ∷ []) × IsNormal (s.first + s.count + 1) end rest
+pub normal_tail : (low end : ℕ) (front rest : List Run) (s : Run) → AreNormalRuns low end (front ++ s ∷ rest) → AreNormalRuns low end (front ++ s ∷ []) × AreNormalRuns (s.first + s.count + 1) end rest
 normal_tail low end [] rest s is = ((is.0, is.1, is.2, tt), is.3)
 normal_tail low end (x ∷ xs) rest s is = let t = normal_tail (x.first + x.count + 1) end xs rest s is.3 in ((is.0, is.1, is.2, t.0), t.1)
 
-pub normal_front : (low end : ℕ) (front rest : List Run) → IsNormal low end (front ++ rest) → IsNormal low end front
+pub normal_front : (low end : ℕ) (front rest : List Run) → AreNormalRuns low end (front ++ rest) → AreNormalRuns low end front
 normal_front low end [] rest is = tt
 normal_front low end (x ∷ xs) rest is = (is.0, is.1, is.2, normal_front (x.first + x.count + 1) end xs rest is.3)
 
-normal_rest : (low end f : ℕ) (front rest : List Run) → low ≤ f → EndsBefore f front → IsNormal low end (front ++ rest) → ((s : Run) (ss : List Run) → rest ≡ s ∷ ss → f ≤ s.first) → IsNormal f end rest
+normal_rest : (low end f : ℕ) (front rest : List Run) → low ≤ f → EndsBefore f front → AreNormalRuns low end (front ++ rest) → ((s : Run) (ss : List Run) → rest ≡ s ∷ ss → f ≤ s.first) → AreNormalRuns f end rest
 normal_rest low end f front [] below before is late = tt
 normal_rest low end f front (s ∷ ss) below before is late = let t = normal_tail low end front ss s is in let w = last-within low end front s t.0 in (late s ss refl, w.0, w.1, t.1)
 
@@ -150,11 +150,11 @@ inserted_blocks runs place run =
     put_in_parts (blocks_of runs) _ (blocks_of (take place runs)) (run_blocks run) (blocks_of (drop place runs)) (split_blocks runs place)
     (flat_map-append run_blocks (take place runs) (run ∷ drop place runs) ∙ sym (append_assoc (blocks_of (take place runs)) (run_blocks run) (blocks_of (drop place runs))))
 
-normal_pushed : (low end : ℕ) (front : List Run) (run : Run) → IsNormal low end front → EndsBefore run.first front → low ≤ run.first → 0 < run.count → run.first + run.count ≤ end → IsNormal low end (front ++ run ∷ [])
+normal_pushed : (low end : ℕ) (front : List Run) (run : Run) → AreNormalRuns low end front → EndsBefore run.first front → low ≤ run.first → 0 < run.count → run.first + run.count ≤ end → AreNormalRuns low end (front ++ run ∷ [])
 normal_pushed low end [] run is before above some within = (above, some, within, tt)
 normal_pushed low end (r ∷ rs) run is before above some within = (is.0, is.1, is.2, normal_pushed (r.first + r.count + 1) end rs run is.3 before.1 (omega (arith, before.0)) some within)
 
-late_rest : (low end : ℕ) (run : Run) (front rest : List Run) → 0 < run.count → low ≤ run.first → IsNormal low end (front ++ rest) → EndsBefore run.first front → Apart run (blocks_of (front ++ rest)) → ((s : Run) (ss : List Run) → rest ≡ s ∷ ss → run.first ≤ s.first) → IsNormal (run.first + run.count) end rest
+late_rest : (low end : ℕ) (run : Run) (front rest : List Run) → 0 < run.count → low ≤ run.first → AreNormalRuns low end (front ++ rest) → EndsBefore run.first front → Apart run (blocks_of (front ++ rest)) → ((s : Run) (ss : List Run) → rest ≡ s ∷ ss → run.first ≤ s.first) → AreNormalRuns (run.first + run.count) end rest
 late_rest low end run front [] some above is before apart late = tt
 late_rest low end run front (s ∷ ss) some above is before apart late =
     let t = normal_tail low end front ss s is in
@@ -165,11 +165,11 @@ late_rest low end run front (s ∷ ss) some above is before apart late =
 head_of : (runs : List Run) (place : ℕ) (s : Run) (ss : List Run) (d : Run) → drop place runs ≡ s ∷ ss → place < length runs → get_or runs place d ≡ s
 head_of runs place s ss d is below = ap (λ l. get_or l 0 d) (sym (drop_more runs place d below) ∙ is)
 
-pub inserted_seam : (low end : ℕ) (runs : List Run) (place : ℕ) (run : Run) → place ≤ length runs → 0 < run.count → low ≤ run.first → run.first + run.count ≤ end → IsNormal low end runs → EndsBefore run.first (take place runs) → Apart run (blocks_of runs)
+pub inserted_seam : (low end : ℕ) (runs : List Run) (place : ℕ) (run : Run) → place ≤ length runs → 0 < run.count → low ≤ run.first → run.first + run.count ≤ end → AreNormalRuns low end runs → EndsBefore run.first (take place runs) → Apart run (blocks_of runs)
     → ((d : Run) → place < length runs → run.first ≤ (get_or runs place d).first) → Seamed low end place (take place runs ++ run ∷ drop place runs)
 inserted_seam low end runs place run within some above fits is before apart late =
     let whole : runs ≡ take place runs ++ drop place runs = sym (take-append-drop place runs) in
-    let parts = subst (IsNormal low end) whole is in
+    let parts = subst (AreNormalRuns low end) whole is in
     let later : (s : Run) (ss : List Run) → drop place runs ≡ s ∷ ss → run.first ≤ s.first = λ s ss e. let below : place < length runs = place_within runs place s ss e in subst (λ x. run.first ≤ x.first) (head_of runs place s ss run e below) (late run below) in
     record {
       front = take place runs;
@@ -195,10 +195,10 @@ set_at_place : (runs : List Run) (place : ℕ) (s j : Run) → place < length ru
 set_at_place runs place s j below is = ap (λ l. set l place j) (split_at runs place s below is) ∙ set_at (take place runs) s (drop (place + 1) runs) j place (length-take-le place runs (omega (arith, below)))
 
 -- it begins where that one ends
-pub touches : (low end : ℕ) (runs : List Run) (place : ℕ) (run s : Run) → place < length runs → s ≡ get_or runs place s → 0 < run.count → IsNormal low end runs → Apart run (blocks_of runs) → s.first < run.first → run.first ≤ s.first + s.count → s.first + s.count ≡ run.first
+pub touches : (low end : ℕ) (runs : List Run) (place : ℕ) (run s : Run) → place < length runs → s ≡ get_or runs place s → 0 < run.count → AreNormalRuns low end runs → Apart run (blocks_of runs) → s.first < run.first → run.first ≤ s.first + s.count → s.first + s.count ≡ run.first
 touches low end runs place run s below is some normal apart starts ends =
     let parts = split_at runs place s below is in
-    let t = normal_tail low end (take place runs) (drop (place + 1) runs) s (subst (IsNormal low end) parts normal) in
+    let t = normal_tail low end (take place runs) (drop (place + 1) runs) s (subst (AreNormalRuns low end) parts normal) in
     let w = last-within low end (take place runs) s t.0 in
     elim (apart_runs run s some w.0 (apart_front run (take place runs) (drop (place + 1) runs) s (subst (λ l. Apart run (blocks_of l)) parts apart)).0) [ inl h ↦ omega (arith, h, ends) | inr h ↦ absurd (omega (arith, h, starts)) ]
 
@@ -212,14 +212,14 @@ grown_blocks runs place run s below is touch =
     (ap blocks_of (set_at_place runs place s j below is) ∙ blocks_around front rest j ∙ ap (λ xs. blocks_of front ++ (xs ++ blocks_of rest)) (joined_blocks s run touch)
     ∙ sym (append_assoc (blocks_of front) (run_blocks s ++ run_blocks run) (blocks_of rest)) ∙ ap (λ xs. xs ++ blocks_of rest) (sym (append_assoc (blocks_of front) (run_blocks s) (run_blocks run))))
 
-pub grown_seam : (low end : ℕ) (runs : List Run) (place : ℕ) (run s : Run) → place < length runs → s ≡ get_or runs place s → 0 < run.count → run.first + run.count ≤ end → IsNormal low end runs → Apart run (blocks_of runs) → s.first + s.count ≡ run.first
+pub grown_seam : (low end : ℕ) (runs : List Run) (place : ℕ) (run s : Run) → place < length runs → s ≡ get_or runs place s → 0 < run.count → run.first + run.count ≤ end → AreNormalRuns low end runs → Apart run (blocks_of runs) → s.first + s.count ≡ run.first
     → Seamed low end place (set runs place (record { first = s.first; count = s.count + run.count }))
 grown_seam low end runs place run s below is some fits normal apart touch =
     let j : Run = record { first = s.first; count = s.count + run.count } in
     let front = take place runs in
     let rest = drop (place + 1) runs in
     let parts = split_at runs place s below is in
-    let t = normal_tail low end front rest s (subst (IsNormal low end) parts normal) in
+    let t = normal_tail low end front rest s (subst (AreNormalRuns low end) parts normal) in
     let sum : run.first + run.count ≡ s.first + (s.count + run.count) = omega (arith, touch) in
     record {
       front = front;
@@ -228,22 +228,22 @@ grown_seam low end runs place run s below is some fits normal apart touch =
       parts = set_at_place runs place s j below is;
       place_is = length-take-le place runs (omega (arith, below));
       before = last-replaced low end front s j t.0 refl (omega (arith, some)) (omega (arith, fits, touch));
-      after = subst (λ n. IsNormal n end rest) sum (behind low end run s rest some touch t.1 (apart_front run front rest s (subst (λ l. Apart run (blocks_of l)) parts apart)).1);
+      after = subst (λ n. AreNormalRuns n end rest) sum (behind low end run s rest some touch t.1 (apart_front run front rest s (subst (λ l. Apart run (blocks_of l)) parts apart)).1);
     }
   where
-    behind : (low end : ℕ) (run s : Run) (rest : List Run) → 0 < run.count → s.first + s.count ≡ run.first → IsNormal (s.first + s.count + 1) end rest → Apart run (blocks_of rest) → IsNormal (run.first + run.count) end rest
+    behind : (low end : ℕ) (run s : Run) (rest : List Run) → 0 < run.count → s.first + s.count ≡ run.first → AreNormalRuns (s.first + s.count + 1) end rest → Apart run (blocks_of rest) → AreNormalRuns (run.first + run.count) end rest
     behind low end run s [] some touch is apart = tt
     behind low end run s (t ∷ ts) some touch is apart =
         let P : ℕ → Type 0 = λ k. (k < run.first) ⊎ (run.first + run.count ≤ k) in
         let late : run.first + run.count ≤ t.first = elim (apart_runs run t some is.1 (all_left P (run_blocks t) (blocks_of ts) apart)) [ inl h ↦ absurd (omega (arith, h, is.0, touch)) | inr h ↦ h ] in
         (late, is.1, is.2, is.3)
 
-pub normal-at : (low end i : ℕ) (runs : List Run) (r : Run) → IsNormal low end runs → i < length runs → (get_or runs i r).first + (get_or runs i r).count ≤ end
+pub normal-at : (low end i : ℕ) (runs : List Run) (r : Run) → AreNormalRuns low end runs → i < length runs → (get_or runs i r).first + (get_or runs i r).count ≤ end
 normal-at low end i [] r is below = absurd (omega (arith, below))
 normal-at low end zero (x ∷ xs) r is below = is.2
 normal-at low end (suc i) (x ∷ xs) r is below = normal-at (x.first + x.count + 1) end i xs r is.3 (omega (arith, below))
 
-pub normal-wider : (low end low' end' : ℕ) (runs : List Run) → low' ≤ low → end ≤ end' → IsNormal low end runs → IsNormal low' end' runs
+pub normal-wider : (low end low' end' : ℕ) (runs : List Run) → low' ≤ low → end ≤ end' → AreNormalRuns low end runs → AreNormalRuns low' end' runs
 normal-wider low end low' end' [] below above is = tt
 normal-wider low end low' end' (r ∷ rs) below above is = (omega (arith, below, is.0), is.1, omega (arith, above, is.2), normal-wider (r.first + r.count + 1) end (r.first + r.count + 1) end' rs (omega arith) above is.3)
 
@@ -278,7 +278,7 @@ apart_more run runs i d below before next =
     let P : ℕ → Type 0 = λ k. (k < run.first) ⊎ (run.first + run.count ≤ k) in
     subst (AllByRecursion P) (sym (ap blocks_of (take_more runs i d below) ∙ blocks-push (take i runs) (get_or runs i d))) (all_append P (blocks_of (take i runs)) (run_blocks (get_or runs i d)) before next)
 
-pub overlap_refused : (low end : ℕ) (run : Run) (runs : List Run) (i : ℕ) (d : Run) → 0 < run.count → IsNormal low end runs → i < length runs → ((get_or runs i d).first < run.first + run.count) × (run.first < (get_or runs i d).first + (get_or runs i d).count) → Apart run (blocks_of runs) → ⊥
+pub overlap_refused : (low end : ℕ) (run : Run) (runs : List Run) (i : ℕ) (d : Run) → 0 < run.count → AreNormalRuns low end runs → i < length runs → ((get_or runs i d).first < run.first + run.count) × (run.first < (get_or runs i d).first + (get_or runs i d).count) → Apart run (blocks_of runs) → ⊥
 overlap_refused low end run [] i d some normal below meet apart = omega (arith, below)
 overlap_refused low end run (s ∷ ss) zero d some normal below meet apart =
     elim (apart_runs run s some normal.1 (apart_front run [] ss s apart).0) [ inl h ↦ omega (arith, h, meet.1) | inr h ↦ omega (arith, h, meet.0) ]

@@ -31,9 +31,9 @@ abbrev pub PutIn : List ℕ → List ℕ → List ℕ → Type 0
 PutIn old piece new = (n : ℕ) × (new ≡ take n old ++ piece ++ drop n old)
 
 -- Runs that rise from low on and end by end; none is empty, and between two of them stands a block that is of neither.
-abbrev pub IsNormal : ℕ → ℕ → List Run → Type 0
-IsNormal low end [] = Unit {0}
-IsNormal low end (r ∷ rs) = (low ≤ r.first) × (0 < r.count) × (r.first + r.count ≤ end) × IsNormal (r.first + r.count + 1) end rs
+abbrev pub AreNormalRuns : ℕ → ℕ → List Run → Type 0
+AreNormalRuns low end [] = Unit {0}
+AreNormalRuns low end (r ∷ rs) = (low ≤ r.first) × (0 < r.count) × (r.first + r.count ≤ end) × AreNormalRuns (r.first + r.count + 1) end rs
 
 -- each of the runs ends before a block, with another between
 abbrev pub EndsBefore : ℕ → List Run → Type 0
@@ -46,8 +46,8 @@ pub record Seamed (low end place : ℕ) (runs : List Run) : Type 0 where
   pub rest : List Run
   pub parts : runs ≡ front ++ run ∷ rest
   pub place_is : length front ≡ place
-  pub before : IsNormal low end (front ++ run ∷ [])
-  pub after : IsNormal (run.first + run.count) end rest
+  pub before : AreNormalRuns low end (front ++ run ∷ [])
+  pub after : AreNormalRuns (run.first + run.count) end rest
 
 -- the largest bounds that runs of numbers of 32 bits have
 abbrev pub IsSeamed : ℕ → List Run → Type 0

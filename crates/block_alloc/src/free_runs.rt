@@ -1,5 +1,5 @@
 ghost use Rattle.std.specs.Prelude.{◌≡◌, ◌+◌, ◌<◌, ◌≤◌, ◌^◌, length, take, drop, IfOk, IsErrOf, OnOk, OnErr, IsOk, ◌⊎◌, ◌↔◌, IsTrue};
-ghost use Rattle.block_alloc.specs.Runs.{run_blocks, blocks_of, unused, IsNormal, PutIn};
+ghost use Rattle.block_alloc.specs.Runs.{run_blocks, blocks_of, unused, AreNormalRuns, PutIn};
 ghost use Rattle.block_alloc.specs.Value.{IsUsed, InOrder, SamePool};
 ghost use Rattle.block_alloc.specs.declared.error.AllocatorError.TheVariants.{NoBlock, Memory};
 
@@ -65,7 +65,7 @@ impl FreeRuns {
     /// answer found no room: nothing has changed then.
     pub fn take(&mut self, count: u32) -> Result<Vec<Run>, AllocatorError>
         // Each run has a block or more, and between two of them stands a block that is of neither.
-        ensures apart { IfOk result (λ runs. IsNormal self.old.first self.old.end runs.items) }
+        ensures apart { IfOk result (λ runs. AreNormalRuns self.old.first self.old.end runs.items) }
         ensures taken { IfOk result (λ runs. blocks_of runs.items ≡ take count self.old.free) }
         ensures enough { OnOk result (count ≤ length self.old.free) }
         ensures rest { OnOk result (self.new.free ≡ drop count self.old.free) }

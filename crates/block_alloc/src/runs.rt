@@ -1,7 +1,7 @@
 // Work on lists of runs.
 ghost use Rattle.std.specs.Prelude.{◌≡◌, ◌+◌, ◌-◌, ◌≤◌, ◌<◌, ◌^◌, ◌++◌, ◌∷◌, [], ◌↔◌, ◌⊎◌, length, take, drop, IsTrue, IfOk, OnOk, OnErr, IsOk, vec_len, vec_capacity, slice_set, slice_index_or, ℕ, false};
 ghost use Rattle.std.specs.List.{range_with_len, AllByRecursion};
-ghost use Rattle.block_alloc.specs.Runs.{run_blocks, blocks_of, unused, IsNormal, EndsBefore, Apart, PutIn, Seamed, IsSeamed};
+ghost use Rattle.block_alloc.specs.Runs.{run_blocks, blocks_of, unused, AreNormalRuns, EndsBefore, Apart, PutIn, Seamed, IsSeamed};
 
 use std::alloc::{AllocError, Global};
 
@@ -47,7 +47,7 @@ pub fn front_of(alloc: Global, runs: &[Run], split: Split) -> Result<Vec<Run>, A
     requires none { length runs.now ≤ split.whole → split.left ≡ 0 }
     requires few { length runs.now < 2 ^ 60 }
     ensures blocks { IfOk result (λ v. blocks_of v.items ≡ take (length (blocks_of (take split.whole runs.now)) + split.left) (blocks_of runs.now)) }
-    ensures normal { IfOk result (λ v. (low end : ℕ) → IsNormal low end runs.now → IsNormal low end v.items) }
+    ensures normal { IfOk result (λ v. (low end : ℕ) → AreNormalRuns low end runs.now → AreNormalRuns low end v.items) }
     ensures len { IfOk result (λ v. length v.items ≤ split.whole + 1) }
 {
     let mut front = Vec::with_capacity(alloc, split.whole + 1)?;
@@ -82,7 +82,7 @@ pub fn drop_front(runs: &mut Vec<Run>, split: Split)
     requires none { vec_len runs.old ≤ split.whole → split.left ≡ 0 }
     requires fits { (i : ℕ) (r : Run) → i < vec_len runs.old → (slice_index_or runs.old.items i r).first + (slice_index_or runs.old.items i r).count < 2 ^ 32 }
     ensures blocks { blocks_of runs.new.items ≡ drop (length (blocks_of (take split.whole runs.old.items)) + split.left) (blocks_of runs.old.items) }
-    ensures normal { (low end : ℕ) → IsNormal low end runs.old.items → IsNormal low end runs.new.items }
+    ensures normal { (low end : ℕ) → AreNormalRuns low end runs.old.items → AreNormalRuns low end runs.new.items }
     ensures len { vec_len runs.new + split.whole ≡ vec_len runs.old }
     ensures capacity { vec_capacity runs.new ≡ vec_capacity runs.old }
 {
@@ -102,7 +102,7 @@ pub fn drop_front(runs: &mut Vec<Run>, split: Split)
 fn close_run(runs: &mut Vec<Run>, end: u32, count: u32) -> Result<(), AllocError>
     requires { count ≤ end }
     ensures blocks { OnOk result (blocks_of runs.new.items ≡ blocks_of runs.old.items ++ range_with_len (end - count) count) }
-    ensures normal { OnOk result ((low bound : ℕ) → IsNormal low bound runs.old.items → EndsBefore (end - count) runs.old.items → low ≤ end - count → end ≤ bound → IsNormal low bound runs.new.items × EndsBefore (end + 1) runs.new.items) }
+    ensures normal { OnOk result ((low bound : ℕ) → AreNormalRuns low bound runs.old.items → EndsBefore (end - count) runs.old.items → low ≤ end - count → end ≤ bound → AreNormalRuns low bound runs.new.items × EndsBefore (end + 1) runs.new.items) }
 {
     if 0 < count {
         runs.push(Run {
@@ -117,7 +117,7 @@ fn close_run(runs: &mut Vec<Run>, end: u32, count: u32) -> Result<(), AllocError
 pub fn unused_runs(alloc: Global, first: u32, used: &[bool]) -> Result<Vec<Run>, AllocError>
     requires { first + length used.now < 2 ^ 32 }
     ensures blocks { IfOk result (λ v. blocks_of v.items ≡ unused first used.now) }
-    ensures normal { IfOk result (λ v. IsNormal first (first + length used.now) v.items) }
+    ensures normal { IfOk result (λ v. AreNormalRuns first (first + length used.now) v.items) }
 {
     let mut runs = Vec::new(alloc);
     let mut count = 0;
@@ -147,7 +147,7 @@ pub fn count_of(runs: &[Run]) -> u32
 
 // How many runs end before a block, with another block between.
 fn place_of(runs: &[Run], block: u32) -> usize
-    requires { IsNormal 0 4294967295 runs.now }
+    requires { AreNormalRuns 0 4294967295 runs.now }
     ensures within { result ≤ length runs.now }
     ensures before { EndsBefore block (take result runs.now) }
     ensures next { (r : Run) → result < length runs.now → block ≤ (slice_index_or runs.now result r).first + (slice_index_or runs.now result r).count }
@@ -159,7 +159,7 @@ fn place_of(runs: &[Run], block: u32) -> usize
 fn join_next(runs: &mut Vec<Run>, place: usize)
     requires { IsSeamed place runs.old.items }
     ensures blocks { blocks_of runs.new.items ≡ blocks_of runs.old.items }
-    ensures normal { (low end : ℕ) → Seamed low end place runs.old.items → IsNormal low end runs.new.items }
+    ensures normal { (low end : ℕ) → Seamed low end place runs.old.items → AreNormalRuns low end runs.new.items }
     ensures len { vec_len runs.new ≤ vec_len runs.old }
     ensures capacity { vec_capacity runs.new ≡ vec_capacity runs.old }
 {
@@ -193,12 +193,12 @@ fn grow(runs: &mut Vec<Run>, place: usize, run: Run)
     requires within { place < vec_len runs.old }
     requires some { 0 < run.count }
     requires fits { run.first + run.count < 2 ^ 32 }
-    requires normal { IsNormal 0 4294967295 runs.old.items }
+    requires normal { AreNormalRuns 0 4294967295 runs.old.items }
     requires apart { Apart run (blocks_of runs.old.items) }
     requires before { (r : Run) → (slice_index_or runs.old.items place r).first < run.first }
     requires reaches { (r : Run) → run.first ≤ (slice_index_or runs.old.items place r).first + (slice_index_or runs.old.items place r).count }
     ensures blocks { PutIn (blocks_of runs.old.items) (run_blocks run) (blocks_of runs.new.items) }
-    ensures normal { (low end : ℕ) → IsNormal low end runs.old.items → low ≤ run.first → run.first + run.count ≤ end → IsNormal low end runs.new.items }
+    ensures normal { (low end : ℕ) → AreNormalRuns low end runs.old.items → low ≤ run.first → run.first + run.count ≤ end → AreNormalRuns low end runs.new.items }
     ensures len { vec_len runs.new ≤ vec_len runs.old }
     ensures capacity { vec_capacity runs.new ≡ vec_capacity runs.old }
 {
@@ -215,12 +215,12 @@ fn insert_run(runs: &mut Vec<Run>, place: usize, run: Run) -> Result<(), AllocEr
     requires within { place ≤ vec_len runs.old }
     requires some { 0 < run.count }
     requires fits { run.first + run.count < 2 ^ 32 }
-    requires normal { IsNormal 0 4294967295 runs.old.items }
+    requires normal { AreNormalRuns 0 4294967295 runs.old.items }
     requires apart { Apart run (blocks_of runs.old.items) }
     requires before { EndsBefore run.first (take place runs.old.items) }
     requires after { (r : Run) → place < vec_len runs.old → run.first ≤ (slice_index_or runs.old.items place r).first }
     ensures blocks { OnOk result (PutIn (blocks_of runs.old.items) (run_blocks run) (blocks_of runs.new.items)) }
-    ensures normal { OnOk result ((low end : ℕ) → IsNormal low end runs.old.items → low ≤ run.first → run.first + run.count ≤ end → IsNormal low end runs.new.items) }
+    ensures normal { OnOk result ((low end : ℕ) → AreNormalRuns low end runs.old.items → low ≤ run.first → run.first + run.count ≤ end → AreNormalRuns low end runs.new.items) }
     ensures err { OnErr result (runs.new.items ≡ runs.old.items) }
     ensures sure { vec_len runs.old < vec_capacity runs.old → IsOk result }
     ensures len { vec_len runs.new ≤ vec_len runs.old + 1 }
@@ -236,10 +236,10 @@ fn insert_run(runs: &mut Vec<Run>, place: usize, run: Run) -> Result<(), AllocEr
 pub fn put_in(runs: &mut Vec<Run>, run: Run) -> Result<(), AllocError>
     requires some { 0 < run.count }
     requires fits { run.first + run.count < 2 ^ 32 }
-    requires normal { IsNormal 0 4294967295 runs.old.items }
+    requires normal { AreNormalRuns 0 4294967295 runs.old.items }
     requires apart { Apart run (blocks_of runs.old.items) }
     ensures blocks { OnOk result (PutIn (blocks_of runs.old.items) (run_blocks run) (blocks_of runs.new.items)) }
-    ensures normal { OnOk result ((low end : ℕ) → IsNormal low end runs.old.items → low ≤ run.first → run.first + run.count ≤ end → IsNormal low end runs.new.items) }
+    ensures normal { OnOk result ((low end : ℕ) → AreNormalRuns low end runs.old.items → low ≤ run.first → run.first + run.count ≤ end → AreNormalRuns low end runs.new.items) }
     ensures err { OnErr result (runs.new.items ≡ runs.old.items) }
     ensures sure { vec_len runs.old < vec_capacity runs.old → IsOk result }
     ensures len { vec_len runs.new ≤ vec_len runs.old + 1 }
@@ -258,7 +258,7 @@ pub fn put_in(runs: &mut Vec<Run>, run: Run) -> Result<(), AllocError>
 pub fn is_beside(runs: &[Run], run: Run) -> bool
     requires some { 0 < run.count }
     requires fits { run.first + run.count < 2 ^ 32 }
-    requires normal { IsNormal 0 4294967295 runs.now }
+    requires normal { AreNormalRuns 0 4294967295 runs.now }
     ensures { IsTrue result ↔ Apart run (blocks_of runs.now) }
 {
     let place = place_of(runs, run.first + 1);

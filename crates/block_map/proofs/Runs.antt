@@ -5,7 +5,7 @@ use Rattle.std.specs.Prelude.{nat_le, nat_lt, if◌then◌else◌}
 use Rattle.std.specs.List.{list_all}
 use Rattle.std.proofs.lemmas.Bool.{cases_lt, and_from, and_left, and_right, le-leb, lt-ltb, lt-leb, le-ltb, cond-true, cond-false, cases_Bool}
 use Rattle.layout.specs.declared.extents.Extent.{Extent}
-use Rattle.extent_nodes.specs.Places.{in_run, has, place_in, extent_at, place_of, end_of}
+use Rattle.extent_nodes.specs.Places.{in_run, has, place_in, extent_with, place_of, end_of}
 use Rattle.extent_nodes.specs.Normal.{IsRising, IsNormal}
 use Rattle.extent_nodes.specs.Changes.{after}
 
@@ -14,10 +14,10 @@ abbrev Below : ℕ → List Extent → Type 0
 Below n es = (k p : ℕ) → place_of es k ≡ Some p → k < n
 
 here : (e : Extent) (es : List Extent) (k : ℕ) → has k e ≡ true → place_of (e ∷ es) k ≡ Some (place_in k e)
-here e es k is = ap (option_map (place_in k)) (cond-true (has k e) (Some e) (extent_at k es) is)
+here e es k is = ap (option_map (place_in k)) (cond-true (has k e) (Some e) (extent_with k es) is)
 
 later : (e : Extent) (es : List Extent) (k : ℕ) → has k e ≡ false → place_of (e ∷ es) k ≡ place_of es k
-later e es k is = ap (option_map (place_in k)) (cond-false (has k e) (Some e) (extent_at k es) is)
+later e es k is = ap (option_map (place_in k)) (cond-false (has k e) (Some e) (extent_with k es) is)
 
 inside : (e : Extent) (k : ℕ) → e.logical ≤ k → k < e.logical + e.length → has k e ≡ true
 inside e k low high = and_from (nat_le e.logical k) (nat_lt k (e.logical + e.length)) (le-leb e.logical k low) (lt-ltb k (e.logical + e.length) high)

@@ -17,7 +17,7 @@ use Rattle.posix_calls.specs.declared.operation.Operation.{Operation}
 use Rattle.posix_calls.specs.declared.operation.Operation.TheVariants.{Tell, CloseFile}
 use Rattle.posix_calls.specs.declared.operation.Replaced.TheVariants.{OldFile}
 use Rattle.posix_calls.specs.declared.operation.Missing.TheVariants as missing
-use Rattle.posix_calls.specs.Query.{Seen, File, Dir, Query, Gives, Refuses, IsDir, Look, Range, ◌>>=◌, Part, Found, Known, Unknown, blocks_of, run_part}
+use Rattle.posix_calls.specs.Query.{Seen, File, Dir, Query, Gives, Refuses, IsDir, Look, Range, ◌>>=◌, Part, Found, Known, Unknown, blocks_missing, run_part}
 use Rattle.posix_calls.specs.Walk.{Place, root_place, refuse, said, entries_at, size_at, kind_at, directory, directory_if, walk, prefix, leads_to, there}
 use Rattle.posix_calls.specs.Decide.{opened, number_or, empties, open_there, bytes_from, write_at, replacing, replacing_dir, renamed, described, open_path, close, pread, pwrite, truncate, mkdir, rmdir, link, unlink, rename, list_path, stat, decide}
 
@@ -42,7 +42,7 @@ node_answered {A = A} p i next o is = ap (λ x. elim x as (λ _. Found A) [ None
 
 pub bytes_answered : {A : Type 0} (p : Part) (i at count : ℕ) (next : List ℕ → Query A) (bytes : List ℕ) → p.bytes i at count ≡ Some bytes → run_part p (Range i at count next) ≡ run_part p (next bytes)
 unfolding run_part
-bytes_answered {A = A} p i at count next bytes is = ap (λ x. elim x as (λ _. Found A) [ None ↦ Unknown (blocks_of i at count) | Some a ↦ run_part p (next a) ]) is
+bytes_answered {A = A} p i at count next bytes is = ap (λ x. elim x as (λ _. Found A) [ None ↦ Unknown (blocks_missing i at count) | Some a ↦ run_part p (next a) ]) is
 
 given_known : {A : Type 0} (p : Part) (x : A) → run_part p (Gives x) ≡ Known (Ok x)
 unfolding run_part
@@ -63,7 +63,7 @@ bind_known {A = A} {B = B} p (Look i next) f b e =
       | Some a ↦ λ known. bind_known p (next a) f b known
     ] e
 bind_known {A = A} {B = B} p (Range i at count next) f b e =
-    elim (p.bytes i at count) as (λ o. ◌≡◌ {A = Found B} (elim o [ None ↦ Unknown (blocks_of i at count) | Some a ↦ run_part p (next a >>= f) ]) (Known (Ok b)) → (a : A) × (◌≡◌ {A = Found A} (elim o [ None ↦ Unknown (blocks_of i at count) | Some a ↦ run_part p (next a) ]) (Known (Ok a))) × (run_part p (f a) ≡ Known (Ok b))) [
+    elim (p.bytes i at count) as (λ o. ◌≡◌ {A = Found B} (elim o [ None ↦ Unknown (blocks_missing i at count) | Some a ↦ run_part p (next a >>= f) ]) (Known (Ok b)) → (a : A) × (◌≡◌ {A = Found A} (elim o [ None ↦ Unknown (blocks_missing i at count) | Some a ↦ run_part p (next a) ]) (Known (Ok a))) × (run_part p (f a) ≡ Known (Ok b))) [
       | None ↦ λ missing. absurd (cc)
       | Some a ↦ λ known. bind_known p (next a) f b known
     ] e

@@ -8,7 +8,7 @@ use Rattle.posix_calls.specs.declared.descriptor.Descriptor.{Descriptor}
 use Rattle.posix_calls.specs.declared.call.Call.{Call}
 use Rattle.posix_calls.specs.declared.operation.Missing.{Missing}
 use Rattle.posix_calls.specs.declared.operation.Missing.TheVariants as missing
-use Rattle.posix_calls.specs.Query.{Query, Gives, Refuses, IsDir, Look, Range, View, Part, Found, Known, Unknown, blocks_of, IsPart, run, run_part}
+use Rattle.posix_calls.specs.Query.{Query, Gives, Refuses, IsDir, Look, Range, View, Part, Found, Known, Unknown, blocks_missing, IsPart, run, run_part}
 use Rattle.posix_calls.specs.Query.{whole_part}
 use Rattle.posix_calls.specs.Walk.{entries_seen, entries_at}
 use Rattle.posix_calls.specs.Decide.{decide}
@@ -70,8 +70,8 @@ missing_asked {A = A} p v w Passes (Look j next) what same part (met, rest) e =
       | Some a ↦ λ is lacking. missing_asked p v w Passes (next a) what same part (rest a (ap (λ o. Some o) ((same j met).node ∙ part.node j a is))) lacking
     ] refl e
 missing_asked {A = A} p v w Passes (Range j at count next) what same part (met, rest) e =
-    elim (p.bytes j at count) as (λ o. p.bytes j at count ≡ o → ◌≡◌ {A = Found A} (elim o [ None ↦ Unknown (blocks_of j at count) | Some a ↦ run_part p (next a) ]) (Unknown what) → MissingOf Passes what) [
-      | None ↦ λ is lacking. let here : blocks_of j at count ≡ what = cc in subst (MissingOf Passes) here met
+    elim (p.bytes j at count) as (λ o. p.bytes j at count ≡ o → ◌≡◌ {A = Found A} (elim o [ None ↦ Unknown (blocks_missing j at count) | Some a ↦ run_part p (next a) ]) (Unknown what) → MissingOf Passes what) [
+      | None ↦ λ is lacking. let here : blocks_missing j at count ≡ what = cc in subst (MissingOf Passes) here met
       | Some a ↦ λ is lacking. missing_asked p v w Passes (next a) what same part (rest a (ap (λ o. Some o) ((same j met).bytes at count ∙ part.bytes j at count a is))) lacking
     ] refl e
 

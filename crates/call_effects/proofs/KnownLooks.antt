@@ -7,7 +7,7 @@ use Rattle.posix_calls.specs.Tree.{Own, Descriptors}
 use Rattle.posix_calls.specs.declared.call.Call.{Call}
 use Rattle.posix_calls.specs.declared.operation.Missing.TheVariants as missing
 use Rattle.posix_calls.specs.declared.operation.Operation.{Operation}
-use Rattle.posix_calls.specs.Query.{Seen, File, Dir, Query, Gives, Refuses, IsDir, Look, Range, Part, Found, Known, Unknown, blocks_of, run, run_part}
+use Rattle.posix_calls.specs.Query.{Seen, File, Dir, Query, Gives, Refuses, IsDir, Look, Range, Part, Found, Known, Unknown, blocks_missing, run, run_part}
 use Rattle.posix_calls.specs.Walk.{entries_seen, entries_at}
 use Rattle.posix_calls.specs.Decide.{decide}
 use Rattle.posix_calls.proofs.Counts.{order}
@@ -46,7 +46,7 @@ looked_at p (Look j next) i (met, asks) e =
           record { next = rest.next; unknown = rest.unknown; same = λ v part. ap (λ x. run v (next x)) (part.node j a is) ∙ rest.same v part }
     ] refl e
 looked_at p (Range j at count next) i (met, asks) e =
-    elim (p.bytes j at count) as (λ o. p.bytes j at count ≡ o → ◌≡◌ {A = Found Operation} (elim o [ None ↦ Unknown (blocks_of j at count) | Some a ↦ run_part p (next a) ]) (Unknown (missing.Node i)) → IsLookedAtNext p i (Range j at count next)) [
+    elim (p.bytes j at count) as (λ o. p.bytes j at count ≡ o → ◌≡◌ {A = Found Operation} (elim o [ None ↦ Unknown (blocks_missing j at count) | Some a ↦ run_part p (next a) ]) (Unknown (missing.Node i)) → IsLookedAtNext p i (Range j at count next)) [
       | None ↦ λ is lacking. absurd (cc)
       | Some a ↦ λ is lacking.
           let rest = looked_at p (next a) i (asks a is) lacking in

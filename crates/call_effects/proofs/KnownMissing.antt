@@ -6,7 +6,7 @@ use Rattle.std.proofs.lemmas.Bool.Decides.{eqb_tells}
 use Rattle.posix_calls.specs.Tree.{Descriptors}
 use Rattle.posix_calls.specs.declared.errno.Errno.{Errno}
 use Rattle.posix_calls.specs.declared.operation.Missing.TheVariants as missing
-use Rattle.posix_calls.specs.Query.{Seen, Query, Gives, Refuses, IsDir, Look, Range, Part, Found, Known, Unknown, IsBeyond, blocks_of, run_part}
+use Rattle.posix_calls.specs.Query.{Seen, Query, Gives, Refuses, IsDir, Look, Range, Part, Found, Known, Unknown, IsBeyond, blocks_missing, run_part}
 use Rattle.posix_calls.proofs.Parts.{missing_is_left}
 use Rattle.posix_calls.proofs.Sums.{any_is, any_there}
 use Rattle.file_graph.specs.Graph.{Graph}
@@ -42,7 +42,7 @@ node_beyond k i (Gives x) at = absurd at
 node_beyond k i (Refuses e) at = absurd at
 node_beyond k i (IsDir j next) at = let here : missing.Node j ≡ missing.Node i = at.0 in let same : j ≡ i = cc in subst (λ x. k.copies x ≡ None) same (no_kind k j at.1)
 node_beyond k i (Look j next) at = let here : missing.Node j ≡ missing.Node i = at.0 in let same : j ≡ i = cc in subst (λ x. k.copies x ≡ None) same (no_copy j (k.copies j) at.1)
-node_beyond k i (Range j from many next) at = absurd (let clash : blocks_of j from many ≡ missing.Node i = at.0 in cc)
+node_beyond k i (Range j from many next) at = absurd (let clash : blocks_missing j from many ≡ missing.Node i = at.0 in cc)
 
 pub missing_no_copy : {A : Type 0} (k : Knowledge) (q : Query A) (i : ℕ) → run_part (part_of k) q ≡ Unknown (missing.Node i) → k.copies i ≡ None
 missing_no_copy k q i e = let left = missing_is_left (part_of k) q (missing.Node i) e in node_beyond k i left.rest left.beyond
@@ -55,7 +55,7 @@ blocks_beyond k i first count (IsDir j next) at = absurd (let clash : missing.No
 blocks_beyond k i first count (Look j next) at = absurd (let clash : missing.Node j ≡ missing.Blocks i first count = at.0 in cc)
 blocks_beyond k i first count (Range j from many next) at =
     let unknown = not_joined (k.blocks j) from many at.1 in
-    let here : blocks_of j from many ≡ missing.Blocks i first count = at.0 in
+    let here : blocks_missing j from many ≡ missing.Blocks i first count = at.0 in
     cc
 
 pub missing_not_joined : {A : Type 0} (k : Knowledge) (q : Query A) (i first count : ℕ) → run_part (part_of k) q ≡ Unknown (missing.Blocks i first count) → blocks_joined (k.blocks i) first count ≡ None
@@ -96,9 +96,9 @@ known_more {A = A} p more (Look i next) r dirs nodes ranges e =
       | Some a ↦ λ is known. subst (λ o. ◌≡◌ {A = Found A} (elim o [ None ↦ Unknown (missing.Node i) | Some a ↦ run_part more (next a) ]) (Known r)) (sym (nodes i a is)) (known_more p more (next a) r dirs nodes ranges known)
     ] refl e
 known_more {A = A} p more (Range i at count next) r dirs nodes ranges e =
-    elim (p.bytes i at count) as (λ o. p.bytes i at count ≡ o → ◌≡◌ {A = Found A} (elim o [ None ↦ Unknown (blocks_of i at count) | Some a ↦ run_part p (next a) ]) (Known r) → ◌≡◌ {A = Found A} (elim (more.bytes i at count) [ None ↦ Unknown (blocks_of i at count) | Some a ↦ run_part more (next a) ]) (Known r)) [
+    elim (p.bytes i at count) as (λ o. p.bytes i at count ≡ o → ◌≡◌ {A = Found A} (elim o [ None ↦ Unknown (blocks_missing i at count) | Some a ↦ run_part p (next a) ]) (Known r) → ◌≡◌ {A = Found A} (elim (more.bytes i at count) [ None ↦ Unknown (blocks_missing i at count) | Some a ↦ run_part more (next a) ]) (Known r)) [
       | None ↦ λ is lacking. absurd (cc)
-      | Some a ↦ λ is known. subst (λ o. ◌≡◌ {A = Found A} (elim o [ None ↦ Unknown (blocks_of i at count) | Some a ↦ run_part more (next a) ]) (Known r)) (sym (ranges i at count a is)) (known_more p more (next a) r dirs nodes ranges known)
+      | Some a ↦ λ is known. subst (λ o. ◌≡◌ {A = Found A} (elim o [ None ↦ Unknown (blocks_missing i at count) | Some a ↦ run_part more (next a) ]) (Known r)) (sym (ranges i at count a is)) (known_more p more (next a) r dirs nodes ranges known)
     ] refl e
 
 -- an answer is there

@@ -5,7 +5,7 @@ use Rattle.posix_calls.specs.declared.call.Call.{Call}
 use Rattle.posix_calls.specs.declared.descriptor.Descriptor.{Descriptor}
 use Rattle.posix_calls.specs.declared.operation.Missing.TheVariants as missing
 use Rattle.posix_calls.specs.declared.operation.Operation.{Operation}
-use Rattle.posix_calls.specs.Query.{Seen, File, Dir, Query, Gives, Refuses, IsDir, Look, Range, Part, Found, Known, Unknown, blocks_of, blocks_touched, run, run_part}
+use Rattle.posix_calls.specs.Query.{Seen, File, Dir, Query, Gives, Refuses, IsDir, Look, Range, Part, Found, Known, Unknown, blocks_missing, blocks_touched, run, run_part}
 use Rattle.posix_calls.specs.Walk.{size_seen, size_at}
 use Rattle.posix_calls.specs.Decide.{decide}
 use Rattle.call_effects.specs.NodeView.{NodeView, FileView, DirView, view_seen}
@@ -46,9 +46,9 @@ read_of p OnRange (Look j next) i first count (met, asks) e =
           record { next = record { at = r.at; bytes = r.bytes; touches = r.touches; next = r.next; unknown = r.unknown; same = λ v part. ap (λ x. run v (next x)) (part.node j a is) ∙ r.same v part }; passes = rest.passes }
     ] refl e
 read_of p OnRange (Range j at many next) i first count (met, asks) e =
-    elim (p.bytes j at many) as (λ o. p.bytes j at many ≡ o → ◌≡◌ {A = Found Operation} (elim o [ None ↦ Unknown (blocks_of j at many) | Some a ↦ run_part p (next a) ]) (Unknown (missing.Blocks i first count)) → IsReadOf p OnRange i first count (Range j at many next)) [
+    elim (p.bytes j at many) as (λ o. p.bytes j at many ≡ o → ◌≡◌ {A = Found Operation} (elim o [ None ↦ Unknown (blocks_missing j at many) | Some a ↦ run_part p (next a) ]) (Unknown (missing.Blocks i first count)) → IsReadOf p OnRange i first count (Range j at many next)) [
       | None ↦ λ is lacking.
-          let here : blocks_of j at many ≡ missing.Blocks i first count = cc in
+          let here : blocks_missing j at many ≡ missing.Blocks i first count = cc in
           let same : j ≡ i = cc in
           subst (λ x. IsReadOf p OnRange x first count (Range j at many next)) same (record { next = record { at = at; bytes = many; touches = here ∙ ap (λ x. missing.Blocks x first count) (sym same); next = next; unknown = is; same = λ v part. refl }; passes = met })
       | Some a ↦ λ is lacking.

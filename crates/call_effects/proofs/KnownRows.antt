@@ -13,7 +13,7 @@ use Rattle.posix_calls.specs.declared.operation.Operation.TheVariants.{Tell, New
 use Rattle.posix_calls.specs.declared.call.Reply.TheVariants as reply
 use Rattle.posix_calls.specs.declared.operation.Missing.{Missing}
 use Rattle.posix_calls.specs.declared.operation.Missing.TheVariants as missing
-use Rattle.posix_calls.specs.Query.{Seen, Query, IsDir, Look, Range, Part, Found, Known, Unknown, blocks_of, run_part}
+use Rattle.posix_calls.specs.Query.{Seen, Query, IsDir, Look, Range, Part, Found, Known, Unknown, blocks_missing, run_part}
 use Rattle.posix_calls.specs.Walk.{walk}
 use Rattle.posix_calls.specs.Decide.{mkdir, unlink, stat, pread}
 use Rattle.posix_calls.proofs.Chain.{part_bind, part_gives, part_refuses}
@@ -47,9 +47,9 @@ part_look : {A : Type 0} (p : Part) (i : ℕ) (next : Option Seen → Query A) �
 unfolding run_part
 part_look {A = A} p i next = elim (p.node i) as (λ o. ◌≡◌ {A = Found A} (elim o [ None ↦ Unknown (missing.Node i) | Some a ↦ run_part p (next a) ]) (answered (missing.Node i) o (λ o. run_part p (next o)))) [ None ↦ refl | Some a ↦ refl ]
 
-part_range : {A : Type 0} (p : Part) (i at count : ℕ) (next : List ℕ → Query A) → run_part p (Range i at count next) ≡ answered (blocks_of i at count) (p.bytes i at count) (λ bytes. run_part p (next bytes))
+part_range : {A : Type 0} (p : Part) (i at count : ℕ) (next : List ℕ → Query A) → run_part p (Range i at count next) ≡ answered (blocks_missing i at count) (p.bytes i at count) (λ bytes. run_part p (next bytes))
 unfolding run_part
-part_range {A = A} p i at count next = elim (p.bytes i at count) as (λ o. ◌≡◌ {A = Found A} (elim o [ None ↦ Unknown (blocks_of i at count) | Some a ↦ run_part p (next a) ]) (answered (blocks_of i at count) o (λ bytes. run_part p (next bytes)))) [ None ↦ refl | Some a ↦ refl ]
+part_range {A = A} p i at count next = elim (p.bytes i at count) as (λ o. ◌≡◌ {A = Found A} (elim o [ None ↦ Unknown (blocks_missing i at count) | Some a ↦ run_part p (next a) ]) (answered (blocks_missing i at count) o (λ bytes. run_part p (next bytes)))) [ None ↦ refl | Some a ↦ refl ]
 
 ruleset parts = (part_bind, part_gives, part_refuses, part_is_dir, part_look, part_range)
 

@@ -4,7 +4,7 @@ use Rattle.std.specs.List.{list_any}
 use Rattle.std.specs.FinMap as fin
 use Rattle.posix_calls.specs.Content.{Entries, range}
 use Rattle.posix_calls.specs.Tree.{Own, Descriptors, any_up_to}
-use Rattle.posix_calls.specs.Query.{Seen, Query, Look, Range, View, Part, Known, IsPart, blocks_of, run, run_part}
+use Rattle.posix_calls.specs.Query.{Seen, Query, Look, Range, View, Part, Known, IsPart, blocks_missing, run, run_part}
 use Rattle.posix_calls.specs.Decide.{decide}
 use Rattle.posix_calls.specs.Operations.{is_client, makes, own_after}
 use Rattle.posix_calls.specs.declared.operation.Location.{Location}
@@ -152,7 +152,7 @@ pub record IsLookedAtNext (p : Part) (i : ℕ) (q : Query Operation) : Type 0 wh
 pub record IsReadNext (p : Part) (i first count : ℕ) (q : Query Operation) : Type 0 where
   pub at : ℕ
   pub bytes : ℕ
-  pub touches : blocks_of i at bytes ≡ missing.Blocks i first count
+  pub touches : blocks_missing i at bytes ≡ missing.Blocks i first count
   pub next : List ℕ → Query Operation
   pub unknown : p.bytes i at bytes ≡ None
   pub same : (v : View) → IsPart p v → run v q ≡ run v (Range i at bytes next)

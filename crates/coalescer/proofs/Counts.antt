@@ -18,7 +18,7 @@ use Rattle.graph_change.specs.Change.{subject}
 use Rattle.graph_change.proofs.Blocks.{either}
 use Rattle.coalescer.specs.declared.weight.Weight.{Weight}
 use Rattle.coalescer.specs.declared.weight.TheConstants.{CHUNK_IMAGES, CHUNK_BLOCKS}
-use Rattle.coalescer.specs.Weight.{is_entry, file_blocks, same_block, images, blocks, fits}
+use Rattle.coalescer.specs.Weight.{is_entry, file_blocks, same_block, images, blocks, fits_chunk}
 use Rattle.coalescer.specs.Counted.{Weighs, block_cmp}
 
 member_congr : {K : Type 0} {eq : K → K → Bool} → IsEquivalence eq → (xs : List K) (q x : K) → eq q x ≡ true → is_member eq xs q ≡ is_member eq xs x
@@ -105,14 +105,14 @@ blocks_front xs ys =
 both_less : (a b c d m n : ℕ) → a ≤ b → c ≤ d → (nat_le b m && nat_le d n) ≡ true → (nat_le a m && nat_le c n) ≡ true
 both_less a b c d m n h k t = grind (arith, nat_tests)
 
-fits_less : (xs ys : List Effect) → fits (xs ++ ys) ≡ true → fits xs ≡ true
-unfolding fits
+fits_less : (xs ys : List Effect) → fits_chunk (xs ++ ys) ≡ true → fits_chunk xs ≡ true
+unfolding fits_chunk
 fits_less xs ys h = both_less (images xs) (images (xs ++ ys)) (blocks xs) (blocks (xs ++ ys)) CHUNK_IMAGES CHUNK_BLOCKS (images_front xs ys) (blocks_front xs ys) h
 
 -- what does not fit does not with more behind it
-pub never : (xs ys : List Effect) → fits xs ≡ false → fits (xs ++ ys) ≡ false
+pub never : (xs ys : List Effect) → fits_chunk xs ≡ false → fits_chunk (xs ++ ys) ≡ false
 never xs ys h =
-    elim (either (fits (xs ++ ys))) [
+    elim (either (fits_chunk (xs ++ ys))) [
       | inl t ↦ absurd (false≢true (sym h ∙ fits_less xs ys t))
       | inr f ↦ f
     ]
@@ -140,8 +140,8 @@ few : (i e b c most m : ℕ) → e ≡ min c most → (nat_le (4 * i + 2 * e + 1
 few i e b c most m is = grind (arith, nat_tests)
 
 pub counted_fits : (es : List Effect) (w : Weight) (is_few : Bool) → Weighs es w → IsOrdered nat_cmp w.inodes → IsOrdered block_cmp w.blocks
-    → is_few ≡ (nat_le (4 * length w.inodes.keys + 2 * w.entries + 1) CHUNK_IMAGES && nat_le (length w.blocks.keys) CHUNK_BLOCKS) → is_few ≡ fits es
-unfolding fits
+    → is_few ≡ (nat_le (4 * length w.inodes.keys + 2 * w.entries + 1) CHUNK_IMAGES && nat_le (length w.blocks.keys) CHUNK_BLOCKS) → is_few ≡ fits_chunk es
+unfolding fits_chunk
 counted_fits es w is_few is inodes all answer =
     answer
     ∙ few (length w.inodes.keys) w.entries (length w.blocks.keys) (count_by is_entry es) CHUNK_IMAGES CHUNK_BLOCKS is.entries

@@ -7,7 +7,7 @@ use Rattle.std.proofs.lemmas.List.{append-nil, length-append}
 use Rattle.file_graph.specs.declared.effect.Effect.{Effect}
 use Rattle.graph_change.specs.Change.{Changes, with_effect, with_effects}
 use Rattle.log_record.specs.declared.format.Record.{Record}
-use Rattle.coalescer.specs.Records.{effects_of}
+use Rattle.coalescer.specs.Records.{effects_in}
 
 pub with_more : (cs : Changes) (es fs : List Effect) → with_effects cs (es ++ fs) ≡ with_effects (with_effects cs es) fs
 with_more cs [] fs = refl
@@ -24,19 +24,19 @@ pub effect_added : (cs : Changes) (es : List Effect) (i : ℕ) (e : Effect) → 
 effect_added cs es i e inside is = ap (λ (x : Effect). with_effect x (with_effects cs (take i es))) is ∙ sym (next_effect cs es i e inside)
 
 -- the effects with those of one more record
-pub one_record : (rs : List Record) (r : Record) → effects_of (rs ++ r ∷ []) ≡ effects_of rs ++ r.effects
-one_record rs r = flat_map-append (λ (x : Record). x.effects) rs (r ∷ []) ∙ ap (λ es. effects_of rs ++ es) (append-nil r.effects)
+pub one_record : (rs : List Record) (r : Record) → effects_in (rs ++ r ∷ []) ≡ effects_in rs ++ r.effects
+one_record rs r = flat_map-append (λ (x : Record). x.effects) rs (r ∷ []) ∙ ap (λ es. effects_in rs ++ es) (append-nil r.effects)
 
 -- with the next record of a list
-pub next_record : (rs : List Record) (i : ℕ) (d : Record) → i < length rs → effects_of (take (i + 1) rs) ≡ effects_of (take i rs) ++ (get_or rs i d).effects
-next_record rs i d lt = ap effects_of (take_next rs i d lt) ∙ one_record (take i rs) (get_or rs i d)
+pub next_record : (rs : List Record) (i : ℕ) (d : Record) → i < length rs → effects_in (take (i + 1) rs) ≡ effects_in (take i rs) ++ (get_or rs i d).effects
+next_record rs i d lt = ap effects_in (take_next rs i d lt) ∙ one_record (take i rs) (get_or rs i d)
 
 -- where one of the records has an effect, so has the list
-pub some_among : (rs : List Record) (i : ℕ) (d : Record) → i < length rs → 0 < length (get_or rs i d).effects → 0 < length (effects_of rs)
+pub some_among : (rs : List Record) (i : ℕ) (d : Record) → i < length rs → 0 < length (get_or rs i d).effects → 0 < length (effects_in rs)
 some_among [] i d lt some = absurd (omega (arith, lt))
-some_among (r ∷ rs) zero d lt some = let sum = length-append r.effects (effects_of rs) in omega (arith, sum, some)
+some_among (r ∷ rs) zero d lt some = let sum = length-append r.effects (effects_in rs) in omega (arith, sum, some)
 some_among (r ∷ rs) (suc i) d lt some =
-    let sum = length-append r.effects (effects_of rs) in
+    let sum = length-append r.effects (effects_in rs) in
     let more = some_among rs i d (omega (arith, lt)) some in
     omega (arith, sum, more)
 

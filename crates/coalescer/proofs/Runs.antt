@@ -3,8 +3,8 @@ use Rattle.std.proofs.Common.{◌≡◌, ℕ, ◌+◌, ◌<◌, ◌≤◌, true,
 use Rattle.std.proofs.lemmas.List.{take-append-drop, take-append-le, length-take-le}
 use Rattle.std.proofs.lemmas.List.Concat.{flat_map-append}
 use Rattle.log_record.specs.declared.format.Record.{Record}
-use Rattle.coalescer.specs.Records.{effects_of}
-use Rattle.coalescer.specs.Weight.{fits, IsLongestRun}
+use Rattle.coalescer.specs.Records.{effects_in}
+use Rattle.coalescer.specs.Weight.{fits_chunk, IsLongestRun}
 use Rattle.coalescer.proofs.Counts.{never}
 
 taken_less : (rs : List Record) (k m : ℕ) → k ≤ m → m ≤ length rs → take k (take m rs) ≡ take k rs
@@ -14,14 +14,14 @@ taken_less rs k m le short =
     ∙ ap (take k) (take-append-drop m rs)
 
 -- a run that doesn't fit doesn't with more records
-longer : (rs : List Record) (k m : ℕ) → k ≤ m → m ≤ length rs → fits (effects_of (take k rs)) ≡ false → fits (effects_of (take m rs)) ≡ false
+longer : (rs : List Record) (k m : ℕ) → k ≤ m → m ≤ length rs → fits_chunk (effects_in (take k rs)) ≡ false → fits_chunk (effects_in (take m rs)) ≡ false
 longer rs k m le short h =
-    ap (λ xs. fits (effects_of xs)) (sym (take-append-drop k (take m rs)))
-    ∙ ap fits (flat_map-append (λ (r : Record). r.effects) (take k (take m rs)) (drop k (take m rs)))
-    ∙ never (effects_of (take k (take m rs))) (effects_of (drop k (take m rs))) (ap (λ xs. fits (effects_of xs)) (taken_less rs k m le short) ∙ h)
+    ap (λ xs. fits_chunk (effects_in xs)) (sym (take-append-drop k (take m rs)))
+    ∙ ap fits_chunk (flat_map-append (λ (r : Record). r.effects) (take k (take m rs)) (drop k (take m rs)))
+    ∙ never (effects_in (take k (take m rs))) (effects_in (drop k (take m rs))) (ap (λ xs. fits_chunk (effects_in xs)) (taken_less rs k m le short) ∙ h)
 
 -- the next record is one too many
-pub stopped : (rs : List Record) (n : ℕ) → 0 < n → n < length rs → (1 < n → fits (effects_of (take n rs)) ≡ true) → fits (effects_of (take (n + 1) rs)) ≡ false → IsLongestRun rs n
+pub stopped : (rs : List Record) (n : ℕ) → 0 < n → n < length rs → (1 < n → fits_chunk (effects_in (take n rs)) ≡ true) → fits_chunk (effects_in (take (n + 1) rs)) ≡ false → IsLongestRun rs n
 stopped rs n some short fitting over = record {
   some = λ _. omega (arith, some);
   within = omega (arith, short);
@@ -30,7 +30,7 @@ stopped rs n some short fitting over = record {
 }
 
 -- all of them
-pub all_of_them : (rs : List Record) → (1 < length rs → fits (effects_of (take (length rs) rs)) ≡ true) → IsLongestRun rs (length rs)
+pub all_of_them : (rs : List Record) → (1 < length rs → fits_chunk (effects_in (take (length rs) rs)) ≡ true) → IsLongestRun rs (length rs)
 all_of_them rs fitting = record {
   some = λ some. omega (arith, some);
   within = omega arith;

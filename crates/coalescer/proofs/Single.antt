@@ -15,8 +15,8 @@ use Rattle.graph_change.specs.Change.{subject, span}
 use Rattle.log_record.specs.declared.format.Record.{Record}
 use Rattle.log_record.specs.Grammar.{Fits, IsRecord}
 use Rattle.coalescer.specs.declared.weight.TheConstants.{CHUNK_IMAGES, CHUNK_BLOCKS}
-use Rattle.coalescer.specs.Records.{effects_of}
-use Rattle.coalescer.specs.Weight.{is_entry, file_blocks, same_block, images, blocks, fits, IsLongestRun}
+use Rattle.coalescer.specs.Records.{effects_in}
+use Rattle.coalescer.specs.Weight.{is_entry, file_blocks, same_block, images, blocks, fits_chunk, IsLongestRun}
 
 -- ---- images
 
@@ -72,20 +72,20 @@ record_blocks r is =
 both_few : (a b m n : ℕ) → a ≤ m → b ≤ n → (nat_le a m && nat_le b n) ≡ true
 both_few a b m n h k = grind (arith, nat_tests)
 
-pub single : (r : Record) → IsRecord r → fits r.effects ≡ true
-unfolding fits
+pub single : (r : Record) → IsRecord r → fits_chunk r.effects ≡ true
+unfolding fits_chunk
 single r is =
     let most = record_images r is in
     let many = record_blocks r is in
     both_few (images r.effects) (blocks r.effects) CHUNK_IMAGES CHUNK_BLOCKS (omega (arith, most)) (omega (arith, many))
 
-nothing : fits [] ≡ true
-unfolding fits
+nothing : fits_chunk [] ≡ true
+unfolding fits_chunk
 nothing = refl
 
 -- the first records of a run, however few
-pub run : (rs : List Record) (n : ℕ) → AllByRecursion IsRecord rs → IsLongestRun rs n → fits (effects_of (take n rs)) ≡ true
-run [] n all is = ap (λ rs. fits (effects_of rs)) (take-nil n) ∙ nothing
+pub run : (rs : List Record) (n : ℕ) → AllByRecursion IsRecord rs → IsLongestRun rs n → fits_chunk (effects_in (take n rs)) ≡ true
+run [] n all is = ap (λ rs. fits_chunk (effects_in rs)) (take-nil n) ∙ nothing
 run (r ∷ rs) zero all is = nothing
-run (r ∷ rs) (suc zero) all is = ap fits (append-nil r.effects) ∙ single r all.0
+run (r ∷ rs) (suc zero) all is = ap fits_chunk (append-nil r.effects) ∙ single r all.0
 run (r ∷ rs) (suc (suc n)) all is = is.fitting (omega arith)

@@ -5,5 +5,5 @@ use Rattle.file_graph.specs.declared.effect.Effect.{Effect}
 use Rattle.log_record.specs.declared.format.Record.{Record}
 
 -- the effects of records, in their order
-abbrev pub effects_of : List Record → List Effect
-effects_of rs = flat_map (λ r. r.effects) rs
+abbrev pub effects_in : List Record → List Effect
+effects_in rs = flat_map (λ r. r.effects) rs

@@ -8,7 +8,7 @@ use Rattle.file_graph.specs.declared.effect.Effect.TheVariants as effect
 use Rattle.graph_change.specs.Change.{subject, span}
 use Rattle.log_record.specs.declared.format.Record.{Record}
 use Rattle.coalescer.specs.declared.weight.TheConstants.{CHUNK_IMAGES, CHUNK_BLOCKS}
-use Rattle.coalescer.specs.Records.{effects_of}
+use Rattle.coalescer.specs.Records.{effects_in}
 
 -- whether an effect changes an entry of a directory
 abbrev pub is_entry : Effect → Bool
@@ -51,12 +51,12 @@ abbrev pub blocks : List Effect → ℕ
 blocks es = distinct_count same_block (flat_map file_blocks es)
 
 -- whether it is no more than is taken at once
-unfoldable pub fits : List Effect → Bool
-fits es = nat_le (images es) CHUNK_IMAGES && nat_le (blocks es) CHUNK_BLOCKS
+unfoldable pub fits_chunk : List Effect → Bool
+fits_chunk es = nat_le (images es) CHUNK_IMAGES && nat_le (blocks es) CHUNK_BLOCKS
 
 -- as many of the first records as are taken at once: the longest run that fits, and one at least, where there is one
 pub record IsLongestRun (rs : List Record) (n : ℕ) : Type 0 where
   pub some : 0 < length rs → 1 ≤ n
   pub within : n ≤ length rs
-  pub fitting : 1 < n → fits (effects_of (take n rs)) ≡ true
-  pub longest : (m : ℕ) → n < m → m ≤ length rs → fits (effects_of (take m rs)) ≡ false
+  pub fitting : 1 < n → fits_chunk (effects_in (take n rs)) ≡ true
+  pub longest : (m : ℕ) → n < m → m ≤ length rs → fits_chunk (effects_in (take m rs)) ≡ false

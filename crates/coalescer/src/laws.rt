@@ -10,8 +10,8 @@ ghost use Rattle.graph_change.specs.Change.{Changes, change_at, changed, with_ef
 ghost use Rattle.log_record.specs.declared.format.Record.{Record};
 ghost use Rattle.log_record.specs.Grammar.{IsRecord};
 ghost use Rattle.coalescer.specs.declared.weight.TheConstants.{CHUNK_IMAGES, CHUNK_BLOCKS};
-ghost use Rattle.coalescer.specs.Records.{effects_of};
-ghost use Rattle.coalescer.specs.Weight.{is_entry, images, blocks, fits, IsLongestRun};
+ghost use Rattle.coalescer.specs.Records.{effects_in};
+ghost use Rattle.coalescer.specs.Weight.{is_entry, images, blocks, fits_chunk, IsLongestRun};
 ghost use Rattle.coalescer.specs.Within.{AreEntriesIn, AreBlocksIn, images_of};
 ghost use Rattle.coalescer.specs.Exchange.{EntryPlace, exchanged, each, front, rest};
 
@@ -43,6 +43,6 @@ pub fn chunk_has_its_limits()
 pub fn single_record_fits()
     ensures images { (r : Record) → IsRecord r → images r.effects ≤ 49 }
     ensures blocks { (r : Record) → IsRecord r → blocks r.effects ≤ 136 }
-    ensures single { (r : Record) → IsRecord r → fits r.effects ≡ true }
-    ensures run { (rs : List Record) (n : ℕ) → AllByRecursion IsRecord rs → IsLongestRun rs n → fits (effects_of (take n rs)) ≡ true }
+    ensures single { (r : Record) → IsRecord r → fits_chunk r.effects ≡ true }
+    ensures run { (rs : List Record) (n : ℕ) → AllByRecursion IsRecord rs → IsLongestRun rs n → fits_chunk (effects_in (take n rs)) ≡ true }
 {}

@@ -1,7 +1,7 @@
 ghost use Rattle.std.specs.Prelude.{◌≡◌, ◌<◌, IfErr, IfOk, OnErr, OnOk, length};
 ghost use Rattle.graph_change.specs.Change.{Coalesces, coalesced, with_effects};
 ghost use Rattle.graph_change.specs.View.{changes_of};
-ghost use Rattle.coalescer.specs.Records.{effects_of};
+ghost use Rattle.coalescer.specs.Records.{effects_in};
 
 use graph_change::GraphChange;
 use log_record::Record;
@@ -12,9 +12,9 @@ use std::alloc::{AllocError, Global};
 /// An error is want of memory: no memory is asked for where no record has an effect. A write that would end past all numbers finds none;
 /// a record that has a spelling holds no such write.
 pub fn coalesce(alloc: Global, records: &[Record]) -> Result<GraphChange, AllocError>
-    ensures meaning { IfOk result (λ change. Coalesces (effects_of records.now) (changes_of change)) }
-    ensures exact { IfOk result (λ change. changes_of change ≡ coalesced (effects_of records.now)) }
-    ensures memory { IfErr result (λ _. 0 < length (effects_of records.now)) }
+    ensures meaning { IfOk result (λ change. Coalesces (effects_in records.now) (changes_of change)) }
+    ensures exact { IfOk result (λ change. changes_of change ≡ coalesced (effects_in records.now)) }
+    ensures memory { IfErr result (λ _. 0 < length (effects_in records.now)) }
 {
     let mut change = GraphChange::new(alloc);
     for logged in records {

@@ -1,5 +1,5 @@
 ghost use Rattle.std.specs.Prelude.{◌<◌, IfErr, IfOk, length};
-ghost use Rattle.coalescer.specs.Records.{effects_of};
+ghost use Rattle.coalescer.specs.Records.{effects_in};
 ghost use Rattle.coalescer.specs.Weight.{IsLongestRun};
 
 use crate::weight::Weight;
@@ -12,7 +12,7 @@ use std::alloc::{AllocError, Global};
 /// only where a record has an effect.
 pub fn longest_run(alloc: Global, records: &[Record]) -> Result<usize, AllocError>
     ensures exact { IfOk result (IsLongestRun records.now) }
-    ensures memory { IfErr result (λ _. 0 < length (effects_of records.now)) }
+    ensures memory { IfErr result (λ _. 0 < length (effects_in records.now)) }
 {
     let mut weight = Weight::new(alloc);
     for count in 0..records.len() {

@@ -5,7 +5,7 @@ ghost use Rattle.std.specs.BTreeSet.{contains};
 ghost use Rattle.posix_calls.specs.declared.limits.TheConstants.{UNIT_BYTES};
 ghost use Rattle.file_graph.specs.declared.effect.Effect.{Effect};
 ghost use Rattle.graph_change.specs.Change.{subject, span};
-ghost use Rattle.coalescer.specs.Weight.{fits, is_entry, file_blocks, last_block, blocks_at, same_block};
+ghost use Rattle.coalescer.specs.Weight.{fits_chunk, is_entry, file_blocks, last_block, blocks_at, same_block};
 ghost use Rattle.coalescer.specs.Counted.{Weighs, block_cmp};
 
 use file_graph::Effect;
@@ -62,7 +62,7 @@ impl Weight {
 
     /// Whether it is no more than is taken at once.
     pub fn fits(&self) -> bool
-        ensures { (es : List Effect) → Weighs es self.now → result ≡ fits es }
+        ensures { (es : List Effect) → Weighs es self.now → result ≡ fits_chunk es }
     {
         are_few(self.inodes.len(), self.entries, self.blocks.len())
     }

@@ -22,8 +22,8 @@ use Rattle.log_record.specs.Grammar.{Fits, IsInode}
 use Rattle.call_effects.specs.NodeView.{view_at, view_of_node}
 use Rattle.layout.specs.declared.places.TheConstants.{SPARE_BLOCKS}
 use Rattle.coalescer.specs.declared.weight.TheConstants.{CHUNK_IMAGES, CHUNK_BLOCKS}
-use Rattle.coalescer.specs.Records.{effects_of}
-use Rattle.coalescer.specs.Weight.{images, blocks, fits}
+use Rattle.coalescer.specs.Records.{effects_in}
+use Rattle.coalescer.specs.Weight.{images, blocks, fits_chunk}
 use Rattle.coalescer.specs.Within.{AreBlocksIn, images_of}
 use Rattle.coalescer.proofs.Images.{images_within}
 use Rattle.coalescer.proofs.Within.{blocks_within}
@@ -34,18 +34,18 @@ use Rattle.digest_plan.proofs.Runs.{after_more}
 
 -- ---- what fits
 
-few_images : (es : List Effect) → fits es ≡ true → images es ≤ CHUNK_IMAGES
-unfolding fits
+few_images : (es : List Effect) → fits_chunk es ≡ true → images es ≤ CHUNK_IMAGES
+unfolding fits_chunk
 few_images es fit = leb-true (images es) CHUNK_IMAGES (and_parts (nat_le (images es) CHUNK_IMAGES) (nat_le (blocks es) CHUNK_BLOCKS) fit).0
 
-few_blocks : (es : List Effect) → fits es ≡ true → blocks es ≤ CHUNK_BLOCKS
-unfolding fits
+few_blocks : (es : List Effect) → fits_chunk es ≡ true → blocks es ≤ CHUNK_BLOCKS
+unfolding fits_chunk
 few_blocks es fit = leb-true (blocks es) CHUNK_BLOCKS (and_parts (nat_le (images es) CHUNK_IMAGES) (nat_le (blocks es) CHUNK_BLOCKS) fit).1
 
-pub fit_images : (es : List Effect) → fits es ≡ true → images_of (coalesced es) ≤ 255
+pub fit_images : (es : List Effect) → fits_chunk es ≡ true → images_of (coalesced es) ≤ 255
 fit_images es fit = let most = few_images es fit in let its = images_within es in omega (arith, most, its)
 
-pub fit_blocks : (es : List Effect) (bs : List (ℕ × ℕ)) → fits es ≡ true → AreBlocksIn (coalesced es) bs → length bs ≤ SPARE_BLOCKS
+pub fit_blocks : (es : List Effect) (bs : List (ℕ × ℕ)) → fits_chunk es ≡ true → AreBlocksIn (coalesced es) bs → length bs ≤ SPARE_BLOCKS
 fit_blocks es bs fit are = let most = few_blocks es fit in let its = blocks_within es bs are in omega (arith, most, its)
 
 -- ---- numbers within the limits
@@ -66,12 +66,12 @@ bounded_then : (es fs : List Effect) → AllByRecursion Fits es → AllByRecursi
 bounded_then [] fs fit rest = rest
 bounded_then (e ∷ es) fs fit rest = (one_bounded e fit.0, bounded_then es fs fit.1 rest)
 
-all_bounded : (held : List ℕ) (capacity : ℕ) (g : Graph) (rs : List Record) → AreGood held capacity g rs → AllByRecursion (λ e. is_bounded e ≡ true) (effects_of rs)
+all_bounded : (held : List ℕ) (capacity : ℕ) (g : Graph) (rs : List Record) → AreGood held capacity g rs → AllByRecursion (λ e. is_bounded e ≡ true) (effects_in rs)
 all_bounded held capacity g [] all = tt
-all_bounded held capacity g (r ∷ rs) all = bounded_then r.effects (effects_of rs) all.0.spelled.fit (all_bounded held capacity (after_effects g r.effects) rs all.1)
+all_bounded held capacity g (r ∷ rs) all = bounded_then r.effects (effects_in rs) all.0.spelled.fit (all_bounded held capacity (after_effects g r.effects) rs all.1)
 
-pub good_bounded : (held : List ℕ) (capacity : ℕ) (g : Graph) (rs : List Record) → AreGood held capacity g rs → AreBounded (coalesced (effects_of rs))
-good_bounded held capacity g rs all = bounded_coalesced (effects_of rs) (all_bounded held capacity g rs all)
+pub good_bounded : (held : List ℕ) (capacity : ℕ) (g : Graph) (rs : List Record) → AreGood held capacity g rs → AreBounded (coalesced (effects_in rs))
+good_bounded held capacity g rs all = bounded_coalesced (effects_in rs) (all_bounded held capacity g rs all)
 
 -- ---- the inodes of a change are those that its effects touch
 
@@ -110,34 +110,34 @@ others_stay g es i out = ap (λ (h : Graph). h i) (coalesced_law es g) ∙ untou
 second : (a b c : Bool) → c ≡ (a || b) → a ≡ false → c ≡ true → b ≡ true
 second a b c is none some = ap (λ t. t || b) (sym none) ∙ sym is ∙ some
 
-kept : (held : List ℕ) (capacity : ℕ) (g : Graph) (rs : List Record) (i : ℕ) → AreGood held capacity g rs → KeepsLimits (view_at g i) ⊎ (is_among i (touches (effects_of rs)) ≡ true) → KeepsLimits (view_at (after_effects g (effects_of rs)) i)
+kept : (held : List ℕ) (capacity : ℕ) (g : Graph) (rs : List Record) (i : ℕ) → AreGood held capacity g rs → KeepsLimits (view_at g i) ⊎ (is_among i (touches (effects_in rs)) ≡ true) → KeepsLimits (view_at (after_effects g (effects_in rs)) i)
 kept held capacity g [] i all (inl keeps) = keeps
 kept held capacity g [] i all (inr among) = absurd (false≢true among)
 kept held capacity g (r ∷ rs) i all first =
     let h = after_effects g r.effects in
-    subst (λ (k : Graph). KeepsLimits (view_at k i)) (sym (after_more g r.effects (effects_of rs))) (kept held capacity h rs i all.1 (next (is_among i (touches r.effects)) refl first))
+    subst (λ (k : Graph). KeepsLimits (view_at k i)) (sym (after_more g r.effects (effects_in rs))) (kept held capacity h rs i all.1 (next (is_among i (touches r.effects)) refl first))
   where
-    next : (b : Bool) → is_among i (touches r.effects) ≡ b → KeepsLimits (view_at g i) ⊎ (is_among i (touches (effects_of (r ∷ rs))) ≡ true) → KeepsLimits (view_at (after_effects g r.effects) i) ⊎ (is_among i (touches (effects_of rs)) ≡ true)
+    next : (b : Bool) → is_among i (touches r.effects) ≡ b → KeepsLimits (view_at g i) ⊎ (is_among i (touches (effects_in (r ∷ rs))) ≡ true) → KeepsLimits (view_at (after_effects g r.effects) i) ⊎ (is_among i (touches (effects_in rs)) ≡ true)
     next true its first = inl (all.0.limits i its)
     next false its (inl keeps) = inl (subst KeepsLimits (ap (option_map view_of_node) (sym (untouched g r.effects i its))) keeps)
-    next false its (inr among) = inr (second (is_among i (touches r.effects)) (is_among i (touches (effects_of rs))) (is_among i (touches (effects_of (r ∷ rs))))
-        (ap (is_among i) (touches_joined r.effects (effects_of rs)) ∙ among_joined i (touches r.effects) (touches (effects_of rs))) its among)
+    next false its (inr among) = inr (second (is_among i (touches r.effects)) (is_among i (touches (effects_in rs))) (is_among i (touches (effects_in (r ∷ rs))))
+        (ap (is_among i) (touches_joined r.effects (effects_in rs)) ∙ among_joined i (touches r.effects) (touches (effects_in rs))) its among)
 
-pub good_limits : (held : List ℕ) (capacity : ℕ) (g : Graph) (rs : List Record) (i : ℕ) → AreGood held capacity g rs → fin.contains_key (coalesced (effects_of rs)) i ≡ true → KeepsLimits (view_at (changed (coalesced (effects_of rs)) g) i)
+pub good_limits : (held : List ℕ) (capacity : ℕ) (g : Graph) (rs : List Record) (i : ℕ) → AreGood held capacity g rs → fin.contains_key (coalesced (effects_in rs)) i ≡ true → KeepsLimits (view_at (changed (coalesced (effects_in rs)) g) i)
 good_limits held capacity g rs i all its =
-    subst (λ (k : Graph). KeepsLimits (view_at k i)) (sym (coalesced_law (effects_of rs) g)) (kept held capacity g rs i all (inr (sym (changes_touched (effects_of rs) i) ∙ its)))
+    subst (λ (k : Graph). KeepsLimits (view_at k i)) (sym (coalesced_law (effects_in rs) g)) (kept held capacity g rs i all (inr (sym (changes_touched (effects_in rs) i) ∙ its)))
 
 -- ---- units
 
-charge_kept : (held : List ℕ) (capacity : ℕ) (g : Graph) (rs : List Record) → AreGood held capacity g rs → charge g ≤ capacity → charge (after_effects g (effects_of rs)) ≤ capacity
+charge_kept : (held : List ℕ) (capacity : ℕ) (g : Graph) (rs : List Record) → AreGood held capacity g rs → charge g ≤ capacity → charge (after_effects g (effects_in rs)) ≤ capacity
 charge_kept held capacity g [] all few = few
 charge_kept held capacity g (r ∷ rs) all few =
-    subst (λ (k : Graph). charge k ≤ capacity) (sym (after_more g r.effects (effects_of rs))) (charge_kept held capacity (after_effects g r.effects) rs all.1 all.0.charge)
+    subst (λ (k : Graph). charge k ≤ capacity) (sym (after_more g r.effects (effects_in rs))) (charge_kept held capacity (after_effects g r.effects) rs all.1 all.0.charge)
 
-some_charge : (held : List ℕ) (capacity : ℕ) (g : Graph) (rs : List Record) → 0 < length rs → AreGood held capacity g rs → charge (after_effects g (effects_of rs)) ≤ capacity
+some_charge : (held : List ℕ) (capacity : ℕ) (g : Graph) (rs : List Record) → 0 < length rs → AreGood held capacity g rs → charge (after_effects g (effects_in rs)) ≤ capacity
 some_charge held capacity g [] some all = absurd (omega (arith, some))
 some_charge held capacity g (r ∷ rs) some all =
-    subst (λ (k : Graph). charge k ≤ capacity) (sym (after_more g r.effects (effects_of rs))) (charge_kept held capacity (after_effects g r.effects) rs all.1 all.0.charge)
+    subst (λ (k : Graph). charge k ≤ capacity) (sym (after_more g r.effects (effects_in rs))) (charge_kept held capacity (after_effects g r.effects) rs all.1 all.0.charge)
 
-pub good_charge : (held : List ℕ) (capacity : ℕ) (g : Graph) (rs : List Record) → 0 < length rs → AreGood held capacity g rs → charge (changed (coalesced (effects_of rs)) g) ≤ capacity
-good_charge held capacity g rs some all = subst (λ (k : Graph). charge k ≤ capacity) (sym (coalesced_law (effects_of rs) g)) (some_charge held capacity g rs some all)
+pub good_charge : (held : List ℕ) (capacity : ℕ) (g : Graph) (rs : List Record) → 0 < length rs → AreGood held capacity g rs → charge (changed (coalesced (effects_in rs)) g) ≤ capacity
+good_charge held capacity g rs some all = subst (λ (k : Graph). charge k ≤ capacity) (sym (coalesced_law (effects_in rs) g)) (some_charge held capacity g rs some all)

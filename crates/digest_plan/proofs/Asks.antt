@@ -11,7 +11,7 @@ use Rattle.file_graph.specs.declared.effect.Effect.{Effect}
 use Rattle.file_graph.specs.Graph.{is_among, subjects, touches}
 use Rattle.log_record.specs.declared.format.Record.{Record}
 use Rattle.call_effects.specs.NodeView.{NodeView, view_after}
-use Rattle.coalescer.specs.Records.{effects_of}
+use Rattle.coalescer.specs.Records.{effects_in}
 use Rattle.record_check.specs.Known.{Known, is_unknown}
 use Rattle.record_check.specs.Row.{known_by, with_known}
 use Rattle.record_check.specs.declared.verdict.Verdict.{Verdict}
@@ -29,7 +29,7 @@ touched_at (x ∷ es) zero e d inside is one = ap (λ ds. is_among d (ds ++ touc
 touched_at (x ∷ es) (suc k) e d inside is one = among_joined d (subjects x) (touches es) ∙ or_of (is_among d (subjects x)) (is_among d (touches es)) (touched_at es k e d (omega (arith, inside)) is one)
 
 -- those of the record at a place
-pub touched_in : (rs : List Record) (k : ℕ) (r : Record) → k < length rs → r ≡ get_or rs k r → AreAmong (touches r.effects) (touches (effects_of rs))
+pub touched_in : (rs : List Record) (k : ℕ) (r : Record) → k < length rs → r ≡ get_or rs k r → AreAmong (touches r.effects) (touches (effects_in rs))
 touched_in [] k r inside is i among = absurd (omega (arith, inside))
 touched_in (x ∷ rs) zero r inside is i among = touched_first x rs i (ap (λ (y : Record). is_among i (touches y.effects)) (sym is) ∙ among)
 touched_in (x ∷ rs) (suc k) r inside is i among = touched_later x rs i (touched_in rs k r (omega (arith, inside)) is i among)
@@ -39,11 +39,11 @@ either true c h = inl refl
 either false c h = inr h
 
 -- those of the first records
-pub touched_taken : (rs : List Record) (n : ℕ) → AreAmong (touches (effects_of (take n rs))) (touches (effects_of rs))
-touched_taken [] n i among = ap (λ (xs : List Record). is_among i (touches (effects_of xs))) (sym (take-nil n)) ∙ among
+pub touched_taken : (rs : List Record) (n : ℕ) → AreAmong (touches (effects_in (take n rs))) (touches (effects_in rs))
+touched_taken [] n i among = ap (λ (xs : List Record). is_among i (touches (effects_in xs))) (sym (take-nil n)) ∙ among
 touched_taken (r ∷ rs) zero i among = absurd (true≢false (sym among))
 touched_taken (r ∷ rs) (suc n) i among =
-    let rest = effects_of (take n rs) in
+    let rest = effects_in (take n rs) in
     let split : (is_among i (touches r.effects) || is_among i (touches rest)) ≡ true =
     sym (ap (is_among i) (touches_joined r.effects rest) ∙ among_joined i (touches r.effects) (touches rest)) ∙ among in
     elim (either (is_among i (touches r.effects)) (is_among i (touches rest)) split) [

@@ -8,7 +8,7 @@ use Rattle.file_graph.proofs.Touches.{charge_rises}
 use Rattle.log_record.specs.declared.format.Record.{Record}
 use Rattle.call_effects.specs.NodeView.{view_at}
 use Rattle.call_effects.proofs.NodeViews.{viewed_after}
-use Rattle.coalescer.specs.Records.{effects_of}
+use Rattle.coalescer.specs.Records.{effects_in}
 use Rattle.record_check.specs.Good.{KeepsLimits}
 use Rattle.record_check.proofs.Rises.{growth_told}
 use Rattle.digest_plan.specs.Covered.{IsCovered, AreCovered, AreSameAt, units_of}
@@ -26,15 +26,15 @@ right_of : (b c : Bool) → c ≡ true → (b || c) ≡ true
 right_of true c e = refl
 right_of false c e = e
 
-pub touched_first : (r : Record) (rs : List Record) (i : ℕ) → is_among i (touches r.effects) ≡ true → is_among i (touches (effects_of (r ∷ rs))) ≡ true
+pub touched_first : (r : Record) (rs : List Record) (i : ℕ) → is_among i (touches r.effects) ≡ true → is_among i (touches (effects_in (r ∷ rs))) ≡ true
 touched_first r rs i among =
-    ap (is_among i) (touches_joined r.effects (effects_of rs)) ∙ among_joined i (touches r.effects) (touches (effects_of rs))
-    ∙ left_of (is_among i (touches r.effects)) (is_among i (touches (effects_of rs))) among
+    ap (is_among i) (touches_joined r.effects (effects_in rs)) ∙ among_joined i (touches r.effects) (touches (effects_in rs))
+    ∙ left_of (is_among i (touches r.effects)) (is_among i (touches (effects_in rs))) among
 
-pub touched_later : (r : Record) (rs : List Record) (i : ℕ) → is_among i (touches (effects_of rs)) ≡ true → is_among i (touches (effects_of (r ∷ rs))) ≡ true
+pub touched_later : (r : Record) (rs : List Record) (i : ℕ) → is_among i (touches (effects_in rs)) ≡ true → is_among i (touches (effects_in (r ∷ rs))) ≡ true
 touched_later r rs i among =
-    ap (is_among i) (touches_joined r.effects (effects_of rs)) ∙ among_joined i (touches r.effects) (touches (effects_of rs))
-    ∙ right_of (is_among i (touches r.effects)) (is_among i (touches (effects_of rs))) among
+    ap (is_among i) (touches_joined r.effects (effects_in rs)) ∙ among_joined i (touches r.effects) (touches (effects_in rs))
+    ∙ right_of (is_among i (touches r.effects)) (is_among i (touches (effects_in rs))) among
 
 same_after : (g h : Graph) (es : List Effect) (i : ℕ) → view_at g i ≡ view_at h i → view_at (after_effects g es) i ≡ view_at (after_effects h es) i
 same_after g h es i same = viewed_after g es i (view_at h i) same ∙ sym (viewed_after h es i (view_at h i) refl)
@@ -47,7 +47,7 @@ one_local held g h r is same = record {
   limits = λ i among. subst KeepsLimits (same_after g h r.effects i (same i among)) (is.limits i among);
 }
 
-pub local : (held : List ℕ) (g h : Graph) (rs : List Record) → AreCovered held g rs → AreSameAt (touches (effects_of rs)) g h → AreCovered held h rs
+pub local : (held : List ℕ) (g h : Graph) (rs : List Record) → AreCovered held g rs → AreSameAt (touches (effects_in rs)) g h → AreCovered held h rs
 local held g h [] all same = tt
 local held g h (r ∷ rs) all same = (
   one_local held g h r all.0 (λ i among. same i (touched_first r rs i among)),
@@ -79,7 +79,7 @@ good_front held capacity g [] n all = subst (AreGood held capacity g) (sym (take
 good_front held capacity g (r ∷ rs) zero all = tt
 good_front held capacity g (r ∷ rs) (suc n) all = (all.0, good_front held capacity (after_effects g r.effects) rs n all.1)
 
-pub never_bad : (held : List ℕ) (capacity : ℕ) (g h : Graph) (rs : List Record) (place : ℕ) → AreCovered held g rs → AreSameAt (touches (effects_of rs)) g h → charge h + units_of rs ≤ capacity → PlanTells held capacity h rs (plan.Bad place) → ⊥
+pub never_bad : (held : List ℕ) (capacity : ℕ) (g h : Graph) (rs : List Record) (place : ℕ) → AreCovered held g rs → AreSameAt (touches (effects_in rs)) g h → charge h + units_of rs ≤ capacity → PlanTells held capacity h rs (plan.Bad place) → ⊥
 never_bad held capacity g h rs place all same few told =
     let n = told.0 in
     never held capacity h (take n rs) place told.2 (good_front held capacity h rs n (good held capacity h rs (local held g h rs all same) few))

@@ -4,7 +4,7 @@ use Rattle.std.proofs.Math.Seq.{take-nil}
 use Rattle.file_graph.specs.declared.effect.Effect.{Effect}
 use Rattle.file_graph.specs.Graph.{Graph, after_effects, after_effect}
 use Rattle.log_record.specs.declared.format.Record.{Record}
-use Rattle.coalescer.specs.Records.{effects_of}
+use Rattle.coalescer.specs.Records.{effects_in}
 use Rattle.coalescer.proofs.Folds.{take_next, next_record}
 use Rattle.record_check.specs.Good.{IsGood}
 use Rattle.digest_plan.specs.Plan.{AreGood, IsFirstBad}
@@ -14,30 +14,30 @@ after_more g [] fs = refl
 after_more g (e ∷ es) fs = after_more (after_effect g e) es fs
 
 -- a good one more
-pub good_more : (held : List ℕ) (capacity : ℕ) (g : Graph) (rs : List Record) (r : Record) → AreGood held capacity g rs → IsGood held capacity (after_effects g (effects_of rs)) r → AreGood held capacity g (rs ++ r ∷ [])
+pub good_more : (held : List ℕ) (capacity : ℕ) (g : Graph) (rs : List Record) (r : Record) → AreGood held capacity g rs → IsGood held capacity (after_effects g (effects_in rs)) r → AreGood held capacity g (rs ++ r ∷ [])
 good_more held capacity g [] r all good = (good, tt)
 good_more held capacity g (x ∷ rs) r all good =
-    (all.0, good_more held capacity (after_effects g x.effects) rs r all.1 (subst (λ (h : Graph). IsGood held capacity h r) (after_more g x.effects (effects_of rs)) good))
+    (all.0, good_more held capacity (after_effects g x.effects) rs r all.1 (subst (λ (h : Graph). IsGood held capacity h r) (after_more g x.effects (effects_in rs)) good))
 
 -- the next of some records is good
-pub next_good : (held : List ℕ) (capacity : ℕ) (g : Graph) (rs : List Record) (k : ℕ) (r : Record) → k < length rs → r ≡ get_or rs k r → AreGood held capacity g (take k rs) → IsGood held capacity (after_effects g (effects_of (take k rs))) r → AreGood held capacity g (take (k + 1) rs)
+pub next_good : (held : List ℕ) (capacity : ℕ) (g : Graph) (rs : List Record) (k : ℕ) (r : Record) → k < length rs → r ≡ get_or rs k r → AreGood held capacity g (take k rs) → IsGood held capacity (after_effects g (effects_in (take k rs))) r → AreGood held capacity g (take (k + 1) rs)
 next_good held capacity g rs k r lt is all good =
     subst (AreGood held capacity g) (ap (λ (x : Record). take k rs ++ x ∷ []) is ∙ sym (take_next rs k r lt)) (good_more held capacity g (take k rs) r all good)
 
 -- the graph after it
-pub next_graph : (g : Graph) (rs : List Record) (k : ℕ) (r : Record) → k < length rs → r ≡ get_or rs k r → after_effects (after_effects g (effects_of (take k rs))) r.effects ≡ after_effects g (effects_of (take (k + 1) rs))
+pub next_graph : (g : Graph) (rs : List Record) (k : ℕ) (r : Record) → k < length rs → r ≡ get_or rs k r → after_effects (after_effects g (effects_in (take k rs))) r.effects ≡ after_effects g (effects_in (take (k + 1) rs))
 next_graph g rs k r lt is =
-    sym (after_more g (effects_of (take k rs)) r.effects)
-    ∙ ap (after_effects g) (ap (λ (x : Record). effects_of (take k rs) ++ x.effects) is ∙ sym (next_record rs k r lt))
+    sym (after_more g (effects_in (take k rs)) r.effects)
+    ∙ ap (after_effects g) (ap (λ (x : Record). effects_in (take k rs) ++ x.effects) is ∙ sym (next_record rs k r lt))
 
 -- a bad one behind good ones
-pub bad_behind : (held : List ℕ) (capacity : ℕ) (g : Graph) (rs : List Record) (k : ℕ) (d : Record) → k < length rs → AreGood held capacity g (take k rs) → (IsGood held capacity (after_effects g (effects_of (take k rs))) (get_or rs k d) → ⊥) → IsFirstBad held capacity g rs k
+pub bad_behind : (held : List ℕ) (capacity : ℕ) (g : Graph) (rs : List Record) (k : ℕ) (d : Record) → k < length rs → AreGood held capacity g (take k rs) → (IsGood held capacity (after_effects g (effects_in (take k rs))) (get_or rs k d) → ⊥) → IsFirstBad held capacity g rs k
 bad_behind held capacity g [] k d lt all bad = absurd (omega (arith, lt))
 bad_behind held capacity g (r ∷ rs) zero d lt all bad = bad
 bad_behind held capacity g (r ∷ rs) (suc k) d lt all bad = (
   all.0,
   bad_behind held capacity (after_effects g r.effects) rs k d (omega (arith, lt)) all.1
-      (λ good. bad (subst (λ (h : Graph). IsGood held capacity h (get_or rs k d)) (sym (after_more g r.effects (effects_of (take k rs)))) good)),
+      (λ good. bad (subst (λ (h : Graph). IsGood held capacity h (get_or rs k d)) (sym (after_more g r.effects (effects_in (take k rs)))) good)),
 )
 
 -- ---- what a first bad one is
@@ -52,11 +52,11 @@ before held capacity g [] k is = absurd is
 before held capacity g (r ∷ rs) zero is = tt
 before held capacity g (r ∷ rs) (suc k) is = (is.0, before held capacity (after_effects g r.effects) rs k is.1)
 
-pub bad : (held : List ℕ) (capacity : ℕ) (g : Graph) (rs : List Record) (k : ℕ) (d : Record) → IsFirstBad held capacity g rs k → IsGood held capacity (after_effects g (effects_of (take k rs))) (get_or rs k d) → ⊥
+pub bad : (held : List ℕ) (capacity : ℕ) (g : Graph) (rs : List Record) (k : ℕ) (d : Record) → IsFirstBad held capacity g rs k → IsGood held capacity (after_effects g (effects_in (take k rs))) (get_or rs k d) → ⊥
 bad held capacity g [] k d is good = is
 bad held capacity g (r ∷ rs) zero d is good = is good
 bad held capacity g (r ∷ rs) (suc k) d is good =
-    bad held capacity (after_effects g r.effects) rs k d is.1 (subst (λ (h : Graph). IsGood held capacity h (get_or rs k d)) (after_more g r.effects (effects_of (take k rs))) good)
+    bad held capacity (after_effects g r.effects) rs k d is.1 (subst (λ (h : Graph). IsGood held capacity h (get_or rs k d)) (after_more g r.effects (effects_in (take k rs))) good)
 
 pub alone : (held : List ℕ) (capacity : ℕ) (g : Graph) (rs : List Record) (k l : ℕ) → IsFirstBad held capacity g rs k → IsFirstBad held capacity g rs l → k ≡ l
 alone held capacity g [] k l is also = absurd is

@@ -5,8 +5,8 @@ use Rattle.file_graph.specs.Units.{charge}
 use Rattle.graph_change.specs.Change.{coalesced}
 use Rattle.graph_change.specs.View.{changes_of}
 use Rattle.log_record.specs.declared.format.Record.{Record}
-use Rattle.coalescer.specs.Records.{effects_of}
-use Rattle.coalescer.specs.Weight.{fits, IsLongestRun}
+use Rattle.coalescer.specs.Records.{effects_in}
+use Rattle.coalescer.specs.Weight.{fits_chunk, IsLongestRun}
 use Rattle.record_check.specs.Good.{IsGood}
 use Rattle.digest_plan.specs.declared.testing.Found.{Found}
 use Rattle.digest_plan.specs.declared.testing.Found.TheVariants as found
@@ -27,16 +27,16 @@ IsFirstBad held capacity g (r ∷ rs) (suc k) = IsGood held capacity g r × IsFi
 
 -- what a test found of records is so: all are good, and this is the charge after them; or this is the first bad one
 abbrev pub Finds : List ℕ → ℕ → Graph → List Record → Found → Type 0
-Finds held capacity g rs (found.AllGood units) = AreGood held capacity g rs × (charge (after_effects g (effects_of rs)) ≡ units)
+Finds held capacity g rs (found.AllGood units) = AreGood held capacity g rs × (charge (after_effects g (effects_in rs)) ≡ units)
 Finds held capacity g rs (found.FirstBad place) = IsFirstBad held capacity g rs place
 
 -- what a plan says of a client's records is so, where n of them are the longest run that a batch holds
 pub record IsChunk (held : List ℕ) (capacity : ℕ) (g : Graph) (rs : List Record) (c : Chunk) : Type 0 where
   pub run : IsLongestRun rs c.count
   pub good : AreGood held capacity g (take c.count rs)
-  pub change : changes_of c.change ≡ coalesced (effects_of (take c.count rs))
-  pub charge : charge (after_effects g (effects_of (take c.count rs))) ≡ c.charge
-  pub fits : fits (effects_of (take c.count rs)) ≡ true
+  pub change : changes_of c.change ≡ coalesced (effects_in (take c.count rs))
+  pub charge : charge (after_effects g (effects_in (take c.count rs))) ≡ c.charge
+  pub fits : fits_chunk (effects_in (take c.count rs)) ≡ true
 
 abbrev pub PlanTells : List ℕ → ℕ → Graph → List Record → Plan → Type 0
 PlanTells held capacity g rs (plan.Digest c) = IsChunk held capacity g rs c

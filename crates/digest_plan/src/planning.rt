@@ -4,7 +4,7 @@ ghost use Rattle.std.specs.List.Sorted.{IsNonDecreasing};
 ghost use Rattle.file_graph.specs.Graph.{touches};
 ghost use Rattle.file_graph.specs.Units.{charge};
 ghost use Rattle.log_record.specs.Grammar.{IsRecord};
-ghost use Rattle.coalescer.specs.Records.{effects_of};
+ghost use Rattle.coalescer.specs.Records.{effects_in};
 ghost use Rattle.digest_plan.specs.Asked.{AskedOnce, refusal_of};
 ghost use Rattle.digest_plan.specs.Plan.{PlanTells};
 
@@ -53,8 +53,8 @@ pub fn prepare<N: Nodes>(
     requires used { charge (N.graph nodes.old) ≡ used }
     ensures stays { N.graph nodes.new ≡ N.graph nodes.old }
     ensures tells { IfOk result (PlanTells held.now capacity (N.graph nodes.old) records.now) }
-    ensures answered { OnOk result (AskedOnce N.asked (touches (effects_of records.now)) nodes.old nodes.new None) }
-    ensures refused { IfErr result (λ e. AskedOnce N.asked (touches (effects_of records.now)) nodes.old nodes.new (refusal_of e)) }
+    ensures answered { OnOk result (AskedOnce N.asked (touches (effects_in records.now)) nodes.old nodes.new None) }
+    ensures refused { IfErr result (λ e. AskedOnce N.asked (touches (effects_in records.now)) nodes.old nodes.new (refusal_of e)) }
     ensures some { IfErr result (λ e. 0 < length records.now) }
 {
     let count = match longest_run(alloc, records) {

@@ -6,7 +6,7 @@ ghost use Rattle.std.specs.List.Sorted.{IsNonDecreasing};
 ghost use Rattle.file_graph.specs.Graph.{Graph, after_effects, touches};
 ghost use Rattle.file_graph.specs.Units.{charge};
 ghost use Rattle.log_record.specs.Grammar.{IsRecord};
-ghost use Rattle.coalescer.specs.Records.{effects_of};
+ghost use Rattle.coalescer.specs.Records.{effects_in};
 ghost use Rattle.record_check.specs.Good.{IsGood};
 ghost use Rattle.record_check.specs.Row.{HasCome};
 ghost use Rattle.digest_plan.specs.Asked.{AreAmong, AskedKnown, AskedOnce, refusal_of};
@@ -43,8 +43,8 @@ pub fn test_records<N: Nodes>(
     requires used { charge (N.graph nodes.old) ≡ used }
     ensures stays { N.graph nodes.new ≡ N.graph nodes.old }
     ensures tells { IfOk result (Finds held.now capacity (N.graph nodes.old) records.now) }
-    ensures answered { OnOk result (AskedOnce N.asked (touches (effects_of records.now)) nodes.old nodes.new None) }
-    ensures refused { IfErr result (λ e. AskedOnce N.asked (touches (effects_of records.now)) nodes.old nodes.new (refusal_of e)) }
+    ensures answered { OnOk result (AskedOnce N.asked (touches (effects_in records.now)) nodes.old nodes.new None) }
+    ensures refused { IfErr result (λ e. AskedOnce N.asked (touches (effects_in records.now)) nodes.old nodes.new (refusal_of e)) }
     ensures some { IfErr result (λ e. 0 < length records.now) }
 {
     let mut check = RecordCheck::new(alloc, used);

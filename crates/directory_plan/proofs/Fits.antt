@@ -20,7 +20,7 @@ use Rattle.block_map.specs.Map.{runs_in, lies_at, LieBelow}
 use Rattle.area_image.specs.Store.{length_of, space_of}
 use Rattle.block_map.proofs.Runs.{few_below}
 use Rattle.area_rewrite.specs.Written.{IsFit}
-use Rattle.directory_plan.specs.Blocks.{AreApart, AreNodeBlocks}
+use Rattle.directory_plan.specs.Blocks.{HaveOwnPlaces, AreNodeBlocks}
 use Rattle.directory_plan.specs.Placed.{ListPlaces}
 use Rattle.directory_plan.specs.Planned.{on_fast}
 use Rattle.directory_plan.proofs.Uses.{lies_at_place}
@@ -40,7 +40,7 @@ some_at : (o : Option ℕ) → IsSome o → (p : ℕ) × (o ≡ Some p)
 some_at None is = absurd (false≢true is)
 some_at (Some p) is = (p, refl)
 
-module _ (g : Sizes) (places : List ℕ) (runs : List Extent) (lie : ListPlaces places runs) (nodes : AreNodeBlocks g places) (apart : AreApart places) where
+module _ (g : Sizes) (places : List ℕ) (runs : List Extent) (lie : ListPlaces places runs) (nodes : AreNodeBlocks g places) (apart : HaveOwnPlaces places) where
   normal : (t : Tier) → IsNormal (runs_in (on_fast runs) t)
   normal Fast = lie.normal
   normal Block = record { rising = tt; apart = tt; places = tt }

@@ -7,7 +7,7 @@ use Rattle.block_alloc.specs.Runs.{blocks_of}
 use Rattle.block_alloc.specs.Value.{FreeBlocks, IsUsed}
 use Rattle.area_move.specs.Given.{AreUsed, IsInUse}
 use Rattle.area_move.proofs.Given.{all_from, cons_here, cons_there}
-use Rattle.directory_plan.specs.Blocks.{nth_block, AreApart, one_block}
+use Rattle.directory_plan.specs.Blocks.{nth_block, HaveOwnPlaces, one_block}
 
 -- the blocks of such runs are those that were given up
 pub blocks_are : (xs : List ℕ) → blocks_of (map one_block xs) ≡ xs
@@ -24,16 +24,16 @@ one_used p k use' =
     let high = use'.high in
     record { some = omega arith; after = low; before = omega (arith, high); apart = all_from (λ j. (j < k) ⊎ (k + 1 ≤ j)) p.free (λ j at. beside j k (λ same. use'.used (subst (Contains p.free) same at))) }
 
-head_apart : (x : ℕ) (xs : List ℕ) → AreApart (x ∷ xs) → (j : ℕ) → Contains xs j → j ≢ x
+head_apart : (x : ℕ) (xs : List ℕ) → HaveOwnPlaces (x ∷ xs) → (j : ℕ) → Contains xs j → j ≢ x
 head_apart x xs apart j (n, below, is) same = let e : zero ≡ suc n = apart zero (suc n) (omega arith) (omega (arith, below)) (sym same ∙ sym is ∙ default_same xs n below) in omega (arith, e)
   where
     default_same : (ys : List ℕ) (n : ℕ) → n < length ys → get_or ys n j ≡ nth_block ys n
     default_same ys n lt = get_or_default ys n j 0 lt
 
-rest_apart : (x : ℕ) (xs : List ℕ) → AreApart (x ∷ xs) → AreApart xs
+rest_apart : (x : ℕ) (xs : List ℕ) → HaveOwnPlaces (x ∷ xs) → HaveOwnPlaces xs
 rest_apart x xs apart j k lj lk same = let e : suc j ≡ suc k = apart (suc j) (suc k) (omega (arith, lj)) (omega (arith, lk)) same in omega (arith, e)
 
-pub all_used : (p : FreeBlocks) (xs : List ℕ) → AreApart xs → ((k : ℕ) → Contains xs k → IsInUse p k) → AreUsed p (map one_block xs)
+pub all_used : (p : FreeBlocks) (xs : List ℕ) → HaveOwnPlaces xs → ((k : ℕ) → Contains xs k → IsInUse p k) → AreUsed p (map one_block xs)
 all_used p [] apart each = tt
 all_used p (x ∷ xs) apart each = (
   one_used p x (each x (cons_here x xs x refl)),

@@ -11,7 +11,7 @@ use Rattle.block_alloc.specs.declared.runs.Run.{Run}
 use Rattle.block_alloc.specs.Runs.{blocks_of}
 use Rattle.block_alloc.specs.Value.{FreeBlocks}
 use Rattle.area_move.specs.Given.{AreUsed, IsInUse}
-use Rattle.directory_plan.specs.Blocks.{nth_block, AreApart, AreSound, use_on_fast, use_of, root_blocks, one_block}
+use Rattle.directory_plan.specs.Blocks.{nth_block, HaveOwnPlaces, AreSound, use_on_fast, use_of, root_blocks, one_block}
 use Rattle.directory_plan.specs.declared.blocks.DirectoryBlocks.{DirectoryBlocks}
 use Rattle.directory_plan.proofs.Uses.{nth_contained, contains_nth, use_root, use_place, root_use, place_use, fast_use, use_fast}
 use Rattle.directory_plan.proofs.Given.{blocks_are, all_used}
@@ -65,7 +65,7 @@ module _ (root : ℕ) (places : List ℕ) where
   is_root_there : (j : ℕ) → j < length (places ++ root_blocks root) → length places ≤ j → nth_block (places ++ root_blocks root) j ≡ root
   is_root_there j lt past = get_or-append_right places (root_blocks root) (length places) j 0 refl past ∙ (behind j lt past).is
 
-  all_apart : AreApart places → (root ≢ 0 → (k : ℕ) → k < length places → nth_block places k ≢ root) → AreApart (places ++ root_blocks root)
+  all_apart : HaveOwnPlaces places → (root ≢ 0 → (k : ℕ) → k < length places → nth_block places k ≢ root) → HaveOwnPlaces (places ++ root_blocks root)
   all_apart apart root_apart j k lj lk same = elim (cases_lt j (length places)) [
     | inl j_in ↦ elim (cases_lt k (length places)) [
       | inl k_in ↦ apart j k j_in k_in (sym (get_or_append_left places (root_blocks root) 0 j j_in) ∙ same ∙ get_or_append_left places (root_blocks root) 0 k k_in)

@@ -4,7 +4,7 @@ use Rattle.std.proofs.lemmas.Bool.{cases_eq, cases_lt}
 use Rattle.batch_journal.specs.Images.{image_for}
 use Rattle.tree_blocks.specs.Directory.{numbered}
 use Rattle.area_batch.specs.Batches.{PutsImage}
-use Rattle.directory_plan.specs.Blocks.{nth_block, AreApart}
+use Rattle.directory_plan.specs.Blocks.{nth_block, HaveOwnPlaces}
 use Rattle.directory_plan.specs.Planned.{HaveImages}
 
 -- the first so many written blocks have their images
@@ -16,7 +16,7 @@ pub images_none : (blocks : List (List ℕ)) (places written : List ℕ) (old : 
 images_none blocks places written old = record { there = λ n lt. absurd (omega (arith, lt)); others = λ p none. refl }
 
 -- a block that is written twice has the same image
-pub images_more : (blocks : List (List ℕ)) (places written : List ℕ) (n : ℕ) (old mid new : List (ℕ × List ℕ)) → AreApart places → ((m : ℕ) → m < n + 1 → nth_block written m < length places)
+pub images_more : (blocks : List (List ℕ)) (places written : List ℕ) (n : ℕ) (old mid new : List (ℕ × List ℕ)) → HaveOwnPlaces places → ((m : ℕ) → m < n + 1 → nth_block written m < length places)
     → ImagesTo blocks places written n old mid → PutsImage (nth_block places (nth_block written n)) (numbered blocks (nth_block written n)) mid new → ImagesTo blocks places written (n + 1) old new
 images_more blocks places written n old mid new apart inside so_far put = record {
   there = λ m lt. elim (cases_eq (nth_block written m) (nth_block written n)) [

@@ -6,7 +6,7 @@ use Rattle.std.proofs.lemmas.List.{length-append, length-take-le, get_or-take, g
 use Rattle.tier_device.specs.declared.media.Tier.TheVariants.{Fast}
 use Rattle.layout.specs.Places.{Sizes, IsAllowed, is_node, node_end, tier_blocks}
 use Rattle.layout.specs.Slot.{is_root_block}
-use Rattle.directory_plan.specs.Blocks.{nth_block, AreApart, AreNodeBlocks, spares_wanted, places_after, root_after}
+use Rattle.directory_plan.specs.Blocks.{nth_block, HaveOwnPlaces, AreNodeBlocks, spares_wanted, places_after, root_after}
 use Rattle.directory_plan.specs.Spare.{CanBeWritten, AreSpares}
 use Rattle.directory_plan.specs.declared.changing.ChangedDirectory.{ChangedDirectory}
 
@@ -102,7 +102,7 @@ module _ (g : Sizes) (x : ChangedDirectory) (spares : List ℕ) (can : CanBeWrit
     | inr past ↦ subst (λ b. is_node g b ≡ true) (sym (spare_at k past)) (are.nodes (k - length old) (spare_in k lt past))
   ]
 
-  pub all_apart : AreApart (old ++ spares)
+  pub all_apart : HaveOwnPlaces (old ++ spares)
   all_apart j k lj lk same = elim (cases_lt j (length old)) [
     | inl j_old ↦ elim (cases_lt k (length old)) [
       | inl k_old ↦ can.blocks_are.apart j k j_old k_old (sym (old_at j j_old) ∙ same ∙ old_at k k_old)
@@ -136,7 +136,7 @@ module _ (g : Sizes) (x : ChangedDirectory) (spares : List ℕ) (can : CanBeWrit
   pub after_nodes : AreNodeBlocks g after
   after_nodes k lt = subst (λ b. is_node g b ≡ true) (sym (after_at k lt)) (all_nodes k (after_in k lt))
 
-  pub after_apart : AreApart after
+  pub after_apart : HaveOwnPlaces after
   after_apart j k lj lk same = all_apart j k (after_in j lj) (after_in k lk) (sym (after_at j lj) ∙ same ∙ after_at k lk)
 
   abbrev pub root_then : ℕ

@@ -15,7 +15,7 @@ use Rattle.layout.specs.Places.{Sizes, is_node, is_run, node_end}
 use Rattle.layout.specs.Slot.{fits_slot, is_root_block}
 use Rattle.extent_nodes.specs.Places.{place_of}
 use Rattle.extent_nodes.proofs.Spelled.{list-parts, lies-within}
-use Rattle.tree_blocks.specs.Inode.{Blocks, inode_of, AreDirectoryBlocks, IsDirectoryBlock, blocks_for}
+use Rattle.tree_blocks.specs.Inode.{LogicalBlocks, inode_of, AreDirectoryBlocks, IsDirectoryBlock, blocks_for}
 use Rattle.area_image.specs.Store.{Store, slot, root_of, space_of, length_of, place, logical, inode}
 use Rattle.area_image.specs.Spelled.{Use, used}
 use Rattle.area_image.specs.Checks.{HasFound}
@@ -25,7 +25,7 @@ use Rattle.area_image.specs.declared.tiers.InodeExtents.{InodeExtents}
 use Rattle.area_image.proofs.Damages.{option_cases, as_directory, blocks_is, length_is, none_read, no_entries, other_place}
 use Rattle.area_image.proofs.Parts.{slot_as, extents_all}
 use Rattle.area_image.proofs.Tails.{place_is, place_past}
-use Rattle.directory_plan.specs.Blocks.{nth_block, AreApart, AreSound, use_in, use_of}
+use Rattle.directory_plan.specs.Blocks.{nth_block, HaveOwnPlaces, AreSound, use_in, use_of}
 use Rattle.directory_plan.specs.declared.blocks.DirectoryBlocks.{DirectoryBlocks}
 use Rattle.directory_plan.specs.Started.{AreDirectoryParts, LieInPool, ArePlacesOf}
 
@@ -57,7 +57,7 @@ pub record DirectorySlot (x : Slot) : Type 0 where
   pub root : ℕ
   pub is : x ≡ slots.Directory names entries touch root
 
-pub directory_slot : (x : Slot) (blocks : Blocks) → (inode_of x blocks).kind ≡ Some kind.Directory → DirectorySlot x
+pub directory_slot : (x : Slot) (blocks : LogicalBlocks) → (inode_of x blocks).kind ≡ Some kind.Directory → DirectorySlot x
 directory_slot slots.Free blocks is = cc
 directory_slot (slots.File names size touch fast block slow) blocks is = cc
 directory_slot (slots.Directory names entries touch root) blocks is = record { names = names; entries = entries; touch = touch; root = root; is = refl }
@@ -74,12 +74,12 @@ its_space : (x : Slot) → DirectorySlot x → space_of x Fast ≡ space.Nodes
 its_space x d = subst (λ (y : Slot). space_of y Fast ≡ space.Nodes) (sym d.is) refl
 
 -- the limits that it keeps
-pub record SlotLimits (g : Sizes) (x : Slot) (blocks : Blocks) : Type 0 where
+pub record SlotLimits (g : Sizes) (x : Slot) (blocks : LogicalBlocks) : Type 0 where
   pub names : (inode_of x blocks).names ≤ MAX_NAMES
   pub entries : (inode_of x blocks).size ≤ MAX_ENTRIES
   pub root : is_root_block g (root_of x Fast) ≡ true
 
-pub slot_limits : (g : Sizes) (x : Slot) (blocks : Blocks) → DirectorySlot x → fits_slot g x ≡ true → SlotLimits g x blocks
+pub slot_limits : (g : Sizes) (x : Slot) (blocks : LogicalBlocks) → DirectorySlot x → fits_slot g x ≡ true → SlotLimits g x blocks
 slot_limits g x blocks d fits = subst (λ (y : Slot). SlotLimits g y blocks) (sym d.is) (
     let f : fits_slot g (slots.Directory d.names d.entries d.touch d.root) ≡ true = subst (λ (y : Slot). fits_slot g y ≡ true) d.is fits in
     let rest = (and_parts (nat_lt d.touch (2 ^ 64)) (nat_le d.names MAX_NAMES && nat_le d.entries MAX_ENTRIES && is_root_block g d.root) f).1 in
@@ -189,7 +189,7 @@ module _ (g : Sizes) (s : Store) (i : ℕ) (x : InodeParts) (are : AreDirectoryP
     pub sound : (blocks : DirectoryBlocks) → blocks.root ≡ root_of x.slot Fast → blocks.places.items ≡ places → AreSound g blocks
     sound blocks root_is places_are = record {
       nodes = subst (λ ps. (k : ℕ) → k < length ps → is_node g (nth_block ps k) ≡ true) (sym places_are) nodes;
-      apart = subst AreApart (sym places_are) apart;
+      apart = subst HaveOwnPlaces (sym places_are) apart;
       root_node = subst (λ r. is_root_block g r ≡ true) (sym root_is) (slot_limits g x.slot (λ k. []) its_slot are.fits).root;
       root_apart = λ some k lt same. root_apart (λ zero'. some (root_is ∙ zero')) k (subst (λ ps. k < length ps) places_are lt) (ap (λ ps. nth_block ps k) (sym places_are) ∙ same ∙ root_is);
       rooted = λ none. ap (λ ps. length ps) places_are ∙ rooted (sym root_is ∙ none);

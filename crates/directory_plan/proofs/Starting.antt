@@ -7,7 +7,7 @@ use Rattle.layout.specs.declared.slot.Slot.TheVariants as slots
 use Rattle.layout.specs.Places.{Sizes}
 use Rattle.posix_calls.specs.declared.limits.TheConstants.{MAX_NAMES}
 use Rattle.tree_blocks.specs.Rewritten.{AreHeldOf}
-use Rattle.tree_blocks.specs.Inode.{Blocks, inode_of, AreDirectoryBlocks, blocks_for}
+use Rattle.tree_blocks.specs.Inode.{LogicalBlocks, inode_of, AreDirectoryBlocks, blocks_for}
 use Rattle.tree_blocks.specs.Directory.{IsHeld, numbered}
 use Rattle.tree_blocks.proofs.Alike.{consistent_by}
 use Rattle.file_graph.specs.declared.effect.Kind.TheVariants as kind
@@ -20,12 +20,12 @@ use Rattle.directory_plan.specs.declared.blocks.DirectoryBlocks.{DirectoryBlocks
 use Rattle.directory_plan.specs.declared.started.StartedDirectory.{StartedDirectory}
 use Rattle.directory_plan.proofs.Parts as parts
 
-sizes_same : (x : Slot) (b c : Blocks) → (inode_of x b).size ≡ (inode_of x c).size
+sizes_same : (x : Slot) (b c : LogicalBlocks) → (inode_of x b).size ≡ (inode_of x c).size
 sizes_same slots.Free b c = refl
 sizes_same (slots.File names size touch fast block slow) b c = refl
 sizes_same (slots.Directory names entries touch root) b c = refl
 
-names_same : (x : Slot) (b c : Blocks) → (inode_of x b).names ≡ (inode_of x c).names
+names_same : (x : Slot) (b c : LogicalBlocks) → (inode_of x b).names ≡ (inode_of x c).names
 names_same slots.Free b c = refl
 names_same (slots.File names size touch fast block slow) b c = refl
 names_same (slots.Directory names entries touch root) b c = refl
@@ -63,7 +63,7 @@ module _ (g : Sizes) (s : Store) (i : ℕ) (x : InodeParts) (are : AreDirectoryP
   module _ (blocks : DirectoryBlocks) (root_is : blocks.root ≡ root_of x.slot Fast) (places_are : blocks.places.items ≡ places) where
     module _ (start : StartedDirectory) (names : start.names ≡ (inode_of x.slot (λ k. [])).names) (entries : start.entries ≡ record { owner = i; count = count; blocks = held }) (blocks_are : start.blocks ≡ blocks) (list : start.blocks.root ≢ 0 → start.list ≡ s Fast start.blocks.root) where
       entries_of : AreHeldOf start.entries (inode g s i)
-      entries_of = subst (λ d. AreHeldOf d (inode g s i)) (sym entries) (record { count = size_is; blocks = λ k lt. ap (λ (b : Blocks). b k) (blocks_is (slot g s i) (logical g s i) kind.Directory are.kind_is) ∙ sym (block_is k lt) })
+      entries_of = subst (λ d. AreHeldOf d (inode g s i)) (sym entries) (record { count = size_is; blocks = λ k lt. ap (λ (b : LogicalBlocks). b k) (blocks_is (slot g s i) (logical g s i) kind.Directory are.kind_is) ∙ sym (block_is k lt) })
 
       places_same : start.blocks.places.items ≡ places
       places_same = ap (λ b. b.places.items) blocks_are ∙ places_are

@@ -14,7 +14,7 @@ use Rattle.layout.specs.Places.{Sizes, is_node}
 use Rattle.layout.specs.Slot.{is_root_block}
 use Rattle.extent_nodes.specs.Places.{place_of}
 use Rattle.area_rewrite.specs.Written.{block_by}
-use Rattle.directory_plan.specs.Blocks.{nth_block, AreApart, AreNodeBlocks, use_on_fast, use_in, root_blocks, lost_blocks}
+use Rattle.directory_plan.specs.Blocks.{nth_block, HaveOwnPlaces, AreNodeBlocks, use_on_fast, use_in, root_blocks, lost_blocks}
 use Rattle.directory_plan.specs.Spare.{CanBeWritten, AreSpares}
 use Rattle.directory_plan.specs.Placed.{ListPlaces}
 use Rattle.directory_plan.specs.Planned.{on_fast}
@@ -98,7 +98,7 @@ block_is_use names entries touch root places runs lie Slow (Some k) = refl
 -- ---- once
 
 -- root and places that are apart have one use each
-pub use_once : (root : ℕ) (places : List ℕ) → AreApart places → (root ≢ 0 → (k : ℕ) → k < length places → nth_block places k ≢ root) → (j k : Option ℕ) (p : ℕ) → use_on_fast root places j ≡ Some p → use_on_fast root places k ≡ Some p → j ≡ k
+pub use_once : (root : ℕ) (places : List ℕ) → HaveOwnPlaces places → (root ≢ 0 → (k : ℕ) → k < length places → nth_block places k ≢ root) → (j k : Option ℕ) (p : ℕ) → use_on_fast root places j ≡ Some p → use_on_fast root places k ≡ Some p → j ≡ k
 use_once root places apart root_apart None None p one two = refl
 use_once root places apart root_apart None (Some k) p one two =
     let r = root_use root places p one in
@@ -322,7 +322,7 @@ module _ (g : Sizes) (x : ChangedDirectory) (spares : List ℕ) (can : CanBeWrit
   lost_root : (j : ℕ) → j < length lost → length (drop new old) ≤ j → nth_block lost j ≡ x.blocks.root
   lost_root j lt past = get_or-append_right (drop new old) tail (length (drop new old)) j 0 refl past ∙ (root_at j lt past).is
 
-  pub lost_apart : AreApart lost
+  pub lost_apart : HaveOwnPlaces lost
   lost_apart j k lj lk same = elim (cases_lt j (length (drop new old))) [
     | inl j_in ↦ elim (cases_lt k (length (drop new old))) [
       | inl k_in ↦ let e = can.blocks_are.apart (new + j) (new + k) (behind_in j j_in) (behind_in k k_in) (sym (behind_at j j_in) ∙ same ∙ behind_at k k_in) in omega (arith, e)

@@ -12,8 +12,8 @@ abbrev pub nth_block : List ℕ → ℕ → ℕ
 nth_block blocks k = get_or blocks k 0
 
 -- no block stands twice
-abbrev pub AreApart : List ℕ → Type 0
-AreApart blocks = (j k : ℕ) → j < length blocks → k < length blocks → nth_block blocks j ≡ nth_block blocks k → j ≡ k
+abbrev pub HaveOwnPlaces : List ℕ → Type 0
+HaveOwnPlaces blocks = (j k : ℕ) → j < length blocks → k < length blocks → nth_block blocks j ≡ nth_block blocks k → j ≡ k
 
 -- all are of the node pool
 abbrev pub AreNodeBlocks : Sizes → List ℕ → Type 0
@@ -22,7 +22,7 @@ AreNodeBlocks g blocks = (k : ℕ) → k < length blocks → is_node g (nth_bloc
 -- The blocks are of the node pool, each another one, and there is one that lists them where there are some.
 pub record AreSound (g : Sizes) (x : DirectoryBlocks) : Type 0 where
   pub nodes : AreNodeBlocks g x.places.items
-  pub apart : AreApart x.places.items
+  pub apart : HaveOwnPlaces x.places.items
   pub root_node : is_root_block g x.root ≡ true
   pub root_apart : x.root ≢ 0 → (k : ℕ) → k < length x.places.items → nth_block x.places.items k ≢ x.root
   pub rooted : x.root ≡ 0 → length x.places.items ≡ 0

@@ -3,7 +3,7 @@ use Rattle.std.specs.Prelude.{◌≡◌, ◌≢◌, ◌<◌, ◌≤◌, ℕ, Lis
 use Rattle.std.specs.List.{All}
 use Rattle.posix_calls.specs.declared.limits.TheConstants.{MAX_NAMES}
 use Rattle.layout.specs.Places.{Sizes}
-use Rattle.directory_plan.specs.Blocks.{nth_block, AreApart, AreNodeBlocks, AreSound, spares_wanted}
+use Rattle.directory_plan.specs.Blocks.{nth_block, HaveOwnPlaces, AreNodeBlocks, AreSound, spares_wanted}
 use Rattle.directory_plan.specs.declared.changing.ChangedDirectory.{ChangedDirectory}
 
 -- how many blocks a changed directory wants beside those that it has
@@ -14,7 +14,7 @@ spares_for x = spares_wanted x.blocks.root (length x.blocks.places.items) (lengt
 pub record AreSpares (g : Sizes) (x : ChangedDirectory) (spares : List ℕ) : Type 0 where
   pub enough : length spares ≡ spares_for x
   pub nodes : AreNodeBlocks g spares
-  pub apart : AreApart spares
+  pub apart : HaveOwnPlaces spares
   pub not_places : (j k : ℕ) → j < length spares → k < length x.blocks.places.items → nth_block spares j ≢ nth_block x.blocks.places.items k
   pub not_root : (j : ℕ) → j < length spares → nth_block spares j ≢ x.blocks.root
 

@@ -8,7 +8,7 @@ use Rattle.graph_change.specs.Net.{Base, Kept, Made, Gone, names_after}
 use Rattle.graph_change.specs.Change.{Change}
 use Rattle.layout.specs.Places.{Sizes, is_inode, is_node}
 use Rattle.layout.specs.Slot.{fits_slot}
-use Rattle.tree_blocks.specs.Inode.{Blocks}
+use Rattle.tree_blocks.specs.Inode.{LogicalBlocks}
 use Rattle.tree_blocks.specs.After.{started, IsDirectoryAfter}
 use Rattle.tree_blocks.specs.Directory.{numbered}
 use Rattle.tree_blocks.specs.Rewritten.{AreHeldOf}
@@ -44,7 +44,7 @@ pub record ArePlacesOf (x : InodeExtents) (count : ℕ) (places : List ℕ) : Ty
   pub each : (k : ℕ) → k < count → place_by x tiers.Fast k ≡ Some (nth_block places k)
 
 -- These are what stands in the first so many blocks at some places.
-pub record HoldPlaces (fast : Blocks) (places : List ℕ) (count : ℕ) (held : List (List ℕ)) : Type 0 where
+pub record HoldPlaces (fast : LogicalBlocks) (places : List ℕ) (count : ℕ) (held : List (List ℕ)) : Type 0 where
   pub long : length held ≡ count
   pub each : (k : ℕ) → k < count → numbered held k ≡ fast (nth_block places k)
 

@@ -6,7 +6,7 @@ ghost use Rattle.layout.specs.Slot.{is_root_block};
 ghost use Rattle.layout.specs.declared.extents.TheConstants.{MAX_EXTENTS};
 ghost use Rattle.layout.specs.declared.places.TheConstants.{BLOCK};
 ghost use Rattle.area_batch.specs.Batches.{AreNodes};
-ghost use Rattle.directory_plan.specs.Blocks.{AreApart, AreNodeBlocks};
+ghost use Rattle.directory_plan.specs.Blocks.{HaveOwnPlaces, AreNodeBlocks};
 ghost use Rattle.directory_plan.specs.Planned.{HaveImages, HasListImage};
 
 use area_batch::NodeImages;
@@ -22,7 +22,7 @@ pub fn put_written(
     written: &[usize],
 ) -> Result<(), AllocError>
     requires long { length places.now ≡ length blocks.now }
-    requires apart { AreApart places.now }
+    requires apart { HaveOwnPlaces places.now }
     requires inside { All (λ k. k < length blocks.now) written.now }
     ensures images { OnOk result (HaveImages blocks.now places.now written.now images.old images.new) }
     ensures nodes { OnOk result ((g : Sizes) → AreNodeBlocks g places.now → AreNodes g images.old → AreNodes g images.new) }

@@ -6,11 +6,11 @@ use Rattle.std.proofs.lemmas.Bool.{cases_lt, cases_eq, cases_Bool}
 use Rattle.std.proofs.lemmas.Option.{none-some, same_Some}
 use Rattle.std.proofs.lemmas.List.{drop_more, drop_all}
 use Rattle.layout.specs.declared.extents.Extent.{Extent}
-use Rattle.extent_nodes.specs.Places.{has, extent_at}
+use Rattle.extent_nodes.specs.Places.{has, extent_with}
 use Rattle.extent_nodes.specs.Normal.{IsRising}
 use Rattle.extent_nodes.specs.Changes.{EndBefore, BeginBehind}
 use Rattle.extent_nodes.specs.Nodes.{flat, begin_of, last_end, summary, summaries, AreFilled, HaveFrom}
-use Rattle.extent_nodes.proofs.Maps.{has-parts, has-out, at-here, at-later, extent_at-append, or-none}
+use Rattle.extent_nodes.proofs.Maps.{has-parts, has-out, at-here, at-later, extent_with-append, or-none}
 use Rattle.extent_nodes.proofs.Rising.{rising-left, rising-right, rising-tight, last-bound, none-before, none-behind}
 use Rattle.extent_nodes.proofs.Joined.{all-append, all-left, all-right}
 
@@ -110,7 +110,7 @@ summaries-rising number low end ((e ∷ es) ∷ ns) is filled =
     (is.0, omega (arith, b.0, is.1), omega (arith, at, b.1), subst (λ k. IsRising k end (summaries (number + 1) ns)) (sym at) (summaries-rising (number + 1) (last_end (e.logical + e.length) es) end ns (rising-right (e.logical + e.length) end es (flat ns) is.3) filled.1))
 
 -- a block outside the cover of a node is in none of its entries
-outside : (b number end : ℕ) (e : Extent) (es : List Extent) (ns : List (List Extent)) → 0 < e.length → IsRising (e.logical + e.length) end es → e.logical + e.length ≤ end → has b (summary number (e ∷ es)) ≡ false → extent_at b (e ∷ es) ≡ None
+outside : (b number end : ℕ) (e : Extent) (es : List Extent) (ns : List (List Extent)) → 0 < e.length → IsRising (e.logical + e.length) end es → e.logical + e.length ≤ end → has b (summary number (e ∷ es)) ≡ false → extent_with b (e ∷ es) ≡ None
 outside b number end e es ns some node le out =
     let at = summary-end e es end number node le in
     let tight = rising-tight (e.logical + e.length) end es node le in
@@ -121,7 +121,7 @@ outside b number end e es ns some node le out =
     ]
 
 -- what no cover has, no node has
-pub none-below : (b number low end : ℕ) (ns : List (List Extent)) → IsRising low end (flat ns) → AreFilled ns → extent_at b (summaries number ns) ≡ None → extent_at b (flat ns) ≡ None
+pub none-below : (b number low end : ℕ) (ns : List (List Extent)) → IsRising low end (flat ns) → AreFilled ns → extent_with b (summaries number ns) ≡ None → extent_with b (flat ns) ≡ None
 none-below b number low end [] is filled none = refl
 none-below b number low end ([] ∷ ns) is filled none = absurd (omega (arith, filled.0))
 none-below b number low end ((e ∷ es) ∷ ns) is filled none =
@@ -132,11 +132,11 @@ none-below b number low end ((e ∷ es) ∷ ns) is filled none =
       | inl it ↦ absurd (none-some (summary number (e ∷ es)) (sym none ∙ at-here b (summary number (e ∷ es)) (summaries (number + 1) ns) it))
       | inr out ↦
           let below = none-below b (number + 1) (last_end (e.logical + e.length) es) end ns rest filled.1 (sym (at-later b (summary number (e ∷ es)) (summaries (number + 1) ns) out) ∙ none) in
-          extent_at-append b (e ∷ es) (flat ns) ∙ (λ i. option_or (outside b number end e es ns is.1 node is.2 out i) (below i))
+          extent_with-append b (e ∷ es) (flat ns) ∙ (λ i. option_or (outside b number end e es ns is.1 node is.2 out i) (below i))
     ]
 
 -- what a cover has is to be looked for in its node
-pub one-below : (b number low end : ℕ) (ns : List (List Extent)) (x : Extent) (d : List Extent) → IsRising low end (flat ns) → AreFilled ns → extent_at b (summaries number ns) ≡ Some x → (number ≤ x.place) × (x.place < number + length ns) × (extent_at b (flat ns) ≡ extent_at b (get_or ns (x.place - number) d))
+pub one-below : (b number low end : ℕ) (ns : List (List Extent)) (x : Extent) (d : List Extent) → IsRising low end (flat ns) → AreFilled ns → extent_with b (summaries number ns) ≡ Some x → (number ≤ x.place) × (x.place < number + length ns) × (extent_with b (flat ns) ≡ extent_with b (get_or ns (x.place - number) d))
 one-below b number low end [] x d is filled some = absurd (none-some x some)
 one-below b number low end ([] ∷ ns) x d is filled some = absurd (omega (arith, filled.0))
 one-below b number low end ((e ∷ es) ∷ ns) x d is filled some =
@@ -153,14 +153,14 @@ one-below b number low end ((e ∷ es) ∷ ns) x d is filled some =
           let none = none-before b (last_end (e.logical + e.length) es) end (flat ns) rest (omega (arith, p.1, at)) in (
             omega (arith, place),
             omega (arith, place),
-            extent_at-append b (e ∷ es) (flat ns) ∙ ap (λ o. option_or (extent_at b (e ∷ es)) o) none ∙ or-none (extent_at b (e ∷ es)) ∙ ap (λ k. extent_at b (get_or ((e ∷ es) ∷ ns) k d)) (sym here),
+            extent_with-append b (e ∷ es) (flat ns) ∙ ap (λ o. option_or (extent_with b (e ∷ es)) o) none ∙ or-none (extent_with b (e ∷ es)) ∙ ap (λ k. extent_with b (get_or ((e ∷ es) ∷ ns) k d)) (sym here),
           )
       | inr out ↦
           let below = one-below b (number + 1) (last_end (e.logical + e.length) es) end ns x d rest filled.1 (sym (at-later b cover (summaries (number + 1) ns) out) ∙ some) in
           let there : x.place - number ≡ suc (x.place - (number + 1)) = omega (arith, below.0) in (
             omega (arith, below.0),
             omega (arith, below.1),
-            extent_at-append b (e ∷ es) (flat ns) ∙ ap (λ o. option_or o (extent_at b (flat ns))) (outside b number end e es ns is.1 node is.2 out) ∙ below.2 ∙ ap (λ k. extent_at b (get_or ((e ∷ es) ∷ ns) k d)) (sym there),
+            extent_with-append b (e ∷ es) (flat ns) ∙ ap (λ o. option_or o (extent_with b (flat ns))) (outside b number end e es ns is.1 node is.2 out) ∙ below.2 ∙ ap (λ k. extent_with b (get_or ((e ∷ es) ∷ ns) k d)) (sym there),
           )
     ]
 

@@ -4,7 +4,7 @@ use Rattle.std.specs.Prelude.{nat_le, nat_lt}
 use Rattle.std.specs.Option.{option_map, option_or}
 use Rattle.std.proofs.lemmas.Bool.{cases_Bool, and_parts, and_from, and_cases, leb-true, ltb-true, leb-false, ltb-false, le-leb, lt-ltb, cond-true, cond-false}
 use Rattle.layout.specs.declared.extents.Extent.{Extent}
-use Rattle.extent_nodes.specs.Places.{has, place_in, extent_at, place_of, SamePlaces}
+use Rattle.extent_nodes.specs.Places.{has, place_in, extent_with, place_of, SamePlaces}
 
 -- ---- whether an extent has a block
 
@@ -22,24 +22,24 @@ not-has b e out = elim (cases_Bool (has b e)) [ inl h ↦ let p = has-parts b e 
 
 -- ---- the first extent that has a block
 
-pub at-here : (b : ℕ) (e : Extent) (es : List Extent) → has b e ≡ true → extent_at b (e ∷ es) ≡ Some e
-at-here b e es h = cond-true (has b e) (Some e) (extent_at b es) h
+pub at-here : (b : ℕ) (e : Extent) (es : List Extent) → has b e ≡ true → extent_with b (e ∷ es) ≡ Some e
+at-here b e es h = cond-true (has b e) (Some e) (extent_with b es) h
 
-pub at-later : (b : ℕ) (e : Extent) (es : List Extent) → has b e ≡ false → extent_at b (e ∷ es) ≡ extent_at b es
-at-later b e es h = cond-false (has b e) (Some e) (extent_at b es) h
+pub at-later : (b : ℕ) (e : Extent) (es : List Extent) → has b e ≡ false → extent_with b (e ∷ es) ≡ extent_with b es
+at-later b e es h = cond-false (has b e) (Some e) (extent_with b es) h
 
-pub extent_at-append : (b : ℕ) (xs ys : List Extent) → extent_at b (xs ++ ys) ≡ option_or (extent_at b xs) (extent_at b ys)
-extent_at-append b [] ys = refl
-extent_at-append b (x ∷ xs) ys = elim (cases_Bool (has b x)) [
-  | inl h ↦ at-here b x (xs ++ ys) h ∙ ap (λ o. option_or o (extent_at b ys)) (sym (at-here b x xs h))
-  | inr h ↦ at-later b x (xs ++ ys) h ∙ extent_at-append b xs ys ∙ ap (λ o. option_or o (extent_at b ys)) (sym (at-later b x xs h))
+pub extent_with-append : (b : ℕ) (xs ys : List Extent) → extent_with b (xs ++ ys) ≡ option_or (extent_with b xs) (extent_with b ys)
+extent_with-append b [] ys = refl
+extent_with-append b (x ∷ xs) ys = elim (cases_Bool (has b x)) [
+  | inl h ↦ at-here b x (xs ++ ys) h ∙ ap (λ o. option_or o (extent_with b ys)) (sym (at-here b x xs h))
+  | inr h ↦ at-later b x (xs ++ ys) h ∙ extent_with-append b xs ys ∙ ap (λ o. option_or o (extent_with b ys)) (sym (at-later b x xs h))
 ]
 
-pub extent_at-has : (b : ℕ) (es : List Extent) (e : Extent) → extent_at b es ≡ Some e → has b e ≡ true
-extent_at-has b [] e is = cc
-extent_at-has b (x ∷ xs) e is = elim (cases_Bool (has b x)) [
+pub extent_with-has : (b : ℕ) (es : List Extent) (e : Extent) → extent_with b es ≡ Some e → has b e ≡ true
+extent_with-has b [] e is = cc
+extent_with-has b (x ∷ xs) e is = elim (cases_Bool (has b x)) [
   | inl h ↦ let same : Some x ≡ Some e = sym (at-here b x xs h) ∙ is in let is_e : x ≡ e = cc in subst (λ y. has b y ≡ true) is_e h
-  | inr h ↦ extent_at-has b xs e (sym (at-later b x xs h) ∙ is)
+  | inr h ↦ extent_with-has b xs e (sym (at-later b x xs h) ∙ is)
 ]
 
 pub or-none : {A : Type 0} (o : Option A) → option_or o None ≡ o
@@ -57,7 +57,7 @@ option_map-or f (Some x) p = refl
 -- ---- places
 
 pub place_of-append : (xs ys : List Extent) (b : ℕ) → place_of (xs ++ ys) b ≡ option_or (place_of xs b) (place_of ys b)
-place_of-append xs ys b = ap (option_map (place_in b)) (extent_at-append b xs ys) ∙ option_map-or (place_in b) (extent_at b xs) (extent_at b ys)
+place_of-append xs ys b = ap (option_map (place_in b)) (extent_with-append b xs ys) ∙ option_map-or (place_in b) (extent_with b xs) (extent_with b ys)
 
 pub place-here : (b : ℕ) (e : Extent) (es : List Extent) → has b e ≡ true → place_of (e ∷ es) b ≡ Some (e.place + (b - e.logical))
 place-here b e es h = ap (option_map (place_in b)) (at-here b e es h)

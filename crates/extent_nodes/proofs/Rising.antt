@@ -3,7 +3,7 @@ use Rattle.std.proofs.Common.{◌≡◌, ◌≤◌, ◌<◌, inl, inr, ℕ, zero
 use Rattle.std.proofs.lemmas.Bool.{cases_eq}
 use Rattle.std.proofs.lemmas.List.{get_or_default}
 use Rattle.layout.specs.declared.extents.Extent.{Extent}
-use Rattle.extent_nodes.specs.Places.{has, extent_at}
+use Rattle.extent_nodes.specs.Places.{has, extent_with}
 use Rattle.extent_nodes.specs.Normal.{IsRising}
 use Rattle.extent_nodes.specs.Nodes.{last_end}
 use Rattle.extent_nodes.proofs.Maps.{not-has, at-here, at-later}
@@ -40,13 +40,13 @@ rising-longer low end end' (x ∷ xs) a c is same some within above = (is.0, is.
 
 -- ---- blocks before and behind
 
-pub none-before : (b low end : ℕ) (es : List Extent) → IsRising low end es → b < low → extent_at b es ≡ None
+pub none-before : (b low end : ℕ) (es : List Extent) → IsRising low end es → b < low → extent_with b es ≡ None
 none-before b low end [] is below = refl
 none-before b low end (e ∷ es) is below =
     at-later b e es (not-has b e (λ l h. omega (arith, l, is.0, below)))
     ∙ none-before b (e.logical + e.length) end es is.3 (omega (arith, is.0, below))
 
-pub none-behind : (b low end : ℕ) (es : List Extent) → IsRising low end es → end ≤ b → extent_at b es ≡ None
+pub none-behind : (b low end : ℕ) (es : List Extent) → IsRising low end es → end ≤ b → extent_with b es ≡ None
 none-behind b low end [] is above = refl
 none-behind b low end (e ∷ es) is above =
     at-later b e es (not-has b e (λ l h. omega (arith, h, is.2, above)))
@@ -67,16 +67,16 @@ rising-order low end (suc i) zero (e ∷ es) d is lt within = absurd (omega (ari
 rising-order low end (suc i) (suc j) (e ∷ es) d is lt within = rising-order (e.logical + e.length) end i j es d is.3 (omega (arith, lt)) (omega (arith, within))
 
 -- the extent at a place that has a block is the one that has it
-pub extent_at-place : (b low end i : ℕ) (es : List Extent) (d : Extent) → IsRising low end es → i < length es → has b (get_or es i d) ≡ true → (get_or es i d).logical ≤ b → extent_at b es ≡ Some (get_or es i d)
-extent_at-place b low end i [] d is lt it above = absurd (omega (arith, lt))
-extent_at-place b low end zero (e ∷ es) d is lt it above = at-here b e es it
-extent_at-place b low end (suc i) (e ∷ es) d is lt it above =
+pub extent_with-place : (b low end i : ℕ) (es : List Extent) (d : Extent) → IsRising low end es → i < length es → has b (get_or es i d) ≡ true → (get_or es i d).logical ≤ b → extent_with b es ≡ Some (get_or es i d)
+extent_with-place b low end i [] d is lt it above = absurd (omega (arith, lt))
+extent_with-place b low end zero (e ∷ es) d is lt it above = at-here b e es it
+extent_with-place b low end (suc i) (e ∷ es) d is lt it above =
     let p = rising-at (e.logical + e.length) end i es d is.3 (omega (arith, lt)) in
     at-later b e es (not-has b e (λ l h. omega (arith, h, p.0, above)))
-    ∙ extent_at-place b (e.logical + e.length) end i es d is.3 (omega (arith, lt)) it above
+    ∙ extent_with-place b (e.logical + e.length) end i es d is.3 (omega (arith, lt)) it above
 
 -- no extent has a block that is behind those up to a place and before the others
-pub none-between : (b i : ℕ) (es : List Extent) → ((k : ℕ) (d : Extent) → k < i → k < length es → (get_or es k d).logical + (get_or es k d).length ≤ b) → ((k : ℕ) (d : Extent) → i ≤ k → k < length es → b < (get_or es k d).logical) → extent_at b es ≡ None
+pub none-between : (b i : ℕ) (es : List Extent) → ((k : ℕ) (d : Extent) → k < i → k < length es → (get_or es k d).logical + (get_or es k d).length ≤ b) → ((k : ℕ) (d : Extent) → i ≤ k → k < length es → b < (get_or es k d).logical) → extent_with b es ≡ None
 none-between b i [] before after = refl
 none-between b zero (e ∷ es) before after =
     at-later b e es (not-has b e (λ l h. omega (arith, l, after 0 e (omega arith) (omega arith))))

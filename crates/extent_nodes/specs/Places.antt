@@ -17,13 +17,13 @@ abbrev pub place_in : ℕ → Extent → ℕ
 place_in b e = e.place + (b - e.logical)
 
 -- the first extent that has a block
-abbrev pub extent_at : ℕ → List Extent → Option Extent
-extent_at b [] = None
-extent_at b (e ∷ es) = if has b e then Some e else extent_at b es
+abbrev pub extent_with : ℕ → List Extent → Option Extent
+extent_with b [] = None
+extent_with b (e ∷ es) = if has b e then Some e else extent_with b es
 
 -- the place of a block, where it is mapped
 abbrev pub place_of : List Extent → ℕ → Option ℕ
-place_of es b = option_map (place_in b) (extent_at b es)
+place_of es b = option_map (place_in b) (extent_with b es)
 
 -- the same map
 abbrev pub SamePlaces : List Extent → List Extent → Type 0

@@ -1,7 +1,7 @@
 ghost use Rattle.std.specs.Prelude.{◌≡◌, ◌≤◌, ◌<◌, ◌^◌, length, IfOk};
 ghost use Rattle.extent_nodes.specs.Nodes.{begin_of, last_end, summary};
 ghost use Rattle.extent_nodes.specs.Normal.{IsRising};
-ghost use Rattle.extent_nodes.specs.Places.{extent_at};
+ghost use Rattle.extent_nodes.specs.Places.{extent_with};
 
 use layout::Extent;
 use std::alloc::{AllocError, Global};
@@ -63,7 +63,7 @@ impl Node {
     /// The entry that has a block, by bisection.
     pub fn find(&self, block: u32) -> Found
         requires { IsRising 0 4294967295 self.now }
-        ensures extent { result.extent ≡ extent_at block self.now }
+        ensures extent { result.extent ≡ extent_with block self.now }
         ensures compared { result.compared ≤ length self.now }
         ensures some { 0 < length self.now → 0 < result.compared }
     {
@@ -92,7 +92,7 @@ fn end_of(entries: &[Extent]) -> u64
 
 fn find(entries: &[Extent], block: u32) -> Found
     requires { IsRising 0 4294967295 entries.now }
-    ensures extent { result.extent ≡ extent_at block entries.now }
+    ensures extent { result.extent ≡ extent_with block entries.now }
     ensures compared { result.compared ≤ length entries.now }
     ensures some { 0 < length entries.now → 0 < result.compared }
 {

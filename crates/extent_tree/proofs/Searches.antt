@@ -6,7 +6,7 @@ use Rattle.std.proofs.lemmas.Option.{none-some, same_Some}
 use Rattle.std.proofs.lemmas.List.{append-nil, nil_from_length}
 use Rattle.std.proofs.Math.Nat.{mul-le-mul_left, mul-le-mul_right}
 use Rattle.layout.specs.declared.extents.Extent.{Extent}
-use Rattle.extent_nodes.specs.Places.{has, extent_at}
+use Rattle.extent_nodes.specs.Places.{has, extent_with}
 use Rattle.extent_nodes.specs.Normal.{IsRising, PlacesFit}
 use Rattle.extent_nodes.specs.Nodes.{flat, summaries}
 use Rattle.extent_nodes.proofs.Maps.{at-here, at-later}
@@ -78,7 +78,7 @@ root-few width ns is one =
     omega (arith, most-count 0 width ns is.most, mul-le-mul_left width one, e)
 
 -- the extent that was found has the block, and its places are numbers of 32 bits
-pub found-fits : (b : ℕ) (es : List Extent) (e : Extent) → PlacesFit es → extent_at b es ≡ Some e → e.place + e.length < 2 ^ 32
+pub found-fits : (b : ℕ) (es : List Extent) (e : Extent) → PlacesFit es → extent_with b es ≡ Some e → e.place + e.length < 2 ^ 32
 found-fits b [] e fit is = absurd (none-some e is)
 found-fits b (x ∷ xs) e fit is = elim (cases_Bool (has b x)) [
   | inl it ↦ let same : x ≡ e = same_Some x e (sym (at-here b x xs it) ∙ is) in subst (λ y. y.place + y.length < 2 ^ 32) same fit.0

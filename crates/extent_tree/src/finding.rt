@@ -2,7 +2,7 @@
 ghost use Rattle.std.specs.Prelude.{◌≡◌, ◌≤◌, ◌<◌, ◌+◌, ◌*◌, ◌^◌, length};
 ghost use Rattle.extent_nodes.specs.Nodes.{flat, summaries};
 ghost use Rattle.extent_nodes.specs.Normal.{IsRising};
-ghost use Rattle.extent_nodes.specs.Places.{extent_at};
+ghost use Rattle.extent_nodes.specs.Places.{extent_with};
 ghost use Rattle.extent_tree.specs.Tree.{IsLevel, IsTree, IsWidth, level_at};
 
 use crate::building::Level;
@@ -11,7 +11,7 @@ use extent_nodes::{Found, Node};
 fn find_in_root(nodes: &[Node], block: u32) -> Found
     requires one { length nodes.now ≤ 1 }
     requires rising { IsRising 0 4294967295 (flat nodes.now) }
-    ensures extent { result.extent ≡ extent_at block (flat nodes.now) }
+    ensures extent { result.extent ≡ extent_with block (flat nodes.now) }
     ensures compared { result.compared ≤ length (flat nodes.now) }
     ensures some { 0 < length (flat nodes.now) → 0 < result.compared }
 {
@@ -39,9 +39,9 @@ fn level_nodes<'a>(nodes: &'a [Node], inner: &'a [Level], level: usize) -> &'a [
 fn find_below<const N: usize>(nodes: &[Node], above: Found, block: u32) -> Found
     requires rising { IsRising 0 4294967295 (flat nodes.now) }
     requires level { IsLevel N nodes.now }
-    requires above { above.extent ≡ extent_at block (summaries 0 nodes.now) }
+    requires above { above.extent ≡ extent_with block (summaries 0 nodes.now) }
     requires few { above.compared + N < 2 ^ 64 }
-    ensures extent { result.extent ≡ extent_at block (flat nodes.now) }
+    ensures extent { result.extent ≡ extent_with block (flat nodes.now) }
     ensures compared { result.compared ≤ above.compared + N }
     ensures more { above.compared ≤ result.compared }
 {
@@ -64,7 +64,7 @@ pub fn find_in<const N: usize>(nodes: &[Node], inner: &[Level], block: u32) -> F
     requires rising { IsRising 0 4294967295 (flat nodes.now) }
     requires level { IsLevel N nodes.now }
     requires tree { IsTree N nodes.now inner.now }
-    ensures extent { result.extent ≡ extent_at block (flat nodes.now) }
+    ensures extent { result.extent ≡ extent_with block (flat nodes.now) }
     ensures compared { result.compared ≤ N * (1 + length inner.now) }
     ensures some { 0 < length (flat nodes.now) → 0 < result.compared }
 {

@@ -10,7 +10,7 @@ use Rattle.batch_journal.specs.Images.{slice}
 use Rattle.graph_change.specs.Change.{Change, Patch, IsWhole, blank, patch_at}
 use Rattle.graph_change.specs.View.{patch_of, patches_of}
 use Rattle.graph_change.proofs.Maps.{value_at}
-use Rattle.tree_blocks.specs.Inode.{Blocks}
+use Rattle.tree_blocks.specs.Inode.{LogicalBlocks}
 use Rattle.std.proofs.lemmas.List.FromFn.{length-map-range_with_len}
 use Rattle.graph_change.specs.Bytes.{Length, byte_after}
 use Rattle.tree_blocks.specs.FileBlock.{put_in, in_block, block_after, is_cut_off, ReadSame, ReadsAfter}
@@ -32,10 +32,10 @@ slice_left at n xs ys le = ap (take n) (drop-append-le at xs ys (omega (arith, l
 slice_right : (at n : ℕ) (xs ys : List ℕ) → length xs ≡ at → length ys ≡ n → slice at n (xs ++ ys) ≡ ys
 slice_right at n xs ys here long = ap (take n) (ap (λ k. drop k (xs ++ ys)) (sym here) ∙ drop-append_seam xs ys) ∙ take_all n ys (omega (arith, long))
 
-pub holds_none : (c : Change) (old : Blocks) (numbers : List ℕ) → HoldsBlocks c old numbers 0 []
+pub holds_none : (c : Change) (old : LogicalBlocks) (numbers : List ℕ) → HoldsBlocks c old numbers 0 []
 holds_none c old numbers = record { long = refl; each = λ n lt. absurd (omega (arith, lt)) }
 
-pub holds_more : (c : Change) (old : Blocks) (numbers : List ℕ) (n : ℕ) (bytes block : List ℕ) → HoldsBlocks c old numbers n bytes → length block ≡ 4096 → IsBlockAfter c old (nth_number numbers n) block → HoldsBlocks c old numbers (n + 1) (bytes ++ block)
+pub holds_more : (c : Change) (old : LogicalBlocks) (numbers : List ℕ) (n : ℕ) (bytes block : List ℕ) → HoldsBlocks c old numbers n bytes → length block ≡ 4096 → IsBlockAfter c old (nth_number numbers n) block → HoldsBlocks c old numbers (n + 1) (bytes ++ block)
 holds_more c old numbers n bytes block h long after =
     let all = h.long in
     record {

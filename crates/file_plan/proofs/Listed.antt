@@ -17,7 +17,7 @@ use Rattle.area_image.specs.Map.{in_tier}
 use Rattle.area_image.specs.declared.tiers.InodeExtents.{InodeExtents}
 use Rattle.area_rewrite.specs.Written.{IsListed, list_of}
 use Rattle.area_move.specs.Lists.{root_for, IsListOf, AreListsOf}
-use Rattle.file_plan.specs.Roots.{lacking, wanted_before, roots_wanted, HasRootsOf, SparesFit, HasImages}
+use Rattle.file_plan.specs.Roots.{lacking, wanted_before, roots_wanted, HasRootsOf, SparesFit, ListsStand}
 
 node_some : (g : Sizes) (k : ℕ) → is_node g k ≡ true → k ≢ 0
 node_some g k is zero = (let low = leb-true 292 k (and_parts (nat_le 292 k) (nat_lt k (node_end g)) is).0 in omega (arith, low, zero))
@@ -40,7 +40,7 @@ inside slot x tiers.Fast count many lacks = omega (arith, many, lacks)
 inside slot x tiers.Block count many lacks = omega (arith, many, lacks)
 inside slot x tiers.Slow count many lacks = omega (arith, many, lacks)
 
-pub all_listed : (g : Sizes) (fast : Blocks) (i : ℕ) (m : TierRuns) (x : InodeExtents) (spare : List ℕ) (old new : Slot) → AreListsOf i m x → HasRootsOf x spare old new → SparesFit g old spare → length spare ≡ roots_wanted old x → HasImages fast new x → (t : Tier) → IsListed fast i (root_of new t) (runs_in m t)
+pub all_listed : (g : Sizes) (fast : Blocks) (i : ℕ) (m : TierRuns) (x : InodeExtents) (spare : List ℕ) (old new : Slot) → AreListsOf i m x → HasRootsOf x spare old new → SparesFit g old spare → length spare ≡ roots_wanted old x → ListsStand fast new x → (t : Tier) → IsListed fast i (root_of new t) (runs_in m t)
 all_listed g fast i m x spare old new lists roots fit many images t =
     listed_one fast i (root_of new t) (root_of old t) (get_or spare (wanted_before old x t) 0) (runs_in m t) m t (in_tier x t) refl (lists t) (roots t)
     (λ lacks. node_some g (get_or spare (wanted_before old x t) 0) (fit.node (wanted_before old x t) (inside old x t (length spare) many lacks))) (images t)

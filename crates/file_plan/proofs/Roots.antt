@@ -12,7 +12,7 @@ use Rattle.layout.specs.Places.{Sizes, is_node}
 use Rattle.layout.specs.Slot.{is_root_block, roots_apart, fits_slot}
 use Rattle.layout.specs.declared.slot.Slot.{Slot}
 use Rattle.layout.specs.declared.slot.Slot.TheVariants as slots
-use Rattle.tree_blocks.specs.Inode.{Blocks, inode_of}
+use Rattle.tree_blocks.specs.Inode.{LogicalBlocks, inode_of}
 use Rattle.tree_blocks.specs.After.{started}
 use Rattle.area_image.specs.Store.{root_of}
 use Rattle.area_image.specs.declared.tiers.InodeExtents.{InodeExtents}
@@ -108,7 +108,7 @@ old_roots g (slots.Directory names entries touch root) was =
     record { fast = r.1; block = refl; slow = refl; fast_block = from_none root; fast_slow = from_none root; block_slow = refl }
 
 -- what a change starts from keeps the limits
-started_few : (g : Sizes) (slot : Slot) (base : Base) (blocks : Blocks) → fits_slot g slot ≡ true → ((started base (inode_of slot blocks)).names ≤ 1000) × ((started base (inode_of slot blocks)).size ≤ 1048576)
+started_few : (g : Sizes) (slot : Slot) (base : Base) (blocks : LogicalBlocks) → fits_slot g slot ≡ true → ((started base (inode_of slot blocks)).names ≤ 1000) × ((started base (inode_of slot blocks)).size ≤ 1048576)
 started_few g slots.Free Kept blocks was = (omega arith, omega arith)
 started_few g (slots.File names size touch fast block slow) Kept blocks was =
     let t = and_parts (nat_lt touch (2 ^ 64)) _ was in
@@ -182,7 +182,7 @@ pub file_fits : (g : Sizes) (names size touch fast block slow : ℕ) → names �
 file_fits g names size touch fast block slow few_n few_s few_t r =
     and_from _ _ (lt-ltb touch (2 ^ 64) few_t) (and_from _ _ (and_from _ _ (and_from _ _ (and_from _ _ (and_from _ _ (and_from _ _ (and_from _ _ (le-leb names _ few_n) (le-leb size _ few_s)) r.fast) r.block) r.slow) r.fast_block) r.fast_slow) r.block_slow)
 
-pub slot_fits : (g : Sizes) (slot : Slot) (x : InodeExtents) (spare : List ℕ) (c : Change) (blocks : Blocks) (touch : ℕ) → fits_slot g slot ≡ true → IsBounded c → SparesFit g slot spare → length spare ≡ roots_wanted slot x → touch < 2 ^ 64
+pub slot_fits : (g : Sizes) (slot : Slot) (x : InodeExtents) (spare : List ℕ) (c : Change) (blocks : LogicalBlocks) (touch : ℕ) → fits_slot g slot ≡ true → IsBounded c → SparesFit g slot spare → length spare ≡ roots_wanted slot x → touch < 2 ^ 64
     → fits_slot g (slots.File (names_after c.names (started c.base (inode_of slot blocks)).names) (length_after c.length (started c.base (inode_of slot blocks)).size) touch
     (root_for (root_of slot tiers.Fast) x.fast (get_or spare (wanted_before slot x tiers.Fast) 0))
     (root_for (root_of slot tiers.Block) x.block (get_or spare (wanted_before slot x tiers.Block) 0))

@@ -17,7 +17,7 @@ use Rattle.graph_change.specs.Bytes.{length_after, end}
 use Rattle.graph_change.specs.Change.{Change, patch_at, writes_block}
 use Rattle.graph_change.specs.Net.{Base, Kept, Made, Gone}
 use Rattle.graph_change.specs.Tidy.{IsTidyChange}
-use Rattle.tree_blocks.specs.Inode.{Blocks, inode_of}
+use Rattle.tree_blocks.specs.Inode.{LogicalBlocks, inode_of}
 use Rattle.tree_blocks.specs.After.{started}
 use Rattle.tree_blocks.specs.FileBlock.{ReadsAfter}
 use Rattle.extent_nodes.specs.Normal.{IsNormal}
@@ -41,7 +41,7 @@ from_kept Kept o p is = is
 from_kept (Made kind) o p is = absurd (none-some p is)
 from_kept Gone o p is = absurd (none-some p is)
 
-module _ (g : Sizes) (c : Change) (old new : Store) (i : ℕ) (before after : TierRuns) (numbers : List ℕ) (places : List Place) (bytes : List ℕ) (blocks : Blocks) (starts : StartsFrom g old i c.base before) (once : LieOnce before) (are : AreNumbers c numbers) (is : IsMapAfter c numbers places before after) (enough : length numbers ≤ length places) (holds : HoldsBlocks c blocks numbers (length numbers) bytes) (has : HasData g c.base old new i places bytes) where
+module _ (g : Sizes) (c : Change) (old new : Store) (i : ℕ) (before after : TierRuns) (numbers : List ℕ) (places : List Place) (bytes : List ℕ) (blocks : LogicalBlocks) (starts : StartsFrom g old i c.base before) (once : LieOnce before) (are : AreNumbers c numbers) (is : IsMapAfter c numbers places before after) (enough : length numbers ≤ length places) (holds : HoldsBlocks c blocks numbers (length numbers) bytes) (has : HasData g c.base old new i places bytes) where
   data_at : (n : ℕ) → n < length numbers → new (nth_place places n).tier (nth_place places n).block ≡ slice (4096 * n) 4096 bytes
   data_at n lt =
       let inside : n < length places = omega (arith, lt, enough) in
@@ -73,7 +73,7 @@ module _ (g : Sizes) (c : Change) (old new : Store) (i : ℕ) (before after : Ti
 
 -- ---- the blocks that a change starts from
 
-kept_blocks : (x : Slot) (blocks : Blocks) → (inode_of x blocks).kind ≡ Some kind.File → blocks ≡ (inode_of x blocks).blocks
+kept_blocks : (x : Slot) (blocks : LogicalBlocks) → (inode_of x blocks).kind ≡ Some kind.File → blocks ≡ (inode_of x blocks).blocks
 kept_blocks slots.Free blocks is = absurd cc
 kept_blocks (slots.File names size touch fast block slow) blocks is = refl
 kept_blocks (slots.Directory names entries touch root) blocks is = refl

@@ -3,21 +3,21 @@ use Rattle.std.specs.Prelude.{◌≡◌, ◌<◌, ◌*◌, ◌++◌, ℕ, List, 
 use Rattle.layout.specs.declared.places.TheConstants.{BLOCK}
 use Rattle.batch_journal.specs.Images.{slice}
 use Rattle.graph_change.specs.Change.{Change, patch_at}
-use Rattle.tree_blocks.specs.Inode.{Blocks}
+use Rattle.tree_blocks.specs.Inode.{LogicalBlocks}
 use Rattle.tree_blocks.specs.FileBlock.{ReadsAfter}
 use Rattle.file_plan.specs.Placed.{nth_number}
 
 -- a block of a number reads as the change makes it of the old one
-abbrev pub IsBlockAfter : Change → Blocks → ℕ → List ℕ → Type 0
+abbrev pub IsBlockAfter : Change → LogicalBlocks → ℕ → List ℕ → Type 0
 IsBlockAfter c old k block = ReadsAfter c.length (patch_at c.patches k) k (old k) block
 
 -- The bytes are a block for each of the first so many numbers, one behind the other, as the change makes it of the old one.
-pub record HoldsBlocks (c : Change) (old : Blocks) (numbers : List ℕ) (count : ℕ) (bytes : List ℕ) : Type 0 where
+pub record HoldsBlocks (c : Change) (old : LogicalBlocks) (numbers : List ℕ) (count : ℕ) (bytes : List ℕ) : Type 0 where
   pub long : length bytes ≡ BLOCK * count
   pub each : (n : ℕ) → n < count → IsBlockAfter c old (nth_number numbers n) (slice (BLOCK * n) BLOCK bytes)
 
 -- Bytes are added to those that stood there: a block for each of the first so many numbers.
-abbrev pub AddsBlocks : Change → Blocks → List ℕ → ℕ → List ℕ → List ℕ → Type 0
+abbrev pub AddsBlocks : Change → LogicalBlocks → List ℕ → ℕ → List ℕ → List ℕ → Type 0
 AddsBlocks c old numbers count before now = (more : List ℕ) × (now ≡ before ++ more) × HoldsBlocks c old numbers count more
 
 -- What was there stays in front, whatever stands behind it.
@@ -25,6 +25,6 @@ abbrev pub GoesOn : List ℕ → List ℕ → Type 0
 GoesOn before now = (more : List ℕ) × (now ≡ before ++ more)
 
 -- what a change of a file starts from: these blocks, or none where the file is made
-abbrev pub blocks_from : {X : Type 0} → Option X → Blocks → Blocks
+abbrev pub blocks_from : {X : Type 0} → Option X → LogicalBlocks → LogicalBlocks
 blocks_from None blocks k = []
 blocks_from (Some x) blocks k = blocks k

@@ -37,5 +37,5 @@ pub record SparesFit (g : Sizes) (slot : Slot) (spare : List ℕ) : Type 0 where
   pub fresh : (t : Tier) (n : ℕ) → n < length spare → root_of slot t ≢ get_or spare n 0
 
 -- Each tier with extents has the image of the block that lists them.
-abbrev pub HasImages : Blocks → Slot → InodeExtents → Type 0
-HasImages fast slot x = (t : Tier) → IfSome (in_tier x t) (λ v. fast (root_of slot t) ≡ extents_spelling v)
+abbrev pub ListsStand : Blocks → Slot → InodeExtents → Type 0
+ListsStand fast slot x = (t : Tier) → IfSome (in_tier x t) (λ v. fast (root_of slot t) ≡ extents_spelling v)

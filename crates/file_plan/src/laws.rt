@@ -30,7 +30,7 @@ ghost use Rattle.file_plan.specs.Written.{AreNumbers};
 ghost use Rattle.file_plan.specs.Bytes.{HoldsBlocks};
 ghost use Rattle.file_plan.specs.Mapped.{IsMapAfter, AreFresh, AreData, AreLeft, KeepsPlace, TakesPlace};
 ghost use Rattle.file_plan.specs.Planned.{StartsFrom, HasData};
-ghost use Rattle.file_plan.specs.Roots.{roots_wanted, HasRootsOf, SparesFit, HasImages};
+ghost use Rattle.file_plan.specs.Roots.{roots_wanted, HasRootsOf, SparesFit, ListsStand};
 
 /// Each block of a changed file lies where it lay, or in the place of its number. Where no logical block lay in two tiers, or at or behind the end of the file, or in the place of
 /// another, and each where a file's data may, so it is after the change, if the new places are free, each of its own, and blocks for data.
@@ -72,7 +72,7 @@ pub fn planned_file_is_fit()
 /// the old slot named there, or one of the spare ones, and each spare one is named. No block is named for two tiers, where the slot keeps the limits; and those that listed some, and
 /// that the slot names no more where they were, are the ones that are left.
 pub fn planned_roots_list_the_runs()
-    ensures listed { (g : Sizes) (fast : Blocks) (i : ℕ) (m : TierRuns) (x : InodeExtents) (spare : List ℕ) (old new : Slot) → AreListsOf i m x → HasRootsOf x spare old new → SparesFit g old spare → length spare ≡ roots_wanted old x → HasImages fast new x → (t : Tier) → IsListed fast i (root_of new t) (runs_in m t) }
+    ensures listed { (g : Sizes) (fast : Blocks) (i : ℕ) (m : TierRuns) (x : InodeExtents) (spare : List ℕ) (old new : Slot) → AreListsOf i m x → HasRootsOf x spare old new → SparesFit g old spare → length spare ≡ roots_wanted old x → ListsStand fast new x → (t : Tier) → IsListed fast i (root_of new t) (runs_in m t) }
     ensures uses { (x : InodeExtents) (spare : List ℕ) (old new : Slot) (t : Tier) → HasRootsOf x spare old new → length spare ≡ roots_wanted old x → root_of new t ≢ 0 → (root_of new t ≡ root_of old t) ⊎ Contains spare (root_of new t) }
     ensures all { (x : InodeExtents) (spare : List ℕ) (old new : Slot) (n : ℕ) → HasRootsOf x spare old new → length spare ≡ roots_wanted old x → n < length spare → (t : Tier) × (root_of new t ≡ get_or spare n 0) }
     ensures once { (g : Sizes) (new : Slot) (t u : Tier) → fits_slot g new ≡ true → root_of new t ≢ 0 → root_of new t ≡ root_of new u → t ≡ u }

@@ -6,7 +6,7 @@ ghost use Rattle.graph_change.specs.Bounds.{IsBounded};
 ghost use Rattle.graph_change.specs.Bytes.{length_after};
 ghost use Rattle.graph_change.specs.Net.{names_after};
 ghost use Rattle.graph_change.specs.View.{base_of, new_length, change_of};
-ghost use Rattle.tree_blocks.specs.Inode.{Blocks, inode_of};
+ghost use Rattle.tree_blocks.specs.Inode.{LogicalBlocks, inode_of};
 ghost use Rattle.tree_blocks.specs.After.{started};
 ghost use Rattle.area_image.specs.Store.{touch_of};
 ghost use Rattle.area_rewrite.specs.Changed.{IsFileSlot};
@@ -53,7 +53,7 @@ fn root_for(root: u32, list: &Option<ExtentBlock>, spare: &[u32], at: usize) -> 
 
 // How many names a change starts from.
 fn names_before(base: NodeBase, slot: &Slot) -> u32
-    ensures { (blocks : Blocks) → result ≡ (started (base_of base) (inode_of slot.now blocks)).names }
+    ensures { (blocks : LogicalBlocks) → result ≡ (started (base_of base) (inode_of slot.now blocks)).names }
 {
     match base {
         NodeBase::Kept => match *slot {
@@ -68,7 +68,7 @@ fn names_before(base: NodeBase, slot: &Slot) -> u32
 
 // Which size a change starts from.
 fn size_before(base: NodeBase, slot: &Slot) -> u64
-    ensures { (blocks : Blocks) → result ≡ (started (base_of base) (inode_of slot.now blocks)).size }
+    ensures { (blocks : LogicalBlocks) → result ≡ (started (base_of base) (inode_of slot.now blocks)).size }
 {
     match base {
         NodeBase::Kept => match *slot {
@@ -83,7 +83,7 @@ fn size_before(base: NodeBase, slot: &Slot) -> u64
 
 // How many names there are after a change.
 fn names_after(change: &NodeChange, slot: &Slot) -> u32
-    ensures { (blocks : Blocks) → result ≡ names_after (change_of change.now).names (started (base_of change.now.base) (inode_of slot.now blocks)).names }
+    ensures { (blocks : LogicalBlocks) → result ≡ names_after (change_of change.now).names (started (base_of change.now.base) (inode_of slot.now blocks)).names }
 {
     match change.names {
         Some(names) => names,
@@ -93,7 +93,7 @@ fn names_after(change: &NodeChange, slot: &Slot) -> u32
 
 // How long the file is after a change.
 fn size_after(change: &NodeChange, slot: &Slot) -> u64
-    ensures { (blocks : Blocks) → result ≡ length_after (new_length change.now.length) (started (base_of change.now.base) (inode_of slot.now blocks)).size }
+    ensures { (blocks : LogicalBlocks) → result ≡ length_after (new_length change.now.length) (started (base_of change.now.base) (inode_of slot.now blocks)).size }
 {
     change.length.after(size_before(change.base, slot))
 }
@@ -108,7 +108,7 @@ pub fn slot_after(
     touch: u64,
 ) -> Slot
     requires { length spare.now ≡ roots_wanted slot.now lists.now }
-    ensures file { (blocks : Blocks) → IsFileSlot (names_after (change_of change.now).names (started (base_of change.now.base) (inode_of slot.now blocks)).names) (length_after (new_length change.now.length) (started (base_of change.now.base) (inode_of slot.now blocks)).size) result }
+    ensures file { (blocks : LogicalBlocks) → IsFileSlot (names_after (change_of change.now).names (started (base_of change.now.base) (inode_of slot.now blocks)).names) (length_after (new_length change.now.length) (started (base_of change.now.base) (inode_of slot.now blocks)).size) result }
     ensures touch { touch_of result ≡ touch }
     ensures roots { HasRootsOf lists.now spare.now slot.now result }
     // It keeps the limits of the format where the old one and the change do, and the spare blocks are others of the node pool.

@@ -7,7 +7,7 @@ use Rattle.std.proofs.lemmas.List.Elements.{Contains-append_left, Contains-appen
 use Rattle.tier_device.specs.declared.media.Tier.{Tier}
 use Rattle.layout.specs.Places.{Sizes, tier_blocks}
 use Rattle.block_alloc.specs.declared.runs.Run.{Run}
-use Rattle.block_alloc.specs.Runs.{blocks_of, IsNormal, Rising}
+use Rattle.block_alloc.specs.Runs.{blocks_of, AreNormalRuns, Rising}
 use Rattle.block_alloc.specs.Value.{FreeBlocks, InOrder}
 use Rattle.batch_journal.specs.Blocks.{Blocks}
 use Rattle.area_image.specs.Store.{Store}
@@ -29,7 +29,7 @@ taken_free g s old new taken free were t k at =
     ((free.per_tier t k).0 before).0
 
 pub taken_apart : (g : Sizes) (old new : PoolsView) (taken : Taken) → HasRanges g old → WereTaken old new taken → RunsAreNormal g taken
-taken_apart g old new taken ranges were t = subst (λ low. IsNormal low (tier_blocks g t) (runs_of taken t)) (ranges.first t) (subst (λ end. IsNormal (data_pool old t).first end (runs_of taken t)) (ranges.end t) (were.per_tier t).apart)
+taken_apart g old new taken ranges were t = subst (λ low. AreNormalRuns low (tier_blocks g t) (runs_of taken t)) (ranges.first t) (subst (λ end. AreNormalRuns (data_pool old t).first end (runs_of taken t)) (ranges.end t) (were.per_tier t).apart)
 
 rising_low : (low end : ℕ) (xs : List ℕ) (k : ℕ) → Rising low end xs → Contains xs k → low ≤ k
 rising_low low end [] k is at = absurd (nothing k at)

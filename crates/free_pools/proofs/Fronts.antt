@@ -5,7 +5,7 @@ use Rattle.std.specs.List.{range_with_len}
 use Rattle.std.proofs.lemmas.List.{take_more}
 use Rattle.std.proofs.lemmas.Bool.{true≢false}
 use Rattle.block_alloc.specs.declared.runs.Run.{Run}
-use Rattle.block_alloc.specs.Runs.{run_blocks, blocks_of, IsNormal, Rising, Apart, PutIn}
+use Rattle.block_alloc.specs.Runs.{run_blocks, blocks_of, AreNormalRuns, Rising, Apart, PutIn}
 use Rattle.block_alloc.specs.Value.{FreeBlocks, IsUsed, InOrder, SamePool}
 use Rattle.block_alloc.proofs.Blocks.{rising-weaker, blocks-push}
 use Rattle.free_pools.specs.Taking.{WasTaken, CanGive, WasGiven, SameBlocks}
@@ -49,7 +49,7 @@ put_front low end run (x ∷ xs) new some above rising (suc n, is) =
 
 -- ---- runs in normal form
 
-pub normal_each : (low end i : ℕ) (runs : List Run) (d : Run) → IsNormal low end runs → i < length runs → (low ≤ (get_or runs i d).first) × (0 < (get_or runs i d).count) × ((get_or runs i d).first + (get_or runs i d).count ≤ end)
+pub normal_each : (low end i : ℕ) (runs : List Run) (d : Run) → AreNormalRuns low end runs → i < length runs → (low ≤ (get_or runs i d).first) × (0 < (get_or runs i d).count) × ((get_or runs i d).first + (get_or runs i d).count ≤ end)
 normal_each low end i [] d is below = absurd (omega (arith, below))
 normal_each low end zero (r ∷ rs) d is below = (is.0, is.1, is.2)
 normal_each low end (suc i) (r ∷ rs) d is below =

@@ -12,7 +12,7 @@ use Rattle.batch_journal.specs.Images.{slice}
 use Rattle.batch_journal.specs.Blocks.{Blocks, block_of}
 use Rattle.batch_journal.proofs.Bytes.{slice_apart, slice_written}
 use Rattle.block_alloc.specs.declared.runs.Run.{Run}
-use Rattle.block_alloc.specs.Runs.{run_blocks, blocks_of, Rising, IsNormal}
+use Rattle.block_alloc.specs.Runs.{run_blocks, blocks_of, Rising, AreNormalRuns}
 use Rattle.block_alloc.proofs.Blocks.{blocks-push, split_blocks, normal-rising, length-blocks-more, length-blocks-le}
 use Rattle.free_pools.proofs.Fronts.{normal_each}
 use Rattle.free_pools.proofs.Members.{cons_here, cons_there}
@@ -68,7 +68,7 @@ lower low end run xs zs some is =
 
 -- ---- one more run
 
-module _ (low end : ℕ) (runs : List Run) (i : ℕ) (d : Run) (below : i < length runs) (normal : IsNormal low end runs) where
+module _ (low end : ℕ) (runs : List Run) (i : ℕ) (d : Run) (below : i < length runs) (normal : AreNormalRuns low end runs) where
   abbrev this : Run
   this = get_or runs i d
 

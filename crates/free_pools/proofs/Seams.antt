@@ -7,7 +7,7 @@ use Rattle.std.proofs.lemmas.List.{take_all, take_more, set_at, append-nil, leng
 use Rattle.std.proofs.lemmas.List.Concat.{flat_map-append}
 use Rattle.tier_device.specs.declared.media.Tier.{Tier}
 use Rattle.block_alloc.specs.declared.runs.Run.{Run}
-use Rattle.block_alloc.specs.Runs.{run_blocks, blocks_of, IsNormal, Rising}
+use Rattle.block_alloc.specs.Runs.{run_blocks, blocks_of, AreNormalRuns, Rising}
 use Rattle.block_alloc.specs.Value.{FreeBlocks, SamePool}
 use Rattle.block_alloc.proofs.Blocks.{range-split, blocks-push}
 use Rattle.block_alloc.proofs.Joins.{normal-two, last-replaced, last-within, normal-wider, length-run}
@@ -26,7 +26,7 @@ rising-wider : (low end low' end' : ℕ) (xs : List ℕ) → low' ≤ low → en
 rising-wider low end low' end' [] below above is = tt
 rising-wider low end low' end' (x ∷ xs) below above is = (omega (arith, below, is.0), omega (arith, above, is.1), rising-wider (x + 1) end (x + 1) end' xs (omega arith) above is.2)
 
-pub length-runs : (low end : ℕ) (runs : List Run) → IsNormal low end runs → length runs ≤ length (blocks_of runs)
+pub length-runs : (low end : ℕ) (runs : List Run) → AreNormalRuns low end runs → length runs ≤ length (blocks_of runs)
 length-runs low end [] is = omega arith
 length-runs low end (r ∷ rs) is = omega (arith, length-append (run_blocks r) (blocks_of rs), length-run r, is.1, length-runs (r.first + r.count + 1) end rs is.3)
 
@@ -46,12 +46,12 @@ module _ (front : List Run) (r t : Run) (rest : List Run) where
       ∙ ap (λ xs. xs ++ blocks_of rest) (blocks-push front (joined r t) ∙ ap (λ xs. blocks_of front ++ xs) (joined_run r t touch) ∙ sym (append_assoc (blocks_of front) (run_blocks r) (run_blocks t)) ∙ ap (λ xs. xs ++ run_blocks t) (sym (blocks-push front r)))
       ∙ append_assoc (blocks_of (front ++ r ∷ [])) (run_blocks t) (blocks_of rest)
 
-  seam_normal : (low end : ℕ) → r.first + r.count ≡ t.first → IsNormal low end (front ++ r ∷ []) → IsNormal low end (t ∷ rest) → IsNormal low end ((front ++ joined r t ∷ []) ++ rest)
+  seam_normal : (low end : ℕ) → r.first + r.count ≡ t.first → AreNormalRuns low end (front ++ r ∷ []) → AreNormalRuns low end (t ∷ rest) → AreNormalRuns low end ((front ++ joined r t ∷ []) ++ rest)
   seam_normal low end touch is more =
       let last = last-within low end front r is in
       let ends : t.first + t.count + 1 ≡ r.first + (r.count + t.count) + 1 = omega (arith, touch) in
       let before = last-replaced low end front r (joined r t) is refl (omega (arith, last.0)) (omega (arith, more.2, touch)) in
-      subst (IsNormal low end) (sym (append_assoc front (joined r t ∷ []) rest)) (normal-two low end front (joined r t) rest before (subst (λ n. IsNormal n end rest) ends more.3))
+      subst (AreNormalRuns low end) (sym (append_assoc front (joined r t ∷ []) rest)) (normal-two low end front (joined r t) rest before (subst (λ n. AreNormalRuns n end rest) ends more.3))
 
   later : (low end : ℕ) → 0 < r.count → 0 < t.count → Rising low end (blocks_of (front ++ r ∷ []) ++ blocks_of (t ∷ rest)) → r.first + r.count ≤ t.first
   later low end some more is =
@@ -61,12 +61,12 @@ module _ (front : List Run) (r t : Run) (rest : List Run) where
       let behind_r : Rising (r.first + r.count) end (range_with_len t.first t.count ++ blocks_of rest) = behind low end r (blocks_of (t ∷ rest)) some (rising-right low end (blocks_of front) (run_blocks r ++ blocks_of (t ∷ rest)) (subst (Rising low end) parts is)) in
       (subst (λ c. Rising (r.first + r.count) end (range_with_len t.first c ++ blocks_of rest)) same behind_r).0
 
-  gap_normal : (low end low' end' : ℕ) → (r.first + r.count ≡ t.first → ⊥) → IsNormal low end (front ++ r ∷ []) → IsNormal low end (t ∷ rest) → Rising low' end' (blocks_of (front ++ r ∷ []) ++ blocks_of (t ∷ rest)) → IsNormal low end ((front ++ r ∷ []) ++ t ∷ rest)
+  gap_normal : (low end low' end' : ℕ) → (r.first + r.count ≡ t.first → ⊥) → AreNormalRuns low end (front ++ r ∷ []) → AreNormalRuns low end (t ∷ rest) → Rising low' end' (blocks_of (front ++ r ∷ []) ++ blocks_of (t ∷ rest)) → AreNormalRuns low end ((front ++ r ∷ []) ++ t ∷ rest)
   gap_normal low end low' end' apart is more rising =
       let last = last-within low end front r is in
       let after = later low' end' last.0 more.1 rising in
       let gap : r.first + r.count + 1 ≤ t.first = elim (cases_lt (r.first + r.count) t.first) [ inl below ↦ omega (arith, below) | inr past ↦ absurd (apart (omega (arith, past, after))) ] in
-      subst (IsNormal low end) (sym (append_assoc front (r ∷ []) (t ∷ rest))) (normal-two low end front r (t ∷ rest) is (gap, more.1, more.2, more.3))
+      subst (AreNormalRuns low end) (sym (append_assoc front (r ∷ []) (t ∷ rest))) (normal-two low end front r (t ∷ rest) is (gap, more.1, more.2, more.3))
 
 -- ---- one list behind another
 
@@ -111,16 +111,16 @@ module _ (runs more : List Run) (d : Run) (some : 0 < length runs) (others : 0 <
       ∙ ap (λ l. blocks_of l ++ blocks_of (t ∷ drop 1 more)) (sym (last_split runs d some))
       ∙ ap (λ l. blocks_of runs ++ blocks_of l) (sym (first_split more d others))
 
-  pub joined_normal : (low end : ℕ) → r.first + r.count ≡ t.first → IsNormal low end runs → IsNormal low end more → IsNormal low end (set runs (length runs - 1) (joined r t) ++ drop 1 more)
+  pub joined_normal : (low end : ℕ) → r.first + r.count ≡ t.first → AreNormalRuns low end runs → AreNormalRuns low end more → AreNormalRuns low end (set runs (length runs - 1) (joined r t) ++ drop 1 more)
   joined_normal low end touch is more_is =
-      subst (IsNormal low end) (sym list_is) (seam_normal front r t (drop 1 more) low end touch (subst (IsNormal low end) (last_split runs d some) is) (subst (IsNormal low end) (first_split more d others) more_is))
+      subst (AreNormalRuns low end) (sym list_is) (seam_normal front r t (drop 1 more) low end touch (subst (AreNormalRuns low end) (last_split runs d some) is) (subst (AreNormalRuns low end) (first_split more d others) more_is))
 
-  apart_both : (low end low' end' : ℕ) → (r.first + r.count ≡ t.first → ⊥) → IsNormal low end runs → IsNormal low end more → Rising low' end' (blocks_of runs ++ blocks_of more) → IsNormal low end (runs ++ more)
+  apart_both : (low end low' end' : ℕ) → (r.first + r.count ≡ t.first → ⊥) → AreNormalRuns low end runs → AreNormalRuns low end more → Rising low' end' (blocks_of runs ++ blocks_of more) → AreNormalRuns low end (runs ++ more)
   apart_both low end low' end' apart is more_is rising =
       let one : runs ≡ front ++ r ∷ [] = last_split runs d some in
       let two : more ≡ t ∷ drop 1 more = first_split more d others in
-      subst (λ l. IsNormal low end (l ++ more)) (sym one) (subst (λ l. IsNormal low end ((front ++ r ∷ []) ++ l)) (sym two)
-      (gap_normal front r t (drop 1 more) low end low' end' apart (subst (IsNormal low end) one is) (subst (IsNormal low end) two more_is)
+      subst (λ l. AreNormalRuns low end (l ++ more)) (sym one) (subst (λ l. AreNormalRuns low end ((front ++ r ∷ []) ++ l)) (sym two)
+      (gap_normal front r t (drop 1 more) low end low' end' apart (subst (AreNormalRuns low end) one is) (subst (AreNormalRuns low end) two more_is)
       (subst (λ l. Rising low' end' (blocks_of (front ++ r ∷ []) ++ blocks_of l)) two (subst (λ l. Rising low' end' (blocks_of l ++ blocks_of more)) one rising))))
 
 -- what is written where the last run is lengthened by the first of the others, and the rest of those is put behind
@@ -135,37 +135,37 @@ joined_items runs more new r d k others k_is r_is is =
     ∙ ap (λ (x : Run). set runs (length runs - 1) (joined x (get_or more 0 d)) ++ drop 1 more) last
     ∙ ap (λ (y : Run). set runs (length runs - 1) (joined (last_of runs r) y) ++ drop 1 more) (first_same more d r others)
 
-pub apart_normal : (runs more : List Run) (d : Run) (low end low' end' : ℕ) → (0 < length runs → 0 < length more → (last_of runs d).first + (last_of runs d).count ≡ (get_or more 0 d).first → ⊥) → IsNormal low end runs → IsNormal low end more → Rising low' end' (blocks_of runs ++ blocks_of more) → IsNormal low end (runs ++ more)
+pub apart_normal : (runs more : List Run) (d : Run) (low end low' end' : ℕ) → (0 < length runs → 0 < length more → (last_of runs d).first + (last_of runs d).count ≡ (get_or more 0 d).first → ⊥) → AreNormalRuns low end runs → AreNormalRuns low end more → Rising low' end' (blocks_of runs ++ blocks_of more) → AreNormalRuns low end (runs ++ more)
 apart_normal [] more d low end low' end' apart is more_is rising = more_is
-apart_normal (x ∷ xs) [] d low end low' end' apart is more_is rising = subst (IsNormal low end) (sym (append-nil (x ∷ xs))) is
+apart_normal (x ∷ xs) [] d low end low' end' apart is more_is rising = subst (AreNormalRuns low end) (sym (append-nil (x ∷ xs))) is
 apart_normal (x ∷ xs) (y ∷ ys) d low end low' end' apart is more_is rising = apart_both (x ∷ xs) (y ∷ ys) d (omega arith) (omega arith) low end low' end' (apart (omega arith) (omega arith)) is more_is rising
 
 -- ---- more of a pool
 
-module _ (p m n : FreeBlocks) (old more : List Run) (count : ℕ) (can : CanGive p old) (same : SameBlocks p m) (apart : IsNormal m.first m.end more) (blocks : blocks_of more ≡ take count m.free) where
-  more_is : IsNormal p.first p.end more
-  more_is = subst (λ low. IsNormal low p.end more) same.pool.first (subst (λ end. IsNormal m.first end more) same.pool.end apart)
+module _ (p m n : FreeBlocks) (old more : List Run) (count : ℕ) (can : CanGive p old) (same : SameBlocks p m) (apart : AreNormalRuns m.first m.end more) (blocks : blocks_of more ≡ take count m.free) where
+  more_is : AreNormalRuns p.first p.end more
+  more_is = subst (λ low. AreNormalRuns low p.end more) same.pool.first (subst (λ end. AreNormalRuns m.first end more) same.pool.end apart)
 
   two : (blocks_of old ++ blocks_of more) ++ drop count m.free ≡ blocks_of old ++ p.free
   two = ap (λ b. (blocks_of old ++ b) ++ drop count m.free) blocks ∙ append_assoc (blocks_of old) (take count m.free) (drop count m.free) ∙ ap (λ b. blocks_of old ++ b) (take-append-drop count m.free ∙ same.free)
 
-  pub old_wide : p.end < 4294967296 → IsNormal 0 4294967295 old
+  pub old_wide : p.end < 4294967296 → AreNormalRuns 0 4294967295 old
   old_wide fits = normal-wider p.first p.end 0 4294967295 old (omega arith) (omega (arith, fits)) can.apart
 
-  pub more_wide : p.end < 4294967296 → IsNormal 0 4294967295 more
+  pub more_wide : p.end < 4294967296 → AreNormalRuns 0 4294967295 more
   more_wide fits = normal-wider p.first p.end 0 4294967295 more (omega arith) (omega (arith, fits)) more_is
 
   pub both_rise : p.end < 4294967296 → Rising 0 4294967295 (blocks_of old ++ blocks_of more)
   both_rise fits = rising-wider p.first p.end 0 4294967295 (blocks_of old ++ blocks_of more) (omega arith) (omega (arith, fits)) (rising-left p.first p.end (blocks_of old ++ blocks_of more) (drop count m.free) (subst (Rising p.first p.end) (sym two) can.before))
 
   pub can_give_all : (all : List Run) → SamePool m n → length old + 1 ≤ m.room → m.room + length more ≤ n.room + 1 → n.free ≡ drop count m.free → blocks_of all ≡ blocks_of old ++ blocks_of more
-      → ((low end : ℕ) → IsNormal low end old → IsNormal low end more → IsNormal low end all) → length all ≤ length old + length more → CanGive n all
+      → ((low end : ℕ) → AreNormalRuns low end old → AreNormalRuns low end more → AreNormalRuns low end all) → length all ≤ length old + length more → CanGive n all
   can_give_all all pool room after left is normal few =
       let first : n.first ≡ p.first = pool.first ∙ same.pool.first in
       let end : n.end ≡ p.end = pool.end ∙ same.pool.end in
       let front : blocks_of all ++ n.free ≡ blocks_of old ++ p.free = ap (λ b. b ++ n.free) is ∙ ap (λ b. (blocks_of old ++ blocks_of more) ++ b) left ∙ two in
       record {
-        apart = subst (λ low. IsNormal low n.end all) (sym first) (subst (λ e. IsNormal p.first e all) (sym end) (normal p.first p.end can.apart more_is));
+        apart = subst (λ low. AreNormalRuns low n.end all) (sym first) (subst (λ e. AreNormalRuns p.first e all) (sym end) (normal p.first p.end can.apart more_is));
         before = subst (λ low. Rising low n.end (blocks_of all ++ n.free)) (sym first) (subst (λ e. Rising p.first e (blocks_of all ++ n.free)) (sym end) (subst (Rising p.first p.end) (sym front) can.before));
         room = omega (arith, room, after, few);
       }
@@ -189,7 +189,7 @@ module _ (old new : FreeBlocks) (runs all : List Run) (can : CanGive new all) (p
       let first : new.first ≡ before.first = pool.first ∙ was.pool.first in
       let end : new.end ≡ before.end = pool.end ∙ was.pool.end in
       record {
-        apart = subst (λ low. IsNormal low before.end all) first (subst (λ e. IsNormal new.first e all) end can.apart);
+        apart = subst (λ low. AreNormalRuns low before.end all) first (subst (λ e. AreNormalRuns new.first e all) end can.apart);
         front = front ∙ was.front;
         room = λ some. can.room;
         kept = omega (arith, was.kept, kept);

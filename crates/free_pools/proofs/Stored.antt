@@ -9,7 +9,7 @@ use Rattle.tier_device.specs.declared.media.Tier.{Tier}
 use Rattle.tier_device.specs.declared.media.Tier.TheVariants.{Fast, Block, Slow}
 use Rattle.layout.specs.Places.{Sizes, data_first, tier_blocks, node_end}
 use Rattle.block_alloc.specs.declared.runs.Run.{Run}
-use Rattle.block_alloc.specs.Runs.{blocks_of, IsNormal, Rising}
+use Rattle.block_alloc.specs.Runs.{blocks_of, AreNormalRuns, Rising}
 use Rattle.block_alloc.proofs.Blocks.{normal-rising}
 use Rattle.batch_journal.specs.Images.{slice}
 use Rattle.batch_journal.specs.Blocks.{block_of, home, is_home}
@@ -80,15 +80,15 @@ module _ (g : Sizes) (seen : Tier → List ℕ) (sizes : (t : Tier) → length (
   long : (t : Tier) (k : ℕ) → data_first g t ≤ k → k < tier_blocks g t → length (store_of seen t k) ≡ 4096
   long t k low high = ap length (raw t k low) ∙ block-length (seen t) k (tier_blocks g t) high (sizes t)
 
-  runs_long : (t : Tier) (runs : List Run) → IsNormal (data_first g t) (tier_blocks g t) runs → AllByRecursion (λ p. length (block_at (store_of seen) p) ≡ 4096) (on_tier t (blocks_of runs))
+  runs_long : (t : Tier) (runs : List Run) → AreNormalRuns (data_first g t) (tier_blocks g t) runs → AllByRecursion (λ p. length (block_at (store_of seen) p) ≡ 4096) (on_tier t (blocks_of runs))
   runs_long t runs normal = on-all (λ p. length (block_at (store_of seen) p) ≡ 4096) t (blocks_of runs) (rising-each (λ k. length (store_of seen t k) ≡ 4096) (data_first g t) (tier_blocks g t) (blocks_of runs) (long t) (normal-rising (data_first g t) (tier_blocks g t) runs normal))
 
-  runs_raw : (t : Tier) (runs : List Run) → IsNormal (data_first g t) (tier_blocks g t) runs → flat_map (block_at (store_of seen)) (on_tier t (blocks_of runs)) ≡ flat_map (block_of (seen t)) (blocks_of runs)
+  runs_raw : (t : Tier) (runs : List Run) → AreNormalRuns (data_first g t) (tier_blocks g t) runs → flat_map (block_at (store_of seen)) (on_tier t (blocks_of runs)) ≡ flat_map (block_of (seen t)) (blocks_of runs)
   runs_raw t runs normal =
       on-blocks (store_of seen) t (blocks_of runs)
       ∙ same_blocks (store_of seen t) (block_of (seen t)) (λ k. data_first g t ≤ k) (raw t) (blocks_of runs) (rising-each (λ k. data_first g t ≤ k) (data_first g t) (tier_blocks g t) (blocks_of runs) (λ k low high. low) (normal-rising (data_first g t) (tier_blocks g t) runs normal))
 
-  module _ (fast block slow : List Run) (in_fast : IsNormal (data_first g Fast) (tier_blocks g Fast) fast) (in_block : IsNormal (data_first g Block) (tier_blocks g Block) block) (in_slow : IsNormal (data_first g Slow) (tier_blocks g Slow) slow) (bytes : List ℕ) (parts : HoldParts seen fast block slow bytes) where
+  module _ (fast block slow : List Run) (in_fast : AreNormalRuns (data_first g Fast) (tier_blocks g Fast) fast) (in_block : AreNormalRuns (data_first g Block) (tier_blocks g Block) block) (in_slow : AreNormalRuns (data_first g Slow) (tier_blocks g Slow) slow) (bytes : List ℕ) (parts : HoldParts seen fast block slow bytes) where
     joined : flat_map (block_at (store_of seen)) (tier_places fast block slow) ≡ bytes
     joined =
         let f = on_tier Fast (blocks_of fast) in

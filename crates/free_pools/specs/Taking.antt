@@ -3,7 +3,7 @@ use Rattle.std.specs.Prelude.{◌≡◌, ◌<◌, ◌≤◌, ◌+◌, ◌++◌, 
 use Rattle.tier_device.specs.declared.media.Tier.{Tier}
 use Rattle.tier_device.specs.declared.media.Tier.TheVariants as tiers
 use Rattle.block_alloc.specs.declared.runs.Run.{Run}
-use Rattle.block_alloc.specs.Runs.{blocks_of, IsNormal, Rising}
+use Rattle.block_alloc.specs.Runs.{blocks_of, AreNormalRuns, Rising}
 use Rattle.block_alloc.specs.Value.{FreeBlocks, SamePool}
 use Rattle.free_pools.specs.Value.{PoolsView, data_pool, on_tier, AreInOrder}
 use Rattle.free_pools.specs.declared.taking.Taken.{Taken}
@@ -24,7 +24,7 @@ taken_data taken = tier_places taken.fast.items taken.block.items taken.slow.ite
 
 -- These runs stood at the front of a pool's free blocks; they can be given back without memory where there was room for one run.
 pub record WasTaken (old new : FreeBlocks) (runs : List Run) : Type 0 where
-  pub apart : IsNormal old.first old.end runs
+  pub apart : AreNormalRuns old.first old.end runs
   pub front : blocks_of runs ++ new.free ≡ old.free
   pub room : 0 < old.room → length runs ≤ new.room
   pub kept : old.room ≤ new.room
@@ -32,7 +32,7 @@ pub record WasTaken (old new : FreeBlocks) (runs : List Run) : Type 0 where
 
 -- These runs stand before the pool's free blocks, and there is room for them.
 pub record CanGive (p : FreeBlocks) (runs : List Run) : Type 0 where
-  pub apart : IsNormal p.first p.end runs
+  pub apart : AreNormalRuns p.first p.end runs
   pub before : Rising p.first p.end (blocks_of runs ++ p.free)
   pub room : length runs ≤ p.room
 

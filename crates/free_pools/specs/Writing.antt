@@ -6,7 +6,7 @@ use Rattle.tier_device.specs.declared.media.Tier.TheVariants.{Fast, Block, Slow}
 use Rattle.tier_device.specs.Media.{AtRest, Rose}
 use Rattle.layout.specs.Places.{Sizes, data_first, tier_blocks}
 use Rattle.block_alloc.specs.declared.runs.Run.{Run}
-use Rattle.block_alloc.specs.Runs.{blocks_of, IsNormal}
+use Rattle.block_alloc.specs.Runs.{blocks_of, AreNormalRuns}
 use Rattle.batch_journal.specs.Images.{slice}
 use Rattle.batch_journal.specs.Blocks.{block_of}
 use Rattle.batch_journal.specs.View.{JournalView}
@@ -51,7 +51,7 @@ calls_for taken = tier_calls taken.fast.items + tier_calls taken.block.items + t
 
 -- The runs rise among the data blocks of their tiers, and none touches the next.
 abbrev pub RunsAreNormal : Sizes → Taken → Type 0
-RunsAreNormal g taken = (t : Tier) → IsNormal (data_first g t) (tier_blocks g t) (runs_of taken t)
+RunsAreNormal g taken = (t : Tier) → AreNormalRuns (data_first g t) (tier_blocks g t) (runs_of taken t)
 
 -- Whatever may be left of a tier differs from that store in blocks alone that are free in it.
 abbrev pub IsLooseLeft : Sizes → Store → (Tier → List ℕ → Type 0) → Type 0

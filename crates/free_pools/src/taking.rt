@@ -1,6 +1,6 @@
 // Taking runs of one pool, and giving them back.
 ghost use Rattle.std.specs.Prelude.{◌≡◌, ◌≢◌, ◌≤◌, ◌<◌, ◌+◌, ◌-◌, ◌++◌, ◌^◌, ℕ, [], length, take, drop, false, IsTrue, IfOk, OnOk, OnErr, IsErrOf, IfErr, ◌↔◌, vec_len, vec_capacity, slice_index_or};
-ghost use Rattle.block_alloc.specs.Runs.{blocks_of, IsNormal, Rising};
+ghost use Rattle.block_alloc.specs.Runs.{blocks_of, AreNormalRuns, Rising};
 ghost use Rattle.block_alloc.specs.Value.{InOrder, IsUsed, SamePool};
 ghost use Rattle.free_pools.specs.Value.{GivesRun};
 ghost use Rattle.block_alloc.specs.declared.error.AllocatorError.TheVariants.{NoBlock, Memory};
@@ -34,7 +34,7 @@ pub fn take_runs(pool: &mut FreeRuns, count: u32, runs: &mut Vec<Run>) -> Result
 
 // Whether the first of some runs begins where the last of others ends.
 fn go_on(runs: &[Run], more: &[Run]) -> bool
-    requires { IsNormal 0 4294967295 runs.now }
+    requires { AreNormalRuns 0 4294967295 runs.now }
     ensures some { IsTrue result → (0 < length runs.now) × (0 < length more.now) }
     ensures touch { (d : Run) → IsTrue result → (slice_index_or runs.now (length runs.now - 1) d).first + (slice_index_or runs.now (length runs.now - 1) d).count ≡ (slice_index_or more.now 0 d).first }
     ensures apart { (d : Run) → result ≡ false → 0 < length runs.now → 0 < length more.now → (slice_index_or runs.now (length runs.now - 1) d).first + (slice_index_or runs.now (length runs.now - 1) d).count ≢ (slice_index_or more.now 0 d).first }
@@ -49,11 +49,11 @@ fn go_on(runs: &[Run], more: &[Run]) -> bool
 // Puts runs behind those of a list that has room for them. Where the first of them begins where the last of those ends, the two become one.
 fn put_behind(runs: &mut Vec<Run>, more: &[Run])
     requires room { vec_len runs.old + length more.now ≤ vec_capacity runs.old }
-    requires normal { IsNormal 0 4294967295 runs.old.items }
-    requires more { IsNormal 0 4294967295 more.now }
+    requires normal { AreNormalRuns 0 4294967295 runs.old.items }
+    requires more { AreNormalRuns 0 4294967295 more.now }
     requires rising { Rising 0 4294967295 (blocks_of runs.old.items ++ blocks_of more.now) }
     ensures blocks { blocks_of runs.new.items ≡ blocks_of runs.old.items ++ blocks_of more.now }
-    ensures normal { (low end : ℕ) → IsNormal low end runs.old.items → IsNormal low end more.now → IsNormal low end runs.new.items }
+    ensures normal { (low end : ℕ) → AreNormalRuns low end runs.old.items → AreNormalRuns low end more.now → AreNormalRuns low end runs.new.items }
     ensures len { length runs.new.items ≤ length runs.old.items + length more.now }
 {
     if !go_on(runs, more) {

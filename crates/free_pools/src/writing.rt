@@ -5,7 +5,7 @@ ghost use Rattle.tier_device.specs.declared.media.Tier.{Tier};
 ghost use Rattle.tier_device.specs.declared.media.Tier.TheVariants.{Fast, Block, Slow};
 ghost use Rattle.tier_device.specs.Media.{AtRest, Rose};
 ghost use Rattle.layout.specs.Places.{tier_blocks, data_first};
-ghost use Rattle.block_alloc.specs.Runs.{run_blocks, blocks_of, IsNormal};
+ghost use Rattle.block_alloc.specs.Runs.{run_blocks, blocks_of, AreNormalRuns};
 ghost use Rattle.batch_journal.specs.Blocks.{block_of};
 ghost use Rattle.batch_journal.specs.Course.{SameLengths};
 ghost use Rattle.batch_journal.specs.declared.error.JournalError.TheVariants.{DeviceFault};
@@ -52,7 +52,7 @@ fn write_runs<M: Media>(
     data: &[u8],
 ) -> Result<(), JournalError>
     requires going { journal.old.failed ≡ false }
-    requires place { IsNormal (data_first journal.old.geometry tier) (tier_blocks journal.old.geometry tier) runs.now }
+    requires place { AreNormalRuns (data_first journal.old.geometry tier) (tier_blocks journal.old.geometry tier) runs.now }
     requires size { length «data».now ≡ 4096 * length (blocks_of runs.now) }
     ensures loose { (s : Store) → AreFreeIn journal.old.geometry s tier runs.now → StaysLoose journal.old.geometry s (M.moment journal.old.media) (M.moment journal.new.media) (M.left journal.old.media) (M.left journal.new.media) }
     ensures written { OnOk result (flat_map (block_of (M.seen journal.new.media tier)) (blocks_of runs.now) ≡ «data».now) }
@@ -116,9 +116,9 @@ fn write_all<M: Media>(
     data: &[u8],
 ) -> Result<(), JournalError>
     requires going { journal.old.failed ≡ false }
-    requires fast { IsNormal (data_first journal.old.geometry Fast) (tier_blocks journal.old.geometry Fast) fast.now }
-    requires block { IsNormal (data_first journal.old.geometry Block) (tier_blocks journal.old.geometry Block) block.now }
-    requires slow { IsNormal (data_first journal.old.geometry Slow) (tier_blocks journal.old.geometry Slow) slow.now }
+    requires fast { AreNormalRuns (data_first journal.old.geometry Fast) (tier_blocks journal.old.geometry Fast) fast.now }
+    requires block { AreNormalRuns (data_first journal.old.geometry Block) (tier_blocks journal.old.geometry Block) block.now }
+    requires slow { AreNormalRuns (data_first journal.old.geometry Slow) (tier_blocks journal.old.geometry Slow) slow.now }
     requires size { length «data».now ≡ 4096 * length (blocks_of fast.now) + 4096 * length (blocks_of block.now) + 4096 * length (blocks_of slow.now) }
     ensures loose { (s : Store) → AreFreeIn journal.old.geometry s Fast fast.now → AreFreeIn journal.old.geometry s Block block.now → AreFreeIn journal.old.geometry s Slow slow.now → StaysLoose journal.old.geometry s (M.moment journal.old.media) (M.moment journal.new.media) (M.left journal.old.media) (M.left journal.new.media) }
     ensures written { OnOk result (HoldParts (M.seen journal.new.media) fast.now block.now slow.now «data».now) }
@@ -168,9 +168,9 @@ fn write_and_fence<M: Media>(
     data: &[u8],
 ) -> Result<(), JournalError>
     requires going { journal.old.failed ≡ false }
-    requires fast { IsNormal (data_first journal.old.geometry Fast) (tier_blocks journal.old.geometry Fast) fast.now }
-    requires block { IsNormal (data_first journal.old.geometry Block) (tier_blocks journal.old.geometry Block) block.now }
-    requires slow { IsNormal (data_first journal.old.geometry Slow) (tier_blocks journal.old.geometry Slow) slow.now }
+    requires fast { AreNormalRuns (data_first journal.old.geometry Fast) (tier_blocks journal.old.geometry Fast) fast.now }
+    requires block { AreNormalRuns (data_first journal.old.geometry Block) (tier_blocks journal.old.geometry Block) block.now }
+    requires slow { AreNormalRuns (data_first journal.old.geometry Slow) (tier_blocks journal.old.geometry Slow) slow.now }
     requires size { length «data».now ≡ 4096 * length (blocks_of fast.now) + 4096 * length (blocks_of block.now) + 4096 * length (blocks_of slow.now) }
     ensures loose { (s : Store) → AreFreeIn journal.old.geometry s Fast fast.now → AreFreeIn journal.old.geometry s Block block.now → AreFreeIn journal.old.geometry s Slow slow.now → StaysLoose journal.old.geometry s (M.moment journal.old.media) (M.moment journal.new.media) (M.left journal.old.media) (M.left journal.new.media) }
     ensures written { OnOk result (HoldData (store_of (M.seen journal.new.media)) (tier_places fast.now block.now slow.now) «data».now) }

@@ -5,7 +5,7 @@ use crate::stored::{
     child, describe, entry_count, file_names, file_size, is_counted, is_dir, names, read,
 };
 use file_graph::PlainGraph;
-use posix_calls::{Bytes, Child, Description, Names, TreeAnswers};
+use posix_calls::{Bytes, Description, NamedInode, Names, TreeAnswers};
 use std::alloc::{AllocError, Global};
 
 /// A plain graph as a file tree that is known whole. A directory of more entries than 32 bits count is not known: no call makes one.
@@ -21,7 +21,7 @@ impl TreeAnswers for GraphAnswers<'_> {
         Some(is_dir(self.graph, inode))
     }
 
-    fn entry(&self, dir: u32, name: &[u8]) -> Option<Option<Child>> {
+    fn entry(&self, dir: u32, name: &[u8]) -> Option<Option<NamedInode>> {
         if is_counted(self.graph, dir) {
             return Some(child(self.graph, dir, name));
         }

@@ -13,7 +13,7 @@ ghost use Rattle.call_effects.specs.Wholes.{node_is_dir, node_bytes};
 ghost use Rattle.graph_answers.specs.Whole.{seen_at, is_counted};
 
 use file_graph::{PlainEntry, PlainGraph};
-use posix_calls::{Bytes, Child, Description, Names};
+use posix_calls::{Bytes, Description, NamedInode, Names};
 use std::alloc::{AllocError, Global};
 use std::cmp::Ordering;
 
@@ -45,12 +45,12 @@ pub fn is_counted(graph: &PlainGraph, dir: u32) -> bool
 }
 
 /// What a directory has under a name.
-pub fn child(graph: &PlainGraph, dir: u32, name: &[u8]) -> Option<Child>
+pub fn child(graph: &PlainGraph, dir: u32, name: &[u8]) -> Option<NamedInode>
     ensures inode { option_map (λ e. e.inode) result ≡ entry_in name.now (seen_at (graph_of graph.now) dir) }
-    ensures kind { (e : Child) → result ≡ Some e → e.is_dir ≡ option_map node_is_dir (graph_of graph.now e.inode) }
+    ensures kind { (e : NamedInode) → result ≡ Some e → e.is_dir ≡ option_map node_is_dir (graph_of graph.now e.inode) }
 {
     match entry(graph, dir, name) {
-        Some(inode) => Some(Child {
+        Some(inode) => Some(NamedInode {
             inode,
             is_dir: is_dir(graph, inode),
         }),

@@ -5,7 +5,7 @@ ghost use Rattle.known_rows.specs.Known.{known_part};
 
 use file_graph::PlainGraph;
 use graph_answers::GraphAnswers;
-use posix_calls::{Bytes, Child, Description, Names, ROOT, TreeAnswers};
+use posix_calls::{Bytes, Description, NamedInode, Names, ROOT, TreeAnswers};
 use std::alloc::{AllocError, Global};
 
 /// A plain graph, and which inodes of it are known: whole, the bytes of which, or only as to what they are. That the root is a
@@ -82,12 +82,12 @@ impl TreeAnswers for KnownPart {
         None
     }
 
-    fn entry(&self, dir: u32, name: &[u8]) -> Option<Option<Child>> {
+    fn entry(&self, dir: u32, name: &[u8]) -> Option<Option<NamedInode>> {
         if !is_among(dir, &self.nodes) {
             return None;
         }
         match self.whole().entry(dir, name) {
-            Some(Some(child)) => Some(Some(Child {
+            Some(Some(child)) => Some(Some(NamedInode {
                 inode: child.inode,
                 is_dir: self.is_dir(child.inode).flatten(),
             })),

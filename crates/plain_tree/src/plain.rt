@@ -12,7 +12,7 @@ use crate::node::PlainNode;
 use crate::nodes::{PlainNodes, lowest_free};
 use crate::operations::{close_at, drop_name, empty_if, make, move_name, open_if, remove_dir};
 use posix_calls::{
-    Bytes, Call, Child, DecideError, Description, Errno, MAX_CLIENTS, Names, Operation,
+    Bytes, Call, DecideError, Description, Errno, MAX_CLIENTS, NamedInode, Names, Operation,
     OwnDescriptors, ROOT, Reply, TreeAnswers, decide,
 };
 use std::alloc::{AllocError, Global};
@@ -89,7 +89,7 @@ impl TreeAnswers for PlainTree {
         Some(is_dir(self.nodes.as_slice(), inode))
     }
 
-    fn entry(&self, dir: u32, name: &[u8]) -> Option<Option<Child>> {
+    fn entry(&self, dir: u32, name: &[u8]) -> Option<Option<NamedInode>> {
         Some(child(self.nodes.as_slice(), dir, name))
     }
 
@@ -145,12 +145,12 @@ fn is_dir(nodes: &[PlainNode], inode: u32) -> Option<bool>
     nodes.get(inode as usize)?.is_dir()
 }
 
-fn child(nodes: &[PlainNode], dir: u32, name: &[u8]) -> Option<Child>
+fn child(nodes: &[PlainNode], dir: u32, name: &[u8]) -> Option<NamedInode>
     ensures inode { option_map (λ e. e.inode) result ≡ fin.get (entries_of (stored_tree nodes.now dir)) name.now }
-    ensures kind { (e : Child) → result ≡ Some e → e.is_dir ≡ option_map dir_test (stored_tree nodes.now e.inode) }
+    ensures kind { (e : NamedInode) → result ≡ Some e → e.is_dir ≡ option_map dir_test (stored_tree nodes.now e.inode) }
 {
     let inode = nodes.get(dir as usize)?.entry(name)?;
-    Some(Child {
+    Some(NamedInode {
         inode,
         is_dir: is_dir(nodes, inode),
     })

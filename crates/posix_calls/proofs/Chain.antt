@@ -12,7 +12,7 @@ use Rattle.posix_calls.specs.declared.operation.DecideError.TheVariants as why
 use Rattle.posix_calls.specs.declared.operation.Missing.{Missing}
 use Rattle.posix_calls.specs.declared.operation.Missing.TheVariants as missing
 use Rattle.posix_calls.specs.declared.errno.Errno.TheVariants.{NoMemory}
-use Rattle.posix_calls.specs.Query.{Seen, File, Dir, Query, Gives, Refuses, IsDir, Look, Range, ◌>>=◌, Part, Found, Known, Unknown, blocks_of, run_part}
+use Rattle.posix_calls.specs.Query.{Seen, File, Dir, Query, Gives, Refuses, IsDir, Look, Range, ◌>>=◌, Part, Found, Known, Unknown, blocks_missing, run_part}
 use Rattle.posix_calls.specs.Walk.{refuse, said}
 use Rattle.posix_calls.specs.Answers.{Tells, decide_error, description_of}
 use Rattle.posix_calls.specs.Decide.{described, opened, bytes_from, write_at}
@@ -45,7 +45,7 @@ part_bind {B = B} p (Look i next) f =
       | Some a ↦ part_bind p (next a) f
     ]
 part_bind {B = B} p (Range i at count next) f =
-    elim (p.bytes i at count) as (λ o. ◌≡◌ {A = Found B} (elim o [ None ↦ Unknown (blocks_of i at count) | Some a ↦ run_part p (next a >>= f) ]) (then_found (elim o [ None ↦ Unknown (blocks_of i at count) | Some a ↦ run_part p (next a) ]) (λ x. run_part p (f x)))) [
+    elim (p.bytes i at count) as (λ o. ◌≡◌ {A = Found B} (elim o [ None ↦ Unknown (blocks_missing i at count) | Some a ↦ run_part p (next a >>= f) ]) (then_found (elim o [ None ↦ Unknown (blocks_missing i at count) | Some a ↦ run_part p (next a) ]) (λ x. run_part p (f x)))) [
       | None ↦ refl
       | Some a ↦ part_bind p (next a) f
     ]
@@ -189,14 +189,14 @@ bind_look_missing i h g f lack is = bind_stops f (look_missing g _ lack is)
 -- the same of a range of bytes
 pub range_known : {A : Type 0} {p : Part} {i at count : ℕ} {next : List ℕ → Query A} {bytes : List ℕ} {r : Result A DecideError} → p.bytes i at count ≡ Some bytes → Tells p (next bytes) r → Tells p (Range i at count next) r
 unfolding run_part
-range_known {p = p} {i = i} {at = at} {count = count} {next = next} is rest = tells_same (ap (λ z. elim z [ None ↦ Unknown (blocks_of i at count) | Some a ↦ run_part p (next a) ]) is) rest
+range_known {p = p} {i = i} {at = at} {count = count} {next = next} is rest = tells_same (ap (λ z. elim z [ None ↦ Unknown (blocks_missing i at count) | Some a ↦ run_part p (next a) ]) is) rest
 
-pub range_missing : {A : Type 0} {p : Part} {i at count : ℕ} {next : List ℕ → Query A} {s : DecideError} → s ≡ why.Missing (blocks_of i at count) → p.bytes i at count ≡ None → Tells p (Range i at count next) (Err s)
+pub range_missing : {A : Type 0} {p : Part} {i at count : ℕ} {next : List ℕ → Query A} {s : DecideError} → s ≡ why.Missing (blocks_missing i at count) → p.bytes i at count ≡ None → Tells p (Range i at count next) (Err s)
 unfolding run_part
-range_missing {p = p} {i = i} {at = at} {count = count} {next = next} lack is = subst (λ z. Tells p (Range i at count next) (Err z)) (sym lack) (tells_missing (ap (λ z. elim z [ None ↦ Unknown (blocks_of i at count) | Some a ↦ run_part p (next a) ]) is))
+range_missing {p = p} {i = i} {at = at} {count = count} {next = next} lack is = subst (λ z. Tells p (Range i at count next) (Err z)) (sym lack) (tells_missing (ap (λ z. elim z [ None ↦ Unknown (blocks_missing i at count) | Some a ↦ run_part p (next a) ]) is))
 
 -- so a range is told by what was answered
-pub range_told : {p : Part} (i at count : ℕ) {answer : Option (List ℕ)} {what : Missing} (r : Result (List ℕ) DecideError) → answer ≡ p.bytes i at count → what ≡ blocks_of i at count → IfOk r (λ bytes. answer ≡ Some bytes) → IfErr r (λ e. (e ≡ why.Missing what) × (answer ≡ None)) → Tells p (Range i at count (λ bytes. Gives bytes)) r
+pub range_told : {p : Part} (i at count : ℕ) {answer : Option (List ℕ)} {what : Missing} (r : Result (List ℕ) DecideError) → answer ≡ p.bytes i at count → what ≡ blocks_missing i at count → IfOk r (λ bytes. answer ≡ Some bytes) → IfErr r (λ e. (e ≡ why.Missing what) × (answer ≡ None)) → Tells p (Range i at count (λ bytes. Gives bytes)) r
 range_told i at count (Ok bytes) is same known lack = range_known (sym is ∙ known) gives
 range_told i at count (Err e) is same known lack = range_missing (lack.0 ∙ ap (λ z. why.Missing z) same) (sym is ∙ lack.1)
 

@@ -3,7 +3,7 @@ use Rattle.std.proofs.Common.{◌≡◌, refl, Some, None, Result, ap, ◌∙◌
 use Rattle.posix_calls.specs.declared.errno.Errno.{Errno}
 use Rattle.posix_calls.specs.declared.operation.Missing.{Missing}
 use Rattle.posix_calls.specs.declared.operation.Missing.TheVariants as missing
-use Rattle.posix_calls.specs.Query.{Query, Gives, Refuses, IsDir, Look, Range, View, Part, Found, Known, Unknown, blocks_of, IsPart, IsLeft, run, run_part}
+use Rattle.posix_calls.specs.Query.{Query, Gives, Refuses, IsDir, Look, Range, View, Part, Found, Known, Unknown, blocks_missing, IsPart, IsLeft, run, run_part}
 
 -- what is known by a part is so in the whole
 pub known_is_run : {A : Type 0} (p : Part) (v : View) → IsPart p v → (q : Query A) (r : Result A Errno) → run_part p q ≡ Known r → run v q ≡ r
@@ -21,7 +21,7 @@ known_is_run p v part (Look i next) r e =
       | Some a ↦ λ is known. rw (part.node i a is) (known_is_run p v part (next a) r known)
     ] refl e
 known_is_run p v part (Range i at count next) r e =
-    elim (p.bytes i at count) as (λ o. p.bytes i at count ≡ o → elim o [ None ↦ Unknown (blocks_of i at count) | Some a ↦ run_part p (next a) ] ≡ Known r → run v (next (v.bytes i at count)) ≡ r) [
+    elim (p.bytes i at count) as (λ o. p.bytes i at count ≡ o → elim o [ None ↦ Unknown (blocks_missing i at count) | Some a ↦ run_part p (next a) ] ≡ Known r → run v (next (v.bytes i at count)) ≡ r) [
       | None ↦ λ is lacking. cc
       | Some a ↦ λ is known. rw (part.bytes i at count a is) (known_is_run p v part (next a) r known)
     ] refl e
@@ -46,7 +46,7 @@ missing_is_left {A = A} p (Look i next) what e =
           record { rest = left.rest; beyond = left.beyond; same = λ v part. ap (λ o. run v (next o)) (part.node i a is) ∙ left.same v part }
     ] refl e
 missing_is_left {A = A} p (Range i at count next) what e =
-    elim (p.bytes i at count) as (λ o. p.bytes i at count ≡ o → ◌≡◌ {A = Found A} (elim o [ None ↦ Unknown (blocks_of i at count) | Some a ↦ run_part p (next a) ]) (Unknown what) → IsLeft p what (Range i at count next)) [
+    elim (p.bytes i at count) as (λ o. p.bytes i at count ≡ o → ◌≡◌ {A = Found A} (elim o [ None ↦ Unknown (blocks_missing i at count) | Some a ↦ run_part p (next a) ]) (Unknown what) → IsLeft p what (Range i at count next)) [
       | None ↦ λ is lacking. record { rest = Range i at count next; beyond = (cc, is); same = λ v part. refl }
       | Some a ↦ λ is lacking.
           let left = missing_is_left p (next a) what lacking in

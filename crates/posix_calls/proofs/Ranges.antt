@@ -2,7 +2,7 @@
 use Rattle.std.proofs.Common.{◌≡◌, ℕ, ◌<◌, ◌==◌, List, [], ◌∷◌, length, Bool, true, false, refl, subst, Option, Some, None, Result, Ok, Err, cond, nat_lt, ltb-false}
 use Rattle.std.specs.Prelude.{IfOk}
 use Rattle.posix_calls.specs.Tree.{Own}
-use Rattle.posix_calls.specs.Query.{Seen, File, Dir, Query, Gives, Refuses, IsDir, Look, Range, ◌>>=◌, Part, Known, Unknown, blocks_of, run_part}
+use Rattle.posix_calls.specs.Query.{Seen, File, Dir, Query, Gives, Refuses, IsDir, Look, Range, ◌>>=◌, Part, Known, Unknown, blocks_missing, run_part}
 use Rattle.posix_calls.specs.Walk.{Place, refuse, leads_to}
 use Rattle.posix_calls.specs.Answers.{Tells}
 use Rattle.posix_calls.specs.Decide.{lowest_free, number_or, open_there, open_path, close, pread, write_at, pwrite, truncate, mkdir, rmdir, link, unlink, renamed, rename, list_path, described, stat}
@@ -63,7 +63,7 @@ found P p (Look i next) x all e =
       | Some a ↦ λ h. found P p (next a) x (all a) h
     ] e
 found P p (Range i at count next) x all e =
-    elim (p.bytes i at count) as (λ o. elim o [ None ↦ Unknown (blocks_of i at count) | Some a ↦ run_part p (next a) ] ≡ Known (Ok x) → P x) [
+    elim (p.bytes i at count) as (λ o. elim o [ None ↦ Unknown (blocks_missing i at count) | Some a ↦ run_part p (next a) ] ≡ Known (Ok x) → P x) [
       | None ↦ λ h. absurd (cc)
       | Some a ↦ λ h. found P p (next a) x (all a) h
     ] e

@@ -85,8 +85,8 @@ blocks_touched at zero = 0
 blocks_touched at (suc count) = 1 + (at + count) / UNIT_BYTES - at / UNIT_BYTES
 
 -- what has to be known to tell a range of the bytes of a file: the blocks that it touches
-abbrev pub blocks_of : ℕ → ℕ → ℕ → Missing
-blocks_of i at count = missing.Blocks i (at / UNIT_BYTES) (blocks_touched at count)
+abbrev pub blocks_missing : ℕ → ℕ → ℕ → Missing
+blocks_missing i at count = missing.Blocks i (at / UNIT_BYTES) (blocks_touched at count)
 
 -- what a part comes to, or the first thing that it would have to know beside
 pub data Found (A : Type 0) : Type 0 where
@@ -99,7 +99,7 @@ run_part p (Gives x) = Known (Ok x)
 run_part p (Refuses e) = Known (Err e)
 run_part p (IsDir i next) = elim (p.is_dir i) [ None ↦ Unknown (missing.Node i) | Some o ↦ run_part p (next o) ]
 run_part p (Look i next) = elim (p.node i) [ None ↦ Unknown (missing.Node i) | Some o ↦ run_part p (next o) ]
-run_part p (Range i at count next) = elim (p.bytes i at count) [ None ↦ Unknown (blocks_of i at count) | Some bytes ↦ run_part p (next bytes) ]
+run_part p (Range i at count next) = elim (p.bytes i at count) [ None ↦ Unknown (blocks_missing i at count) | Some bytes ↦ run_part p (next bytes) ]
 
 -- what the part answers is what the whole does
 pub record IsPart (p : Part) (v : View) : Type 0 where
@@ -113,7 +113,7 @@ IsBeyond p what (Gives x) = ⊥
 IsBeyond p what (Refuses e) = ⊥
 IsBeyond p what (IsDir i next) = (missing.Node i ≡ what) × (p.is_dir i ≡ None)
 IsBeyond p what (Look i next) = (missing.Node i ≡ what) × (p.node i ≡ None)
-IsBeyond p what (Range i at count next) = (blocks_of i at count ≡ what) × (p.bytes i at count ≡ None)
+IsBeyond p what (Range i at count next) = (blocks_missing i at count ≡ what) × (p.bytes i at count ≡ None)
 
 -- once the part has answered what it can, these questions are left, of this first
 pub record IsLeft {A : Type 0} (p : Part) (what : Missing) (q : Query A) : Type 0 where

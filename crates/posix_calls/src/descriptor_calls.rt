@@ -5,7 +5,7 @@ ghost use Rattle.posix_calls.specs.Memory.{reads_bytes, writes_bytes};
 ghost use Rattle.posix_calls.specs.Walk.{is_there, is_root};
 ghost use Rattle.posix_calls.specs.declared.descriptor.Descriptor.{Descriptor};
 ghost use Rattle.posix_calls.specs.declared.operation.DecideError.TheVariants.{Memory};
-ghost use Rattle.posix_calls.specs.Query.{Part, blocks_of};
+ghost use Rattle.posix_calls.specs.Query.{Part, blocks_missing};
 ghost use Rattle.posix_calls.specs.Answers.{Tells};
 ghost use Rattle.posix_calls.specs.Own.{own_of};
 ghost use Rattle.posix_calls.specs.declared.limits.TheConstants.{MAX_DESCRIPTORS, MAX_TRANSFER};
@@ -208,15 +208,15 @@ fn bytes_from<T: TreeAnswers>(
         return Ok(Bytes::from_vec(Vec::new(alloc)));
     }
     let answer = tree.read(alloc, inode, at, count)?;
-    known(answer, blocks_of(inode, at, count))
+    known(answer, blocks_missing(inode, at, count))
 }
 
 // The blocks that a range of the bytes of a file touches.
-fn blocks_of(inode: u32, at: u64, count: u64) -> Missing
+fn blocks_missing(inode: u32, at: u64, count: u64) -> Missing
     requires some { at + count < 2 ^ 64 }
     requires few { count ≤ MAX_TRANSFER }
     requires any { 0 < count }
-    ensures { result ≡ blocks_of inode at count }
+    ensures { result ≡ blocks_missing inode at count }
 {
     let first = at / UNIT_BYTES as u64;
     let last = (at + (count - 1)) / UNIT_BYTES as u64;

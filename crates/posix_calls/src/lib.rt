@@ -51,4 +51,4 @@ pub use numbers::profile_has_its_limits;
 pub use operation::{DecideError, Description, Location, Missing, Operation, Replaced};
 pub use own::OwnDescriptors;
 pub use path::Path;
-pub use tree_answers::{Child, TreeAnswers, known};
+pub use tree_answers::{NamedInode, TreeAnswers, known};

@@ -12,7 +12,7 @@ use std::alloc::{AllocError, Global};
 
 /// What a directory has under a name.
 #[derive(Clone, Copy)]
-pub struct Child {
+pub struct NamedInode {
     pub inode: u32,
     /// Whether it is a directory, where that is at hand.
     pub is_dir: Option<bool>,
@@ -33,9 +33,9 @@ pub trait TreeAnswers {
 
     /// What a directory has under a name; `Some(None)` where it has no such name. Whether that is a directory is told beside it
     /// where it is at hand, so that it need not be looked up.
-    fn entry(&self, dir: u32, name: &[u8]) -> Option<Option<Child>>
+    fn entry(&self, dir: u32, name: &[u8]) -> Option<Option<NamedInode>>
         ensures inode { option_map (option_map (λ e. e.inode)) result ≡ option_map (entry_in name.now) ((part self.now).node dir) }
-        ensures kind { (e : Child) (is_dir : Bool) → result ≡ Some (Some e) → e.is_dir ≡ Some is_dir → (part self.now).is_dir e.inode ≡ Some (Some is_dir) };
+        ensures kind { (e : NamedInode) (is_dir : Bool) → result ≡ Some (Some e) → e.is_dir ≡ Some is_dir → (part self.now).is_dir e.inode ≡ Some (Some is_dir) };
 
     /// How many entries a directory has.
     fn entry_count(&self, dir: u32) -> Option<u32>

@@ -2,7 +2,7 @@
 ghost use Rattle.std.specs.Prelude.{◌≡◌, ◌≢◌, Bool, Some, None, Ok, Err, true, false, IfOk, IfErr, nat_le, option_map};
 ghost use Rattle.posix_calls.specs.Path.{comes_to_name, reading};
 ghost use Rattle.posix_calls.specs.Query.{Part};
-ghost use Rattle.posix_calls.specs.declared.tree_answers.Child.{Child};
+ghost use Rattle.posix_calls.specs.declared.tree_answers.NamedInode.{NamedInode};
 ghost use Rattle.posix_calls.specs.Walk.{said, kind_at, there, is_root, is_there, leads_to};
 ghost use Rattle.posix_calls.specs.Answers.{Tells, IsTold, last_name, landing, untold, child_at, other_kind, target, no_entries};
 ghost use Rattle.posix_calls.specs.declared.operation.DecideError.TheVariants as why;
@@ -14,7 +14,7 @@ use crate::limits::{MAX_ENTRIES, ROOT};
 use crate::name::Name;
 use crate::operation::{DecideError, Location, Missing};
 use crate::path::Path;
-use crate::tree_answers::{Child, TreeAnswers, known};
+use crate::tree_answers::{NamedInode, TreeAnswers, known};
 use std::alloc::Global;
 
 // Where a path leads: the directory of its last name, the inode there, and how many entries that directory has; whether the walk
@@ -143,12 +143,12 @@ fn child_at<T: TreeAnswers>(tree: &T, dir: u32, name: &[u8]) -> Result<u32, Deci
 }
 
 // The end of a walk at an entry of a directory.
-fn landing_at(parent: u32, child: Option<Child>, entries: u32, passed: bool) -> Landing
+fn landing_at(parent: u32, child: Option<NamedInode>, entries: u32, passed: bool) -> Landing
     ensures parent { result.parent ≡ parent }
     ensures inode { result.inode ≡ option_map (λ e. e.inode) child }
     ensures entries { result.entries ≡ entries }
     ensures passed { result.passed ≡ passed }
-    ensures told { (is_dir : Bool) → result.is_dir ≡ Some is_dir → (e : Child) × (child ≡ Some e) × (e.is_dir ≡ Some is_dir) }
+    ensures told { (is_dir : Bool) → result.is_dir ≡ Some is_dir → (e : NamedInode) × (child ≡ Some e) × (e.is_dir ≡ Some is_dir) }
 {
     match child {
         Some(child) => Landing {

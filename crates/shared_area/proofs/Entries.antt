@@ -12,7 +12,7 @@ use Rattle.layout.specs.declared.slot.Slot.TheVariants as slots
 use Rattle.layout.specs.Places.{Sizes, is_inode}
 use Rattle.layout.specs.Directory.{EntryList, AreEntries, listed, entry_of, no_entry}
 use Rattle.layout.proofs.DirChanges.{listed_now}
-use Rattle.tree_blocks.specs.Inode.{Blocks, Entry, plain, entry_at, entries_in, blocks_for, named, byte_of, AreDistinct, AreDirectoryBlocks, inode_of, node_of}
+use Rattle.tree_blocks.specs.Inode.{LogicalBlocks, Entry, plain, entry_at, entries_in, blocks_for, named, byte_of, AreDistinct, AreDirectoryBlocks, inode_of, node_of}
 use Rattle.tree_blocks.specs.After.{IsEntered}
 use Rattle.tree_blocks.proofs.Entering.{named_entered}
 use Rattle.tree_blocks.proofs.Held.{entry_is}
@@ -24,7 +24,7 @@ use Rattle.shared_area.proofs.Sound.{no_slot}
 
 -- ---- a block
 
-byte_in : (blocks : Blocks) (k j : ℕ) → j < 4096 → byte_of blocks (4096 * k + j) ≡ get_or (blocks k) j 0
+byte_in : (blocks : LogicalBlocks) (k j : ℕ) → j < 4096 → byte_of blocks (4096 * k + j) ≡ get_or (blocks k) j 0
 unfolding byte_of
 byte_in blocks k j lt =
     let block : (4096 * k + j) / 4096 ≡ k = omega (arith, lt) in
@@ -32,7 +32,7 @@ byte_in blocks k j lt =
     λ p. get_or (blocks (block p)) (place p) 0
 
 -- what shows the bytes of a block of entries is that block
-pub block_shown : (blocks : Blocks) (k : ℕ) (out : List ℕ) → AreEntries (blocks k) → length out ≡ 4096 → ShowsBytes blocks (4096 * k) out → out ≡ blocks k
+pub block_shown : (blocks : LogicalBlocks) (k : ℕ) (out : List ℕ) → AreEntries (blocks k) → length out ≡ 4096 → ShowsBytes blocks (4096 * k) out → out ≡ blocks k
 block_shown blocks k out are long shows =
     let whole : length (blocks k) ≡ 4096 = (listed_now (blocks k) are).long in
     ext_get_or 0 out (blocks k) (long ∙ sym whole) (λ j lt. shows j lt ∙ byte_in blocks k j (omega (arith, lt, long)))
@@ -60,7 +60,7 @@ module _ (entry : ℕ → Entry) (n : ℕ) (v : EntryList) (next : AreNext entry
 
 -- ---- the entries of a block behind those before it
 
-module _ (owner n : ℕ) (blocks : Blocks) (is : AreDirectoryBlocks owner n blocks) (k : ℕ) (lt : k < blocks_for n) where
+module _ (owner n : ℕ) (blocks : LogicalBlocks) (is : AreDirectoryBlocks owner n blocks) (k : ℕ) (lt : k < blocks_for n) where
   some : 56 * k < n
   some = omega (arith, lt)
 

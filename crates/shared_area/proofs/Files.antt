@@ -14,7 +14,7 @@ use Rattle.layout.specs.declared.slot.Slot.TheVariants as slots
 use Rattle.batch_journal.specs.Images.{slice}
 use Rattle.batch_journal.specs.Blocks.{ShowsHome}
 use Rattle.batch_journal.proofs.Meaning.{slice_slice}
-use Rattle.tree_blocks.specs.Inode.{Blocks, byte_of, bytes_of_blocks, inode_of, node_of}
+use Rattle.tree_blocks.specs.Inode.{LogicalBlocks, byte_of, bytes_of_blocks, inode_of, node_of}
 use Rattle.area_image.specs.Store.{Store, store_of, slot_read, place, logical, graph}
 use Rattle.area_image.specs.Reads.{IsRoom}
 use Rattle.area_image.proofs.Parts.{slot_as}
@@ -34,20 +34,20 @@ part_shown g seen Block k from n out room inside long is shows = is ∙ sym (sli
 part_shown g seen Slow k from n out room inside long is shows = is ∙ sym (slice_slice from n (4096 * k) 4096 (seen Slow) inside)
 
 -- a byte of one block
-byte_here : (blocks : Blocks) (at k : ℕ) → at % 4096 + k < 4096 → byte_of blocks (at + k) ≡ get_or (blocks (at / 4096)) (at % 4096 + k) 0
+byte_here : (blocks : LogicalBlocks) (at k : ℕ) → at % 4096 + k < 4096 → byte_of blocks (at + k) ≡ get_or (blocks (at / 4096)) (at % 4096 + k) 0
 unfolding byte_of
 byte_here blocks at k lt =
     let block : (at + k) / 4096 ≡ at / 4096 = omega (arith, lt) in
     let place : (at + k) % 4096 ≡ at % 4096 + k = omega (arith, lt) in
     λ p. get_or (blocks (block p)) (place p) 0
 
-pub piece_shows : (blocks : Blocks) (at n : ℕ) (out block : List ℕ) → at % 4096 + n ≤ 4096 → length out ≡ n → out ≡ slice (at % 4096) n block → blocks (at / 4096) ≡ block → ShowsBytes blocks at out
+pub piece_shows : (blocks : LogicalBlocks) (at n : ℕ) (out block : List ℕ) → at % 4096 + n ≤ 4096 → length out ≡ n → out ≡ slice (at % 4096) n block → blocks (at / 4096) ≡ block → ShowsBytes blocks at out
 piece_shows blocks at n out block inside long is there k lt =
     ap (λ l. get_or l k 0) is
     ∙ get_or-take n (drop (at % 4096) block) k 0 (omega (arith, lt, long)) ∙ get_or-drop (at % 4096) block k 0
     ∙ sym (ap (λ b. get_or b (at % 4096 + k) 0) there) ∙ sym (byte_here blocks at k (omega (arith, lt, long, inside)))
 
-pub hole_shows : (blocks : Blocks) (at n : ℕ) (out : List ℕ) → at % 4096 + n ≤ 4096 → length out ≡ n → out ≡ replicate n 0 → blocks (at / 4096) ≡ [] → ShowsBytes blocks at out
+pub hole_shows : (blocks : LogicalBlocks) (at n : ℕ) (out : List ℕ) → at % 4096 + n ≤ 4096 → length out ≡ n → out ≡ replicate n 0 → blocks (at / 4096) ≡ [] → ShowsBytes blocks at out
 hole_shows blocks at n out inside long is none k lt =
     ap (λ l. get_or l k 0) is ∙ get_or-replicate n k 0 0 (omega (arith, lt, long))
     ∙ sym (ap (λ b. get_or b (at % 4096 + k) 0) none) ∙ sym (byte_here blocks at k (omega (arith, lt, long, inside)))
@@ -57,10 +57,10 @@ no_block g s i k none = at_none g s i k (none Fast) (none Block) (none Slow)
 
 -- ---- one piece behind the other
 
-pub up_to_none : (blocks : Blocks) (at : ℕ) (old : List ℕ) → IsReadUpTo blocks at 0 old old
+pub up_to_none : (blocks : LogicalBlocks) (at : ℕ) (old : List ℕ) → IsReadUpTo blocks at 0 old old
 up_to_none blocks at old = record { long = refl; read = λ k lt. absurd (omega (arith, lt)); rest = λ k ge. refl }
 
-module _ (blocks : Blocks) (at done n : ℕ) (old now new : List ℕ) (before : IsReadUpTo blocks at done old now) (shows : ShowsBytes blocks (at + done) new) (long : length new ≡ n) (fits : done + n ≤ length now) where
+module _ (blocks : LogicalBlocks) (at done n : ℕ) (old now new : List ℕ) (before : IsReadUpTo blocks at done old now) (shows : ShowsBytes blocks (at + done) new) (long : length new ≡ n) (fits : done + n ≤ length now) where
   after : List ℕ
   after = take done now ++ (new ++ drop (done + n) now)
 
@@ -94,7 +94,7 @@ module _ (blocks : Blocks) (at done n : ℕ) (old now new : List ℕ) (before : 
   }
 
 -- what was read in the front of a buffer, as the bytes of a file
-module _ (blocks : Blocks) (size at n count : ℕ) (out new : List ℕ) (up_to : IsReadUpTo blocks at n (take count out) new) (few : n ≤ count) (fits : count ≤ length out) (within : at + count ≤ size) where
+module _ (blocks : LogicalBlocks) (size at n count : ℕ) (out new : List ℕ) (up_to : IsReadUpTo blocks at n (take count out) new) (few : n ≤ count) (fits : count ≤ length out) (within : at + count ≤ size) where
   bytes : List ℕ
   bytes = map (byte_of blocks) (range_with_len 0 size)
 

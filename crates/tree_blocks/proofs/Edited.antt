@@ -11,14 +11,14 @@ use Rattle.graph_change.specs.Bytes.{BytesChange, length_after, byte_after, byte
 use Rattle.graph_change.specs.Net.{Base, Kept, Made, Gone, Net, based, edited, node_after}
 use Rattle.graph_change.specs.Change.{Change, Changes, new_change, net_of, change_at, changed}
 use Rattle.graph_change.proofs.Law.{empty_at, coalesced_law}
-use Rattle.tree_blocks.specs.Inode.{Blocks, Inode, byte_of, bytes_of_blocks, IsZeroFrom, node_by, node_of, graph_of_inodes, IsConsistentBy, IsConsistent}
+use Rattle.tree_blocks.specs.Inode.{LogicalBlocks, Inode, byte_of, bytes_of_blocks, IsZeroFrom, node_by, node_of, graph_of_inodes, IsConsistentBy, IsConsistent}
 use Rattle.tree_blocks.specs.After.{started, IsFileAfter, BodyAfter, IsInodeAfter, AreInodesAfter}
 use Rattle.tree_blocks.proofs.Files.{length_file}
 use Rattle.tree_blocks.proofs.Alike.{mapped_same, node_same, consistent_same}
 
 -- ---- a file
 
-module _ (c : BytesChange) (size : ℕ) (old : Blocks) (new_size : ℕ) (new : Blocks) (after : IsFileAfter c size old new_size new) where
+module _ (c : BytesChange) (size : ℕ) (old : LogicalBlocks) (new_size : ℕ) (new : LogicalBlocks) (after : IsFileAfter c size old new_size new) where
   zero_after : IsZeroFrom new_size new
   zero_after at ge = after.bytes at ∙ ap (λ b. cond b (byte_after c (bytes_of_blocks old size) at) 0) (le-ltb at new_size ge)
 

@@ -9,7 +9,7 @@ use Rattle.std.proofs.lemmas.List.FromFn.{get_or-map-range_with_len, length-map-
 use Rattle.graph_change.specs.Bytes.{Length, Grown, Cut, length_after, kept_byte, byte_after, end, IsOrdered, IsTidy}
 use Rattle.graph_change.specs.Change.{Change, Patch, blank, patch_at, net_of, patched, IsWhole, writes_block, ends_within, cuts_within}
 use Rattle.graph_change.specs.Tidy.{IsTidyChange}
-use Rattle.tree_blocks.specs.Inode.{Blocks, byte_of, bytes_of_blocks, IsZeroFrom}
+use Rattle.tree_blocks.specs.Inode.{LogicalBlocks, byte_of, bytes_of_blocks, IsZeroFrom}
 use Rattle.tree_blocks.specs.After.{IsFileAfter}
 use Rattle.tree_blocks.specs.FileBlock.{kept_in, in_block, block_after, is_cut_off, ReadSame, ReadsAfter, AreWritten}
 use Rattle.tree_blocks.proofs.Alike.{mapped_same}
@@ -124,7 +124,7 @@ left_inside c old_size k tidy = left_by c.length old_size k tidy.bytes.ordered
 
 -- ---- a file
 
-module _ (c : Change) (old_size new_size : ℕ) (old new : Blocks) (tidy : IsTidy (net_of c).bytes) (zeros : IsZeroFrom old_size old) (size : new_size ≡ length_after c.length old_size) (are : AreWritten c old new) where
+module _ (c : Change) (old_size new_size : ℕ) (old new : LogicalBlocks) (tidy : IsTidy (net_of c).bytes) (zeros : IsZeroFrom old_size old) (size : new_size ≡ length_after c.length old_size) (are : AreWritten c old new) where
   -- what is left of a byte, told by its block or by the file
   left_is : (len : Length) (at : ℕ) → kept_byte (Cut (kept_in len (at / 4096)) 4096) (old (at / 4096)) (at % 4096) ≡ kept_byte len (bytes_of_blocks old old_size) at
   unfolding byte_of

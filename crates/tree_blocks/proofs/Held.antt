@@ -4,21 +4,21 @@ use Rattle.std.proofs.lemmas.Bool.{cases_eq}
 use Rattle.std.proofs.lemmas.List.{get_or-set_same, get_or-set_other, length-set, length-append, get_or-take, get_or_append_left, get_or_push}
 use Rattle.layout.specs.declared.directory.DirEntry.{DirEntry}
 use Rattle.layout.specs.Directory.{EntryList, AreEntries, listed, no_entry, entry_of, with_entry_at, with_last, without_entry, without_last}
-use Rattle.tree_blocks.specs.Inode.{Blocks, plain, entry_at, entries_in, blocks_for, IsAbsent, IsDirectoryBlock, AreDirectoryBlocks}
+use Rattle.tree_blocks.specs.Inode.{LogicalBlocks, plain, entry_at, entries_in, blocks_for, IsAbsent, IsDirectoryBlock, AreDirectoryBlocks}
 use Rattle.tree_blocks.specs.After.{IsEntered}
 
 -- an entry by the list of its block
-pub entry_is : (b : Blocks) (e : ℕ) (v : EntryList) → listed (b (e / 56)) ≡ v → entry_at b e ≡ plain (entry_of v (e % 56))
+pub entry_is : (b : LogicalBlocks) (e : ℕ) (v : EntryList) → listed (b (e / 56)) ≡ v → entry_at b e ≡ plain (entry_of v (e % 56))
 unfolding entry_at
 entry_is b e v is = ap (λ l. plain (entry_of l (e % 56))) is
 
 -- the same block leaves the same entries
-pub same_block : (b c : Blocks) (e : ℕ) → c (e / 56) ≡ b (e / 56) → entry_at c e ≡ entry_at b e
+pub same_block : (b c : LogicalBlocks) (e : ℕ) → c (e / 56) ≡ b (e / 56) → entry_at c e ≡ entry_at b e
 unfolding entry_at
 same_block b c e same = ap (λ l. plain (entry_of (listed l) (e % 56))) same
 
 -- one block lists others than it did
-module _ (b c : Blocks) (place : ℕ) (v : EntryList) (others : (k : ℕ) → k ≢ place / 56 → c k ≡ b k) (is : listed (c (place / 56)) ≡ v) where
+module _ (b c : LogicalBlocks) (place : ℕ) (v : EntryList) (others : (k : ℕ) → k ≢ place / 56 → c k ≡ b k) (is : listed (c (place / 56)) ≡ v) where
   pub entry_there : entry_at c place ≡ plain (entry_of v (place % 56))
   unfolding entry_at
   entry_there = ap (λ l. plain (entry_of l (place % 56))) is
@@ -41,7 +41,7 @@ set_same v i x lt = get_or-set_same v.entries i x no_entry lt
 pub set_other : (v : EntryList) (i j : ℕ) (x : DirEntry) → j ≢ i → entry_of (with_entry_at v i x) j ≡ entry_of v j
 set_other v i j x off = get_or-set_other v.entries i j x no_entry off
 
-module _ (b c : Blocks) (place : ℕ) (x : DirEntry) (others : (k : ℕ) → k ≢ place / 56 → c k ≡ b k) (is : listed (c (place / 56)) ≡ with_entry_at (listed (b (place / 56))) (place % 56) x)
+module _ (b c : LogicalBlocks) (place : ℕ) (x : DirEntry) (others : (k : ℕ) → k ≢ place / 56 → c k ≡ b k) (is : listed (c (place / 56)) ≡ with_entry_at (listed (b (place / 56))) (place % 56) x)
     (inside : place % 56 < length (listed (b (place / 56))).entries) where
   pub set_there : entry_at c place ≡ plain x
   set_there = entry_there b c place (with_entry_at (listed (b (place / 56))) (place % 56) x) others is ∙ ap plain (set_same (listed (b (place / 56))) (place % 56) x inside)
@@ -52,7 +52,7 @@ module _ (b c : Blocks) (place : ℕ) (x : DirEntry) (others : (k : ℕ) → k �
 
 -- ---- one entry more, behind the last
 
-module _ (b c : Blocks) (n : ℕ) (v : EntryList) (x : DirEntry) (others : (k : ℕ) → k ≢ n / 56 → c k ≡ b k) (is : listed (c (n / 56)) ≡ with_last v x)
+module _ (b c : LogicalBlocks) (n : ℕ) (v : EntryList) (x : DirEntry) (others : (k : ℕ) → k ≢ n / 56 → c k ≡ b k) (is : listed (c (n / 56)) ≡ with_last v x)
     (long : length v.entries ≡ n % 56) (before : (i : ℕ) → i < n % 56 → entry_of v i ≡ entry_of (listed (b (n / 56))) i) where
   pub last_there : entry_at c n ≡ plain x
   last_there = entry_there b c n (with_last v x) others is ∙ ap plain (get_or_push v.entries x no_entry (n % 56) long)
@@ -80,7 +80,7 @@ taken_other v i j off lt = get_or-take (length v.entries - 1) _ j no_entry lt �
 pub part_stays : (owner n m k : ℕ) (b c : List ℕ) → c ≡ b → entries_in n k ≡ entries_in m k → IsDirectoryBlock owner n k b → IsDirectoryBlock owner m k c
 part_stays owner n m k b c same count part = subst (IsDirectoryBlock owner m k) (sym same) (record { entries = part.entries; owner_is = part.owner_is; count_is = part.count_is ∙ count })
 
-module _ (owner n : ℕ) (b : Blocks) (is : AreDirectoryBlocks owner n b) where
+module _ (owner n : ℕ) (b : LogicalBlocks) (is : AreDirectoryBlocks owner n b) where
   -- the part in which an entry stands
   pub part_of : (e : ℕ) → e < n → IsDirectoryBlock owner n (e / 56) (b (e / 56))
   part_of e lt = is.parts (e / 56) (omega (arith, lt))
@@ -90,7 +90,7 @@ module _ (owner n : ℕ) (b : Blocks) (is : AreDirectoryBlocks owner n b) where
 
   -- ---- an entry leads elsewhere
 
-  module _ (c : Blocks) (place : ℕ) (lt : place < n) (x : DirEntry) (others : (k : ℕ) → k ≢ place / 56 → c k ≡ b k) (entries : AreEntries (c (place / 56)))
+  module _ (c : LogicalBlocks) (place : ℕ) (lt : place < n) (x : DirEntry) (others : (k : ℕ) → k ≢ place / 56 → c k ≡ b k) (entries : AreEntries (c (place / 56)))
       (now : listed (c (place / 56)) ≡ with_entry_at (listed (b (place / 56))) (place % 56) x) where
     pub is_set : (name : List ℕ) → (entry_at b place).0 ≡ name → x.name ≡ name → IsEntered place (name, (x.inode, x.kind)) n (entry_at b) n (entry_at c)
     is_set name old new = record {
@@ -113,7 +113,7 @@ module _ (owner n : ℕ) (b : Blocks) (is : AreDirectoryBlocks owner n b) where
 
   -- ---- one entry more
 
-  module _ (c : Blocks) (v : EntryList) (x : DirEntry) (others : (k : ℕ) → k ≢ n / 56 → c k ≡ b k) (entries : AreEntries (c (n / 56))) (now : listed (c (n / 56)) ≡ with_last v x)
+  module _ (c : LogicalBlocks) (v : EntryList) (x : DirEntry) (others : (k : ℕ) → k ≢ n / 56 → c k ≡ b k) (entries : AreEntries (c (n / 56))) (now : listed (c (n / 56)) ≡ with_last v x)
       (long : length v.entries ≡ n % 56) (by : v.owner ≡ owner) where
     pub parts_more : (k : ℕ) → k < blocks_for (n + 1) → IsDirectoryBlock owner (n + 1) k (c k)
     parts_more k low = elim (cases_eq k (n / 56)) [

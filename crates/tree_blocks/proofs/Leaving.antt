@@ -4,7 +4,7 @@ use Rattle.std.proofs.lemmas.Bool.{cases_eq}
 use Rattle.std.proofs.lemmas.List.{length-set, length-take}
 use Rattle.layout.specs.declared.directory.DirEntry.{DirEntry}
 use Rattle.layout.specs.Directory.{EntryList, AreEntries, listed, entry_of, are_distinct, with_entry_at, without_entry, without_last}
-use Rattle.tree_blocks.specs.Inode.{Blocks, plain, entry_at, entries_in, blocks_for, IsDirectoryBlock, AreDirectoryBlocks}
+use Rattle.tree_blocks.specs.Inode.{LogicalBlocks, plain, entry_at, entries_in, blocks_for, IsDirectoryBlock, AreDirectoryBlocks}
 use Rattle.tree_blocks.specs.After.{IsTakenOut}
 use Rattle.tree_blocks.specs.Directory.{HaveOneLess}
 use Rattle.tree_blocks.proofs.Alike.{entries_same}
@@ -18,7 +18,7 @@ length_less v = omega (arith, length-take (length v.entries - 1) v.entries)
 length_taken : (v : EntryList) (i : ℕ) → length (without_entry v i).entries ≡ length v.entries - 1
 length_taken v i = omega (arith, length-take (length v.entries - 1) (with_entry_at v i (entry_of v (length v.entries - 1))).entries, length-set v.entries i (entry_of v (length v.entries - 1)))
 
-module _ (owner last : ℕ) (b : Blocks) (is : AreDirectoryBlocks owner (last + 1) b) where
+module _ (owner last : ℕ) (b : LogicalBlocks) (is : AreDirectoryBlocks owner (last + 1) b) where
   -- what stands in the block of the last entry
   abbrev pub own : EntryList
   own = listed (b (last / 56))
@@ -39,7 +39,7 @@ module _ (owner last : ℕ) (b : Blocks) (is : AreDirectoryBlocks owner (last + 
 
   -- ---- within one block
 
-  module _ (c : Blocks) (place : ℕ) (le : place ≤ last) (here : place / 56 ≡ last / 56) (others : (k : ℕ) → k ≢ last / 56 → c k ≡ b k) (entries : AreEntries (c (last / 56)))
+  module _ (c : LogicalBlocks) (place : ℕ) (le : place ≤ last) (here : place / 56 ≡ last / 56) (others : (k : ℕ) → k ≢ last / 56 → c k ≡ b k) (entries : AreEntries (c (last / 56)))
       (now : listed (c (last / 56)) ≡ without_entry (listed (b (last / 56))) (place % 56)) where
     taken_within : IsTakenOut place (last + 1) (entry_at b) last (entry_at c)
     taken_within = record {
@@ -133,7 +133,7 @@ module _ (owner last : ℕ) (b : Blocks) (is : AreDirectoryBlocks owner (last + 
                 | inr a ↦ elim (t.at) [ inl x ↦ absurd (omega (arith, one, a.1, x.1, before, li)) | inr x ↦ omega (arith, one, a.1, x.1) ]
               ]
 
-    module _ (c : Blocks) (others : (k : ℕ) → k ≢ place / 56 → k ≢ last / 56 → c k ≡ b k) (entries : AreEntries (c (place / 56))) (left : AreEntries (c (last / 56)))
+    module _ (c : LogicalBlocks) (others : (k : ℕ) → k ≢ place / 56 → k ≢ last / 56 → c k ≡ b k) (entries : AreEntries (c (place / 56))) (left : AreEntries (c (last / 56)))
         (now : listed (c (place / 56)) ≡ with_entry_at target (place % 56) moved) (less : listed (c (last / 56)) ≡ without_last own) where
       taken_across : IsTakenOut place (last + 1) (entry_at b) last (entry_at c)
       taken_across = record {
@@ -178,7 +178,7 @@ module _ (owner last : ℕ) (b : Blocks) (is : AreDirectoryBlocks owner (last + 
       less_across = record { directory = record { parts = parts_across; distinct = distinct_left place (entry_at b) (last + 1) is.distinct last (entry_at c) taken_across }; taken = taken_across }
 
 -- only the blocks count that have entries
-pub less_cut : (owner last place : ℕ) (b c d : Blocks) → HaveOneLess owner last place b c → ((k : ℕ) → k < blocks_for last → d k ≡ c k) → HaveOneLess owner last place b d
+pub less_cut : (owner last place : ℕ) (b c d : LogicalBlocks) → HaveOneLess owner last place b c → ((k : ℕ) → k < blocks_for last → d k ≡ c k) → HaveOneLess owner last place b d
 less_cut owner last place b c d less same = record {
   directory = record {
     parts = λ k lt. subst (IsDirectoryBlock owner last k) (sym (same k lt)) (less.directory.parts k lt);

@@ -10,7 +10,7 @@ use Rattle.std.proofs.lemmas.Option.{slice_get-get_or}
 use Rattle.file_graph.specs.declared.effect.Kind.{Kind}
 use Rattle.layout.specs.declared.directory.DirEntry.{DirEntry}
 use Rattle.layout.specs.Directory.{EntryList, AreEntries, listed, no_entry, entry_of, with_target, with_last}
-use Rattle.tree_blocks.specs.Inode.{Blocks, plain, entry_at, named, blocks_for, IsAbsent, AreDirectoryBlocks}
+use Rattle.tree_blocks.specs.Inode.{LogicalBlocks, plain, entry_at, named, blocks_for, IsAbsent, AreDirectoryBlocks}
 use Rattle.tree_blocks.specs.After.{IsEntered}
 use Rattle.tree_blocks.specs.Directory.{numbered, AreHeld, HaveOneMore}
 use Rattle.tree_blocks.proofs.Directories.{get_there, get_missing}
@@ -55,7 +55,7 @@ pub written_back : (n : ℕ) (new old : List (List ℕ)) → length new ≡ n �
 written_back n new old long = ap (λ k. take k (new ++ drop (length new) old)) (sym long) ∙ take-append_seam new (drop (length new) old)
 
 -- where a name is absent, each block has none of it
-pub absent_in : (owner n : ℕ) (b : Blocks) → AreDirectoryBlocks owner n b → (name : List ℕ) → IsAbsent name (entry_at b) n → n % 56 ≢ 0 → position (has name) (listed (b (n / 56))).entries ≡ None
+pub absent_in : (owner n : ℕ) (b : LogicalBlocks) → AreDirectoryBlocks owner n b → (name : List ℕ) → IsAbsent name (entry_at b) n → n % 56 ≢ 0 → position (has name) (listed (b (n / 56))).entries ≡ None
 absent_in owner n b is name absent room =
     let long : length (listed (b (n / 56))).entries ≡ n % 56 = let c = (is.parts (n / 56) (omega (arith, room))).count_is in omega (arith, c, room) in
     none_found name (listed (b (n / 56))).entries (λ i lt same.
@@ -70,7 +70,7 @@ module _ (owner n : ℕ) (bs : List (List ℕ)) (is : AreDirectoryBlocks owner n
   -- ---- an entry leads elsewhere
 
   module _ (place : ℕ) (lt : place < n) (room : place / 56 < length bs) (inode : ℕ) (kind : Kind) (now : listed w ≡ with_target (listed (numbered bs (place / 56))) (place % 56) inode kind) where
-    abbrev pub c : Blocks
+    abbrev pub c : LogicalBlocks
     c = numbered (set bs (place / 56) w)
 
     here : c (place / 56) ≡ w

@@ -5,7 +5,7 @@ use Rattle.file_graph.specs.declared.effect.Kind.TheVariants as kind
 use Rattle.graph_change.specs.Net.{Gone, EntryChanges, entries_after}
 use Rattle.graph_change.specs.Change.{Change, net_of}
 use Rattle.graph_change.specs.Tidy.{IsTidyChange}
-use Rattle.tree_blocks.specs.Inode.{Blocks, Entry, Inode, entry_at, named, blocks_for, IsZeroFrom, IsConsistent, IsConsistentBy}
+use Rattle.tree_blocks.specs.Inode.{LogicalBlocks, Entry, Inode, entry_at, named, blocks_for, IsZeroFrom, IsConsistent, IsConsistentBy}
 use Rattle.tree_blocks.specs.After.{started, BodyAfter, IsDirectoryAfter, IsInodeAfter}
 use Rattle.tree_blocks.specs.Directory.{EntryBlocks, numbered}
 use Rattle.tree_blocks.specs.Rewritten.{IsFileRewritten, IsDirectoryRewritten}
@@ -31,10 +31,10 @@ file_after number c old new tidy is written =
     }
 
 -- blocks that are the same as far as they are read have the same entries
-named_same : (n : ℕ) (b c : Blocks) → ((k : ℕ) → k < blocks_for n → c k ≡ b k) → named (entry_at c) n ≡ named (entry_at b) n
+named_same : (n : ℕ) (b c : LogicalBlocks) → ((k : ℕ) → k < blocks_for n → c k ≡ b k) → named (entry_at c) n ≡ named (entry_at b) n
 named_same n b c same = ap (λ (es : List Entry). fin.from_entries es) (mapped_same (entry_at c) (entry_at b) 0 n (λ e lt. entries_same n b c same e (omega (arith, lt))))
 
-directory_by : (number : ℕ) (cs : EntryChanges) (n m : ℕ) (b c x y : Blocks) → ((k : ℕ) → k < blocks_for n → x k ≡ b k) → ((k : ℕ) → k < blocks_for m → y k ≡ c k) → IsDirectoryAfter number cs n b m c → IsDirectoryAfter number cs n x m y
+directory_by : (number : ℕ) (cs : EntryChanges) (n m : ℕ) (b c x y : LogicalBlocks) → ((k : ℕ) → k < blocks_for n → x k ≡ b k) → ((k : ℕ) → k < blocks_for m → y k ≡ c k) → IsDirectoryAfter number cs n b m c → IsDirectoryAfter number cs n x m y
 directory_by number cs n m b c x y old new after = record {
   entries = named_same m c y new ∙ after.entries ∙ ap (entries_after cs) (sym (named_same n b x old));
   directory = consistent_by number (Some kind.Directory) m c y new after.directory;

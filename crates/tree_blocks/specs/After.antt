@@ -6,7 +6,7 @@ use Rattle.file_graph.specs.declared.effect.Kind.TheVariants as kind
 use Rattle.graph_change.specs.Bytes.{BytesChange, length_after, byte_after}
 use Rattle.graph_change.specs.Net.{Base, Kept, Made, Gone, EntryChanges, Net, names_after, entries_after}
 use Rattle.graph_change.specs.Change.{Changes, net_of, change_at}
-use Rattle.tree_blocks.specs.Inode.{Blocks, Entry, Inode, byte_of, bytes_of_blocks, entry_at, named, IsAbsent, AreDirectoryBlocks, blank_inode, AreAlike}
+use Rattle.tree_blocks.specs.Inode.{LogicalBlocks, Entry, Inode, byte_of, bytes_of_blocks, entry_at, named, IsAbsent, AreDirectoryBlocks, blank_inode, AreAlike}
 
 -- what the rest of a change starts from: the inode that was there, or one without names and blocks
 abbrev pub started : Base → Inode → Inode
@@ -17,14 +17,14 @@ started Gone old = blank_inode None
 -- ---- a file
 
 -- a file after a change of its bytes: its size, and each byte of its blocks, which are zero behind the size
-pub record IsFileAfter (c : BytesChange) (old_size : ℕ) (old : Blocks) (new_size : ℕ) (new : Blocks) : Type 0 where
+pub record IsFileAfter (c : BytesChange) (old_size : ℕ) (old : LogicalBlocks) (new_size : ℕ) (new : LogicalBlocks) : Type 0 where
   pub size : new_size ≡ length_after c.length old_size
   pub bytes : (at : ℕ) → byte_of new at ≡ (if nat_lt at new_size then byte_after c (bytes_of_blocks old old_size) at else 0)
 
 -- ---- a directory
 
 -- a directory after a change of its entries: what stands under each name, and that its blocks are again those of a directory
-pub record IsDirectoryAfter (number : ℕ) (c : EntryChanges) (old_size : ℕ) (old : Blocks) (new_size : ℕ) (new : Blocks) : Type 0 where
+pub record IsDirectoryAfter (number : ℕ) (c : EntryChanges) (old_size : ℕ) (old : LogicalBlocks) (new_size : ℕ) (new : LogicalBlocks) : Type 0 where
   pub entries : named (entry_at new) new_size ≡ entries_after c (named (entry_at old) old_size)
   pub directory : AreDirectoryBlocks number new_size new
 

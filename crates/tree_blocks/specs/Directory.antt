@@ -4,7 +4,7 @@ use Rattle.file_graph.specs.declared.effect.Kind.{Kind}
 use Rattle.posix_calls.specs.declared.limits.TheConstants.{MAX_ENTRIES}
 use Rattle.layout.specs.Places.{is_inode}
 use Rattle.layout.specs.declared.directory.TheConstants.{MAX_IN_BLOCK}
-use Rattle.tree_blocks.specs.Inode.{Blocks, Entry, entry_at, blocks_for, AreDirectoryBlocks}
+use Rattle.tree_blocks.specs.Inode.{LogicalBlocks, Entry, entry_at, blocks_for, AreDirectoryBlocks}
 use Rattle.tree_blocks.specs.After.{IsEntered, IsTakenOut}
 
 -- its inode, how many entries it has, and its blocks
@@ -14,7 +14,7 @@ pub record EntryBlocks : Type 0 where
   pub blocks : List (List ℕ)
 
 -- blocks by their numbers, the first at 0
-abbrev pub numbered : List (List ℕ) → Blocks
+abbrev pub numbered : List (List ℕ) → LogicalBlocks
 numbered blocks k = get_or blocks k []
 
 -- its entries by their numbers
@@ -58,6 +58,6 @@ pub record HaveOneMore (owner count : ℕ) (e : Entry) (old new : List (List ℕ
   pub others : (k : ℕ) → k ≢ count / MAX_IN_BLOCK → numbered new k ≡ numbered old k
 
 -- the blocks of a directory of which the last entry stands at the place of another, and not behind the others; `last` is its number
-pub record HaveOneLess (owner last number : ℕ) (old new : Blocks) : Type 0 where
+pub record HaveOneLess (owner last number : ℕ) (old new : LogicalBlocks) : Type 0 where
   pub directory : AreDirectoryBlocks owner last new
   pub taken : IsTakenOut number (last + 1) (entry_at old) last (entry_at new)

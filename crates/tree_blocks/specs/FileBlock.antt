@@ -5,7 +5,7 @@ use Rattle.layout.specs.declared.places.TheConstants.{BLOCK}
 use Rattle.graph_change.specs.Bytes.{Length, Grown, Cut, BytesChange, byte_after}
 use Rattle.graph_change.specs.Change.{Change, Patch, blank, patch_at, writes_block}
 use Rattle.graph_change.specs.View.{patch_of}
-use Rattle.tree_blocks.specs.Inode.{Blocks}
+use Rattle.tree_blocks.specs.Inode.{LogicalBlocks}
 
 -- what is put into it, if anything is
 abbrev pub put_in : Option (List ℕ × List Bool) → Patch
@@ -39,7 +39,7 @@ is_cut_off (Grown to) k = false
 is_cut_off (Cut least to) k = nat_le least (BLOCK * k)
 
 -- the blocks that are to be written read as the change makes them, those behind a cut as zero, and all others as they did; whether a tier holds them is not told
-pub record AreWritten (c : Change) (old new : Blocks) : Type 0 where
+pub record AreWritten (c : Change) (old new : LogicalBlocks) : Type 0 where
   pub written : (k : ℕ) → writes_block c k ≡ true → ReadsAfter c.length (patch_at c.patches k) k (old k) (new k)
   pub gone : (k p : ℕ) → writes_block c k ≡ false → is_cut_off c.length k ≡ true → p < BLOCK → get_or (new k) p 0 ≡ 0
   pub others : (k p : ℕ) → writes_block c k ≡ false → is_cut_off c.length k ≡ false → p < BLOCK → get_or (new k) p 0 ≡ get_or (old k) p 0

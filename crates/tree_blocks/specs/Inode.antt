@@ -14,21 +14,21 @@ use Rattle.layout.specs.declared.slot.Slot.TheVariants as slot
 use Rattle.layout.specs.Directory.{AreEntries, listed, entry_of}
 
 -- the logical blocks by their numbers; one that no tier holds has no bytes, which reads as zeros
-abbrev pub Blocks : Type 0
-Blocks = ℕ → List ℕ
+abbrev pub LogicalBlocks : Type 0
+LogicalBlocks = ℕ → List ℕ
 
 -- ---- a file: byte k stands in block k / 4,096
 
 -- the byte at a place of a file
-unfoldable pub byte_of : Blocks → ℕ → ℕ
+unfoldable pub byte_of : LogicalBlocks → ℕ → ℕ
 byte_of blocks at = get_or (blocks (at / BLOCK)) (at % BLOCK) 0
 
 -- the bytes of a file of this size
-abbrev pub bytes_of_blocks : Blocks → ℕ → List ℕ
+abbrev pub bytes_of_blocks : LogicalBlocks → ℕ → List ℕ
 bytes_of_blocks blocks size = map (byte_of blocks) (range_with_len 0 size)
 
 -- every byte from the size on is zero, whatever blocks there are
-abbrev pub IsZeroFrom : ℕ → Blocks → Type 0
+abbrev pub IsZeroFrom : ℕ → LogicalBlocks → Type 0
 IsZeroFrom size blocks = (at : ℕ) → size ≤ at → byte_of blocks at ≡ 0
 
 -- ---- a directory: entry e stands in block e / 56
@@ -42,7 +42,7 @@ abbrev pub plain : DirEntry → Entry
 plain e = (e.name, (e.inode, e.kind))
 
 -- the entry of a number
-unfoldable pub entry_at : Blocks → ℕ → Entry
+unfoldable pub entry_at : LogicalBlocks → ℕ → Entry
 entry_at blocks e = plain (entry_of (listed (blocks (e / MAX_IN_BLOCK))) (e % MAX_IN_BLOCK))
 
 -- entries by their numbers, the first so many, as a map by name
@@ -72,7 +72,7 @@ pub record IsDirectoryBlock (owner n k : ℕ) (block : List ℕ) : Type 0 where
   pub count_is : length (listed block).entries ≡ entries_in n k
 
 -- a directory of n entries: each block spells its part of them, and no two have one name
-pub record AreDirectoryBlocks (owner n : ℕ) (blocks : Blocks) : Type 0 where
+pub record AreDirectoryBlocks (owner n : ℕ) (blocks : LogicalBlocks) : Type 0 where
   pub parts : (k : ℕ) → k < blocks_for n → IsDirectoryBlock owner n k (blocks k)
   pub distinct : AreDistinct (entry_at blocks) n
 
@@ -84,23 +84,23 @@ pub record Inode : Type 0 where
   pub kind : Option Kind
   pub names : ℕ
   pub size : ℕ
-  pub blocks : Blocks
+  pub blocks : LogicalBlocks
 
 -- no names, no size and no blocks
 abbrev pub blank_inode : Option Kind → Inode
 blank_inode kind = record { kind = kind; names = 0; size = 0; blocks = λ k. [] }
 
 -- a slot with the logical blocks that its roots lead to
-abbrev pub inode_of : Slot → Blocks → Inode
+abbrev pub inode_of : Slot → LogicalBlocks → Inode
 inode_of slot.Free blocks = blank_inode None
 inode_of (slot.File names size touch fast block slow) blocks = record { kind = Some kind.File; names = names; size = size; blocks = blocks }
 inode_of (slot.Directory names entries touch root) blocks = record { kind = Some kind.Directory; names = names; size = entries; blocks = blocks }
 
-abbrev pub body_of_blocks : Kind → ℕ → Blocks → Body
+abbrev pub body_of_blocks : Kind → ℕ → LogicalBlocks → Body
 body_of_blocks kind.File size blocks = FileBody (bytes_of_blocks blocks size)
 body_of_blocks kind.Directory size blocks = DirBody (named (entry_at blocks) size)
 
-abbrev pub node_by : Option Kind → ℕ → ℕ → Blocks → Option Node
+abbrev pub node_by : Option Kind → ℕ → ℕ → LogicalBlocks → Option Node
 node_by None names size blocks = None
 node_by (Some k) names size blocks = Some (record { names = names; body = body_of_blocks k size blocks })
 
@@ -114,7 +114,7 @@ graph_of_inodes inodes i = node_of (inodes i)
 
 -- ---- what the format asks of an inode, beside what each block alone is
 
-abbrev pub IsConsistentBy : ℕ → Option Kind → ℕ → Blocks → Type 0
+abbrev pub IsConsistentBy : ℕ → Option Kind → ℕ → LogicalBlocks → Type 0
 IsConsistentBy number None size blocks = Unit {0}
 IsConsistentBy number (Some kind.File) size blocks = IsZeroFrom size blocks
 IsConsistentBy number (Some kind.Directory) size blocks = AreDirectoryBlocks number size blocks
@@ -125,7 +125,7 @@ IsConsistent number x = IsConsistentBy number x.kind x.size x.blocks
 
 -- ---- inodes that read the same
 
-abbrev pub ReadAlike : Option Kind → ℕ → Blocks → Blocks → Type 0
+abbrev pub ReadAlike : Option Kind → ℕ → LogicalBlocks → LogicalBlocks → Type 0
 ReadAlike None size old new = Unit {0}
 ReadAlike (Some kind.File) size old new = (at : ℕ) → byte_of new at ≡ byte_of old at
 ReadAlike (Some kind.Directory) size old new = (k : ℕ) → k < blocks_for size → new k ≡ old k

@@ -6,7 +6,7 @@ ghost use Rattle.graph_change.specs.Change.{Change, Patch, blank, net_of, writes
 ghost use Rattle.graph_change.specs.Tidy.{IsTidyChange};
 ghost use Rattle.graph_change.specs.View.{new_length};
 ghost use Rattle.layout.specs.declared.places.TheConstants.{BLOCK};
-ghost use Rattle.tree_blocks.specs.Inode.{Blocks, IsZeroFrom};
+ghost use Rattle.tree_blocks.specs.Inode.{LogicalBlocks, IsZeroFrom};
 ghost use Rattle.tree_blocks.specs.After.{IsFileAfter};
 ghost use Rattle.tree_blocks.specs.FileBlock.{put_in, kept_in, block_after, is_cut_off, ReadSame, ReadsAfter, AreWritten};
 
@@ -64,7 +64,7 @@ pub fn changed_blocks_read_as_after()
 
 /// Where the blocks that a change has to write are written so, and all others read as they did or as zero behind a cut, the file is that after the change.
 pub fn blocks_after_are_file_after()
-    ensures { (c : Change) (old_size new_size : ℕ) (old new : Blocks) → IsTidy (net_of c).bytes → IsZeroFrom old_size old → new_size ≡ length_after c.length old_size → AreWritten c old new → IsFileAfter (net_of c).bytes old_size old new_size new }
+    ensures { (c : Change) (old_size new_size : ℕ) (old new : LogicalBlocks) → IsTidy (net_of c).bytes → IsZeroFrom old_size old → new_size ≡ length_after c.length old_size → AreWritten c old new → IsFileAfter (net_of c).bytes old_size old new_size new }
 {}
 
 /// A block that a change writes, or that it leaves where it was before the end of the file, begins before the end that the file has then.

@@ -2,7 +2,7 @@
 use Rattle.std.proofs.Common.{◌≡◌, ◌≢◌, ℕ, ◌≤◌, List, [], ◌∷◌, refl, Some, None, Option, Ok, ap, sym, ◌∙◌, subst, arith}
 use Rattle.std.proofs.lemmas.Bool.{false≢true}
 use Rattle.posix_calls.specs.Tree.{sum_up_to}
-use Rattle.posix_calls.specs.Query.{Query, Range, Part, Found, Known, Unknown, blocks_of, run_part}
+use Rattle.posix_calls.specs.Query.{Query, Range, Part, Found, Known, Unknown, blocks_missing, run_part}
 use Rattle.posix_calls.specs.declared.operation.Missing.{Missing}
 use Rattle.posix_calls.specs.Decide.{pread}
 use Rattle.posix_calls.specs.Operations.{opens}
@@ -28,9 +28,9 @@ abbrev given : {A X : Type 0} → Missing → Option X → (X → Found A) → F
 given what None f = Unknown what
 given what (Some x) f = f x
 
-part_range : {A : Type 0} (p : Part) (i at count : ℕ) (next : List ℕ → Query A) → run_part p (Range i at count next) ≡ given (blocks_of i at count) (p.bytes i at count) (λ bytes. run_part p (next bytes))
+part_range : {A : Type 0} (p : Part) (i at count : ℕ) (next : List ℕ → Query A) → run_part p (Range i at count next) ≡ given (blocks_missing i at count) (p.bytes i at count) (λ bytes. run_part p (next bytes))
 unfolding run_part
-part_range {A = A} p i at count next = elim (p.bytes i at count) as (λ o. ◌≡◌ {A = Found A} (elim o [ None ↦ Unknown (blocks_of i at count) | Some a ↦ run_part p (next a) ]) (given (blocks_of i at count) o (λ o. run_part p (next o)))) [ None ↦ refl | Some a ↦ refl ]
+part_range {A = A} p i at count next = elim (p.bytes i at count) as (λ o. ◌≡◌ {A = Found A} (elim o [ None ↦ Unknown (blocks_missing i at count) | Some a ↦ run_part p (next a) ]) (given (blocks_missing i at count) o (λ o. run_part p (next o)))) [ None ↦ refl | Some a ↦ refl ]
 
 ruleset parts = (part_bind, part_gives, part_refuses, part_is_dir, part_look, part_range)
 
@@ -90,9 +90,9 @@ reading_forgets = record { client = refl; known = λ i b bytes e. none_some byte
 abbrev forgotten : Knowledge
 forgotten = ((blocks_forgotten begun_reading 1 (λ i b. None)).clients 1).knows
 
-read_unknown : run_part (part_of forgotten) (pread forgotten.own 0 0 1) ≡ Unknown (blocks_of 2 0 1)
+read_unknown : run_part (part_of forgotten) (pread forgotten.own 0 0 1) ≡ Unknown (blocks_missing 2 0 1)
 unfolding pread
 read_unknown = simp parts refl
 
 pub reading_lost : Holds (Each BegunPlanned) (blocks_forgotten begun_reading 1 (λ i b. None)) → ⊥
-reading_lost is = absurd (let clash : Unknown (blocks_of 2 0 1) ≡ Known (Ok reading.operation) = sym read_unknown ∙ (is 1 refl reading refl).comes in cc)
+reading_lost is = absurd (let clash : Unknown (blocks_missing 2 0 1) ≡ Known (Ok reading.operation) = sym read_unknown ∙ (is 1 refl reading refl).comes in cc)

@@ -1,5 +1,5 @@
 use Rattle.std.proofs.Common.{◌∙◌, ◌<◌, arith, ap, sym, subst, take, length, vec_len}
-use Rattle.block_alloc.specs.Runs.{blocks_of, IsNormal}
+use Rattle.block_alloc.specs.Runs.{blocks_of, AreNormalRuns}
 use Rattle.block_alloc.proofs.Blocks.{rest_whole, normal-drop, trimmed_blocks, trimmed_normal, nothing_dropped, inside}
 use Rattle.block_alloc.proofs.runs.drop_front.Goals as goal
 
@@ -9,7 +9,7 @@ returns-then-split-eq0-clause-blocks c =
     ∙ nothing_dropped (blocks_of c.args.runs.now.items) (length (blocks_of (take c.args.split.whole c.args.runs.now.items))) c.args.split.left c.if-split-eq0.true
 
 pub returns-then-split-eq0-clause-normal : goal.returns-then-split-eq0-clause-normal
-returns-then-split-eq0-clause-normal c low end normal = subst (IsNormal low end) (sym c.remove_front.ensures.items) (normal-drop low end c.args.split.whole c.args.runs.now.items normal)
+returns-then-split-eq0-clause-normal c low end normal = subst (AreNormalRuns low end) (sym c.remove_front.ensures.items) (normal-drop low end c.args.split.whole c.args.runs.now.items normal)
 
 pub returns-clause-blocks : goal.returns-clause-blocks
 returns-clause-blocks c =

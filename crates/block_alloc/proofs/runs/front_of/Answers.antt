@@ -1,6 +1,6 @@
 use Rattle.std.proofs.Common.{◌∙◌, ◌++◌, ◌∷◌, [], ◌≤◌, ◌<◌, arith, ap, sym, subst, take, length, get_or}
 use Rattle.block_alloc.specs.declared.runs.Run.{Run}
-use Rattle.block_alloc.specs.Runs.{blocks_of, IsNormal}
+use Rattle.block_alloc.specs.Runs.{blocks_of, AreNormalRuns}
 use Rattle.block_alloc.proofs.Search.{normal_taken, normal_cut, positive}
 use Rattle.block_alloc.proofs.Blocks.{front_whole, front_part, nothing_left, inside}
 use Rattle.block_alloc.proofs.runs.front_of.Goals as goal
@@ -20,7 +20,7 @@ returns-clause-blocks c =
 
 pub returns-then-split-eq0-clause-normal : goal.returns-then-split-eq0-clause-normal
 returns-then-split-eq0-clause-normal c low end normal =
-    subst (IsNormal low end) (sym (c.in_ok-extend_from_slice.ensures.items ∙ ap (λ xs. xs ++ take c.args.split.whole c.args.runs.now) c.in_ok-front.ensures.items)) (normal_taken low end c.args.split.whole c.args.runs.now normal)
+    subst (AreNormalRuns low end) (sym (c.in_ok-extend_from_slice.ensures.items ∙ ap (λ xs. xs ++ take c.args.split.whole c.args.runs.now) c.in_ok-front.ensures.items)) (normal_taken low end c.args.split.whole c.args.runs.now normal)
 
 pub returns-clause-normal : goal.returns-clause-normal
 returns-clause-normal c low end normal =
@@ -28,4 +28,4 @@ returns-clause-normal c low end normal =
     let below : c.args.split.whole < length c.args.runs.now = inside (length c.args.runs.now) c.args.split.whole c.args.split.left c.requires.none c.if-split-eq0.false in
     let part : c.args.split.left ≤ (get_or c.args.runs.now c.args.split.whole none).count = omega (arith, c.requires.part none (omega arith)) in
     let items = c.in_ok-push.ensures.items ∙ ap (λ xs. xs ++ record { first = (get_or c.args.runs.now c.args.split.whole none).first; count = c.args.split.left } ∷ []) (c.in_ok-extend_from_slice.ensures.items ∙ ap (λ xs. xs ++ take c.args.split.whole c.args.runs.now) c.in_ok-front.ensures.items) in
-    subst (IsNormal low end) (sym items) (normal_cut low end c.args.split.whole c.args.split.left c.args.runs.now none normal below (positive c.args.split.left c.if-split-eq0.false) part)
+    subst (AreNormalRuns low end) (sym items) (normal_cut low end c.args.split.whole c.args.split.left c.args.runs.now none normal below (positive c.args.split.left c.if-split-eq0.false) part)

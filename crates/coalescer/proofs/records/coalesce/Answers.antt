@@ -4,7 +4,7 @@ use Rattle.graph_change.specs.Change.{Coalesces, coalesced}
 use Rattle.graph_change.specs.View.{changes_of}
 use Rattle.graph_change.proofs.Touched.{coalesces}
 use Rattle.log_record.specs.declared.format.Record.{Record}
-use Rattle.coalescer.specs.Records.{effects_of}
+use Rattle.coalescer.specs.Records.{effects_in}
 use Rattle.std.proofs.lemmas.List.{take_all}
 use Rattle.coalescer.proofs.Folds.{with_more, next_record, some_among, of_error}
 use Rattle.coalescer.proofs.records.coalesce.Goals as goal
@@ -15,17 +15,17 @@ loop-logged-preserved c =
     let rs = c.args.records.now in
     let d = c.logged-item.result in
     let next = next_record rs i d c.loop-logged-test.true in
-    let more = with_more fin.empty (effects_of (take i rs)) d.effects in
+    let more = with_more fin.empty (effects_in (take i rs)) d.effects in
     cc (c.in_ok-add_record.ensures.exact, c.loop-logged.invariant, c.logged-item.is, next, more)
 
 pub returns-clause-meaning : goal.returns-clause-meaning
 returns-clause-meaning c =
     let rs = c.args.records.now in
-    let is : changes_of c.loop-logged.change ≡ coalesced (effects_of rs) = c.loop-logged.invariant ∙ ap (λ x. coalesced (effects_of x)) (take_all c.loop-logged.logged-index rs c.loop-logged-test.false) in
-    subst (Coalesces (effects_of rs)) (sym is) (coalesces (effects_of rs))
+    let is : changes_of c.loop-logged.change ≡ coalesced (effects_in rs) = c.loop-logged.invariant ∙ ap (λ x. coalesced (effects_in x)) (take_all c.loop-logged.logged-index rs c.loop-logged-test.false) in
+    subst (Coalesces (effects_in rs)) (sym is) (coalesces (effects_in rs))
 
 pub returns-clause-exact : goal.returns-clause-exact
-returns-clause-exact c = c.loop-logged.invariant ∙ ap (λ x. coalesced (effects_of x)) (take_all c.loop-logged.logged-index c.args.records.now c.loop-logged-test.false)
+returns-clause-exact c = c.loop-logged.invariant ∙ ap (λ x. coalesced (effects_in x)) (take_all c.loop-logged.logged-index c.args.records.now c.loop-logged-test.false)
 
 pub returns-in_err-add_record-clause-memory : goal.returns-in_err-add_record-clause-memory
 returns-in_err-add_record-clause-memory c =

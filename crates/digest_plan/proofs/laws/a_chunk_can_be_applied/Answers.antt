@@ -1,13 +1,13 @@
-use Rattle.coalescer.specs.Records.{effects_of}
+use Rattle.coalescer.specs.Records.{effects_in}
 use Rattle.digest_plan.proofs.Applied as applied
 use Rattle.digest_plan.proofs.laws.a_chunk_can_be_applied.Goals as goal
 
 pub returns : goal.returns
 returns c = record {
   bounded = applied.good_bounded;
-  images = λ rs. applied.fit_images (effects_of rs);
-  blocks = λ rs. applied.fit_blocks (effects_of rs);
+  images = λ rs. applied.fit_images (effects_in rs);
+  blocks = λ rs. applied.fit_blocks (effects_in rs);
   limits = applied.good_limits;
-  others = λ g rs. applied.others_stay g (effects_of rs);
+  others = λ g rs. applied.others_stay g (effects_in rs);
   charge = applied.good_charge;
 }

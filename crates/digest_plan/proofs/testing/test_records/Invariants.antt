@@ -1,6 +1,6 @@
 use Rattle.std.proofs.Common.{◌≡◌, take}
 use Rattle.file_graph.specs.Graph.{after_effects, touches}
-use Rattle.coalescer.specs.Records.{effects_of}
+use Rattle.coalescer.specs.Records.{effects_in}
 use Rattle.record_check.specs.Row.{HasCome}
 use Rattle.digest_plan.specs.Asked.{AskedKnown}
 use Rattle.digest_plan.specs.Plan.{AreGood}
@@ -10,6 +10,6 @@ abbrev pub invariant-loop-place : goal.invariant-loop-place
 invariant-loop-place g l = record {
   stays : g.N.Nodes.graph l.nodes ≡ g.N.Nodes.graph l.fn.nodes;
   good : AreGood l.held l.capacity (g.N.Nodes.graph l.fn.nodes) (take l.place l.records);
-  come : HasCome l.check (g.N.Nodes.graph l.fn.nodes) (after_effects (g.N.Nodes.graph l.fn.nodes) (effects_of (take l.place l.records)));
-  asked : AskedKnown g.N.Nodes.asked l.check.known (touches (effects_of l.records)) l.fn.nodes l.nodes;
+  come : HasCome l.check (g.N.Nodes.graph l.fn.nodes) (after_effects (g.N.Nodes.graph l.fn.nodes) (effects_in (take l.place l.records)));
+  asked : AskedKnown g.N.Nodes.asked l.check.known (touches (effects_in l.records)) l.fn.nodes l.nodes;
 }

@@ -1,7 +1,7 @@
 use Rattle.std.proofs.Common.{◌≡◌, ◌∙◌, ℕ, List, length, true, sym, ap, subst, arith}
 use Rattle.layout.specs.declared.extents.Extent.{Extent}
 use Rattle.layout.specs.Slot.{is_root_block}
-use Rattle.directory_plan.specs.Blocks.{AreApart, AreNodeBlocks, places_after, root_after}
+use Rattle.directory_plan.specs.Blocks.{HaveOwnPlaces, AreNodeBlocks, places_after, root_after}
 use Rattle.directory_plan.proofs.Fits.{few_runs}
 use Rattle.directory_plan.proofs.Lists.{long, after_apart, after_nodes, after_root_node}
 use Rattle.directory_plan.proofs.plan.plan_directory.Goals as goal
@@ -13,7 +13,7 @@ put_written-requires-clause-apart c =
     let is : c.deref-3.result.now ≡ places_after x.blocks.places.items spares (length x.entries.blocks) =
     c.deref-3.ensures.value ∙ c.in_ok-places.ensures ∙ ap (λ (ps : List ℕ). places_after ps spares (length c.blocks-blocks.result.now)) c.deref.ensures.value
     ∙ ap (λ (bs : List (List ℕ)). places_after x.blocks.places.items spares (length bs)) c.blocks-blocks.ensures.blocks in
-    subst AreApart (sym is) (after_apart c.requires.0 x spares c.requires.2 c.requires.3)
+    subst HaveOwnPlaces (sym is) (after_apart c.requires.0 x spares c.requires.2 c.requires.3)
 
 pub put_list-requires-clause-few : goal.put_list-requires-clause-few
 put_list-requires-clause-few c =

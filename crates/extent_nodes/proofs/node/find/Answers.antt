@@ -1,7 +1,7 @@
 use Rattle.std.proofs.Common.{◌<◌, ◌+◌, ◌-◌, ◌/◌, arith, length, get_or, sym}
 use Rattle.layout.specs.declared.extents.Extent.{Extent}
 use Rattle.extent_nodes.proofs.Maps.{has-in}
-use Rattle.extent_nodes.proofs.Rising.{before-more, behind-more, extent_at-place, none-between}
+use Rattle.extent_nodes.proofs.Rising.{before-more, behind-more, extent_with-place, none-between}
 use Rattle.extent_nodes.proofs.node.find.Goals as goal
 
 pub bisect-preserved-then-block-entry : goal.bisect-preserved-then-block-entry
@@ -22,7 +22,7 @@ returns-then-block-entry-2-clause-extent c =
     let i = c.bisect.low + (c.bisect.high - c.bisect.low) / 2 in
     let lt : i < length c.args.entries.now = omega (arith, c.bisect-test.true, c.bisect.invariant.within) in
     let d : Extent = record { logical = 0; length = 0; place = 0 } in
-    sym (extent_at-place c.args.block 0 4294967295 i c.args.entries.now d c.requires lt (has-in c.args.block (get_or c.args.entries.now i d) (omega (arith, c.if-block-entry.false)) (omega (arith, c.if-block-entry.false, c.if-block-entry-2.true))) (omega (arith, c.if-block-entry.false)))
+    sym (extent_with-place c.args.block 0 4294967295 i c.args.entries.now d c.requires lt (has-in c.args.block (get_or c.args.entries.now i d) (omega (arith, c.if-block-entry.false)) (omega (arith, c.if-block-entry.false, c.if-block-entry-2.true))) (omega (arith, c.if-block-entry.false)))
 
 pub bisect-preserved : goal.bisect-preserved
 bisect-preserved c =

@@ -1,5 +1,5 @@
 use Rattle.std.proofs.Common.{◌≡◌, ◌-◌, ◌∙◌, arith, sym, ap, subst, length, get_or, []}
-use Rattle.extent_nodes.specs.Places.{extent_at}
+use Rattle.extent_nodes.specs.Places.{extent_with}
 use Rattle.extent_nodes.specs.Normal.{IsRising}
 use Rattle.extent_nodes.proofs.Packs.{node-rising, have-at}
 use Rattle.extent_nodes.proofs.Levels.{none-below, one-below}
@@ -35,7 +35,7 @@ returns-in-Some-clause-extent g c =
     let node = c.index-nodes-entry.result in
     let below = one-below c.args.block 0 0 4294967295 nodes c.in-Some.entry node c.requires.rising c.requires.level.filled (sym c.requires.above ∙ c.in-Some.is) in
     let at : c.in-Some.entry.place - 0 ≡ c.in-Some.entry.place = omega arith in
-    c.find-below.ensures.extent ∙ ap (extent_at c.args.block) (c.index-nodes-entry.is ∙ ap (λ k. get_or nodes k node) (sym at)) ∙ sym below.2
+    c.find-below.ensures.extent ∙ ap (extent_with c.args.block) (c.index-nodes-entry.is ∙ ap (λ k. get_or nodes k node) (sym at)) ∙ sym below.2
 
 pub returns-in-Some-clause-compared : goal.returns-in-Some-clause-compared
 returns-in-Some-clause-compared g c =

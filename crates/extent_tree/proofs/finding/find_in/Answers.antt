@@ -1,5 +1,5 @@
 use Rattle.std.proofs.Common.{◌≡◌, ◌≤◌, ◌+◌, ◌-◌, ◌*◌, ◌^◌, suc, ◌∙◌, arith, sym, ap, subst, length}
-use Rattle.extent_nodes.specs.Places.{extent_at}
+use Rattle.extent_nodes.specs.Places.{extent_with}
 use Rattle.extent_nodes.specs.Normal.{IsRising}
 use Rattle.extent_nodes.specs.Nodes.{flat, summaries}
 use Rattle.extent_tree.specs.Tree.{IsLevel, level_at}
@@ -26,7 +26,7 @@ down-init g c =
     let top : length inner ≡ length inner - 0 = omega arith in
     let one : g.row.N * 1 ≡ g.row.N = omega arith in
     record {
-      extent = c.find_in_root-found.ensures.extent ∙ ap (λ l. extent_at c.args.block (flat l)) (c.level_nodes.ensures ∙ ap (λ k. level_at k nodes inner) top);
+      extent = c.find_in_root-found.ensures.extent ∙ ap (λ l. extent_with c.args.block (flat l)) (c.level_nodes.ensures ∙ ap (λ k. level_at k nodes inner) top);
       compared = omega (arith, c.find_in_root-found.ensures.compared, ap (λ l. length (flat l)) c.level_nodes.ensures, few, one);
       some = λ some. c.find_in_root-found.ensures.some (omega (arith, some-above g.row.N (length inner) nodes inner c.requires.tree (omega arith) some, ap (λ l. length (flat l)) c.level_nodes.ensures));
     }
@@ -51,8 +51,8 @@ find_below-found-requires-clause-above g c =
     let inner = c.args.inner.now in
     let k = length inner - 1 - c.down.done in
     let up : length inner - c.down.done ≡ suc k = omega (arith, c.down-test.true) in
-    c.down.invariant.extent ∙ ap (λ n. extent_at c.args.block (flat (level_at n nodes inner))) up
-    ∙ ap (extent_at c.args.block) (covers-at g.row.N k nodes inner c.requires.tree (omega (arith, c.down-test.true)) ∙ ap (summaries 0) (sym c.level_nodes-below.ensures))
+    c.down.invariant.extent ∙ ap (λ n. extent_with c.args.block (flat (level_at n nodes inner))) up
+    ∙ ap (extent_with c.args.block) (covers-at g.row.N k nodes inner c.requires.tree (omega (arith, c.down-test.true)) ∙ ap (summaries 0) (sym c.level_nodes-below.ensures))
 
 pub find_below-found-requires-clause-few : goal.find_below-found-requires-clause-few
 find_below-found-requires-clause-few g c =

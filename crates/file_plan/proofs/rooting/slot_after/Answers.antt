@@ -3,7 +3,7 @@ use Rattle.graph_change.specs.View.{change_of}
 use Rattle.tier_device.specs.declared.media.Tier.TheVariants.{Fast, Block, Slow}
 use Rattle.area_image.specs.Store.{root_of}
 use Rattle.area_move.specs.Lists.{root_for}
-use Rattle.tree_blocks.specs.Inode.{Blocks}
+use Rattle.tree_blocks.specs.Inode.{LogicalBlocks}
 use Rattle.file_plan.specs.Roots.{lacking}
 use Rattle.file_plan.proofs.Roots.{slot_fits, file_same}
 use Rattle.file_plan.proofs.rooting.slot_after.Goals as goal
@@ -13,7 +13,7 @@ returns-clause-fits c g was bounded fit =
     let slot = c.args.slot.now in
     let x = c.args.lists.now in
     let spare = c.args.spare.now in
-    let blocks : Blocks = λ k. [] in
+    let blocks : LogicalBlocks = λ k. [] in
     let one = c.lacking-second.ensures.is ∙ ap (λ (r : ℕ). lacking r x.fast) c.root_of-fast.ensures in
     let two = c.lacking.ensures.is ∙ ap (λ (r : ℕ). lacking r x.block) c.root_of-block.ensures in
     file_same g _ _ _ _ c.args.touch _ _ _ _ _ _ (c.names_after.ensures blocks) (c.size_after.ensures blocks)

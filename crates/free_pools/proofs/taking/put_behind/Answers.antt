@@ -3,7 +3,7 @@ use Rattle.std.specs.Prelude.{is_ok, vec_len, vec_capacity}
 use Rattle.std.proofs.lemmas.List.{take_all}
 use Rattle.std.proofs.lemmas.Bool.{cond-true}
 use Rattle.block_alloc.specs.declared.runs.Run.{Run}
-use Rattle.block_alloc.specs.Runs.{blocks_of, IsNormal}
+use Rattle.block_alloc.specs.Runs.{blocks_of, AreNormalRuns}
 use Rattle.free_pools.proofs.Seams.{joined, joined_items, apart_normal, joined_blocks, joined_normal}
 use Rattle.free_pools.proofs.taking.put_behind.Goals as goal
 
@@ -15,7 +15,7 @@ returns-then-not-go_on-clause-normal c low end is more_is =
     let apart : 0 < length runs → 0 < length more → (get_or runs (length runs - 1) none).first + (get_or runs (length runs - 1) none).count ≡ (get_or more 0 none).first → ⊥ =
     subst (λ (l : List Run). 0 < length l → 0 < length more → (get_or l (length l - 1) none).first + (get_or l (length l - 1) none).count ≡ (get_or more 0 none).first → ⊥) c.deref.ensures.value (c.go_on.ensures.apart none c.if-not-go_on.true) in
     let items = c.extend_from_slice.ensures.items ∙ cond-true (is_ok c.extend_from_slice.result) (runs ++ more) runs (c.extend_from_slice.ensures.succeeds c.requires.room) in
-    subst (IsNormal low end) (sym items) (apart_normal runs more none low end 0 4294967295 apart is more_is c.requires.rising)
+    subst (AreNormalRuns low end) (sym items) (apart_normal runs more none low end 0 4294967295 apart is more_is c.requires.rising)
 
 module _ (c : goal.After-extend_from_slice-2) where
   abbrev runs : List Run
@@ -55,8 +55,8 @@ module _ (c : goal.After-extend_from_slice-2) where
   pub one_list : blocks_of c.extend_from_slice-2.new.self.items ≡ blocks_of runs ++ blocks_of more
   one_list = ap blocks_of items ∙ joined_blocks runs more last some others touch
 
-  pub one_normal : (low end : ℕ) → IsNormal low end runs → IsNormal low end more → IsNormal low end c.extend_from_slice-2.new.self.items
-  one_normal low end is more_is = subst (IsNormal low end) (sym items) (joined_normal runs more last some others low end touch is more_is)
+  pub one_normal : (low end : ℕ) → AreNormalRuns low end runs → AreNormalRuns low end more → AreNormalRuns low end c.extend_from_slice-2.new.self.items
+  one_normal low end is more_is = subst (AreNormalRuns low end) (sym items) (joined_normal runs more last some others low end touch is more_is)
 
 pub returns-clause-blocks : goal.returns-clause-blocks
 returns-clause-blocks c = one_list c

@@ -1,7 +1,7 @@
 use Rattle.std.proofs.Common.{◌≡◌, ◌++◌, ◌∙◌, arith, ap, sym, subst, length, List}
 use Rattle.std.proofs.lemmas.List.{length-take-le}
 use Rattle.block_alloc.specs.declared.runs.Run.{Run}
-use Rattle.block_alloc.specs.Runs.{blocks_of, IsNormal, Rising}
+use Rattle.block_alloc.specs.Runs.{blocks_of, AreNormalRuns, Rising}
 use Rattle.free_pools.proofs.Seams.{length-runs, old_wide, more_wide, both_rise}
 use Rattle.free_pools.proofs.taking.take_more.Goals as goal
 
@@ -16,12 +16,12 @@ pub put_behind-requires-clause-normal : goal.put_behind-requires-clause-normal
 put_behind-requires-clause-normal c =
     let old = c.args.runs.now.items in
     let same : c.in-Ok.all.items ≡ old = c.in-Ok.ensures.items ∙ c.deref.ensures.value in
-    subst (IsNormal 0 4294967295) (sym same) (old_wide c.args.pool.now c.make_room.new.pool c.take.new.self old c.in_ok-more.more.items c.args.count c.requires.can c.make_room.ensures.same c.in_ok-more.ensures.apart c.in_ok-more.ensures.taken c.requires.fits)
+    subst (AreNormalRuns 0 4294967295) (sym same) (old_wide c.args.pool.now c.make_room.new.pool c.take.new.self old c.in_ok-more.more.items c.args.count c.requires.can c.make_room.ensures.same c.in_ok-more.ensures.apart c.in_ok-more.ensures.taken c.requires.fits)
 
 pub put_behind-requires-clause-more : goal.put_behind-requires-clause-more
 put_behind-requires-clause-more c =
     let old = c.args.runs.now.items in
-    subst (IsNormal 0 4294967295) (sym c.deref-2.ensures.value) (more_wide c.args.pool.now c.make_room.new.pool c.take.new.self old c.in_ok-more.more.items c.args.count c.requires.can c.make_room.ensures.same c.in_ok-more.ensures.apart c.in_ok-more.ensures.taken c.requires.fits)
+    subst (AreNormalRuns 0 4294967295) (sym c.deref-2.ensures.value) (more_wide c.args.pool.now c.make_room.new.pool c.take.new.self old c.in_ok-more.more.items c.args.count c.requires.can c.make_room.ensures.same c.in_ok-more.ensures.apart c.in_ok-more.ensures.taken c.requires.fits)
 
 pub put_behind-requires-clause-rising : goal.put_behind-requires-clause-rising
 put_behind-requires-clause-rising c =

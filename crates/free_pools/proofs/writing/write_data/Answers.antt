@@ -2,7 +2,7 @@ use Rattle.std.proofs.Common.{List, sym, subst}
 use Rattle.tier_device.specs.declared.media.Tier.TheVariants.{Fast, Block, Slow}
 use Rattle.layout.specs.Places.{data_first, tier_blocks}
 use Rattle.block_alloc.specs.declared.runs.Run.{Run}
-use Rattle.block_alloc.specs.Runs.{IsNormal}
+use Rattle.block_alloc.specs.Runs.{AreNormalRuns}
 use Rattle.area_image.specs.Store.{store_of}
 use Rattle.free_pools.specs.Writing.{AreFreeIn, StaysLoose}
 use Rattle.free_pools.proofs.Courses.{loose_start, loose_seen, loose_after}
@@ -10,13 +10,13 @@ use Rattle.free_pools.proofs.writing.write_data.Given.{Over}
 use Rattle.free_pools.proofs.writing.write_data.Goals as goal
 
 pub write_and_fence-requires-clause-fast : goal.write_and_fence-requires-clause-fast
-write_and_fence-requires-clause-fast g c = let h = c.args.journal.now.geometry in subst (λ (runs : List Run). IsNormal (data_first h Fast) (tier_blocks h Fast) runs) (sym c.deref.ensures.value) (c.requires.apart Fast)
+write_and_fence-requires-clause-fast g c = let h = c.args.journal.now.geometry in subst (λ (runs : List Run). AreNormalRuns (data_first h Fast) (tier_blocks h Fast) runs) (sym c.deref.ensures.value) (c.requires.apart Fast)
 
 pub write_and_fence-requires-clause-block : goal.write_and_fence-requires-clause-block
-write_and_fence-requires-clause-block g c = let h = c.args.journal.now.geometry in subst (λ (runs : List Run). IsNormal (data_first h Block) (tier_blocks h Block) runs) (sym c.deref-2.ensures.value) (c.requires.apart Block)
+write_and_fence-requires-clause-block g c = let h = c.args.journal.now.geometry in subst (λ (runs : List Run). AreNormalRuns (data_first h Block) (tier_blocks h Block) runs) (sym c.deref-2.ensures.value) (c.requires.apart Block)
 
 pub write_and_fence-requires-clause-slow : goal.write_and_fence-requires-clause-slow
-write_and_fence-requires-clause-slow g c = let h = c.args.journal.now.geometry in subst (λ (runs : List Run). IsNormal (data_first h Slow) (tier_blocks h Slow) runs) (sym c.deref-3.ensures.value) (c.requires.apart Slow)
+write_and_fence-requires-clause-slow g c = let h = c.args.journal.now.geometry in subst (λ (runs : List Run). AreNormalRuns (data_first h Slow) (tier_blocks h Slow) runs) (sym c.deref-3.ensures.value) (c.requires.apart Slow)
 
 pub returns-then-has_failed-clause-any_moment : goal.returns-then-has_failed-clause-any_moment
 returns-then-has_failed-clause-any_moment g c =

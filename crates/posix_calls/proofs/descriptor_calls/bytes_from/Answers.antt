@@ -6,4 +6,4 @@ pub returns-then-count-eq0-clause-tells : goal.returns-then-count-eq0-clause-tel
 returns-then-count-eq0-clause-tells g c = tells_is (bytes_none c.args.inode c.args.at c.args.count c.if-count-eq0.true) (gives_as (sym (c.from_vec.ensures ∙ c.new.ensures.items)))
 
 pub returns-clause-tells : goal.returns-clause-tells
-returns-clause-tells g c = tells_is (bytes_some c.args.inode c.args.at c.args.count c.if-count-eq0.false) (range_told c.args.inode c.args.at c.args.count c.known.result c.in_ok-answer.ensures.bytes c.blocks_of.ensures c.known.ensures.known c.known.ensures.missing)
+returns-clause-tells g c = tells_is (bytes_some c.args.inode c.args.at c.args.count c.if-count-eq0.false) (range_told c.args.inode c.args.at c.args.count c.known.result c.in_ok-answer.ensures.bytes c.blocks_missing.ensures c.known.ensures.known c.known.ensures.missing)
