@@ -28,6 +28,7 @@ pub mod Passing
 pub mod Bounds
 pub mod Chain
 mod Ranges
+mod Silent
 pub mod Walks
 pub mod Targets
 pub mod Wants

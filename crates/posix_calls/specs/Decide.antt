@@ -275,3 +275,8 @@ decide own (call.Unlink path) = unlink path
 decide own (call.Rename old new) = rename old new
 decide own (call.List path) = list_path path
 decide own (call.Stat path) = stat path
+
+-- whether a call is `pread`
+abbrev pub is_pread : Call → Bool
+is_pread (call.Pread number at count) = true
+is_pread _ = false

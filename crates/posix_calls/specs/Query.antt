@@ -33,6 +33,14 @@ unfoldable pub ◌>>=◌ : {A B : Type 0} → Query A → (A → Query B) → Qu
 (Look i next) >>= f = Look i (λ o. next o >>= f)
 (Range i at count next) >>= f = Range i at count (λ bytes. next bytes >>= f)
 
+-- whatever is answered, none of the questions is for bytes
+abbrev pub AsksNoBytes : {A : Type 0} → Query A → Type 0
+AsksNoBytes (Gives x) = Unit {0}
+AsksNoBytes (Refuses e) = Unit {0}
+AsksNoBytes (IsDir i next) = (o : Option Bool) → AsksNoBytes (next o)
+AsksNoBytes (Look i next) = (o : Option Seen) → AsksNoBytes (next o)
+AsksNoBytes (Range i at count next) = ⊥
+
 -- ---- the whole answers every question
 
 -- the answer to each question

@@ -22,7 +22,7 @@ use std::alloc::Global;
 ///
 /// The tree may be known in part. What the call needs is asked for in the order of its errors, and the first thing that has to be
 /// known beside is answered by `Missing`; once it is known, the same call may be decided again. Bytes of a file are asked for by
-/// `pread` alone, and only those that it gives. Where an answer comes, it is that
+/// `pread` alone (`bytes_are_for_pread_alone`), and only those that it gives. Where an answer comes, it is that
 /// of every tree of which this is a part. Memory is taken for the names of the paths and for what the operation carries; where it is
 /// taken `Memory` may stand in place of any answer.
 pub fn decide<T: TreeAnswers>(

@@ -1,12 +1,14 @@
 //! What holds of every step of the file tree, and of every part of it.
 
-ghost use Rattle.std.specs.Prelude.{◌≡◌, ◌≢◌, ◌∷◌, ◌++◌, ℕ, List, Result, Ok, Some, IsSome, false};
+ghost use Rattle.std.specs.Prelude.{◌≡◌, ◌≢◌, ◌∷◌, ◌++◌, ℕ, List, Result, Ok, Some, IsSome, true, false};
 ghost use Rattle.std.specs.FinMap.{get};
 ghost use Rattle.posix_calls.specs.Content.{Entries};
-ghost use Rattle.posix_calls.specs.Tree.{Tree, Dir, State, entries_of, opening};
-ghost use Rattle.posix_calls.specs.Query.{Query, View, Part, Known, Unknown, IsPart, IsLeft, run, run_part, view_of};
+ghost use Rattle.posix_calls.specs.Tree.{Tree, Dir, Own, State, entries_of, opening};
+ghost use Rattle.posix_calls.specs.Query.{Query, View, Part, Known, Unknown, IsPart, IsLeft, AsksNoBytes, run, run_part, view_of};
+ghost use Rattle.posix_calls.specs.Decide.{decide, is_pread};
 ghost use Rattle.posix_calls.specs.Walk.{inode_at};
 ghost use Rattle.posix_calls.specs.declared.operation.Missing.{Missing};
+ghost use Rattle.posix_calls.specs.declared.operation.Missing.TheVariants.{Blocks};
 ghost use Rattle.posix_calls.specs.declared.operation.Operation.{Operation};
 ghost use Rattle.posix_calls.specs.Operations.{makes, state_after, answer, Follows, Step};
 ghost use Rattle.posix_calls.specs.Run.{Turn, Run, settled};
@@ -41,6 +43,13 @@ pub fn runs_split_anywhere()
 pub fn part_answers_as_the_whole()
     ensures known { (p : Part) (v : View) → IsPart p v → (q : Query Operation) (r : Result Operation Errno) → run_part p q ≡ Known r → run v q ≡ r }
     ensures missing { (p : Part) (q : Query Operation) (what : Missing) → run_part p q ≡ Unknown what → IsLeft p what q }
+{}
+
+/// Bytes of a file are asked for by `pread` alone: no question of any other call is for bytes, whatever was answered before, and
+/// so what is told to be missing of it, by whatever is known, is never blocks.
+pub fn bytes_are_for_pread_alone()
+    ensures asked { (own : Own) (call : Call) → is_pread call ≡ false → AsksNoBytes (decide own call) }
+    ensures missing { (p : Part) (own : Own) (call : Call) (i first many : ℕ) → run_part p (decide own call) ≡ Unknown (Blocks i first many) → is_pread call ≡ true }
 {}
 
 /// The walk of a call leads to the inode that its path names, or is refused by the first error on the way.

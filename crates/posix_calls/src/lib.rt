@@ -37,8 +37,8 @@ pub use decision::decide;
 pub use descriptor::Descriptor;
 pub use errno::Errno;
 pub use laws::{
-    failed_step_changes_nothing, part_answers_as_the_whole, runs_split_anywhere,
-    states_stay_well_formed, states_stay_within_limits, step_is_determined,
+    bytes_are_for_pread_alone, failed_step_changes_nothing, part_answers_as_the_whole,
+    runs_split_anywhere, states_stay_well_formed, states_stay_within_limits, step_is_determined,
     walk_leads_where_the_path_does, well_formed_state_is_a_tree,
 };
 pub use limits::{
