@@ -10,7 +10,7 @@ ghost use Rattle.long_media.specs.Mirrored.{mirrored_failed};
 
 use crate::mirrored::Mirrored;
 use std::fs::File;
-use tier_device::{Media, MediaError, Tier, Tiers};
+use tier_device::{Media, MediaError, Tier, Tiers, lies_within};
 
 /// A medium whose tiers lie in a file, the fast one first. Reads come from a mirror in memory; a write goes to the mirror and to
 /// the file, and a fence ends with the file's data synced, where anything of the tier was written since the last sync.
@@ -98,7 +98,7 @@ impl Media for FileMedia {
         ensures quiet { given_to_system self.new ≡ given_to_system self.old }
     {
         let size = self.bytes(tier).len();
-        if size < at || size - at < out.len() {
+        if !lies_within(at, out.len(), size) {
             return Err(MediaError::OutOfRange);
         }
         if self.inner.is_failed() {
@@ -122,7 +122,7 @@ impl Media for FileMedia {
         ensures pending { (t : Tier) → t ≢ tier → is_pending self.new t ≡ is_pending self.old t }
     {
         let size = self.bytes(tier).len();
-        if size < at || size - at < bytes.len() {
+        if !lies_within(at, bytes.len(), size) {
             return Err(MediaError::OutOfRange);
         }
         if self.inner.is_failed() {

@@ -10,7 +10,7 @@ ghost use Rattle.tier_device.specs.Rows.{row};
 ghost use Rattle.long_media.specs.Left.{shown_now};
 
 use crate::past::{Note, Past};
-use tier_device::{Media, MediaError, Tier, Tiers};
+use tier_device::{Media, MediaError, Tier, Tiers, lies_within};
 
 /// A medium in memory. It keeps the bytes of its tiers, and nothing of a call once that has returned: its past, of which the
 /// clauses speak, stands in the proof alone. It never fails.
@@ -78,7 +78,7 @@ impl Media for RamMedia {
         ensures same { self.new ≡ self.old }
     {
         let bytes = self.bytes(tier);
-        if bytes.len() < at || bytes.len() - at < out.len() {
+        if !lies_within(at, out.len(), bytes.len()) {
             return Err(MediaError::OutOfRange);
         }
         out.copy_from_slice(&bytes[at..at + out.len()]);
@@ -98,7 +98,7 @@ impl Media for RamMedia {
         ensures history { OnOk result (ram_history self.new ≡ and_then (ram_history self.old) (Write tier at bytes.now)) }
     {
         let size = self.bytes(tier).len();
-        if size < at || size - at < bytes.len() {
+        if !lies_within(at, bytes.len(), size) {
             return Err(MediaError::OutOfRange);
         }
         self.tiers.overwrite(tier, at, bytes);

@@ -7,7 +7,7 @@ ghost use Rattle.tier_device.specs.Media.{overwritten, Puts, Keeps, Tears, Tears
 
 use crate::count::Count;
 use crate::trip::{Trip, Turn};
-use crate::{Media, MediaError, Tier};
+use crate::{Media, MediaError, Tier, lies_within};
 
 /// A medium of which one chosen write or fence fails, once for each arming. Of the write that fails all bytes are written,
 /// though it says otherwise; a fence that fails keeps nothing. Writes and fences in range are counted, by a number of its own
@@ -114,7 +114,7 @@ impl<M: Media> Media for FaultMedia<M> {
         ensures sound { IsErrOf result DeviceFault → Rose (M.faults (sound_of self.old)) (M.faults (sound_of self.new)) }
     {
         let size = self.inner.size(tier);
-        if size < at || size - at < out.len() {
+        if !lies_within(at, out.len(), size) {
             return Err(MediaError::OutOfRange);
         }
         match self.inner.read(tier, at, out) {
@@ -141,7 +141,7 @@ impl<M: Media> Media for FaultMedia<M> {
         ensures sound { fault_turn self.new ≢ IsTheOne → IsErrOf result DeviceFault → Rose (M.faults (sound_of self.old)) (M.faults (sound_of self.new)) }
     {
         let size = self.inner.size(tier);
-        if size < at || size - at < bytes.len() {
+        if !lies_within(at, bytes.len(), size) {
             return Err(MediaError::OutOfRange);
         }
         let turn = self.count.next(false);

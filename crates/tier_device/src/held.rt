@@ -6,8 +6,8 @@ ghost use Rattle.tier_device.specs.Record.{shown, replayed};
 ghost use Rattle.tier_device.specs.Fill.{left_bytes};
 ghost use Rattle.tier_device.specs.Held.{spoiled, spoilt, spoilt_all, held, NoFenceIn};
 
-use crate::Tier;
 use crate::fill::Fill;
+use crate::media::{Tier, lies_within};
 use crate::record::Entry;
 use crate::tiers::overwrite;
 use std::alloc::{AllocError, Global};
@@ -78,7 +78,7 @@ fn show(bytes: &mut Vec<u8>, tier: Tier, entry: &Entry, written: &[u8]) -> usize
     match *entry {
         Entry::Fence { .. } => 0,
         Entry::Write { tier: to, at, len } => {
-            if to == tier && fits(bytes.len(), at, len) {
+            if to == tier && lies_within(at, len, bytes.len()) {
                 overwrite(bytes, at, &written[..len]);
             }
             len
@@ -105,7 +105,7 @@ fn spoil(bytes: &mut Vec<u8>, tier: Tier, fill: Fill, entry: &Entry, written: &[
     match *entry {
         Entry::Fence { .. } => 0,
         Entry::Write { tier: to, at, len } => {
-            if to == tier && fits(bytes.len(), at, len) {
+            if to == tier && lies_within(at, len, bytes.len()) {
                 spoil_range(bytes, tier, fill, at, &written[..len]);
             }
             len
@@ -128,10 +128,4 @@ fn fill_range(place: &mut [u8], tier: Tier, fill: Fill, at: usize, new: &[u8])
     'bytes: for i in 0..new.len() {
         place[i] = fill.choice(tier, at + i).choose(place[i], new[i]);
     }
-}
-
-fn fits(size: usize, at: usize, len: usize) -> bool
-    ensures { IsTrue result ↔ (at + len ≤ size) }
-{
-    at <= size && len <= size - at
 }

@@ -20,7 +20,7 @@ mod trip;
 
 pub use fault::FaultMedia;
 pub use fill::{ByteFill, Fill};
-pub use media::{Media, MediaError, Tier, rose_holds_on};
+pub use media::{Media, MediaError, Tier, lies_within, rose_holds_on};
 pub use memory::MemMedia;
 pub use stop::StopMedia;
 pub use tiers::Tiers;

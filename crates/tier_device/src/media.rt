@@ -1,5 +1,5 @@
 // The device model: three rows of bytes, what a read gives of them, and what a stop at each moment may have left.
-ghost use Rattle.std.specs.Prelude.{◌≡◌, ◌≢◌, ◌≤◌, ◌<◌, ◌^◌, ◌+◌, ◌++◌, List, ℕ, length, take, drop, IfOk, OnOk, OnErr, IsErrOf};
+ghost use Rattle.std.specs.Prelude.{◌≡◌, ◌≢◌, ◌≤◌, ◌<◌, ◌^◌, ◌+◌, ◌++◌, List, ℕ, length, take, drop, IfOk, OnOk, OnErr, IsErrOf, IsTrue, ◌↔◌};
 ghost use Rattle.tier_device.specs.declared.media.Tier.{Tier};
 ghost use Rattle.tier_device.specs.declared.media.MediaError.TheVariants.{OutOfRange};
 ghost use Rattle.tier_device.specs.Media.{overwritten, Puts, Keeps, Tears, TearsAll, Settles, HasCause, InRange, Rose};
@@ -85,6 +85,13 @@ pub trait Media {
 
     /// A tier keeps its length.
     ghost sized: { (media : Self) (m : ℕ) (t : Tier) (c : List ℕ) → m ≤ moment media → left media m t c → length c ≡ length (seen media t) };
+}
+
+/// Whether so many bytes from an offset on lie within a tier of this size.
+pub fn lies_within(at: usize, count: usize, size: usize) -> bool
+    ensures { IsTrue result ↔ (at + count ≤ size) }
+{
+    at <= size && count <= size - at
 }
 
 /// That the count of failed calls rose holds on, over later calls and earlier ones.

@@ -11,7 +11,7 @@ use crate::fill::Fill;
 use crate::held::held_after;
 use crate::record::CallLog;
 use crate::tiers::Tiers;
-use crate::{Media, MediaError, Tier};
+use crate::{Media, MediaError, Tier, lies_within};
 use std::alloc::{AllocError, AllocFailed, Global};
 
 /// A medium in memory. It keeps what it held at first and a record of its calls, from which what a stop may leave at each
@@ -136,7 +136,7 @@ impl Media for MemMedia {
         ensures sound { IsErrOf result DeviceFault → ⊥ }
     {
         let bytes = self.bytes(tier);
-        if bytes.len() < at || bytes.len() - at < out.len() {
+        if !lies_within(at, out.len(), bytes.len()) {
             return Err(MediaError::OutOfRange);
         }
         out.copy_from_slice(&bytes[at..at + out.len()]);
@@ -157,7 +157,7 @@ impl Media for MemMedia {
         ensures refused { IsErrOf result DeviceFault → IsRefused self.old self.new }
     {
         let size = self.bytes(tier).len();
-        if size < at || size - at < bytes.len() {
+        if !lies_within(at, bytes.len(), size) {
             return Err(MediaError::OutOfRange);
         }
         match self.calls.push_write(tier, at, bytes) {

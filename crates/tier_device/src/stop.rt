@@ -7,7 +7,7 @@ ghost use Rattle.tier_device.specs.Media.{overwritten, Puts, Keeps, Tears, Tears
 
 use crate::count::Count;
 use crate::trip::{Trip, Turn};
-use crate::{Fill, Media, MediaError, MemMedia, Tier};
+use crate::{Fill, Media, MediaError, MemMedia, Tier, lies_within};
 
 /// A medium in memory that stops within a chosen write or fence, or between two. A stop within a write counts its range as
 /// written; one within a fence leaves the tier unfenced. From then on each call in range is a device fault that changes
@@ -198,7 +198,7 @@ impl Media for StopMedia {
         ensures sound { Runs self.old → IsErrOf result DeviceFault → ⊥ }
     {
         let size = self.inner.size(tier);
-        if size < at || size - at < out.len() {
+        if !lies_within(at, out.len(), size) {
             return Err(MediaError::OutOfRange);
         }
         if self.is_stopped() {
@@ -229,7 +229,7 @@ impl Media for StopMedia {
         ensures sound { Runs self.old → turn self.new ≡ Passes → IsErrOf result DeviceFault → IsRefused (medium_of self.old) (medium_of self.new) }
     {
         let size = self.inner.size(tier);
-        if size < at || size - at < bytes.len() {
+        if !lies_within(at, bytes.len(), size) {
             return Err(MediaError::OutOfRange);
         }
         match self.turn() {

@@ -56,17 +56,6 @@ impl Trip {
         self.word.store(call.min(GONE - 1), SeqCst);
     }
 
-    /// Takes an arming back.
-    pub fn disarm(&self) {
-        self.word.store(0, SeqCst);
-    }
-
-    /// Whether it is armed, and has not run out.
-    pub fn is_armed(&self) -> bool {
-        let left = self.word.load(SeqCst);
-        left != 0 && left != GONE
-    }
-
     // Counts one call. Where it runs out it is over for all that count by it, or may be armed anew.
     pub(crate) fn count(&self, for_good: bool) -> Turn {
         let last = if for_good { GONE } else { 0 };
