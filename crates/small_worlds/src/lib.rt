@@ -1,0 +1,11 @@
+//! Small worlds for tests: media that are made block by block, with a root whose one entry leads to a file, which has blocks on several tiers, and in one of them a hole and
+//! a tail. Crates of tests open them, and ask whether the root is still the one that was made, and whether two media hold the same.
+#![tactic(auto)]
+
+mod comparing;
+mod opening;
+mod world;
+
+pub use comparing::{same_bytes, tells_the_root};
+pub use opening::opened;
+pub use world::{LONG_SIZE, SIZE, World, put};
