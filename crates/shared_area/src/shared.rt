@@ -18,7 +18,8 @@ ghost use Rattle.area_image.specs.Map.{WantsMemory};
 ghost use Rattle.area_image.specs.declared.error.AreaError.TheVariants.{DeviceFault, Memory};
 ghost use Rattle.area_image.specs.Damage.{OnDamage};
 ghost use Rattle.area_move.specs.Moving.{CanMove, IsMoved};
-ghost use Rattle.area_move.specs.declared.error.RelocateError.TheVariants.{NotMapped, NoBlock};
+ghost use Rattle.area_move.specs.Found.{HasFileRun};
+ghost use Rattle.area_move.specs.declared.error.RelocateError.TheVariants.{NotMapped, NoBlock, Memory as NoMemory};
 ghost use Rattle.shared_area.specs.Opening.{SpellsNone, IsMediumDamage, TakesMemory};
 ghost use Rattle.shared_area.specs.Ready.{OpensAs, HasCount, HasFree};
 ghost use Rattle.shared_area.specs.Moving.{HasTooFew, HasEnough, StaysOpen, MovesOrStays};
@@ -185,11 +186,13 @@ impl<M: Media> Shared<M> {
     }
 
     /// Moves a run of a file's logical blocks, `count` of them from block `first` on, to a tier that is slower than those in which they lie. Graph and marks stay: a stop at any
-    /// moment leaves the run where it lay, or all of it moved. The cost is one read for each block of the run, and a few calls besides.
+    /// moment leaves the run where it lay, or all of it moved. The cost is one read for each block of the run, and a few calls besides; of writes and fences there are at most
+    /// one for each block of the run and 13 more.
     ///
     /// `NotMapped` exactly where there is no file at the inode, the run has no block or more than 256, or some block of it lies in no tier that is faster than `to`; `NoBlock`
-    /// exactly where the run could be moved, but fewer data blocks of `to` are free than it has. `Memory` where there was none, before the first write. After each of these
-    /// nothing has changed. `DeviceFault` where a device failed: the area answers nothing else then, until the medium is opened again.
+    /// exactly where the run could be moved, but fewer data blocks of `to` are free than it has. `Memory` where there was none, before the first write, and only where there is
+    /// a file that the run lies within. After each of these nothing has changed. `DeviceFault` where a device failed: the area answers nothing else then, until the medium is
+    /// opened again.
     pub fn relocate(
         &mut self,
         inode: u32,
@@ -206,7 +209,10 @@ impl<M: Media> Shared<M> {
         ensures not_mapped { IsErrOf result NotMapped → CanMove self.old.geometry (store_of (M.seen self.old.media)) inode first count to → ⊥ }
         ensures no_block { IsErrOf result NoBlock → CanMove self.old.geometry (store_of (M.seen self.old.media)) inode first count to × HasTooFew self.old.geometry (store_of (M.seen self.old.media)) to count }
         ensures can { OnOk result (CanMove self.old.geometry (store_of (M.seen self.old.media)) inode first count to × HasEnough self.old.geometry (store_of (M.seen self.old.media)) to count) }
+        ensures memory { IsErrOf result NoMemory → HasFileRun self.old.geometry (store_of (M.seen self.old.media)) inode first count }
         ensures moves { MovesOrStays M.moment M.seen M.left M.faults self.old self.new result }
+        // A write for each run of blocks that is taken, a fence, and the batch; what is read is not counted.
+        ensures at_most { M.moment self.new.media ≤ M.moment self.old.media + count + 13 }
     {
         let alloc = self.alloc;
         let _free = self.pools.free(to);
