@@ -4,6 +4,7 @@ use Rattle.tier_device.specs.declared.media.Tier.{Tier}
 use Rattle.tier_device.specs.declared.media.Tier.TheVariants as tiers
 use Rattle.layout.specs.Places.{Sizes}
 use Rattle.area_image.specs.Store.{Store, slot, touch_of}
+use Rattle.area_move.specs.Moving.{CanMove}
 use Rattle.shared_area.specs.Running.{file_lies, IsFirstRun}
 use Rattle.migrator.specs.declared.picking.TheConstants.{MOST_BLOCKS}
 use Rattle.migrator.specs.declared.picking.FileRun.{FileRun}
@@ -40,6 +41,10 @@ abbrev pub IsPicked : Sizes → Store → Tier → Option FileRun → Type 0
 IsPicked g s tiers.Fast x = x ≡ None
 IsPicked g s tiers.Block x = IsPickedIn g s tiers.Fast x
 IsPicked g s tiers.Slow x = IsPickedIn g s tiers.Block x
+
+-- The run may be moved to that tier.
+abbrev pub MayBeMoved : Sizes → Store → Tier → FileRun → Type 0
+MayBeMoved g s to x = CanMove g s x.inode x.run.first x.run.count to
 
 -- ---- as it is looked for
 

@@ -1,8 +1,9 @@
 // A run is moved down.
-ghost use Rattle.std.specs.Prelude.{◌≡◌, false, OnOk, IsErrOf};
+ghost use Rattle.std.specs.Prelude.{◌≡◌, ◌≤◌, ◌+◌, false, OnOk, IsErrOf};
 ghost use Rattle.area_image.specs.Store.{store_of, graph, marks};
 ghost use Rattle.area_move.specs.Moving.{CanMove, IsMoved};
-ghost use Rattle.area_move.specs.declared.error.RelocateError.TheVariants.{NotMapped, NoBlock};
+ghost use Rattle.area_move.specs.Found.{HasFileRun};
+ghost use Rattle.area_move.specs.declared.error.RelocateError.TheVariants.{NotMapped, NoBlock, Memory};
 ghost use Rattle.shared_area.specs.Moving.{HasTooFew, HasEnough, StaysOpen, MovesOrStays};
 
 use shared_area::{RelocateError, Shared};
@@ -12,8 +13,11 @@ use tier_device::{Media, Tier};
 /// leaves the run where it lay, or all of it moved.
 ///
 /// The refusals, in this order: `NotMapped` exactly where there is no file at the inode, the run has no block or more than 256, or some block of it lies in no tier that is
-/// faster than `to`; `NoBlock` exactly where fewer data blocks of `to` are free than the run has. After these, and after `Memory`, nothing has changed. `DeviceFault` where a
-/// device failed: the area answers nothing else then, until the medium is opened again.
+/// faster than `to`; `NoBlock` exactly where fewer data blocks of `to` are free than the run has. After these nothing has changed, nor after `Memory`, which comes only where
+/// there is a file that the run lies within. `DeviceFault` where a device failed: the area answers nothing else then, until the medium is opened again. So a run that `pick`
+/// answered is refused for want of blocks, of memory or of a device alone.
+///
+/// Of writes and fences there are at most one for each block of the run and 13 more.
 pub fn migrate<M: Media>(
     area: &mut Shared<M>,
     inode: u32,
@@ -28,7 +32,9 @@ pub fn migrate<M: Media>(
     ensures not_mapped { IsErrOf result NotMapped → CanMove area.old.geometry (store_of (M.seen area.old.media)) inode first count to → ⊥ }
     ensures no_block { IsErrOf result NoBlock → CanMove area.old.geometry (store_of (M.seen area.old.media)) inode first count to × HasTooFew area.old.geometry (store_of (M.seen area.old.media)) to count }
     ensures can { OnOk result (CanMove area.old.geometry (store_of (M.seen area.old.media)) inode first count to × HasEnough area.old.geometry (store_of (M.seen area.old.media)) to count) }
+    ensures memory { IsErrOf result Memory → HasFileRun area.old.geometry (store_of (M.seen area.old.media)) inode first count }
     ensures moves { MovesOrStays M.moment M.seen M.left M.faults area.old area.new result }
+    ensures at_most { M.moment area.new.media ≤ M.moment area.old.media + count + 13 }
 {
     area.relocate(inode, first, count, to)
 }

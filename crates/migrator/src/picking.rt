@@ -7,7 +7,7 @@ ghost use Rattle.area_image.specs.Looks.{Looks};
 ghost use Rattle.area_image.specs.Map.{WantsMemory};
 ghost use Rattle.area_image.specs.declared.error.AreaError.TheVariants.{DeviceFault, Memory};
 ghost use Rattle.shared_area.specs.Parts.{IsNoDamage};
-ghost use Rattle.migrator.specs.Picking.{IsCandidate, IsBestBelow, IsFirstOf, IsPicked, IsPickedIn, pick_of};
+ghost use Rattle.migrator.specs.Picking.{IsCandidate, IsBestBelow, IsFirstOf, IsPicked, IsPickedIn, MayBeMoved, pick_of};
 
 use block_alloc::Run;
 use posix_calls::MAX_INODE;
@@ -25,10 +25,11 @@ pub struct FileRun {
 }
 
 /// What is to be moved to a tier next: of the files that have a block in the tier next above it the one with the least touch number, of several the one with the least inode,
-/// with its first run there, of 256 blocks at most. `None` where no file has a block there, and for the fast tier. It changes nothing, and reads the slot and the extents of
-/// each inode. `Memory` where there was none for an extent block.
+/// with its first run there, of 256 blocks at most: a run that may be moved to the tier. `None` where no file has a block there, and for the fast tier. It changes nothing, and
+/// reads the slot and the extents of each inode. `Memory` where there was none for an extent block.
 pub fn pick<M: Media>(area: &mut Shared<M>, to: Tier) -> Result<Option<FileRun>, AreaError>
     ensures picked { IfOk result (IsPicked area.old.geometry (store_of (M.seen area.old.media)) to) }
+    ensures may_be_moved { IfOk result (λ x. IfSome x (MayBeMoved area.old.geometry (store_of (M.seen area.old.media)) to)) }
     ensures only { IfErr result IsNoDamage }
     ensures memory { IfErr result (λ e. e ≡ Memory → (i : ℕ) × WantsMemory area.old.geometry (store_of (M.seen area.old.media)) i) }
     ensures looks { Looks M.moment M.seen M.left M.faults area.old area.new result }
