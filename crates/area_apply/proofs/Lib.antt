@@ -1,25 +1,3 @@
-pub mod Pieces
-pub mod Found
-pub mod Before
-pub mod Added
-pub mod Summed
-pub mod Firsts
-mod NoNode
-mod NoDamage
-mod Giving
-mod PlannedPart
-mod SpareNodes
-mod FewEntries
-mod FewBlocks
-mod NextFits
-pub mod Blocked
-pub mod FileUses
-pub mod FileLost
-pub mod FilePlaced
-pub mod FileWhole
-pub mod StartsFile
-pub mod Sparing
-pub mod NextNodes
 pub mod Ending
 pub mod Pooled
 pub mod MadeStore

@@ -23,8 +23,8 @@ use Rattle.free_pools.specs.Taking.{runs_of, taken_data, WasTaken, CanGive, Were
 use Rattle.area_move.specs.Placed.{EndsFit}
 use Rattle.file_plan.specs.Planned.{pair_of, pairs_of}
 use Rattle.area_commit.specs.Settled.{IsSettled}
-use Rattle.area_apply.specs.Adding.{HasTaken}
-use Rattle.area_apply.proofs.Sparing.{normal_ends}
+use Rattle.change_plan.specs.Adding.{HasTaken}
+use Rattle.change_plan.proofs.Sparing.{normal_ends}
 
 -- ---- the same free blocks
 

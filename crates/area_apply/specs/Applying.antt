@@ -17,9 +17,9 @@ use Rattle.area_image.specs.Reads.{Loose}
 use Rattle.area_image.specs.Spelled.{IsOpenable}
 use Rattle.free_pools.specs.Value.{PoolsView}
 use Rattle.area_commit.specs.Settled.{IsSettled, StaysStill}
-use Rattle.area_apply.specs.Next.{HasFewEntries}
-use Rattle.area_apply.specs.Part.{IsTouchedBy}
-use Rattle.area_apply.specs.Wanted.{images_for}
+use Rattle.change_plan.specs.Next.{HasFewEntries}
+use Rattle.change_plan.specs.Part.{IsTouchedBy}
+use Rattle.change_plan.specs.Wanted.{images_for}
 use Rattle.area_apply.specs.declared.error.ApplyError.{ApplyError}
 use Rattle.area_apply.specs.declared.error.ApplyError.TheVariants.{DeviceFault}
 

@@ -1,14 +1,3 @@
-pub mod Part
-pub mod Parts
-pub mod Adding
-pub mod First
-pub mod Directory
-pub mod Changed
-pub mod Gone
-pub mod File
-pub mod Started
-pub mod Next
-pub mod Wanted
 pub mod Errors
 pub mod Applying
 pub mod Costs

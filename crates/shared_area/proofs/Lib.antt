@@ -7,3 +7,4 @@ pub mod Counts
 pub mod Entries
 pub mod Wants
 pub mod Moved
+mod Applied

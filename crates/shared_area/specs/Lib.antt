@@ -6,3 +6,4 @@ pub mod Naming
 pub mod Running
 pub mod Moving
 pub mod Asking
+pub mod Applying

@@ -3,6 +3,7 @@
 //! Contracts speak of the medium alone, through `store_of`, `graph` and `marks` of `area_image`.
 #![tactic(auto)]
 
+mod applying;
 mod asking;
 mod finding;
 mod naming;
@@ -13,6 +14,7 @@ mod running;
 mod shared;
 mod touching;
 
+pub use area_apply::ApplyError;
 pub use area_image::AreaError;
 pub use area_move::RelocateError;
 pub use shared::Shared;

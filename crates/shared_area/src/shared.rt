@@ -1,4 +1,5 @@
-ghost use Rattle.std.specs.Prelude.{◌≡◌, ◌≢◌, ◌≤◌, ◌<◌, ◌+◌, ◌-◌, ℕ, List, min, length, false, Some, OnOk, OnErr, IfOk, IfErr, IsErrOf};
+ghost use Rattle.std.specs.Prelude.{◌≡◌, ◌≢◌, ◌≤◌, ◌<◌, ◌+◌, ◌-◌, ℕ, List, min, length, true, false, Some, OnOk, OnErr, IfOk, IfErr, IsErrOf};
+ghost use Rattle.std.specs.FinMap as fin;
 ghost use Rattle.tier_device.specs.declared.media.Tier.{Tier};
 ghost use Rattle.tier_device.specs.declared.media.Tier.TheVariants.{Fast};
 ghost use Rattle.tier_device.specs.Media.{AtRest, Left, Rose};
@@ -7,8 +8,13 @@ ghost use Rattle.batch_journal.specs.Course.{Since, Unmoved};
 ghost use Rattle.batch_journal.specs.Damage.{AwaitsReplay};
 ghost use Rattle.batch_journal.specs.Volume.{IsVolume, SameJournal};
 ghost use Rattle.file_graph.specs.Units.{charge};
+ghost use Rattle.graph_change.specs.Bounds.{AreBounded};
+ghost use Rattle.graph_change.specs.Change.{changed};
+ghost use Rattle.graph_change.specs.Tidy.{AreTidyChanges};
+ghost use Rattle.graph_change.specs.View.{changes_of};
 ghost use Rattle.call_effects.specs.NodeView.{view_at};
-ghost use Rattle.layout.specs.declared.places.TheConstants.{FIRST_NODE_BLOCK};
+ghost use Rattle.layout.specs.declared.places.TheConstants.{FIRST_NODE_BLOCK, SPARE_BLOCKS};
+ghost use Rattle.layout.specs.Marks.{fits_marks};
 ghost use Rattle.layout.specs.Places.{node_end};
 ghost use Rattle.area_image.specs.Store.{store_of, graph, slot, touch_of, marks as marks_of};
 ghost use Rattle.area_image.specs.Reads.{Free, Loose};
@@ -20,25 +26,33 @@ ghost use Rattle.area_image.specs.Damage.{OnDamage};
 ghost use Rattle.area_move.specs.Moving.{CanMove, IsMoved};
 ghost use Rattle.area_move.specs.Found.{HasFileRun};
 ghost use Rattle.area_move.specs.declared.error.RelocateError.TheVariants.{NotMapped, NoBlock, Memory as NoMemory};
+ghost use Rattle.area_apply.specs.Applying.{IsAppliedStore};
+ghost use Rattle.change_plan.specs.Next.{HasFewEntries};
+ghost use Rattle.change_plan.specs.Wanted.{images_for, AreWritten};
+ghost use Rattle.area_apply.specs.declared.error.ApplyError.TheVariants as errors;
 ghost use Rattle.shared_area.specs.Opening.{SpellsNone, IsMediumDamage, TakesMemory};
 ghost use Rattle.shared_area.specs.Ready.{OpensAs, HasCount, HasFree};
+ghost use Rattle.shared_area.specs.Applying.{HasTooFewData, StaysOrChanges, AppliesOrStays};
 ghost use Rattle.shared_area.specs.Moving.{HasTooFew, HasEnough, StaysOpen, MovesOrStays};
 ghost use Rattle.shared_area.specs.Reading.{bytes_of_inode, IsReadFrom};
 ghost use Rattle.shared_area.specs.Parts.{IsNoDamage, IsTierOf};
 ghost use Rattle.shared_area.specs.Running.{FindsRun, file_lies};
 
+use crate::applying::make_change;
 use crate::finding::find_tier;
 use crate::node::find_node;
 use crate::opening::{read_contents, told};
 use crate::reading::read_file;
 use crate::running::find_first_run;
 use crate::touching::find_touch;
+use area_apply::ApplyError;
 use area_image::AreaError;
 use area_move::RelocateError;
 use area_relocate::relocate;
 use batch_journal::Journal;
 use block_alloc::Run;
 use free_pools::Pools;
+use graph_change::GraphChange;
 use layout::{Geometry, Marks};
 use record_check::NodeSummary;
 use std::alloc::Global;
@@ -224,6 +238,42 @@ impl<M: Media> Shared<M> {
             first,
             count,
             to,
+        )
+    }
+
+    /// Changes the graph, with new marks, in one batch: what the change puts into files goes into data blocks of its own first, the first that are free; then one batch of the journal
+    /// writes all else. A stop at any moment leaves the graph and the marks from before, or the graph after the change and the new marks. Each inode that is written tells the
+    /// number of digests of the marks as its touch number. The change has to keep to the limits, and the graph after it to the units.
+    ///
+    /// `NoBlock` where fewer data blocks are free than the change writes, which is never so where it writes no more than the format spares. `Memory` where there was none, before
+    /// the first write. After each of these nothing has changed. `DeviceFault` where a device failed: the area answers nothing else then, until the medium is opened again, with
+    /// all of the change or none of it.
+    pub fn apply(&mut self, change: &GraphChange, marks: Marks) -> Result<(), ApplyError>
+        requires bounded { AreBounded (changes_of change.now) }
+        requires tidy { AreTidyChanges (changes_of change.now) }
+        requires images { images_for (changes_of change.now) ≤ 255 }
+        requires fits { fits_marks marks ≡ true }
+        requires entries { self.old.failed ≡ false → (i : ℕ) → fin.contains_key (changes_of change.now) i ≡ true → HasFewEntries (changed (changes_of change.now) (graph self.old.geometry (store_of (M.seen self.old.media))) i) }
+        requires units { self.old.failed ≡ false → charge (changed (changes_of change.now) (graph self.old.geometry (store_of (M.seen self.old.media)))) ≤ self.old.geometry.units }
+
+        // At each moment a stop leaves contents that are opened with the graph and the marks from before, or with the graph after the change and the new marks.
+        ensures any_moment { self.old.failed ≡ false → StaysOrChanges self.old.geometry (store_of (M.seen self.old.media)) (changes_of change.now) marks (M.moment self.old.media) (M.moment self.new.media) (M.left self.old.media) (M.left self.new.media) }
+        ensures applied { OnOk result (IsAppliedStore self.old.geometry (store_of (M.seen self.old.media)) (changes_of change.now) marks (store_of (M.seen self.new.media))) }
+
+        // Of the files that it leaves the change writes more blocks than there are free; and never where it writes no more than the format spares.
+        ensures no_block { IsErrOf result errors.NoBlock → (bs : List (ℕ × ℕ)) × AreWritten self.old.geometry (store_of (M.seen self.old.media)) (changes_of change.now) bs × HasTooFewData self.old.geometry (store_of (M.seen self.old.media)) (length bs) }
+        ensures never { ((bs : List (ℕ × ℕ)) → AreWritten self.old.geometry (store_of (M.seen self.old.media)) (changes_of change.now) bs → length bs ≤ SPARE_BLOCKS) → IsErrOf result errors.NoBlock → ⊥ }
+        ensures applies { AppliesOrStays M.moment M.seen M.left M.faults self.old self.new result }
+    {
+        let alloc = self.alloc;
+        make_change(
+            alloc,
+            &mut self.journal,
+            &mut self.pools,
+            &mut self.marks,
+            &mut self.units,
+            change,
+            marks,
         )
     }
 

@@ -2,7 +2,7 @@ use Rattle.std.proofs.Common.{◌∙◌, Some, refl, sym, subst}
 use Rattle.file_graph.specs.Graph.{Graph}
 use Rattle.file_graph.specs.Units.{charge}
 use Rattle.std.specs.Prelude.{◌≤◌}
-use Rattle.area_apply.specs.First.{whole_of}
+use Rattle.change_plan.specs.First.{whole_of}
 use Rattle.area_apply.proofs.MadeStore.{slot_stays}
 use Rattle.area_apply.proofs.applied.carried_out_change_is_made.Goals as goal
 

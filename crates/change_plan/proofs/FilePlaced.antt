@@ -1,0 +1,29 @@
+-- The blocks of a file before the change, in a pool of all blocks of a tier.
+use Rattle.std.proofs.Common.{◌≡◌, ◌<◌, ℕ, [], Option, Some, None, refl, arith}
+use Rattle.std.specs.Prelude.{IsSome}
+use Rattle.std.proofs.lemmas.Bool.{false≢true}
+use Rattle.tier_device.specs.declared.media.Tier.{Tier}
+use Rattle.graph_change.specs.Net.{Base}
+use Rattle.layout.specs.Places.{Sizes, tier_blocks}
+use Rattle.block_alloc.specs.Value.{FreeBlocks}
+use Rattle.free_pools.proofs.Members.{nothing}
+use Rattle.block_map.specs.Map.{TierRuns, lies_at, LieBelow}
+use Rattle.area_image.specs.Store.{Store}
+use Rattle.area_move.specs.Given.{IsInUse}
+use Rattle.change_plan.specs.File.{IsOldMap}
+use Rattle.change_plan.proofs.Blocked.{data_within}
+
+-- a pool of all blocks of a tier, none of which is free
+abbrev pub whole_tier : Sizes → Tier → FreeBlocks
+whole_tier g t = record { first = 0; end = tier_blocks g t; free = []; room = 0 }
+
+module _ (g : Sizes) (s : Store) (base : Base) (i : ℕ) (m : TierRuns) (was : IsOldMap g s base i m) where
+  few_by : (t : Tier) (k : ℕ) (o : Option ℕ) → lies_at m t k ≡ o → IsSome o → k < 256
+  few_by t k None is some = absurd (false≢true some)
+  few_by t k (Some b) is some = (was.within t k b is).0
+
+  pub all_below : LieBelow 256 m
+  all_below t k some = few_by t k (lies_at m t k) refl some
+
+  pub in_use : (t : Tier) (k b : ℕ) → lies_at m t k ≡ Some b → IsInUse (whole_tier g t) b
+  in_use t k b at = record { low = omega arith; high = (data_within g t b (was.within t k b at).1).1; used = λ none. nothing b none }

@@ -1,0 +1,94 @@
+-- What the steps of the plan of a file want of one another.
+use Rattle.std.proofs.Common.{◌≡◌, ◌≤◌, ◌<◌, ◌+◌, ◌*◌, ◌^◌, ◌∙◌, ℕ, List, length, take, Option, Some, None, refl, sym, ap, subst, arith, true}
+use Rattle.std.specs.Global.{Vec}
+use Rattle.std.specs.Prelude.{IfSome}
+use Rattle.std.proofs.lemmas.List.{get_or-take, length-take-le}
+use Rattle.tier_device.specs.declared.media.Tier.{Tier}
+use Rattle.tier_device.specs.declared.media.Tier.TheVariants as tiers
+use Rattle.file_graph.specs.declared.effect.Kind.{Kind}
+use Rattle.file_graph.specs.declared.effect.Kind.TheVariants as kind
+use Rattle.graph_change.specs.Net.{Base, Made}
+use Rattle.layout.specs.declared.slot.Slot.{Slot}
+use Rattle.layout.specs.declared.slot.Slot.TheVariants as slots
+use Rattle.layout.specs.Extents.{ExtentList}
+use Rattle.layout.specs.Places.{Sizes, IsAllowed, is_data}
+use Rattle.block_map.specs.Map.{TierRuns, runs_in}
+use Rattle.block_map.specs.declared.map.Place.{Place}
+use Rattle.tree_blocks.specs.After.{started}
+use Rattle.tree_blocks.specs.Inode.{LogicalBlocks, Inode, inode_of}
+use Rattle.area_image.specs.Reads.{Free}
+use Rattle.area_image.specs.Store.{Store, slot_read, logical, inode}
+use Rattle.area_image.proofs.Parts.{slot_as}
+use Rattle.area_move.specs.Lists.{IsListOf}
+use Rattle.area_commit.specs.declared.plan.Lost.{Lost}
+use Rattle.area_commit.specs.Plan.{lost_in}
+use Rattle.file_plan.specs.Placed.{nth_place, PlacesFit}
+use Rattle.file_plan.specs.Planned.{left_in}
+use Rattle.file_plan.specs.declared.planning.FilePlan.{FilePlan}
+use Rattle.free_pools.specs.Value.{PoolsView, HasRanges}
+use Rattle.change_plan.specs.File.{AreFreePlaces}
+
+-- ---- what the change starts from
+
+the_kind : (a b : Kind) → Some a ≡ Some b → a ≡ b
+the_kind a b e = cc
+
+-- where a file is made, it is a file that is made
+pub made_as_file : (base : Base) (k : Kind) (n : Inode) → base ≡ Made k → (started base n).kind ≡ Some kind.File → base ≡ Made kind.File
+made_as_file base k n is file = is ∙ ap (λ (x : Kind). Made x) (the_kind k kind.File (sym (ap (λ (b : Base). (started b n).kind) is) ∙ file))
+
+kind_same : (x : Slot) (a b : LogicalBlocks) → (inode_of x a).kind ≡ (inode_of x b).kind
+kind_same slots.Free a b = refl
+kind_same (slots.File names size touch fast block slow) a b = refl
+kind_same (slots.Directory names entries touch root) a b = refl
+
+-- the slot of a file tells that it is one, whatever its blocks hold
+pub slot_tells_file : (g : Sizes) (s : Store) (i : ℕ) (x : Slot) (blocks : LogicalBlocks) → slot_read g s i ≡ Some x → (inode g s i).kind ≡ Some kind.File → (inode_of x blocks).kind ≡ Some kind.File
+slot_tells_file g s i x blocks is file = kind_same x blocks (logical g s i) ∙ (ap (λ (y : Slot). (inode_of y (logical g s i)).kind) (sym (slot_as g s i x is)) ∙ file)
+
+-- ---- the first of the places
+
+nth_of_first : (places : List Place) (n : ℕ) → n ≤ length places → (k : ℕ) → k < length (take n places) → (nth_place (take n places) k ≡ nth_place places k) × (k < length places)
+nth_of_first places n few k lt =
+    let long = length-take-le n places few in
+    let inside : k < n = omega (arith, lt, long) in
+    (get_or-take n places k (record { tier = tiers.Fast; block = 0 }) inside, omega (arith, inside, few))
+
+pub first_fit : (places : List Place) (n : ℕ) → n ≤ length places → PlacesFit places → PlacesFit (take n places)
+first_fit places n few fit k lt = (let at = nth_of_first places n few k lt in subst (λ (q : Place). q.block + 1 < 2 ^ 32) (sym at.0) (fit k at.1))
+
+pub first_free : (g : Sizes) (s : Store) (places : List Place) (n : ℕ) → n ≤ length places → AreFreePlaces g s places → AreFreePlaces g s (take n places)
+first_free g s places n few free = record {
+  free = λ k lt. (let at = nth_of_first places n few k lt in subst (λ (q : Place). Free g s q.tier q.block) (sym at.0) (free.free k at.1));
+  are_data = λ k lt. (let at = nth_of_first places n few k lt in subst (λ (q : Place). is_data g q.tier q.block 1 ≡ true) (sym at.0) (free.are_data k at.1));
+  apart = λ j k lt_j lt_k same_tier same_block.
+      (let a = nth_of_first places n few j lt_j in
+      let b = nth_of_first places n few k lt_k in
+      free.apart j k a.1 b.1
+      (sym (ap (λ (q : Place). q.tier) a.0) ∙ (same_tier ∙ ap (λ (q : Place). q.tier) b.0))
+      (sym (ap (λ (q : Place). q.block) a.0) ∙ (same_block ∙ ap (λ (q : Place). q.block) b.0)));
+}
+
+-- ---- lists and pools
+
+-- the two counts of a vector's elements
+pub long : (v : Vec ℕ) → v.len ≡ length v.items
+long v = v.ok.0
+
+pub few_lists : (i : ℕ) (m : TierRuns) (t : Tier) (o : Option ExtentList) → IsListOf i m t o → length (runs_in m t) ≤ 256 → IfSome o (λ v. length v.extents ≤ 340)
+few_lists i m t None is few = tt
+few_lists i m t (Some v) is few = omega (arith, few, ap (λ (w : ExtentList). length w.extents) is.1)
+
+-- the block numbers of the node pool have 32 bits
+pub pool_fits : (g : Sizes) (p : PoolsView) → IsAllowed g → HasRanges g p → p.nodes.end < 2 ^ 32
+pool_fits g p allowed ranges =
+    let few : g.units ≤ 65536 = allowed.few_units in
+    let end : p.nodes.end ≡ 292 + (3072 + 2 * g.units) = ranges.nodes_end in
+    omega (arith, few, end)
+
+-- ---- what is given up
+
+pub per_tier : (plan : FilePlan) (lost : Lost) → lost.fast.items ≡ plan.fast.items → lost.block.items ≡ plan.block.items → lost.slow.items ≡ plan.slow.items → (t : Tier) → lost_in lost t ≡ left_in plan t
+per_tier plan lost fast block slow tiers.Fast = fast
+per_tier plan lost fast block slow tiers.Block = block
+per_tier plan lost fast block slow tiers.Slow = slow

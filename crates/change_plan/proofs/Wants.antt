@@ -1,0 +1,101 @@
+-- How many data blocks a change wants: it is one number, a small one for each inode, and they are of blocks that are written.
+use Rattle.std.proofs.Common.{◌≡◌, ◌≤◌, ◌<◌, ◌+◌, ◌*◌, inl, inr, ℕ, List, [], ◌∷◌, length, true, refl, sym, subst, arith}
+use Rattle.std.specs.List.{Contains}
+use Rattle.std.specs.FinMap as fin
+use Rattle.std.proofs.lemmas.List.{length-map}
+use Rattle.free_pools.proofs.Members.{cons_here, cons_there}
+use Rattle.graph_change.specs.Bounds.{IsBounded, AreBounded}
+use Rattle.graph_change.specs.Bytes.{end}
+use Rattle.graph_change.specs.Change.{Change, Changes}
+use Rattle.graph_change.specs.Tidy.{IsTidyChange, AreTidyChanges}
+use Rattle.layout.specs.Places.{Sizes, is_inode}
+use Rattle.area_image.specs.Store.{Store}
+use Rattle.file_plan.specs.Written.{AreNumbers}
+use Rattle.area_commit.proofs.Chosen.{inode_range}
+use Rattle.change_plan.specs.Next.{WantsData}
+use Rattle.change_plan.specs.Wanted.{WantInTurn, WantsBlocks}
+use Rattle.change_plan.proofs.Climbs.{climb_rising, climb_few, climb_within, change_here, has_here, keys_climb, mapped_from}
+
+-- ---- of one inode
+
+numbers_same : (c : Change) (xs ys : List ℕ) → AreNumbers c xs → AreNumbers c ys → length xs ≡ length ys
+numbers_same c xs ys one two =
+    let first = climb_rising 0 one.rising.0 xs one.rising.1 in
+    let second = climb_rising 0 two.rising.0 ys two.rising.1 in
+    let le = climb_within 0 0 xs ys first second (λ k at. (two.each k).1 ((one.each k).0 at)) in
+    let ge = climb_within 0 0 ys xs second first (λ k at. (one.each k).1 ((two.each k).0 at)) in
+    omega (arith, le, ge)
+
+pub wants_same : (g : Sizes) (s : Store) (c : Change) (i m n : ℕ) → WantsData g s c i m → WantsData g s c i n → m ≡ n
+wants_same g s c i m n (inl one) (inl two) = let same = numbers_same c one.1 two.1 one.2 two.2 in omega (arith, same, one.3, two.3)
+wants_same g s c i m n (inl one) (inr two) = absurd (two.0 one.0)
+wants_same g s c i m n (inr one) (inl two) = absurd (one.0 two.0)
+wants_same g s c i m n (inr one) (inr two) = omega (arith, one.1, two.1)
+
+pub wants_few : (g : Sizes) (s : Store) (c : Change) (i n : ℕ) → IsTidyChange c → IsBounded c → WantsData g s c i n → n ≤ 256
+wants_few g s c i n tidy bounded (inl is) =
+    let inside : (k : ℕ) → Contains is.1 k → k < 256 =
+    λ k at. (let before : 4096 * k < end c.length = tidy.blocks k ((is.2.each k).0 at) in let low : end c.length ≤ 1048576 = bounded.length in omega (arith, before, low)) in
+    let few = climb_few 0 is.1 256 (climb_rising 0 is.2.rising.0 is.1 is.2.rising.1) (omega arith) inside in
+    omega (arith, few, is.3)
+wants_few g s c i n tidy bounded (inr is) = omega (arith, is.1)
+
+-- ---- of all, one after the other
+
+-- So many are counted of the first inodes: with those that the rest want they are what the change wants.
+pub record Counted (g : Sizes) (s : Store) (cs : Changes) (count : ℕ) (rest : List (ℕ × Change)) : Type 0 where
+  pub wants : (more : ℕ) → WantInTurn g s rest more → WantsBlocks g s cs (count + more)
+  pub inside : (e : ℕ × Change) → Contains rest e → Contains (fin.entries cs) e
+  pub few : count + 256 * length rest ≤ 262400
+
+-- an inode's number is no greater than 1,024, so that there are no more inodes
+entries_few : (cs : Changes) → ((i : ℕ) → fin.contains_key cs i ≡ true → i < 1025) → length (fin.entries cs) ≤ 1025
+entries_few cs low =
+    let many = length-map (fin.entries cs) (λ (e : ℕ × Change). e.0) in
+    let few = climb_few 0 (fin.keys cs) 1025 (keys_climb cs) (omega arith) (λ k at. low k (key_there k at)) in
+    omega (arith, many, few)
+  where
+    key_there : (k : ℕ) → Contains (fin.keys cs) k → fin.contains_key cs k ≡ true
+    key_there k at = let r = mapped_from (λ (e : ℕ × Change). e.0) (fin.entries cs) k at in subst (λ (j : ℕ). fin.contains_key cs j ≡ true) r.2 (has_here cs r.0 r.1)
+
+module _ (g : Sizes) (s : Store) (cs : Changes) (bounded : AreBounded cs) where
+  pub none_counted : Counted g s cs 0 (fin.entries cs)
+  none_counted = record {
+    wants = λ more wants. (let same : 0 + more ≡ more = omega arith in subst (λ (n : ℕ). WantsBlocks g s cs n) (sym same) wants);
+    inside = λ e at. at;
+    few = (let few = entries_few cs (λ i has. (let high = (inode_range i (bounded.inodes i has)).1 in omega (arith, high))) in omega (arith, few));
+  }
+
+  pub next_number : (count : ℕ) (e : ℕ × Change) (rest : List (ℕ × Change)) → Counted g s cs count (e ∷ rest) → is_inode e.0 ≡ true
+  next_number count e rest counted = bounded.inodes e.0 (has_here cs e (counted.inside e (cons_here e rest e refl)))
+
+  pub one_counted : (tidy : AreTidyChanges cs) (count its : ℕ) (e : ℕ × Change) (rest : List (ℕ × Change)) → Counted g s cs count (e ∷ rest) → WantsData g s e.1 e.0 its → Counted g s cs (count + its) rest
+  one_counted tidy count its e rest counted wants =
+      let here = change_here cs e (counted.inside e (cons_here e rest e refl)) in
+      let small = wants_few g s e.1 e.0 its (subst IsTidyChange here (tidy e.0)) (subst IsBounded here (bounded.changes e.0)) wants in
+      record {
+        wants = λ more later. (let sum : count + (its + more) ≡ count + its + more = omega arith in subst (λ (n : ℕ). WantsBlocks g s cs n) sum (counted.wants (its + more) (its, more, wants, later, refl)));
+        inside = λ d at. counted.inside d (cons_there e rest d at);
+        few = omega (arith, counted.few, small);
+      }
+
+pub all_counted : (g : Sizes) (s : Store) (cs : Changes) (count : ℕ) → Counted g s cs count [] → WantsBlocks g s cs count
+all_counted g s cs count counted = let sum : count + 0 ≡ count = omega arith in subst (λ (n : ℕ). WantsBlocks g s cs n) sum (counted.wants 0 refl)
+
+-- ---- of all at once
+
+module _ (g : Sizes) (s : Store) (cs : Changes) (bounded : AreBounded cs) (tidy : AreTidyChanges cs) where
+  in_turn_few : (es : List (ℕ × Change)) (count : ℕ) → ((e : ℕ × Change) → Contains es e → Contains (fin.entries cs) e) → WantInTurn g s es count → count ≤ 256 * length es
+  in_turn_few [] count inside none = omega (arith, none)
+  in_turn_few (e ∷ es) count inside wants =
+      let here = change_here cs e (inside e (cons_here e es e refl)) in
+      let small = wants_few g s e.1 e.0 wants.0 (subst IsTidyChange here (tidy e.0)) (subst IsBounded here (bounded.changes e.0)) wants.2 in
+      let rest = in_turn_few es wants.1 (λ d at. inside d (cons_there e es d at)) wants.3 in
+      let sum = wants.4 in
+      omega (arith, small, rest, sum)
+
+  pub blocks_few : (count : ℕ) → WantsBlocks g s cs count → count ≤ 262400
+  blocks_few count wants =
+      let few = in_turn_few (fin.entries cs) count (λ e at. at) wants in
+      let inodes = entries_few cs (λ i has. (let high = (inode_range i (bounded.inodes i has)).1 in omega (arith, high))) in
+      omega (arith, few, inodes)

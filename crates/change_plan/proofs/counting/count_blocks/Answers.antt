@@ -1,0 +1,82 @@
+use Rattle.std.proofs.Common.{◌∙◌, ℕ, List, Err, sym, subst, arith}
+use Rattle.graph_change.specs.Change.{Change, Changes}
+use Rattle.graph_change.specs.View.{change_of, changes_of}
+use Rattle.graph_change.specs.declared.node_change.NodeChange.{NodeChange}
+use Rattle.area_image.specs.Looks.{looked}
+use Rattle.area_image.specs.Spelled.{IsSpelled}
+use Rattle.area_image.specs.Store.{Store, store_of}
+use Rattle.area_image.proofs.Looked.{carried, carried_back, looks_on, looks_none, looks_answer}
+use Rattle.change_plan.specs.Next.{WantsData}
+use Rattle.change_plan.proofs.Climbs.{seen_as, entries_seen}
+use Rattle.change_plan.proofs.Wants.{Counted, none_counted, one_counted, all_counted, next_number}
+use Rattle.change_plan.proofs.counting.count_blocks.Goals as goal
+
+pub nodes-init : goal.nodes-init
+nodes-init g c =
+    let m = g.M.Media in
+    let old = c.args.journal.now in
+    let s : Store = store_of (m.seen old.media) in
+    let cs : Changes = changes_of c.args.change.now in
+    let given = c.into_iter-inode-iterator.ensures.into_iter_gives ∙ c.iter-inode-items.ensures.rest in
+    record {
+      looks = looks_none m.moment m.seen m.left m.faults old tt c.requires.going;
+      counted = subst (λ (es : List (ℕ × NodeChange)). Counted old.geometry s cs 0 (seen_as change_of es)) (sym given)
+          (subst (λ (es : List (ℕ × Change)). Counted old.geometry s cs 0 es) (entries_seen change_of c.args.change.now.nodes.entries c.iter-inode-items.ensures.ordered) (none_counted old.geometry s cs c.requires.bounded));
+    }
+
+pub count_in-requires-clause-spelled : goal.count_in-requires-clause-spelled
+count_in-requires-clause-spelled g c =
+    let m = g.M.Media in
+    carried m.moment m.seen m.left m.faults IsSpelled c.args.journal.now c.nodes.journal looked c.nodes.invariant.looks c.requires.spelled
+
+pub count_in-requires-clause-number : goal.count_in-requires-clause-number
+count_in-requires-clause-number g c =
+    let old = c.args.journal.now in
+    let s : Store = store_of (g.M.Media.seen old.media) in
+    let cs : Changes = changes_of c.args.change.now in
+    next_number old.geometry s cs c.requires.bounded c.nodes.count (c.in-Some.inode.now, change_of c.in-Some.node.now) (seen_as change_of c.next.new.self)
+    (subst (λ (es : List (ℕ × NodeChange)). Counted old.geometry s cs c.nodes.count (seen_as change_of es)) c.in-Some.ensures.steps c.nodes.invariant.counted)
+
+pub overflow_add-count : goal.overflow_add-count
+overflow_add-count g c =
+    let m = g.M.Media in
+    let old = c.args.journal.now in
+    let s : Store = store_of (m.seen old.media) in
+    let cs : Changes = changes_of c.args.change.now in
+    let node = c.in-Some.node.now in
+    let after = one_counted old.geometry s cs c.requires.bounded c.requires.tidy c.nodes.count c.in-Ok.more (c.in-Some.inode.now, change_of node) (seen_as change_of c.next.new.self)
+    (subst (λ (es : List (ℕ × NodeChange)). Counted old.geometry s cs c.nodes.count (seen_as change_of es)) c.in-Some.ensures.steps c.nodes.invariant.counted)
+    (carried_back m.moment m.seen m.left m.faults (λ h t. WantsData h t (change_of node) c.in-Some.inode.now c.in-Ok.more) old c.nodes.journal looked c.nodes.invariant.looks c.in-Ok.ensures.wanted) in
+    omega (arith, after.few)
+
+pub nodes-preserved : goal.nodes-preserved
+nodes-preserved g c =
+    let m = g.M.Media in
+    let old = c.args.journal.now in
+    let s : Store = store_of (m.seen old.media) in
+    let cs : Changes = changes_of c.args.change.now in
+    let node = c.in-Some.node.now in
+    record {
+      looks = looks_on m.moment m.seen m.left m.faults old c.nodes.journal c.count_in.new.journal tt looked c.nodes.invariant.looks
+          (looks_answer m.moment m.seen m.left m.faults c.nodes.journal c.count_in.new.journal c.in-Ok.more tt c.in-Ok.ensures.looks);
+      counted = one_counted old.geometry s cs c.requires.bounded c.requires.tidy c.nodes.count c.in-Ok.more (c.in-Some.inode.now, change_of node) (seen_as change_of c.next.new.self)
+          (subst (λ (es : List (ℕ × NodeChange)). Counted old.geometry s cs c.nodes.count (seen_as change_of es)) c.in-Some.ensures.steps c.nodes.invariant.counted)
+          (carried_back m.moment m.seen m.left m.faults (λ h t. WantsData h t (change_of node) c.in-Some.inode.now c.in-Ok.more) old c.nodes.journal looked c.nodes.invariant.looks c.in-Ok.ensures.wanted);
+    }
+
+pub returns-in-Err-clause-looks : goal.returns-in-Err-clause-looks
+returns-in-Err-clause-looks g c =
+    let m = g.M.Media in
+    looks_on m.moment m.seen m.left m.faults c.args.journal.now c.nodes.journal c.count_in.new.journal tt (Err c.in-Err.error) c.nodes.invariant.looks c.in-Err.ensures.looks
+
+pub returns-clause-looks : goal.returns-clause-looks
+returns-clause-looks g c =
+    let m = g.M.Media in
+    looks_answer m.moment m.seen m.left m.faults c.args.journal.now c.nodes.journal tt c.nodes.count c.nodes.invariant.looks
+
+pub returns-clause-wanted : goal.returns-clause-wanted
+returns-clause-wanted g c =
+    let old = c.args.journal.now in
+    let s : Store = store_of (g.M.Media.seen old.media) in
+    let cs : Changes = changes_of c.args.change.now in
+    all_counted old.geometry s cs c.nodes.count (subst (λ (es : List (ℕ × NodeChange)). Counted old.geometry s cs c.nodes.count (seen_as change_of es)) c.in-None.ensures.steps.0 c.nodes.invariant.counted)

@@ -1,0 +1,36 @@
+use Rattle.std.proofs.Common.{◌≡◌, ◌*◌, ℕ, List, length, Option, sym, ap, subst}
+use Rattle.layout.specs.declared.places.TheConstants.{BLOCK}
+use Rattle.batch_journal.specs.Images.{slice}
+use Rattle.graph_change.specs.Change.{Change}
+use Rattle.graph_change.specs.View.{change_of}
+use Rattle.tree_blocks.specs.Inode.{LogicalBlocks}
+use Rattle.area_image.specs.Store.{store_of, logical}
+use Rattle.area_image.specs.declared.tiers.InodeExtents.{InodeExtents}
+use Rattle.file_plan.specs.Bytes.{IsBlockAfter, AddsBlocks, blocks_from}
+use Rattle.file_plan.specs.Placed.{nth_number}
+use Rattle.change_plan.proofs.file_part.add_bytes.Goals as goal
+
+-- of blocks that read the same the change makes the same
+adds_same : (c : Change) (a b : LogicalBlocks) (numbers : List ℕ) (count : ℕ) (old new : List ℕ) → ((k : ℕ) → a k ≡ b k) → AddsBlocks c a numbers count old new → AddsBlocks c b numbers count old new
+adds_same c a b numbers count old new same adds = (
+  adds.0,
+  adds.1,
+  record {
+    long = adds.2.long;
+    each = λ n lt. subst (λ (x : List ℕ). IsBlockAfter c (λ j. x) (nth_number numbers n) (slice (BLOCK * n) BLOCK adds.0)) (same (nth_number numbers n)) (adds.2.each n lt);
+  },
+)
+
+pub returns-in-Ok-clause-added : goal.returns-in-Ok-clause-added
+returns-in-Ok-clause-added g c =
+    let old = c.args.journal.now in
+    let blocks : LogicalBlocks = logical old.geometry (store_of (g.M.Media.seen old.media)) c.args.inode in
+    adds_same (change_of c.args.change.now) _ (blocks_from c.args.found.now blocks) c.args.numbers.now (length c.args.numbers.now) c.args.out.now.items c.read_changed.new.out.items
+    (λ k. sym (ap (λ (o : Option InodeExtents). blocks_from o blocks k) c.in-Some.is)) c.in-Ok.ensures.added
+
+pub returns-in-Ok-read_changed-clause-added : goal.returns-in-Ok-read_changed-clause-added
+returns-in-Ok-read_changed-clause-added g c =
+    let old = c.args.journal.now in
+    let blocks : LogicalBlocks = logical old.geometry (store_of (g.M.Media.seen old.media)) c.args.inode in
+    adds_same (change_of c.args.change.now) _ (blocks_from c.args.found.now blocks) c.args.numbers.now (length c.args.numbers.now) c.args.out.now.items c.read_changed-in-None.new.out.items
+    (λ k. sym (ap (λ (o : Option InodeExtents). blocks_from o blocks k) c.in-None.is)) c.in-Ok-read_changed.ensures.added

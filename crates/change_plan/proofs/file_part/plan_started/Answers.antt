@@ -1,0 +1,46 @@
+use Rattle.std.proofs.Common.{◌≡◌, ◌+◌, ◌*◌, ◌∙◌, inl, ℕ, length, refl, sym, subst, arith}
+use Rattle.std.specs.FinMap as fin
+use Rattle.graph_change.specs.View.{change_of}
+use Rattle.area_image.specs.Store.{Store, store_of}
+use Rattle.change_plan.specs.Adding.{AddsPart}
+use Rattle.change_plan.specs.Next.{nodes_for}
+use Rattle.change_plan.proofs.PlansFile.{long}
+use Rattle.change_plan.proofs.TakingMore.{takes_none}
+use Rattle.change_plan.proofs.file_part.plan_started.Goals as goal
+
+pub place_written-requires-clause-started : goal.place_written-requires-clause-started
+place_written-requires-clause-started g c =
+    let old = c.args.journal.now in
+    (old.geometry, store_of (g.M.Media.seen old.media), c.requires.started, c.requires.places)
+
+pub place_written-requires-clause-tidy : goal.place_written-requires-clause-tidy
+place_written-requires-clause-tidy g c = c.requires.next.tidy
+
+pub place_written-requires-clause-bounded : goal.place_written-requires-clause-bounded
+place_written-requires-clause-bounded g c = c.requires.next.bounded
+
+pub plan_written-requires-clause-ready : goal.plan_written-requires-clause-ready
+plan_written-requires-clause-ready g c =
+    let old = c.args.journal.now in
+    (c.args.places.now, c.in-Ok.ensures old.geometry (store_of (g.M.Media.seen old.media)) c.requires.started c.requires.places)
+
+pub returns-in-Ok-plan_written-clause-planned : goal.returns-in-Ok-plan_written-clause-planned
+returns-in-Ok-plan_written-clause-planned g c =
+    let old = c.args.journal.now in
+    let s : Store = store_of (g.M.Media.seen old.media) in
+    let change = change_of c.args.change.now in
+    let ready = c.in-Ok.ensures old.geometry s c.requires.started c.requires.places in
+    let w = c.in-Ok.written in
+    let count : c.len-count.result ≡ length w.numbers.items = c.len-count.ensures ∙ long w.numbers in
+    let most : nodes_for change ≡ 3 + 2 * fin.len change.entries = refl in
+    let images = c.in-Ok-plan_written.ensures.images in
+    let free = c.in-Ok-plan_written.ensures.free in
+    record {
+      part = subst (λ (n : ℕ). AddsPart old.geometry s change c.args.touch c.args.inode c.args.places.now n c.args.taken.now c.plan_written.new.taken c.args.plan.now c.plan_written.new.plan) (sym count) (c.in-Ok-plan_written.ensures.part c.args.places.now ready);
+      wants = inl (c.requires.started.kind_is, w.numbers.items, ready.numbers, sym count);
+      images = omega (arith, most, images);
+      free = omega (arith, most, free);
+    }
+
+pub returns-in-Err-clause-took : goal.returns-in-Err-clause-took
+returns-in-Err-clause-took g c = takes_none c.args.pools.now c.args.taken.now c.requires.next.pools.undo

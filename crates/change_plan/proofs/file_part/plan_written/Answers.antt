@@ -1,0 +1,114 @@
+use Rattle.std.proofs.Common.{◌≡◌, ◌∙◌, ℕ, List, Some, length, take, sym, ap, subst, true}
+use Rattle.std.proofs.lemmas.List.{length-take-le, take-map}
+use Rattle.file_graph.specs.declared.effect.Kind.TheVariants as kind
+use Rattle.graph_change.specs.View.{base_of, change_of}
+use Rattle.layout.specs.Places.{Sizes}
+use Rattle.layout.specs.Slot.{fits_slot}
+use Rattle.block_map.specs.Map.{runs_in}
+use Rattle.block_map.specs.declared.map.Place.{Place}
+use Rattle.tree_blocks.specs.After.{started}
+use Rattle.area_image.specs.Map.{in_tier}
+use Rattle.area_image.specs.Spelled.{IsSpelled}
+use Rattle.area_image.specs.Store.{Store, store_of, slot_read, logical, inode}
+use Rattle.area_image.proofs.Looked.{carried, carried_back}
+use Rattle.file_plan.specs.Bytes.{HoldsBlocks, blocks_from}
+use Rattle.file_plan.specs.Mapped.{AreData}
+use Rattle.file_plan.specs.Planned.{pair_of, pairs_of}
+use Rattle.file_plan.specs.Roots.{roots_wanted}
+use Rattle.change_plan.specs.Part.{IsPart}
+use Rattle.change_plan.specs.FileSteps.{AddsFile}
+use Rattle.change_plan.specs.declared.partial.PartialPlan.{PartialPlan}
+use Rattle.change_plan.proofs.PlansFile.{few_lists, pool_fits}
+use Rattle.change_plan.proofs.TakingMore.{takes_none}
+use Rattle.change_plan.proofs.file_part.plan_written.Goals as goal
+
+pub add_bytes-requires-clause-found : goal.add_bytes-requires-clause-found
+add_bytes-requires-clause-found g c = c.requires.ready.1.placed.found
+
+pub add_bytes-requires-clause-once : goal.add_bytes-requires-clause-once
+add_bytes-requires-clause-once g c = (c.requires.next.spelled.inodes c.args.inode c.requires.next.number).once
+
+pub root_placed-requires-clause-bounded : goal.root_placed-requires-clause-bounded
+root_placed-requires-clause-bounded g c = c.requires.next.bounded
+
+pub root_placed-requires-clause-before : goal.root_placed-requires-clause-before
+root_placed-requires-clause-before g c =
+    let has = c.requires.next.pools in
+    (has.before, has.order, has.took, pool_fits c.args.journal.now.geometry has.before c.requires.next.allowed has.ranges)
+
+pub root_placed-requires-clause-undo : goal.root_placed-requires-clause-undo
+root_placed-requires-clause-undo g c = c.requires.next.pools.undo
+
+pub root_placed-requires-clause-short : goal.root_placed-requires-clause-short
+root_placed-requires-clause-short g c t =
+    let old = c.args.journal.now in
+    let next = c.requires.next in
+    let places : List Place = c.requires.ready.0 in
+    let ready = c.requires.ready.1 in
+    let numbers : List ℕ = c.args.written.numbers.items in
+    let first : List Place = take (length numbers) places in
+    let plan = c.args.written.file.plan in
+    let placed = ready.placed in
+    let at : AreData old.geometry first (length numbers) = subst (AreData old.geometry first) (length-take-le (length numbers) places ready.few) ready.free.are_data in
+    let within = c.changed_map_is_fit.ensures.within old.geometry (change_of c.args.change.now) numbers first placed.before plan.map ready.numbers placed.map next.tidy next.bounded.length at placed.was.within t in
+    few_lists c.args.inode plan.map t (in_tier plan.lists t) (placed.lists t) (c.few_blocks_are_few_runs.ensures.few 256 (runs_in plan.map t) (placed.normal t) (λ k p is. (within k p is).0))
+
+pub push_file-requires : goal.push_file-requires
+push_file-requires g c =
+    let m = g.M.Media in
+    let old = c.args.journal.now in
+    let new = c.add_bytes.new.journal in
+    let looks = c.in-Ok.ensures.looks in
+    let next = c.requires.next in
+    let x = c.args.slot.now in
+    let base = base_of c.args.change.now.base in
+    record {
+      spelled = carried m.moment m.seen m.left m.faults IsSpelled old new _ looks next.spelled;
+      number = next.number;
+      fits = subst (λ (h : Sizes). fits_slot h x ≡ true) (sym looks.geometry) next.fits;
+      slot_is = carried m.moment m.seen m.left m.faults (λ h s. slot_read h s c.args.inode ≡ Some x) old new _ looks next.slot_is;
+      is_file = carried m.moment m.seen m.left m.faults (λ h s. (started base (inode h s c.args.inode)).kind ≡ Some kind.File) old new _ looks c.requires.ready.1.placed.kind_is;
+      going = looks.going.1;
+    }
+
+pub returns-in-Ok-push_file-clause-part : goal.returns-in-Ok-push_file-clause-part
+returns-in-Ok-push_file-clause-part g c places ready =
+    let m = g.M.Media in
+    let old = c.args.journal.now in
+    let s : Store = store_of (m.seen old.media) in
+    let change = change_of c.args.change.now in
+    let i = c.args.inode in
+    let next = c.requires.next in
+    let numbers : List ℕ = c.args.written.numbers.items in
+    let count : ℕ = length numbers in
+    let first : List Place = take count places in
+    let f = c.args.written.file in
+    let r = c.in-Ok-root_placed.rooted in
+    let before = c.args.plan.now in
+    let mid : PartialPlan = record { slots = before.slots; nodes = c.root_placed.new.images; bytes = c.add_bytes.new.out; lost = before.lost } in
+    let after = c.push_file.new.plan in
+    let adds = carried_back m.moment m.seen m.left m.faults (λ h t. AddsFile h t change.base i f r mid after) old c.add_bytes.new.journal _ c.in-Ok.ensures.looks c.in-Ok-push_file.ensures.adds in
+    let bytes = c.in-Ok.ensures.added in
+    let holds = subst (λ (ns : List ℕ). HoldsBlocks change (blocks_from f.found (logical old.geometry s i)) ns (length ns) bytes.0) c.deref.ensures.value bytes.2 in
+    let wanted : ℕ = roots_wanted f.slot f.plan.lists in
+    let spare : List ℕ = take wanted c.args.pools.now.nodes.free in
+    let many : length first ≡ count = length-take-le count places ready.few in
+    let planned = c.placed_file_is_planned.ensures old.geometry s change c.args.touch i numbers first f spare bytes.0 before.nodes c.root_placed.new.images r.slot r.left.items adds.lost
+    next.tidy next.bounded ready.numbers many ready.free ready.placed (c.next_nodes_were_free.ensures old.geometry s c.args.pools.now c.args.taken.now wanted next.pools) c.in-Ok-root_placed.ensures.wanted c.in-Ok-root_placed.ensures.rooted holds adds.its in
+    let part = c.planned_file_is_a_part.ensures old.geometry s change c.args.touch i r.slot f.plan.map (record { nodes = spare; «data» = pairs_of first }) bytes.0 before.nodes c.root_placed.new.images adds.lost planned in
+    record {
+      x = r.slot;
+      m = f.plan.map;
+      share = record { nodes = spare; «data» = pairs_of first };
+      bytes = bytes.0;
+      lost = adds.lost;
+      part = subst (λ (now : List (ℕ × List ℕ)). IsPart old.geometry s change c.args.touch i r.slot f.plan.map (record { nodes = spare; «data» = pairs_of first }) bytes.0 before.nodes now adds.lost) (sym adds.images_are) part;
+      nodes = c.in-Ok-root_placed.ensures.nodes;
+      data_are = sym (take-map pair_of count places);
+      slots_are = adds.slots_are;
+      bytes_are = ap (λ b. b.items) adds.bytes_are ∙ bytes.1;
+      lost_are = adds.lost_are;
+    }
+
+pub returns-clause-took : goal.returns-clause-took
+returns-clause-took g c = takes_none c.args.pools.now c.args.taken.now c.requires.next.pools.undo

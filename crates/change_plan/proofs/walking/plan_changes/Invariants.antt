@@ -1,0 +1,16 @@
+use Rattle.graph_change.specs.View.{change_of, changes_of}
+use Rattle.area_image.specs.Store.{store_of}
+use Rattle.area_image.specs.Looks.{Looks, looked}
+use Rattle.change_plan.specs.Adding.{TakesMoreNodes}
+use Rattle.change_plan.proofs.Climbs.{seen_as}
+use Rattle.change_plan.proofs.Walked.{Walked}
+use Rattle.change_plan.proofs.walking.plan_changes.Given as goal
+
+abbrev pub invariant-nodes : goal.invariant-nodes
+invariant-nodes g l =
+    let m = g.M.Media in
+    record {
+      looks : Looks m.moment m.seen m.left m.faults l.fn.journal l.journal looked;
+      took : TakesMoreNodes l.fn.pools l.fn.taken l.pools l.taken;
+      walked : Walked l.fn.journal.geometry (store_of (m.seen l.fn.journal.media)) (changes_of l.change) l.touch l.places l.pools l.taken l.plan l.used (seen_as change_of l.inode-iterator);
+    }

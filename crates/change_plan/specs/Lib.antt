@@ -1,0 +1,12 @@
+pub mod Part
+pub mod Parts
+pub mod Adding
+pub mod First
+pub mod Directory
+pub mod Changed
+pub mod Gone
+pub mod File
+pub mod Started
+pub mod FileSteps
+pub mod Next
+pub mod Wanted

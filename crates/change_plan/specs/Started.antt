@@ -1,0 +1,74 @@
+-- A file in memory, before the change of it and while it is planned.
+use Rattle.std.specs.Prelude.{◌≡◌, ◌⊎◌, ℕ, List, Some, IfSome, true}
+use Rattle.std.specs.List.{AllByRecursion}
+use Rattle.tier_device.specs.declared.media.Tier.{Tier}
+use Rattle.file_graph.specs.declared.effect.Kind.TheVariants as kind
+use Rattle.graph_change.specs.Change.{Change}
+use Rattle.graph_change.specs.Bytes.{length_after}
+use Rattle.graph_change.specs.Net.{Base, Kept, Made, names_after}
+use Rattle.layout.specs.Places.{Sizes}
+use Rattle.layout.specs.declared.slot.Slot.{Slot}
+use Rattle.layout.specs.Slot.{fits_slot}
+use Rattle.block_alloc.specs.declared.runs.Run.{Run}
+use Rattle.block_alloc.specs.Runs.{blocks_of}
+use Rattle.extent_nodes.specs.Normal.{IsNormal}
+use Rattle.block_map.specs.Map.{TierRuns, runs_in, HasBlock}
+use Rattle.block_map.specs.declared.map.Place.{Place}
+use Rattle.tree_blocks.specs.After.{started}
+use Rattle.tree_blocks.specs.Inode.{LogicalBlocks, inode_of}
+use Rattle.area_image.specs.Store.{Store, slot, touch_of, logical, inode}
+use Rattle.area_image.specs.Checks.{HasFound}
+use Rattle.area_rewrite.specs.Changed.{IsFileSlot}
+use Rattle.area_batch.specs.Lists.{PutsLists}
+use Rattle.area_move.specs.Lists.{AreListsOf, roots_left}
+use Rattle.area_commit.specs.declared.plan.Lost.{Lost}
+use Rattle.area_commit.specs.Plan.{LieApart, lost_in}
+use Rattle.file_plan.specs.Bytes.{blocks_from}
+use Rattle.file_plan.specs.Mapped.{IsMapAfter, AreLeft}
+use Rattle.file_plan.specs.Planned.{left_in}
+use Rattle.file_plan.specs.Roots.{HasRootsOf, SparesFit}
+use Rattle.change_plan.specs.Adding.{GivesAll}
+use Rattle.change_plan.specs.File.{slot_from, IsOldMap}
+use Rattle.change_plan.specs.declared.starting.StartedFile.{StartedFile}
+use Rattle.change_plan.specs.declared.placing.PlacedFile.{PlacedFile}
+
+-- It is the file that a change of inode i starts from: its slot, where its blocks lie, and its extents, where it was there.
+pub record IsStartedFile (g : Sizes) (s : Store) (base : Base) (i : ℕ) (f : StartedFile) : Type 0 where
+  pub kind_is : (started base (inode g s i)).kind ≡ Some kind.File
+  pub slot_is : f.slot ≡ slot_from base (slot g s i)
+  pub map : IsOldMap g s base i f.map
+  pub found : IfSome f.found (HasFound g s i)
+  pub blocks : (started base (inode g s i)).blocks ≡ blocks_from f.found (logical g s i)
+
+-- The blocks of the file that a change starts from have their places after it; of each tier it is known what lists them then, and what they leave.
+pub record IsPlacedFile (g : Sizes) (s : Store) (c : Change) (i : ℕ) (numbers : List ℕ) (places : List Place) (f : PlacedFile) : Type 0 where
+  pub kind_is : (started c.base (inode g s i)).kind ≡ Some kind.File
+  pub slot_is : f.slot ≡ slot_from c.base (slot g s i)
+  pub found : IfSome f.found (HasFound g s i)
+  pub blocks : (started c.base (inode g s i)).blocks ≡ blocks_from f.found (logical g s i)
+  pub before : TierRuns
+  pub was : IsOldMap g s c.base i before
+  pub map : IsMapAfter c numbers places before f.plan.map
+  pub normal : (t : Tier) → IsNormal (runs_in f.plan.map t)
+  pub lists : AreListsOf i f.plan.map f.plan.lists
+  pub left : (t : Tier) → AreLeft c before t (blocks_of (left_in f.plan t))
+  pub apart : (t : Tier) → LieApart (left_in f.plan t)
+
+-- The file has a slot after the change of it, with these spare blocks to list extents; the images of those are put, and the blocks that list none any more are known.
+pub record IsRootedFile (c : Change) (touch : ℕ) (f : PlacedFile) (spare : List ℕ) (old new : List (ℕ × List ℕ)) (x : Slot) (left : List Run) : Type 0 where
+  pub slot_is : (blocks : LogicalBlocks) → IsFileSlot (names_after c.names (started c.base (inode_of f.slot blocks)).names) (length_after c.length (started c.base (inode_of f.slot blocks)).size) x
+  pub touch_is : touch_of x ≡ touch
+  pub roots : HasRootsOf f.plan.lists spare f.slot x
+  pub limits : (g : Sizes) → fits_slot g f.slot ≡ true → SparesFit g f.slot spare → fits_slot g x ≡ true
+  pub images : PutsLists x f.plan.lists old new
+  pub left_is : blocks_of left ≡ roots_left f.slot x
+  pub left_some : AllByRecursion HasBlock left
+
+-- These are given up: the runs that the blocks of the file leave, and the blocks that list none of its extents any more.
+pub record LosesOf (f : PlacedFile) (left : List Run) (lost : Lost) : Type 0 where
+  pub nodes : lost.nodes.items ≡ left
+  pub per_tier : (t : Tier) → lost_in lost t ≡ left_in f.plan t
+
+-- So they are of a file that stays; where one is made, all that stood there.
+abbrev pub LosesFile : Sizes → Store → Base → ℕ → PlacedFile → List Run → Lost → Type 0
+LosesFile g s base i f left lost = ((base ≡ Kept) × LosesOf f left lost) ⊎ ((base ≡ Made kind.File) × GivesAll g s i lost)

@@ -1,0 +1,89 @@
+// How many data blocks a change wants.
+ghost use Rattle.std.specs.Prelude.{◌≡◌, ◌⊎◌, ℕ, List, Some, true, false, length, IfOk, IfErr};
+ghost use Rattle.graph_change.specs.Bounds.{AreBounded};
+ghost use Rattle.graph_change.specs.Change.{Changes};
+ghost use Rattle.graph_change.specs.Tidy.{AreTidyChanges};
+ghost use Rattle.graph_change.specs.View.{change_of, changes_of};
+ghost use Rattle.layout.specs.Places.{Sizes, is_inode};
+ghost use Rattle.area_image.specs.Store.{Store, store_of, slot_read};
+ghost use Rattle.area_image.specs.Spelled.{IsSpelled};
+ghost use Rattle.area_image.specs.Looks.{Looks};
+ghost use Rattle.area_image.specs.declared.error.AreaError.TheVariants.{DeviceFault, Memory};
+ghost use Rattle.change_plan.specs.Next.{WantsData};
+ghost use Rattle.change_plan.specs.Wanted.{WantsBlocks, AreWritten};
+
+use crate::kinds::kind_from;
+use area_image::{AreaError, read_slot};
+use batch_journal::Journal;
+use file_graph::Kind;
+use file_plan::written_numbers;
+use graph_change::{GraphChange, NodeChange};
+use layout::Slot;
+use std::alloc::{AllocError, Global};
+use tier_device::Media;
+
+// How many data blocks the change of an inode wants that has this slot.
+fn blocks_for(alloc: Global, slot: &Slot, change: &NodeChange) -> Result<usize, AllocError>
+    ensures { (g : Sizes) (s : Store) (i : ℕ) → slot_read g s i ≡ Some slot.now → IfOk result (WantsData g s (change_of change.now) i) }
+{
+    match kind_from(change.base, slot) {
+        Some(Kind::File) => {
+            let numbers = written_numbers(alloc, change)?;
+            Ok(numbers.len())
+        }
+        Some(Kind::Directory) => Ok(0),
+        None => Ok(0),
+    }
+}
+
+// How many the change of an inode wants, by the slot that is read.
+fn count_in<M: Media>(
+    alloc: Global,
+    journal: &mut Journal<M>,
+    inode: u32,
+    change: &NodeChange,
+) -> Result<usize, AreaError>
+    requires spelled { IsSpelled journal.old.geometry (store_of (M.seen journal.old.media)) }
+    requires number { is_inode inode ≡ true }
+    ensures wanted { IfOk result (WantsData journal.old.geometry (store_of (M.seen journal.old.media)) (change_of change.now) inode) }
+    ensures only { IfErr result (λ e. (e ≡ DeviceFault) ⊎ (e ≡ Memory)) }
+    ensures looks { Looks M.moment M.seen M.left M.faults journal.old journal.new result }
+{
+    match read_slot(journal, inode) {
+        Ok(slot) => match blocks_for(alloc, &slot, change) {
+            Ok(count) => Ok(count),
+            Err(_) => Err(AreaError::Memory),
+        },
+        Err(error) => Err(error),
+    }
+}
+
+/// How many data blocks a change wants: one for each block of a file that it writes. The slot of each inode in it is read, in one device call each. `Memory` where there was none for the
+/// numbers of a file's blocks.
+pub fn count_blocks<M: Media>(
+    alloc: Global,
+    journal: &mut Journal<M>,
+    change: &GraphChange,
+) -> Result<usize, AreaError>
+    requires going { journal.old.failed ≡ false }
+    requires spelled { IsSpelled journal.old.geometry (store_of (M.seen journal.old.media)) }
+    requires bounded { AreBounded (changes_of change.now) }
+    requires tidy { AreTidyChanges (changes_of change.now) }
+    ensures wanted { IfOk result (WantsBlocks journal.old.geometry (store_of (M.seen journal.old.media)) (changes_of change.now)) }
+    ensures only { IfErr result (λ e. (e ≡ DeviceFault) ⊎ (e ≡ Memory)) }
+    ensures looks { Looks M.moment M.seen M.left M.faults journal.old journal.new result }
+{
+    let mut count = 0;
+    'nodes: for (inode, node) in change.nodes.iter() {
+        match count_in(alloc, journal, *inode, node) {
+            Ok(more) => count += more,
+            Err(error) => return Err(error),
+        }
+    }
+    Ok(count)
+}
+
+/// The data blocks that a change wants are for blocks of files, each of which it writes and leaves in a file; so many of them there are.
+pub fn wanted_blocks_are_written()
+    ensures { (g : Sizes) (s : Store) (cs : Changes) (count : ℕ) → WantsBlocks g s cs count → AreBounded cs → AreTidyChanges cs → (blocks : List (ℕ × ℕ)) × AreWritten g s cs blocks × (length blocks ≡ count) }
+{}

@@ -1,0 +1,376 @@
+// What a change makes of a file, as the part of its inode.
+ghost use Rattle.std.specs.Prelude.{◌≡◌, ◌≤◌, ◌<◌, ◌+◌, ◌^◌, ◌⊎◌, ◌++◌, ℕ, List, Some, true, false, length, take, IfOk, IfErr, OnOk, IfSome};
+ghost use Rattle.tier_device.specs.declared.media.Tier.{Tier};
+ghost use Rattle.file_graph.specs.declared.effect.Kind.TheVariants as kind;
+ghost use Rattle.graph_change.specs.Bounds.{IsBounded};
+ghost use Rattle.graph_change.specs.Bytes.{end};
+ghost use Rattle.graph_change.specs.Net.{Kept};
+ghost use Rattle.graph_change.specs.Tidy.{IsTidyChange};
+ghost use Rattle.graph_change.specs.View.{base_of, change_of};
+ghost use Rattle.layout.specs.declared.extents.TheConstants.{MAX_EXTENTS};
+ghost use Rattle.layout.specs.Places.{Sizes, is_inode};
+ghost use Rattle.layout.specs.Slot.{fits_slot};
+ghost use Rattle.block_alloc.specs.Runs.{blocks_of};
+ghost use Rattle.tree_blocks.specs.After.{started};
+ghost use Rattle.area_image.specs.Store.{Store, store_of, slot_read, logical, inode as inode_in};
+ghost use Rattle.area_image.specs.Checks.{HasFound, IsOnce};
+ghost use Rattle.area_image.specs.Map.{in_tier};
+ghost use Rattle.area_image.specs.Spelled.{IsSpelled};
+ghost use Rattle.area_image.specs.Looks.{Looks};
+ghost use Rattle.area_image.specs.declared.error.AreaError.TheVariants.{DeviceFault, Memory};
+ghost use Rattle.free_pools.specs.Value.{PoolsView, AreInOrder};
+ghost use Rattle.free_pools.specs.Taking.{WereTaken, CanUndo};
+ghost use Rattle.file_plan.specs.Bytes.{AddsBlocks, blocks_from};
+ghost use Rattle.file_plan.specs.Roots.{roots_wanted};
+ghost use Rattle.change_plan.specs.Adding.{AddsPart, TakesMoreNodes};
+ghost use Rattle.change_plan.specs.FileSteps.{IsWrittenFile, AddsFile};
+ghost use Rattle.change_plan.specs.Next.{IsNext, HasPlaces, PlansInode};
+ghost use Rattle.change_plan.specs.Started.{IsStartedFile, IsRootedFile, LosesOf, LosesFile};
+
+use crate::directories::push_part;
+use crate::files::{next_nodes_were_free, placed_file_is_planned, planned_file_is_a_part};
+use crate::gone::lost_of;
+use crate::partial::PartialPlan;
+use crate::placing::{PlacedFile, RootedFile, place_file, root_file};
+use crate::spares::take_spares;
+use crate::starting::{StartedFile, made_file, read_file};
+use area_batch::NodeImages;
+use area_commit::Lost;
+use area_image::{AreaError, InodeExtents};
+use batch_journal::Journal;
+use block_alloc::Run;
+use block_map::{Place, few_blocks_are_few_runs};
+use file_plan::{changed_map_is_fit, read_changed, roots_wanted, written_numbers};
+use free_pools::{Pools, Taken};
+use graph_change::{NodeBase, NodeChange};
+use layout::Slot;
+use std::alloc::{AllocError, Global};
+use tier_device::Media;
+
+/// A file whose blocks have their places after a change, with the numbers of those that the change writes.
+#[derive(Drop)]
+pub struct WrittenFile {
+    pub numbers: Vec<u64>,
+    pub file: PlacedFile,
+}
+
+// The file that an inode is, with its extents read.
+fn read_kept<M: Media>(
+    alloc: Global,
+    journal: &mut Journal<M>,
+    inode: u32,
+    slot: &Slot,
+) -> Result<StartedFile, AreaError>
+    requires spelled { IsSpelled journal.old.geometry (store_of (M.seen journal.old.media)) }
+    requires number { is_inode inode ≡ true }
+    requires slot_is { slot_read journal.old.geometry (store_of (M.seen journal.old.media)) inode ≡ Some slot.now }
+    requires is_file { (inode_in journal.old.geometry (store_of (M.seen journal.old.media)) inode).kind ≡ Some kind.File }
+    ensures started { IfOk result (IsStartedFile journal.old.geometry (store_of (M.seen journal.old.media)) Kept inode) }
+    ensures only { IfErr result (λ e. (e ≡ DeviceFault) ⊎ (e ≡ Memory)) }
+    ensures looks { Looks M.moment M.seen M.left M.faults journal.old journal.new result }
+{
+    match read_file(alloc, journal, inode, slot) {
+        Ok(file) => Ok(file),
+        Err(error) => Err(error),
+    }
+}
+
+// The file that a change of an inode starts from: the one that is there, or an empty one, where it is made.
+fn start_file<M: Media>(
+    alloc: Global,
+    journal: &mut Journal<M>,
+    inode: u32,
+    slot: &Slot,
+    base: NodeBase,
+) -> Result<StartedFile, AreaError>
+    requires spelled { IsSpelled journal.old.geometry (store_of (M.seen journal.old.media)) }
+    requires number { is_inode inode ≡ true }
+    requires slot_is { slot_read journal.old.geometry (store_of (M.seen journal.old.media)) inode ≡ Some slot.now }
+    requires is_file { (started (base_of base) (inode_in journal.old.geometry (store_of (M.seen journal.old.media)) inode)).kind ≡ Some kind.File }
+    requires going { journal.old.failed ≡ false }
+    ensures started { IfOk result (IsStartedFile journal.old.geometry (store_of (M.seen journal.old.media)) (base_of base) inode) }
+    ensures only { IfErr result (λ e. (e ≡ DeviceFault) ⊎ (e ≡ Memory)) }
+    ensures looks { Looks M.moment M.seen M.left M.faults journal.old journal.new result }
+{
+    match base {
+        NodeBase::Kept => match read_kept(alloc, journal, inode, slot) {
+            Ok(file) => Ok(file),
+            Err(error) => Err(error),
+        },
+        NodeBase::Made { .. } => Ok(made_file(alloc)),
+        NodeBase::Gone => unreachable!(),
+    }
+}
+
+// Gives each block that the change writes the next of the places.
+fn place_written(
+    alloc: Global,
+    inode: u32,
+    file: StartedFile,
+    change: &NodeChange,
+    places: &[Place],
+) -> Result<WrittenFile, AllocError>
+    requires started { (g : Sizes) × (s : Store) × IsStartedFile g s (change_of change.now).base inode file × HasPlaces g s (change_of change.now) inode places.now }
+    requires tidy { IsTidyChange (change_of change.now) }
+    requires bounded { IsBounded (change_of change.now) }
+    ensures { (g : Sizes) (s : Store) → IsStartedFile g s (change_of change.now).base inode file → HasPlaces g s (change_of change.now) inode places.now → IfOk result (IsWrittenFile g s (change_of change.now) inode places.now) }
+{
+    let numbers = written_numbers(alloc, change)?;
+    let count = numbers.len();
+    let file = place_file(alloc, inode, file, change, &numbers, &places[..count])?;
+    Ok(WrittenFile { numbers, file })
+}
+
+// Adds the bytes of the blocks of these numbers, as the change makes them of those that were found, or of none.
+fn add_bytes<M: Media>(
+    journal: &mut Journal<M>,
+    inode: u32,
+    found: &Option<InodeExtents>,
+    change: &NodeChange,
+    numbers: &[u64],
+    out: &mut Vec<u8>,
+) -> Result<(), AreaError>
+    requires found { IfSome found.now (HasFound journal.old.geometry (store_of (M.seen journal.old.media)) inode) }
+    requires once { IsOnce journal.old.geometry (store_of (M.seen journal.old.media)) inode }
+    requires going { journal.old.failed ≡ false }
+    ensures added { OnOk result (AddsBlocks (change_of change.now) (blocks_from found.now (logical journal.old.geometry (store_of (M.seen journal.old.media)) inode)) numbers.now (length numbers.now) out.old.items out.new.items) }
+    ensures only { IfErr result (λ e. (e ≡ DeviceFault) ⊎ (e ≡ Memory)) }
+    ensures looks { Looks M.moment M.seen M.left M.faults journal.old journal.new result }
+{
+    match found {
+        Some(extents) => match read_changed(journal, inode, Some(extents), change, numbers, out) {
+            Ok(()) => Ok(()),
+            Err(error) => Err(error),
+        },
+        None => match read_changed(journal, inode, None, change, numbers, out) {
+            Ok(()) => Ok(()),
+            Err(error) => Err(error),
+        },
+    }
+}
+
+// Takes blocks of the node pool to list the extents of a file where it wants some, gives it its slot, and puts the images of its extents to others.
+fn root_placed(
+    alloc: Global,
+    pools: &mut Pools,
+    taken: &mut Taken,
+    file: &PlacedFile,
+    change: &NodeChange,
+    touch: u64,
+    images: &mut NodeImages,
+) -> Result<RootedFile, AllocError>
+    requires bounded { IsBounded (change_of change.now) }
+    requires before { (before : PoolsView) × AreInOrder before × WereTaken before pools.old taken.old × (before.nodes.end < 2 ^ 32) }
+    requires undo { CanUndo pools.old taken.old }
+    requires enough { 3 ≤ length pools.old.nodes.free }
+    requires short { (t : Tier) → IfSome (in_tier file.now.plan.lists t) (λ v. length v.extents ≤ MAX_EXTENTS) }
+    ensures rooted { IfOk result (λ r. IsRootedFile (change_of change.now) touch file.now (take (roots_wanted file.now.slot file.now.plan.lists) pools.old.nodes.free) images.old images.new r.slot r.left.items) }
+    ensures wanted { length (take (roots_wanted file.now.slot file.now.plan.lists) pools.old.nodes.free) ≡ roots_wanted file.now.slot file.now.plan.lists }
+    ensures nodes { OnOk result (blocks_of taken.new.nodes.items ≡ blocks_of taken.old.nodes.items ++ take (roots_wanted file.now.slot file.now.plan.lists) pools.old.nodes.free) }
+    ensures images { OnOk result (length images.new ≤ length images.old + 3) }
+    ensures free { OnOk result (length pools.old.nodes.free ≤ length pools.new.nodes.free + 3) }
+    ensures took { TakesMoreNodes pools.old taken.old pools.new taken.new }
+{
+    let count = roots_wanted(&file.slot, &file.plan.lists);
+    let spares = take_spares(alloc, pools, taken, count)?;
+    let rooted = root_file(alloc, file, change, touch, &spares, images)?;
+    Ok(rooted)
+}
+
+// What a file leaves that stays: its data blocks that were left, and the blocks that list none of its extents any more.
+fn lost_by(file: PlacedFile, left: Vec<Run>) -> Lost
+    ensures { LosesOf file left.items result }
+{
+    let plan = file.plan;
+    Lost {
+        nodes: left,
+        fast: plan.fast,
+        block: plan.block,
+        slow: plan.slow,
+    }
+}
+
+// What a file has no use for any more: where it stays, what it leaves; where it is made, all that stood there.
+fn lost_for<M: Media>(
+    alloc: Global,
+    journal: &mut Journal<M>,
+    inode: u32,
+    slot: &Slot,
+    base: NodeBase,
+    file: PlacedFile,
+    left: Vec<Run>,
+) -> Result<Lost, AreaError>
+    requires spelled { IsSpelled journal.old.geometry (store_of (M.seen journal.old.media)) }
+    requires number { is_inode inode ≡ true }
+    requires fits { fits_slot journal.old.geometry slot.now ≡ true }
+    requires slot_is { slot_read journal.old.geometry (store_of (M.seen journal.old.media)) inode ≡ Some slot.now }
+    requires is_file { (started (base_of base) (inode_in journal.old.geometry (store_of (M.seen journal.old.media)) inode)).kind ≡ Some kind.File }
+    requires going { journal.old.failed ≡ false }
+    ensures lost { IfOk result (LosesFile journal.old.geometry (store_of (M.seen journal.old.media)) (base_of base) inode file left.items) }
+    ensures only { IfErr result (λ e. (e ≡ DeviceFault) ⊎ (e ≡ Memory)) }
+    ensures looks { Looks M.moment M.seen M.left M.faults journal.old journal.new result }
+{
+    match base {
+        NodeBase::Kept => Ok(lost_by(file, left)),
+        NodeBase::Made { .. } => match lost_of(alloc, journal, inode, slot) {
+            Ok(lost) => Ok(lost),
+            Err(error) => Err(error),
+        },
+        NodeBase::Gone => unreachable!(),
+    }
+}
+
+// Puts the slot of a file, and what it gives up, behind those of a plan.
+fn push_file<M: Media>(
+    alloc: Global,
+    journal: &mut Journal<M>,
+    inode: u32,
+    slot: &Slot,
+    base: NodeBase,
+    file: PlacedFile,
+    rooted: RootedFile,
+    plan: &mut PartialPlan,
+) -> Result<(), AreaError>
+    requires spelled { IsSpelled journal.old.geometry (store_of (M.seen journal.old.media)) }
+    requires number { is_inode inode ≡ true }
+    requires fits { fits_slot journal.old.geometry slot.now ≡ true }
+    requires slot_is { slot_read journal.old.geometry (store_of (M.seen journal.old.media)) inode ≡ Some slot.now }
+    requires is_file { (started (base_of base) (inode_in journal.old.geometry (store_of (M.seen journal.old.media)) inode)).kind ≡ Some kind.File }
+    requires going { journal.old.failed ≡ false }
+    ensures adds { OnOk result (AddsFile journal.old.geometry (store_of (M.seen journal.old.media)) (base_of base) inode file rooted plan.old plan.new) }
+    ensures only { IfErr result (λ e. (e ≡ DeviceFault) ⊎ (e ≡ Memory)) }
+    ensures looks { Looks M.moment M.seen M.left M.faults journal.old journal.new result }
+{
+    let after = rooted.slot;
+    match lost_for(alloc, journal, inode, slot, base, file, rooted.left) {
+        Ok(its) => match push_part(plan, inode, after, &its) {
+            Ok(()) => Ok(()),
+            Err(_) => Err(AreaError::Memory),
+        },
+        Err(error) => Err(error),
+    }
+}
+
+// Plans a file whose blocks have their places: its bytes, its images, its slot and what it gives up stand behind those of the plan.
+fn plan_written<M: Media>(
+    alloc: Global,
+    journal: &mut Journal<M>,
+    pools: &mut Pools,
+    taken: &mut Taken,
+    inode: u32,
+    slot: &Slot,
+    change: &NodeChange,
+    touch: u64,
+    written: WrittenFile,
+    plan: &mut PartialPlan,
+) -> Result<(), AreaError>
+    requires going { journal.old.failed ≡ false }
+    requires next { IsNext journal.old.geometry (store_of (M.seen journal.old.media)) inode slot.now (change_of change.now) pools.old taken.old plan.old.nodes }
+    requires ready { (places : List Place) × IsWrittenFile journal.old.geometry (store_of (M.seen journal.old.media)) (change_of change.now) inode places written }
+    ensures part { (places : List Place) → IsWrittenFile journal.old.geometry (store_of (M.seen journal.old.media)) (change_of change.now) inode places written → OnOk result (AddsPart journal.old.geometry (store_of (M.seen journal.old.media)) (change_of change.now) touch inode places (length written.numbers.items) taken.old taken.new plan.old plan.new) }
+    ensures images { OnOk result (length plan.new.nodes ≤ length plan.old.nodes + 3) }
+    ensures free { OnOk result (length pools.old.nodes.free ≤ length pools.new.nodes.free + 3) }
+    ensures took { TakesMoreNodes pools.old taken.old pools.new taken.new }
+    ensures only { IfErr result (λ e. (e ≡ DeviceFault) ⊎ (e ≡ Memory)) }
+    ensures looks { Looks M.moment M.seen M.left M.faults journal.old journal.new result }
+{
+    next_nodes_were_free();
+    placed_file_is_planned();
+    planned_file_is_a_part();
+    few_blocks_are_few_runs();
+    changed_map_is_fit();
+    let WrittenFile { numbers, file } = written;
+    match add_bytes(
+        journal,
+        inode,
+        &file.found,
+        change,
+        &numbers,
+        &mut plan.bytes,
+    ) {
+        Ok(()) => match root_placed(alloc, pools, taken, &file, change, touch, &mut plan.nodes) {
+            Ok(rooted) => {
+                match push_file(alloc, journal, inode, slot, change.base, file, rooted, plan) {
+                    Ok(()) => Ok(()),
+                    Err(error) => Err(error),
+                }
+            }
+            Err(_) => Err(AreaError::Memory),
+        },
+        Err(error) => Err(error),
+    }
+}
+
+// Plans a file that is known as its change starts from it.
+fn plan_started<M: Media>(
+    alloc: Global,
+    journal: &mut Journal<M>,
+    pools: &mut Pools,
+    taken: &mut Taken,
+    inode: u32,
+    slot: &Slot,
+    change: &NodeChange,
+    touch: u64,
+    places: &[Place],
+    file: StartedFile,
+    plan: &mut PartialPlan,
+) -> Result<usize, AreaError>
+    requires going { journal.old.failed ≡ false }
+    requires next { IsNext journal.old.geometry (store_of (M.seen journal.old.media)) inode slot.now (change_of change.now) pools.old taken.old plan.old.nodes }
+    requires places { HasPlaces journal.old.geometry (store_of (M.seen journal.old.media)) (change_of change.now) inode places.now }
+    requires started { IsStartedFile journal.old.geometry (store_of (M.seen journal.old.media)) (change_of change.now).base inode file }
+    ensures planned { IfOk result (λ count. PlansInode journal.old.geometry (store_of (M.seen journal.old.media)) (change_of change.now) touch inode places.now count pools.old taken.old pools.new taken.new plan.old plan.new) }
+    ensures took { TakesMoreNodes pools.old taken.old pools.new taken.new }
+    ensures only { IfErr result (λ e. (e ≡ DeviceFault) ⊎ (e ≡ Memory)) }
+    ensures looks { Looks M.moment M.seen M.left M.faults journal.old journal.new result }
+{
+    match place_written(alloc, inode, file, change, places) {
+        Ok(written) => {
+            let count = written.numbers.len();
+            match plan_written(
+                alloc, journal, pools, taken, inode, slot, change, touch, written, plan,
+            ) {
+                Ok(()) => Ok(count),
+                Err(error) => Err(error),
+            }
+        }
+        Err(_) => Err(AreaError::Memory),
+    }
+}
+
+/// Plans a file: reads what it was, gives each block that its change writes a place, takes blocks of the node pool to list its extents where it wants some, and puts its slot, its
+/// images, its bytes and what it gives up behind those of the plan. It answers how many of the places it used. After a refusal nothing is said of the plan; what was taken stands in
+/// `taken`.
+pub fn plan_file_part<M: Media>(
+    alloc: Global,
+    journal: &mut Journal<M>,
+    pools: &mut Pools,
+    taken: &mut Taken,
+    inode: u32,
+    slot: &Slot,
+    change: &NodeChange,
+    touch: u64,
+    places: &[Place],
+    plan: &mut PartialPlan,
+) -> Result<usize, AreaError>
+    requires going { journal.old.failed ≡ false }
+    requires next { IsNext journal.old.geometry (store_of (M.seen journal.old.media)) inode slot.now (change_of change.now) pools.old taken.old plan.old.nodes }
+    requires places { HasPlaces journal.old.geometry (store_of (M.seen journal.old.media)) (change_of change.now) inode places.now }
+    requires file { (started (change_of change.now).base (inode_in journal.old.geometry (store_of (M.seen journal.old.media)) inode)).kind ≡ Some kind.File }
+    ensures planned { IfOk result (λ count. PlansInode journal.old.geometry (store_of (M.seen journal.old.media)) (change_of change.now) touch inode places.now count pools.old taken.old pools.new taken.new plan.old plan.new) }
+    ensures took { TakesMoreNodes pools.old taken.old pools.new taken.new }
+    ensures only { IfErr result (λ e. (e ≡ DeviceFault) ⊎ (e ≡ Memory)) }
+    ensures looks { Looks M.moment M.seen M.left M.faults journal.old journal.new result }
+{
+    match start_file(alloc, journal, inode, slot, change.base) {
+        Ok(file) => {
+            match plan_started(
+                alloc, journal, pools, taken, inode, slot, change, touch, places, file, plan,
+            ) {
+                Ok(count) => Ok(count),
+                Err(error) => Err(error),
+            }
+        }
+        Err(error) => Err(error),
+    }
+}

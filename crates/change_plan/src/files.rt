@@ -1,0 +1,43 @@
+//! What a change makes of a file, as a part of one plan.
+
+ghost use Rattle.std.specs.Prelude.{◌≡◌, ℕ, List, length, take};
+ghost use Rattle.graph_change.specs.Bounds.{IsBounded};
+ghost use Rattle.graph_change.specs.Change.{Change};
+ghost use Rattle.graph_change.specs.Tidy.{IsTidyChange};
+ghost use Rattle.layout.specs.declared.slot.Slot.{Slot};
+ghost use Rattle.layout.specs.Places.{Sizes};
+ghost use Rattle.block_alloc.specs.declared.runs.Run.{Run};
+ghost use Rattle.block_map.specs.Map.{TierRuns};
+ghost use Rattle.block_map.specs.declared.map.Place.{Place};
+ghost use Rattle.area_image.specs.Store.{Store, logical};
+ghost use Rattle.area_commit.specs.declared.plan.Lost.{Lost};
+ghost use Rattle.file_plan.specs.Written.{AreNumbers};
+ghost use Rattle.file_plan.specs.Bytes.{HoldsBlocks, blocks_from};
+ghost use Rattle.file_plan.specs.Planned.{pairs_of};
+ghost use Rattle.file_plan.specs.Roots.{roots_wanted};
+ghost use Rattle.free_pools.specs.Value.{PoolsView};
+ghost use Rattle.free_pools.specs.declared.taking.Taken.{Taken};
+ghost use Rattle.change_plan.specs.Part.{Share, IsPart};
+ghost use Rattle.change_plan.specs.Adding.{HasTaken};
+ghost use Rattle.change_plan.specs.File.{AreFreePlaces, AreFreeNodes, IsPlannedFile};
+ghost use Rattle.change_plan.specs.Started.{IsPlacedFile, IsRootedFile, LosesFile};
+ghost use Rattle.change_plan.specs.declared.placing.PlacedFile.{PlacedFile};
+
+/// What is planned of a file is its part of the plan of all.
+pub fn planned_file_is_a_part()
+    ensures { (g : Sizes) (s : Store) (c : Change) (touch i : ℕ) (x : Slot) (m : TierRuns) (share : Share) (bytes : List ℕ) (old new : List (ℕ × List ℕ)) (lost : Lost)
+        → IsPlannedFile g s c touch i x m share bytes old new lost → IsPart g s c touch i x m share bytes old new lost }
+{}
+
+/// A file that has its places, its slot and what lists its extents, over blocks that were free, with the bytes of what is written and what it gives up, is planned.
+pub fn placed_file_is_planned()
+    ensures { (g : Sizes) (s : Store) (c : Change) (touch i : ℕ) (numbers : List ℕ) (places : List Place) (f : PlacedFile) (spare bytes : List ℕ) (old new : List (ℕ × List ℕ)) (x : Slot) (left : List Run) (lost : Lost)
+        → IsTidyChange c → IsBounded c → AreNumbers c numbers → length places ≡ length numbers → AreFreePlaces g s places → IsPlacedFile g s c i numbers places f
+        → AreFreeNodes g s spare → length spare ≡ roots_wanted f.slot f.plan.lists → IsRootedFile c touch f spare old new x left → HoldsBlocks c (blocks_from f.found (logical g s i)) numbers (length numbers) bytes
+        → LosesFile g s c.base i f left lost → IsPlannedFile g s c touch i x f.plan.map (record { nodes = spare; «data» = pairs_of places }) bytes old new lost }
+{}
+
+/// The blocks of the node pool that stand at the front of the pools, once others were taken, were free.
+pub fn next_nodes_were_free()
+    ensures { (g : Sizes) (s : Store) (left : PoolsView) (taken : Taken) (count : ℕ) → HasTaken g s left taken → AreFreeNodes g s (take count left.nodes.free) }
+{}

@@ -1,0 +1,80 @@
+//! What holds of the plans of the first inodes of a change, over what was taken so far.
+
+ghost use Rattle.std.specs.Prelude.{◌≡◌, ◌≤◌, ◌<◌, ◌+◌, ℕ, List, [], Option, true, drop, length};
+ghost use Rattle.std.specs.List.{Contains};
+ghost use Rattle.tier_device.specs.declared.media.Tier.{Tier};
+ghost use Rattle.graph_change.specs.Change.{Changes, change_at, changed};
+ghost use Rattle.graph_change.specs.Tidy.{AreTidyChanges};
+ghost use Rattle.layout.specs.declared.marks.Marks.{Marks};
+ghost use Rattle.layout.specs.declared.slot.Slot.{Slot};
+ghost use Rattle.layout.specs.Places.{Sizes, IsAllowed, is_inode};
+ghost use Rattle.block_map.specs.Map.{TierRuns};
+ghost use Rattle.block_map.specs.declared.map.Place.{Place};
+ghost use Rattle.area_image.specs.Store.{Store, graph, slot};
+ghost use Rattle.area_image.specs.Spelled.{IsSpelled};
+ghost use Rattle.area_batch.specs.declared.slots.ChangedSlot.{ChangedSlot};
+ghost use Rattle.free_pools.specs.Value.{PoolsView, data_pool};
+ghost use Rattle.free_pools.specs.declared.taking.Taken.{Taken};
+ghost use Rattle.free_pools.specs.Taking.{taken_data};
+ghost use Rattle.file_plan.specs.Planned.{pairs_of};
+ghost use Rattle.area_commit.specs.Plan.{IsPlan, is_changed, lost_in};
+ghost use Rattle.area_commit.specs.Done.{IsCarriedOut};
+ghost use Rattle.area_commit.specs.Room.{AreReadyFor};
+ghost use Rattle.change_plan.specs.Part.{IsTouchedBy};
+ghost use Rattle.change_plan.specs.Parts.{AreParts, share_of};
+ghost use Rattle.change_plan.specs.Adding.{HasTaken, AddsPart};
+ghost use Rattle.change_plan.specs.First.{PlansNothing, PlansFirst, IsWhole, whole_of};
+ghost use Rattle.change_plan.specs.declared.partial.PartialPlan.{PartialPlan};
+
+use crate::laws::{carried_out_change_is_the_graph_after, parts_are_planned};
+use crate::partial::PartialPlan;
+use area_commit::{Rewrite, taken_blocks_were_free};
+use free_pools::Taken;
+use layout::Marks;
+
+/// Before the first inode nothing is planned, over none of the places. What is planned of one inode more, behind them, stands with them: over the next of the places, and over the
+/// blocks of the node pool that were taken for it. Where all places are used, it is planned over all that was taken.
+pub fn added_part_stands_with_the_first()
+    ensures none { (g : Sizes) (s : Store) (cs : Changes) (touch : ℕ) (places : List Place) (taken : Taken) (plan : PartialPlan)
+        → taken.nodes.items ≡ [] → PlansNothing plan → PlansFirst g s cs touch places 0 taken plan }
+    ensures added { (g : Sizes) (s : Store) (cs : Changes) (touch i used count : ℕ) (places : List Place) (left : PoolsView) (old_taken new_taken : Taken) (old new : PartialPlan)
+        → IsSpelled g s → is_inode i ≡ true → ((c : ChangedSlot) → Contains old.slots.items c → c.inode < i) → HasTaken g s left new_taken → pairs_of places ≡ taken_data new_taken
+        → PlansFirst g s cs touch places used old_taken old → AddsPart g s (change_at cs i) touch i (drop used places) count old_taken new_taken old new → PlansFirst g s cs touch places (used + count) new_taken new }
+    ensures all { (g : Sizes) (s : Store) (cs : Changes) (touch used : ℕ) (places : List Place) (taken : Taken) (plan : PartialPlan)
+        → length places ≤ used → pairs_of places ≡ taken_data taken → PlansFirst g s cs touch places used taken plan → (x : ℕ → Slot) × (m : ℕ → TierRuns) × AreParts g s cs touch x m plan.slots.items (share_of taken) plan.bytes.items plan.nodes plan.lost }
+{
+    taken_blocks_were_free();
+}
+
+/// All that was planned over what was taken, as one plan.
+pub fn whole_plan(plan: PartialPlan, taken: Taken, marks: Option<Marks>) -> Rewrite
+    ensures { result ≡ whole_of plan taken marks }
+{
+    Rewrite {
+        slots: plan.slots,
+        marks,
+        nodes: plan.nodes,
+        taken,
+        bytes: plan.bytes,
+        lost: plan.lost,
+    }
+}
+
+/// Where all inodes of a change are planned, over all that was taken, that is a plan which can be carried out, once the pools have room for what is given up; and then the store
+/// spells the graph after the change, and each slot that was written tells the digest that wrote it.
+pub fn whole_change_can_be_carried_out()
+    ensures planned { (g : Sizes) (s : Store) (cs : Changes) (touch : ℕ) (plan : PartialPlan) (taken : Taken) (marks : Option Marks) → IsWhole g s cs touch plan taken marks → IsPlan g s (whole_of plan taken marks) }
+    ensures ready { (g : Sizes) (s : Store) (left : PoolsView) (plan : PartialPlan) (taken : Taken) (marks : Option Marks)
+        → HasTaken g s left taken → length plan.lost.nodes.items ≤ left.nodes.room → ((t : Tier) → length (lost_in plan.lost t) ≤ (data_pool left t).room) → AreReadyFor g s left (whole_of plan taken marks) }
+    ensures spelled { (g : Sizes) (s : Store) (cs : Changes) (touch : ℕ) (plan : PartialPlan) (taken : Taken) (marks : Option Marks) (new : Store)
+        → IsAllowed g → IsSpelled g s → AreTidyChanges cs → IsWhole g s cs touch plan taken marks → IsCarriedOut g s (whole_of plan taken marks) new → IsSpelled g new }
+    ensures graph { (g : Sizes) (s : Store) (cs : Changes) (touch : ℕ) (plan : PartialPlan) (taken : Taken) (marks : Option Marks) (new : Store)
+        → IsAllowed g → IsSpelled g s → AreTidyChanges cs → IsWhole g s cs touch plan taken marks → IsCarriedOut g s (whole_of plan taken marks) new → graph g new ≡ changed cs (graph g s) }
+    ensures touched { (g : Sizes) (s : Store) (cs : Changes) (touch i : ℕ) (plan : PartialPlan) (taken : Taken) (marks : Option Marks) (new : Store)
+        → IsAllowed g → IsSpelled g s → AreTidyChanges cs → IsWhole g s cs touch plan taken marks → IsCarriedOut g s (whole_of plan taken marks) new → is_changed plan.slots.items i ≡ true → IsTouchedBy touch (slot g new i) }
+{
+    taken_blocks_were_free();
+    added_part_stands_with_the_first();
+    parts_are_planned();
+    carried_out_change_is_the_graph_after();
+}

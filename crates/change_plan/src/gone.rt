@@ -1,0 +1,209 @@
+// What is given up where the node of an inode goes.
+ghost use Rattle.std.specs.Prelude.{◌≡◌, ◌≤◌, ◌⊎◌, ◌++◌, ◌∷◌, [], ℕ, List, Some, None, true, false, IfOk, IfErr, OnOk};
+ghost use Rattle.tier_device.specs.declared.media.Tier.{Tier};
+ghost use Rattle.graph_change.specs.Change.{Change};
+ghost use Rattle.layout.specs.declared.places.TheConstants.{FILE_BLOCKS};
+ghost use Rattle.layout.specs.Places.{is_inode};
+ghost use Rattle.layout.specs.Slot.{fits_slot};
+ghost use Rattle.extent_nodes.specs.Spelled.{LiesWithin};
+ghost use Rattle.block_map.specs.Map.{runs_in, LieBelow};
+ghost use Rattle.block_map.specs.declared.map.Place.{Place};
+ghost use Rattle.tree_blocks.specs.After.{started};
+ghost use Rattle.area_image.specs.Store.{store_of, slot_read, space_of, inode as inode_in};
+ghost use Rattle.area_image.specs.Spelled.{IsSpelled};
+ghost use Rattle.area_image.specs.Looks.{Looks};
+ghost use Rattle.area_image.specs.declared.error.AreaError.TheVariants.{DeviceFault, Memory};
+ghost use Rattle.free_pools.specs.declared.taking.Taken.{Taken};
+ghost use Rattle.area_move.specs.Lists.{LieAsIn};
+ghost use Rattle.change_plan.specs.Parts.{LoseBoth};
+ghost use Rattle.change_plan.specs.Adding.{GivesAll, AddsAll, AddsPart};
+ghost use Rattle.change_plan.specs.Gone.{IsSorted, AreAllBlocks};
+
+use crate::part_laws::gone_inode_is_a_part;
+use crate::partial::PartialPlan;
+use area_batch::ChangedSlot;
+use area_commit::Lost;
+use area_image::{AreaError, read_all_extents};
+use area_move::{map_of, roots_left};
+use batch_journal::Journal;
+use block_alloc::Run;
+use block_map::BlockMap;
+use file_plan::all_places;
+use layout::Slot;
+use std::alloc::{AllocError, Global};
+use tier_device::{Media, Tier};
+
+// Where the blocks of an inode lie that has this slot.
+fn read_map<M: Media>(
+    alloc: Global,
+    journal: &mut Journal<M>,
+    inode: u32,
+    slot: &Slot,
+) -> Result<BlockMap, AreaError>
+    requires spelled { IsSpelled journal.old.geometry (store_of (M.seen journal.old.media)) }
+    requires number { is_inode inode ≡ true }
+    requires fits { fits_slot journal.old.geometry slot.now ≡ true }
+    requires slot_is { slot_read journal.old.geometry (store_of (M.seen journal.old.media)) inode ≡ Some slot.now }
+    ensures places { IfOk result (LieAsIn journal.old.geometry (store_of (M.seen journal.old.media)) inode) }
+    ensures within { IfOk result (λ m. (t : Tier) → LiesWithin journal.old.geometry (space_of slot.now t) (runs_in m t)) }
+    ensures only { IfErr result (λ e. (e ≡ DeviceFault) ⊎ (e ≡ Memory)) }
+    ensures looks { Looks M.moment M.seen M.left M.faults journal.old journal.new result }
+{
+    let geometry = journal.geometry();
+    match read_all_extents(alloc, journal, inode, slot) {
+        Ok(found) => match map_of(alloc, &geometry, &found) {
+            Ok(map) => Ok(map),
+            Err(_) => Err(AreaError::Memory),
+        },
+        Err(error) => Err(error),
+    }
+}
+
+// The blocks that list extents, those of the fast tier, and the others, as what is given up.
+fn sorted(
+    alloc: Global,
+    slot: &Slot,
+    roots: Vec<Run>,
+    fast: Vec<Run>,
+    block: Vec<Run>,
+    slow: Vec<Run>,
+) -> Result<Lost, AllocError>
+    ensures sorted { IfOk result (IsSorted slot.now roots.items fast.items) }
+    ensures block { IfOk result (λ lost. lost.block.items ≡ block.items) }
+    ensures slow { IfOk result (λ lost. lost.slow.items ≡ slow.items) }
+{
+    let mut nodes = roots;
+    match *slot {
+        Slot::Directory { .. } => {
+            nodes.extend_from_slice(&fast)?;
+            Ok(Lost {
+                nodes,
+                fast: Vec::new(alloc),
+                block,
+                slow,
+            })
+        }
+        Slot::File { .. } => Ok(Lost {
+            nodes,
+            fast,
+            block,
+            slow,
+        }),
+        Slot::Free => Ok(Lost {
+            nodes,
+            fast,
+            block,
+            slow,
+        }),
+    }
+}
+
+// All blocks of an inode that has this slot, and whose blocks lie so.
+fn all_blocks(alloc: Global, slot: &Slot, map: &BlockMap) -> Result<Lost, AllocError>
+    requires { LieBelow FILE_BLOCKS map.now }
+    ensures { IfOk result (AreAllBlocks slot.now map.now) }
+{
+    let roots = roots_left(alloc, slot, &Slot::Free)?;
+    let fast = all_places(alloc, map, Tier::Fast)?;
+    let block = all_places(alloc, map, Tier::Block)?;
+    let slow = all_places(alloc, map, Tier::Slow)?;
+    let lost = sorted(alloc, slot, roots, fast, block, slow)?;
+    Ok(lost)
+}
+
+// All that an inode has.
+pub fn lost_of<M: Media>(
+    alloc: Global,
+    journal: &mut Journal<M>,
+    inode: u32,
+    slot: &Slot,
+) -> Result<Lost, AreaError>
+    requires spelled { IsSpelled journal.old.geometry (store_of (M.seen journal.old.media)) }
+    requires number { is_inode inode ≡ true }
+    requires fits { fits_slot journal.old.geometry slot.now ≡ true }
+    requires slot_is { slot_read journal.old.geometry (store_of (M.seen journal.old.media)) inode ≡ Some slot.now }
+    ensures all { IfOk result (GivesAll journal.old.geometry (store_of (M.seen journal.old.media)) inode) }
+    ensures only { IfErr result (λ e. (e ≡ DeviceFault) ⊎ (e ≡ Memory)) }
+    ensures looks { Looks M.moment M.seen M.left M.faults journal.old journal.new result }
+{
+    match read_map(alloc, journal, inode, slot) {
+        Ok(map) => match all_blocks(alloc, slot, &map) {
+            Ok(lost) => Ok(lost),
+            Err(_) => Err(AreaError::Memory),
+        },
+        Err(error) => Err(error),
+    }
+}
+
+/// Puts runs that are given up behind others. After a refusal some of them may stand there.
+pub fn push_lost(lost: &mut Lost, its: &Lost) -> Result<(), AllocError>
+    ensures { OnOk result (LoseBoth lost.old its.now lost.new) }
+{
+    lost.nodes.extend_from_slice(&its.nodes)?;
+    lost.fast.extend_from_slice(&its.fast)?;
+    lost.block.extend_from_slice(&its.block)?;
+    lost.slow.extend_from_slice(&its.slow)?;
+    Ok(())
+}
+
+/// Gives up all blocks that an inode has, by its slot: those of its content and those that list its extents, behind what was given up; a free slot has none. It makes three device
+/// calls at most. `Memory` where there was none for what is read, or for the runs: some of them may stand there then.
+pub fn give_all<M: Media>(
+    alloc: Global,
+    journal: &mut Journal<M>,
+    inode: u32,
+    slot: &Slot,
+    lost: &mut Lost,
+) -> Result<(), AreaError>
+    requires spelled { IsSpelled journal.old.geometry (store_of (M.seen journal.old.media)) }
+    requires number { is_inode inode ≡ true }
+    requires fits { fits_slot journal.old.geometry slot.now ≡ true }
+    requires slot_is { slot_read journal.old.geometry (store_of (M.seen journal.old.media)) inode ≡ Some slot.now }
+    ensures adds { OnOk result (AddsAll journal.old.geometry (store_of (M.seen journal.old.media)) inode lost.old lost.new) }
+    ensures only { IfErr result (λ e. (e ≡ DeviceFault) ⊎ (e ≡ Memory)) }
+    ensures looks { Looks M.moment M.seen M.left M.faults journal.old journal.new result }
+{
+    match lost_of(alloc, journal, inode, slot) {
+        Ok(its) => match push_lost(lost, &its) {
+            Ok(()) => Ok(()),
+            Err(_) => Err(AreaError::Memory),
+        },
+        Err(error) => Err(error),
+    }
+}
+
+/// Plans an inode of which no node is left, if there was one: its slot is free, and all that it had is given up. Nothing is taken and no image is put. After a refusal
+/// nothing is said of the plan.
+pub fn plan_gone_part<M: Media>(
+    alloc: Global,
+    journal: &mut Journal<M>,
+    inode: u32,
+    slot: &Slot,
+    plan: &mut PartialPlan,
+) -> Result<(), AreaError>
+    requires spelled { IsSpelled journal.old.geometry (store_of (M.seen journal.old.media)) }
+    requires number { is_inode inode ≡ true }
+    requires fits { fits_slot journal.old.geometry slot.now ≡ true }
+    requires slot_is { slot_read journal.old.geometry (store_of (M.seen journal.old.media)) inode ≡ Some slot.now }
+    ensures part { (c : Change) (touch : ℕ) (places : List Place) (taken : Taken) → (started c.base (inode_in journal.old.geometry (store_of (M.seen journal.old.media)) inode)).kind ≡ None → OnOk result (AddsPart journal.old.geometry (store_of (M.seen journal.old.media)) c touch inode places 0 taken taken plan.old plan.new) }
+    ensures images { plan.new.nodes ≡ plan.old.nodes }
+    ensures only { IfErr result (λ e. (e ≡ DeviceFault) ⊎ (e ≡ Memory)) }
+    ensures looks { Looks M.moment M.seen M.left M.faults journal.old journal.new result }
+{
+    gone_inode_is_a_part();
+    match give_all(alloc, journal, inode, slot, &mut plan.lost) {
+        Ok(()) => match push_slot(&mut plan.slots, inode, Slot::Free) {
+            Ok(()) => Ok(()),
+            Err(_) => Err(AreaError::Memory),
+        },
+        Err(error) => Err(error),
+    }
+}
+
+// Puts the slot of an inode behind the others.
+pub fn push_slot(slots: &mut Vec<ChangedSlot>, inode: u32, slot: Slot) -> Result<(), AllocError>
+    ensures { OnOk result (slots.new.items ≡ slots.old.items ++ (record { inode = inode; slot = slot } ∷ [])) }
+{
+    slots.push(ChangedSlot { inode, slot })?;
+    Ok(())
+}

@@ -1,0 +1,63 @@
+//! What holds of the plans of some inodes, and of all.
+
+ghost use Rattle.std.specs.Prelude.{◌≡◌, ◌≤◌, ◌<◌, ◌+◌, ◌++◌, ◌∷◌, ℕ, List, [], Option, IfSome, true, length, min};
+ghost use Rattle.std.specs.List.{Contains};
+ghost use Rattle.std.specs.FinMap as fin;
+ghost use Rattle.posix_calls.specs.declared.limits.TheConstants.{MAX_INODE};
+ghost use Rattle.graph_change.specs.Change.{Change, Changes, change_at, changed};
+ghost use Rattle.graph_change.specs.Tidy.{AreTidyChanges};
+ghost use Rattle.layout.specs.declared.slot.Slot.{Slot};
+ghost use Rattle.layout.specs.Marks.{fits_marks};
+ghost use Rattle.layout.specs.Places.{Sizes, IsAllowed, is_inode};
+ghost use Rattle.block_map.specs.Map.{TierRuns};
+ghost use Rattle.area_image.specs.Store.{Store, graph, slot};
+ghost use Rattle.area_image.specs.Spelled.{IsSpelled};
+ghost use Rattle.area_batch.specs.declared.slots.ChangedSlot.{ChangedSlot};
+ghost use Rattle.area_commit.specs.declared.plan.Lost.{Lost};
+ghost use Rattle.area_commit.specs.declared.plan.Rewrite.{Rewrite};
+ghost use Rattle.area_commit.specs.Plan.{WereFree, IsPlanned, is_rewritten};
+ghost use Rattle.area_commit.specs.Done.{IsCarriedOut};
+ghost use Rattle.change_plan.specs.Part.{Share, IsPart, IsTouchedBy};
+ghost use Rattle.change_plan.specs.Parts.{AreParts, LoseBoth, HasFree, ShareNone, both, share_of, with_at};
+
+use area_commit::carried_out_inodes_are_written_anew;
+use area_rewrite::{
+    changed_store_spells_the_graph_after, written_directory_is_rewritten,
+    written_file_is_rewritten, written_free_slot_is_inode_after, written_inode_is_read,
+};
+
+/// Before the first inode nothing is planned.
+pub fn no_parts()
+    ensures { (g : Sizes) (s : Store) (cs : Changes) (touch : ℕ) (x : ℕ → Slot) (m : ℕ → TierRuns) (lost : Lost) → lost.nodes.items ≡ [] → lost.fast.items ≡ [] → lost.block.items ≡ [] → lost.slow.items ≡ [] → AreParts g s cs touch x m [] (record { nodes = []; «data» = [] }) [] [] lost }
+{}
+
+/// The plan of one inode more, which is behind all that are planned, over a share of its own.
+pub fn one_more_part()
+    ensures { (g : Sizes) (s : Store) (cs : Changes) (touch i : ℕ) (x : ℕ → Slot) (m : ℕ → TierRuns) (slots : List ChangedSlot) (share its : Share) (bytes its_bytes : List ℕ) (old new : List (ℕ × List ℕ)) (lost its_lost all_lost : Lost) (its_slot : Slot) (its_runs : TierRuns)
+        → IsSpelled g s → AreParts g s cs touch x m slots share bytes old lost → is_inode i ≡ true → ((c : ChangedSlot) → Contains slots c → c.inode < i) → HasFree g s share → HasFree g s its → ShareNone share its
+        → IsPart g s (change_at cs i) touch i its_slot its_runs its its_bytes old new its_lost → LoseBoth lost its_lost all_lost
+        → AreParts g s cs touch (with_at i its_slot x) (with_at i its_runs m) (slots ++ (record { inode = i; slot = its_slot } ∷ [])) (both share its) (bytes ++ its_bytes) new all_lost }
+{}
+
+/// The plans of all inodes, over all that was taken, are a plan that can be carried out.
+pub fn parts_are_planned()
+    ensures { (g : Sizes) (s : Store) (cs : Changes) (touch : ℕ) (x : ℕ → Slot) (m : ℕ → TierRuns) (plan : Rewrite)
+        → AreParts g s cs touch x m plan.slots.items (share_of plan.taken) plan.bytes.items plan.nodes plan.lost → WereFree g s plan.taken → min (length plan.slots.items) 32 + length plan.nodes ≤ 255 → IfSome plan.marks (λ v. fits_marks v ≡ true) → IsPlanned g s x m plan }
+{}
+
+/// Where it is carried out, the store spells the graph after the change, and each slot that was written tells the digest that wrote it.
+pub fn carried_out_change_is_the_graph_after()
+    ensures spelled { (g : Sizes) (s : Store) (cs : Changes) (touch : ℕ) (x : ℕ → Slot) (m : ℕ → TierRuns) (plan : Rewrite) (new : Store)
+        → IsAllowed g → IsSpelled g s → AreTidyChanges cs → AreParts g s cs touch x m plan.slots.items (share_of plan.taken) plan.bytes.items plan.nodes plan.lost → IsPlanned g s x m plan → IsCarriedOut g s plan new → IsSpelled g new }
+    ensures graph { (g : Sizes) (s : Store) (cs : Changes) (touch : ℕ) (x : ℕ → Slot) (m : ℕ → TierRuns) (plan : Rewrite) (new : Store)
+        → IsAllowed g → IsSpelled g s → AreTidyChanges cs → ((i : ℕ) → fin.contains_key cs i ≡ is_rewritten plan i) → AreParts g s cs touch x m plan.slots.items (share_of plan.taken) plan.bytes.items plan.nodes plan.lost → IsPlanned g s x m plan → IsCarriedOut g s plan new → graph g new ≡ changed cs (graph g s) }
+    ensures touched { (g : Sizes) (s : Store) (cs : Changes) (touch i : ℕ) (x : ℕ → Slot) (m : ℕ → TierRuns) (plan : Rewrite) (new : Store)
+        → IsAllowed g → IsSpelled g s → AreTidyChanges cs → AreParts g s cs touch x m plan.slots.items (share_of plan.taken) plan.bytes.items plan.nodes plan.lost → IsPlanned g s x m plan → IsCarriedOut g s plan new → is_rewritten plan i ≡ true → IsTouchedBy touch (slot g new i) }
+{
+    written_file_is_rewritten();
+    written_directory_is_rewritten();
+    written_free_slot_is_inode_after();
+    written_inode_is_read();
+    carried_out_inodes_are_written_anew();
+    changed_store_spells_the_graph_after();
+}

@@ -1,0 +1,39 @@
+//! A change of the graph on the shared media, as one plan.
+//!
+//! What becomes of each inode of the change is planned by itself, over a share of the blocks that were taken; the parts, one after the other, are one plan, which `area_commit`
+//! carries out; and then the store spells the graph after the change.
+#![tactic(auto)]
+
+mod counting;
+mod directories;
+mod directory_part;
+mod file_part;
+mod files;
+mod first;
+mod gone;
+mod inode_part;
+mod kinds;
+mod laws;
+mod part_laws;
+mod partial;
+mod placing;
+mod spares;
+mod starting;
+mod walking;
+
+pub use counting::{count_blocks, wanted_blocks_are_written};
+pub use directories::{plan_over_spares, start_directory};
+pub use directory_part::plan_directory_part;
+pub use file_part::plan_file_part;
+pub use files::{next_nodes_were_free, placed_file_is_planned, planned_file_is_a_part};
+pub use first::{added_part_stands_with_the_first, whole_change_can_be_carried_out, whole_plan};
+pub use gone::{give_all, plan_gone_part};
+pub use inode_part::{plan_inode, plan_next};
+pub use kinds::kind_from;
+pub use laws::{carried_out_change_is_the_graph_after, no_parts, one_more_part, parts_are_planned};
+pub use part_laws::{free_blocks_are_spare, gone_inode_is_a_part, planned_directory_is_a_part};
+pub use partial::PartialPlan;
+pub use placing::{PlacedFile, RootedFile, place_file, root_file};
+pub use spares::{last_blocks, take_spares};
+pub use starting::{StartedFile, made_file, read_file};
+pub use walking::plan_changes;

@@ -1,0 +1,67 @@
+// The file that a change starts from.
+ghost use Rattle.std.specs.Prelude.{◌≡◌, ◌⊎◌, ℕ, [], Some, true, IfOk, IfErr};
+ghost use Rattle.file_graph.specs.declared.effect.Kind.TheVariants as kind;
+ghost use Rattle.graph_change.specs.Net.{Kept, Made};
+ghost use Rattle.layout.specs.Places.{Sizes, is_inode};
+ghost use Rattle.tree_blocks.specs.Inode.{inode_of};
+ghost use Rattle.area_image.specs.Store.{Store, store_of, slot_read};
+ghost use Rattle.area_image.specs.Spelled.{IsSpelled};
+ghost use Rattle.area_image.specs.Looks.{Looks};
+ghost use Rattle.area_image.specs.declared.error.AreaError.TheVariants.{DeviceFault, Memory};
+ghost use Rattle.change_plan.specs.Started.{IsStartedFile};
+
+use area_image::{AreaError, InodeExtents, read_all_extents};
+use area_move::map_of;
+use batch_journal::Journal;
+use block_map::BlockMap;
+use layout::Slot;
+use std::alloc::Global;
+use tier_device::Media;
+
+/// A file that a change starts from: its slot, where its blocks lie, and its extents, where it was there.
+#[derive(Drop)]
+pub struct StartedFile {
+    pub slot: Slot,
+    pub map: BlockMap,
+    pub found: Option<InodeExtents>,
+}
+
+/// A new file, which has no blocks.
+pub fn made_file(alloc: Global) -> StartedFile
+    ensures { (g : Sizes) (s : Store) (i : ℕ) → IsStartedFile g s (Made kind.File) i result }
+{
+    StartedFile {
+        slot: Slot::Free,
+        map: BlockMap::new(alloc),
+        found: None,
+    }
+}
+
+/// The file that an inode is, by its slot: its extents are read, in three device calls at most. `Memory` where there was none for them, or for where its blocks lie.
+pub fn read_file<M: Media>(
+    alloc: Global,
+    journal: &mut Journal<M>,
+    inode: u32,
+    slot: &Slot,
+) -> Result<StartedFile, AreaError>
+    requires number { is_inode inode ≡ true }
+    requires slot_is { slot_read journal.old.geometry (store_of (M.seen journal.old.media)) inode ≡ Some slot.now }
+    requires file { (inode_of slot.now (λ k. [])).kind ≡ Some kind.File }
+    requires spelled { IsSpelled journal.old.geometry (store_of (M.seen journal.old.media)) }
+    ensures started { IfOk result (IsStartedFile journal.old.geometry (store_of (M.seen journal.old.media)) Kept inode) }
+    ensures only { IfErr result (λ e. (e ≡ DeviceFault) ⊎ (e ≡ Memory)) }
+    ensures looks { Looks M.moment M.seen M.left M.faults journal.old journal.new result }
+{
+    let geometry = journal.geometry();
+    match read_all_extents(alloc, journal, inode, slot) {
+        Ok(found) => match map_of(alloc, &geometry, &found) {
+            Ok(map) => Ok(StartedFile {
+                slot: *slot,
+                map,
+                found: Some(found),
+            }),
+            Err(_) => Err(AreaError::Memory),
+        },
+        Err(error) => Err(error),
+    }
+}

@@ -1,0 +1,127 @@
+// A change of the graph is made, and what is kept of the media in memory follows it.
+ghost use Rattle.std.specs.Prelude.{◌≡◌, ◌≤◌, ◌<◌, ℕ, List, true, false, length, OnOk, OnErr, IsErrOf};
+ghost use Rattle.std.specs.FinMap as fin;
+ghost use Rattle.file_graph.specs.Units.{charge};
+ghost use Rattle.graph_change.specs.Bounds.{AreBounded};
+ghost use Rattle.graph_change.specs.Change.{changed};
+ghost use Rattle.graph_change.specs.Tidy.{AreTidyChanges};
+ghost use Rattle.graph_change.specs.View.{changes_of};
+ghost use Rattle.layout.specs.declared.places.TheConstants.{SPARE_BLOCKS};
+ghost use Rattle.layout.specs.Marks.{fits_marks};
+ghost use Rattle.area_image.specs.Store.{store_of, graph};
+ghost use Rattle.free_pools.specs.Value.{free_data};
+ghost use Rattle.area_commit.specs.Settled.{IsSettled};
+ghost use Rattle.area_apply.specs.Applying.{CanApply, IsAppliedStore, Ends};
+ghost use Rattle.area_apply.specs.Costs.{inodes_of, units_in};
+ghost use Rattle.change_plan.specs.Next.{HasFewEntries};
+ghost use Rattle.change_plan.specs.Wanted.{images_for, AreWritten};
+ghost use Rattle.area_apply.specs.declared.error.ApplyError.TheVariants.{NoBlock};
+ghost use Rattle.shared_area.specs.Ready.{IsReady};
+ghost use Rattle.shared_area.specs.Applying.{HasTooFewData, StaysOrChanges, AppliesOrStays};
+
+use area_apply::{ApplyError, apply, charge_follows_the_change, units_of_change};
+use area_room::small_changes_find_blocks;
+use batch_journal::Journal;
+use free_pools::Pools;
+use graph_change::GraphChange;
+use layout::Marks;
+use std::alloc::Global;
+use tier_device::{Media, Tier};
+
+// Makes a change of inodes that cost so much before it, and counts what the graph costs then. The count stays where the change is not made.
+fn change_from<M: Media>(
+    alloc: Global,
+    journal: &mut Journal<M>,
+    pools: &mut Pools,
+    units: &mut u64,
+    before: u64,
+    change: &GraphChange,
+    marks: Marks,
+) -> Result<(), ApplyError>
+    requires going { journal.old.failed ≡ false }
+    requires settled { IsSettled journal.old.geometry (M.seen journal.old.media) (M.left journal.old.media (M.moment journal.old.media)) pools.old }
+    requires charged { units.old ≡ charge (graph journal.old.geometry (store_of (M.seen journal.old.media))) }
+    requires before { before ≡ units_in journal.old.geometry (store_of (M.seen journal.old.media)) (inodes_of change.now) }
+    requires few { before ≤ units.old }
+    requires can { CanApply journal.old.geometry (store_of (M.seen journal.old.media)) (changes_of change.now) marks }
+    ensures ends { Ends M.moment M.seen M.left M.faults (changes_of change.now) marks journal.old journal.new pools.new result }
+    ensures charged { OnOk result (units.new ≡ charge (graph journal.new.geometry (store_of (M.seen journal.new.media)))) }
+    ensures kept { OnErr result (units.new ≡ units.old) }
+    ensures no_block { IsErrOf result NoBlock → (bs : List (ℕ × ℕ)) × AreWritten journal.old.geometry (store_of (M.seen journal.old.media)) (changes_of change.now) bs × (length (free_data pools.old) < length bs) }
+{
+    let _units = journal.geometry().units();
+    charge_follows_the_change();
+    match apply(alloc, journal, pools, change, marks) {
+        Ok(()) => match units_of_change(journal, change) {
+            Ok(after) => {
+                *units = *units - before + after;
+                Ok(())
+            }
+            Err(_) => Err(ApplyError::DeviceFault),
+        },
+        Err(error) => Err(error),
+    }
+}
+
+// The same, with what the inodes cost before it, on media of which no device has failed.
+fn change_and_count<M: Media>(
+    alloc: Global,
+    journal: &mut Journal<M>,
+    pools: &mut Pools,
+    units: &mut u64,
+    change: &GraphChange,
+    marks: Marks,
+) -> Result<(), ApplyError>
+    requires going { journal.old.failed ≡ false }
+    requires settled { IsSettled journal.old.geometry (M.seen journal.old.media) (M.left journal.old.media (M.moment journal.old.media)) pools.old }
+    requires charged { units.old ≡ charge (graph journal.old.geometry (store_of (M.seen journal.old.media))) }
+    requires can { CanApply journal.old.geometry (store_of (M.seen journal.old.media)) (changes_of change.now) marks }
+    ensures ends { Ends M.moment M.seen M.left M.faults (changes_of change.now) marks journal.old journal.new pools.new result }
+    ensures charged { OnOk result (units.new ≡ charge (graph journal.new.geometry (store_of (M.seen journal.new.media)))) }
+    ensures kept { OnErr result (units.new ≡ units.old) }
+    ensures no_block { IsErrOf result NoBlock → (bs : List (ℕ × ℕ)) × AreWritten journal.old.geometry (store_of (M.seen journal.old.media)) (changes_of change.now) bs × (length (free_data pools.old) < length bs) }
+{
+    journal.left_now();
+    match units_of_change(journal, change) {
+        Ok(before) => change_from(alloc, journal, pools, units, before, change, marks),
+        Err(_) => Err(ApplyError::DeviceFault),
+    }
+}
+
+/// Makes a change of the graph with new marks, and keeps pools, marks and units true of the media.
+pub fn make_change<M: Media>(
+    alloc: Global,
+    journal: &mut Journal<M>,
+    pools: &mut Pools,
+    told: &mut Marks,
+    units: &mut u64,
+    change: &GraphChange,
+    marks: Marks,
+) -> Result<(), ApplyError>
+    requires ready { journal.old.failed ≡ false → IsReady journal.old.geometry (M.seen journal.old.media) (M.left journal.old.media (M.moment journal.old.media)) pools.old told.old units.old }
+    requires bounded { AreBounded (changes_of change.now) }
+    requires tidy { AreTidyChanges (changes_of change.now) }
+    requires images { images_for (changes_of change.now) ≤ 255 }
+    requires fits { fits_marks marks ≡ true }
+    requires entries { journal.old.failed ≡ false → (i : ℕ) → fin.contains_key (changes_of change.now) i ≡ true → HasFewEntries (changed (changes_of change.now) (graph journal.old.geometry (store_of (M.seen journal.old.media))) i) }
+    requires units { journal.old.failed ≡ false → charge (changed (changes_of change.now) (graph journal.old.geometry (store_of (M.seen journal.old.media)))) ≤ journal.old.geometry.units }
+    ensures ready { journal.new.failed ≡ false → IsReady journal.new.geometry (M.seen journal.new.media) (M.left journal.new.media (M.moment journal.new.media)) pools.new told.new units.new }
+    ensures any_moment { journal.old.failed ≡ false → StaysOrChanges journal.old.geometry (store_of (M.seen journal.old.media)) (changes_of change.now) marks (M.moment journal.old.media) (M.moment journal.new.media) (M.left journal.old.media) (M.left journal.new.media) }
+    ensures applied { OnOk result (IsAppliedStore journal.old.geometry (store_of (M.seen journal.old.media)) (changes_of change.now) marks (store_of (M.seen journal.new.media))) }
+    ensures no_block { IsErrOf result NoBlock → (bs : List (ℕ × ℕ)) × AreWritten journal.old.geometry (store_of (M.seen journal.old.media)) (changes_of change.now) bs × HasTooFewData journal.old.geometry (store_of (M.seen journal.old.media)) (length bs) }
+    ensures never { ((bs : List (ℕ × ℕ)) → AreWritten journal.old.geometry (store_of (M.seen journal.old.media)) (changes_of change.now) bs → length bs ≤ SPARE_BLOCKS) → IsErrOf result NoBlock → ⊥ }
+    ensures applies { AppliesOrStays M.moment M.seen M.left M.faults journal.old journal.new result }
+{
+    if journal.has_failed() {
+        return Err(ApplyError::DeviceFault);
+    }
+    let _free = pools.free(Tier::Fast);
+    small_changes_find_blocks();
+    match change_and_count(alloc, journal, pools, units, change, marks) {
+        Ok(()) => {
+            *told = marks;
+            Ok(())
+        }
+        Err(error) => Err(error),
+    }
+}
