@@ -20,11 +20,7 @@ use Rattle.area_image.specs.Reads.{Free}
 use Rattle.area_image.specs.Store.{Store, slot_read, logical, inode}
 use Rattle.area_image.proofs.Parts.{slot_as}
 use Rattle.area_move.specs.Lists.{IsListOf}
-use Rattle.area_commit.specs.declared.plan.Lost.{Lost}
-use Rattle.area_commit.specs.Plan.{lost_in}
-use Rattle.file_plan.specs.Placed.{nth_place, PlacesFit}
-use Rattle.file_plan.specs.Planned.{left_in}
-use Rattle.file_plan.specs.declared.planning.FilePlan.{FilePlan}
+use Rattle.file_plan.specs.Placed.{nth_place}
 use Rattle.free_pools.specs.Value.{PoolsView, HasRanges}
 use Rattle.change_plan.specs.File.{AreFreePlaces}
 
@@ -54,9 +50,6 @@ nth_of_first places n few k lt =
     let inside : k < n = omega (arith, lt, long) in
     (get_or-take n places k (record { tier = tiers.Fast; block = 0 }) inside, omega (arith, inside, few))
 
-pub first_fit : (places : List Place) (n : ℕ) → n ≤ length places → PlacesFit places → PlacesFit (take n places)
-first_fit places n few fit k lt = (let at = nth_of_first places n few k lt in subst (λ (q : Place). q.block + 1 < 2 ^ 32) (sym at.0) (fit k at.1))
-
 pub first_free : (g : Sizes) (s : Store) (places : List Place) (n : ℕ) → n ≤ length places → AreFreePlaces g s places → AreFreePlaces g s (take n places)
 first_free g s places n few free = record {
   free = λ k lt. (let at = nth_of_first places n few k lt in subst (λ (q : Place). Free g s q.tier q.block) (sym at.0) (free.free k at.1));
@@ -85,10 +78,3 @@ pool_fits g p allowed ranges =
     let few : g.units ≤ 65536 = allowed.few_units in
     let end : p.nodes.end ≡ 292 + (3072 + 2 * g.units) = ranges.nodes_end in
     omega (arith, few, end)
-
--- ---- what is given up
-
-pub per_tier : (plan : FilePlan) (lost : Lost) → lost.fast.items ≡ plan.fast.items → lost.block.items ≡ plan.block.items → lost.slow.items ≡ plan.slow.items → (t : Tier) → lost_in lost t ≡ left_in plan t
-per_tier plan lost fast block slow tiers.Fast = fast
-per_tier plan lost fast block slow tiers.Block = block
-per_tier plan lost fast block slow tiers.Slow = slow

@@ -2,7 +2,7 @@ use Rattle.std.proofs.Common.{◌≡◌, ◌≤◌, ◌∙◌, inl, ℕ, List, l
 use Rattle.std.proofs.lemmas.List.{length-take-le}
 use Rattle.graph_change.specs.View.{change_of}
 use Rattle.change_plan.specs.Started.{IsPlacedFile}
-use Rattle.change_plan.proofs.PlansFile.{long, first_fit, first_free}
+use Rattle.change_plan.proofs.PlansFile.{long, first_free}
 use Rattle.change_plan.proofs.file_part.place_written.Goals as goal
 
 pub slice_bounds-place_file-end : goal.slice_bounds-place_file-end
@@ -21,14 +21,6 @@ place_file-requires-clause-enough c =
     let few : c.len-count.result ≤ length c.args.places.now = was.3.enough c.len-count.result (inl (was.2.kind_is, numbers.items, c.in_ok-numbers.ensures, sym count)) in
     let first = length-take-le c.len-count.result c.args.places.now few in
     omega (arith, ap length c.deref.ensures.value, first, count)
-
-pub place_file-requires-clause-fit : goal.place_file-requires-clause-fit
-place_file-requires-clause-fit c =
-    let was = c.requires.started in
-    let numbers = c.in_ok-numbers.numbers in
-    let count : c.len-count.result ≡ length numbers.items = c.len-count.ensures ∙ long numbers in
-    let few : c.len-count.result ≤ length c.args.places.now = was.3.enough c.len-count.result (inl (was.2.kind_is, numbers.items, c.in_ok-numbers.ensures, sym count)) in
-    first_fit c.args.places.now c.len-count.result few was.3.fit
 
 pub returns : goal.returns
 returns c g s start has =

@@ -2,7 +2,6 @@ use Rattle.graph_change.specs.View.{change_of}
 use Rattle.area_image.proofs.Looked.{carried, carried_back}
 use Rattle.change_plan.specs.Next.{IsNext, HasPlaces, PlansInode}
 use Rattle.change_plan.specs.Started.{IsStartedFile}
-use Rattle.change_plan.proofs.TakingMore.{takes_none}
 use Rattle.change_plan.proofs.file_part.plan_file_part.Goals as goal
 
 pub start_file-requires : goal.start_file-requires
@@ -38,6 +37,3 @@ returns-in-Ok-plan_started-clause-planned g c =
     carried_back m.moment m.seen m.left m.faults
     (λ h s. PlansInode h s (change_of c.args.change.now) c.args.touch c.args.inode c.args.places.now c.in-Ok-plan_started.count c.args.pools.now c.args.taken.now c.plan_started.new.pools c.plan_started.new.taken c.args.plan.now c.plan_started.new.plan)
     c.args.journal.now c.start_file.new.journal _ c.in-Ok.ensures.looks c.in-Ok-plan_started.ensures.planned
-
-pub returns-in-Err-clause-took : goal.returns-in-Err-clause-took
-returns-in-Err-clause-took g c = takes_none c.args.pools.now c.args.taken.now c.requires.next.pools.undo

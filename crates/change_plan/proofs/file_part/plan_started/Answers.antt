@@ -5,19 +5,12 @@ use Rattle.area_image.specs.Store.{Store, store_of}
 use Rattle.change_plan.specs.Adding.{AddsPart}
 use Rattle.change_plan.specs.Next.{nodes_for}
 use Rattle.change_plan.proofs.PlansFile.{long}
-use Rattle.change_plan.proofs.TakingMore.{takes_none}
 use Rattle.change_plan.proofs.file_part.plan_started.Goals as goal
 
 pub place_written-requires-clause-started : goal.place_written-requires-clause-started
 place_written-requires-clause-started g c =
     let old = c.args.journal.now in
     (old.geometry, store_of (g.M.Media.seen old.media), c.requires.started, c.requires.places)
-
-pub place_written-requires-clause-tidy : goal.place_written-requires-clause-tidy
-place_written-requires-clause-tidy g c = c.requires.next.tidy
-
-pub place_written-requires-clause-bounded : goal.place_written-requires-clause-bounded
-place_written-requires-clause-bounded g c = c.requires.next.bounded
 
 pub plan_written-requires-clause-ready : goal.plan_written-requires-clause-ready
 plan_written-requires-clause-ready g c =
@@ -41,6 +34,3 @@ returns-in-Ok-plan_written-clause-planned g c =
       images = omega (arith, most, images);
       free = omega (arith, most, free);
     }
-
-pub returns-in-Err-clause-took : goal.returns-in-Err-clause-took
-returns-in-Err-clause-took g c = takes_none c.args.pools.now c.args.taken.now c.requires.next.pools.undo

@@ -19,25 +19,12 @@ use Rattle.change_plan.specs.Part.{IsPart}
 use Rattle.change_plan.specs.FileSteps.{AddsFile}
 use Rattle.change_plan.specs.declared.partial.PartialPlan.{PartialPlan}
 use Rattle.change_plan.proofs.PlansFile.{few_lists, pool_fits}
-use Rattle.change_plan.proofs.TakingMore.{takes_none}
 use Rattle.change_plan.proofs.file_part.plan_written.Goals as goal
-
-pub add_bytes-requires-clause-found : goal.add_bytes-requires-clause-found
-add_bytes-requires-clause-found g c = c.requires.ready.1.placed.found
-
-pub add_bytes-requires-clause-once : goal.add_bytes-requires-clause-once
-add_bytes-requires-clause-once g c = (c.requires.next.spelled.inodes c.args.inode c.requires.next.number).once
-
-pub root_placed-requires-clause-bounded : goal.root_placed-requires-clause-bounded
-root_placed-requires-clause-bounded g c = c.requires.next.bounded
 
 pub root_placed-requires-clause-before : goal.root_placed-requires-clause-before
 root_placed-requires-clause-before g c =
     let has = c.requires.next.pools in
     (has.before, has.order, has.took, pool_fits c.args.journal.now.geometry has.before c.requires.next.allowed has.ranges)
-
-pub root_placed-requires-clause-undo : goal.root_placed-requires-clause-undo
-root_placed-requires-clause-undo g c = c.requires.next.pools.undo
 
 pub root_placed-requires-clause-short : goal.root_placed-requires-clause-short
 root_placed-requires-clause-short g c t =
@@ -109,6 +96,3 @@ returns-in-Ok-push_file-clause-part g c places ready =
       bytes_are = ap (λ b. b.items) adds.bytes_are ∙ bytes.1;
       lost_are = adds.lost_are;
     }
-
-pub returns-clause-took : goal.returns-clause-took
-returns-clause-took g c = takes_none c.args.pools.now c.args.taken.now c.requires.next.pools.undo
