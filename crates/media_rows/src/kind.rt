@@ -19,13 +19,9 @@ pub const KINDS: [Kind; 3] = [Kind::Memory, Kind::Ram, Kind::File];
 /// The file of a medium, which is taken away after each row.
 pub const PATH: &str = "medium";
 
-/// What a medium of this kind answers to `FAST BLOCK SLOW: CALLS`, and what it then holds: its tiers have so many bytes, all zero
-/// before the first call. A file tells what it holds once it was closed and opened again.
-pub fn told(rt: &HostRuntime, kind: Kind, input: &str) -> Result<String> {
-    let Some((sizes, calls)) = input.split_once(": ") else {
-        bail!("no calls: {input}");
-    };
-    let sizes = sizes_of(sizes)?;
+/// What a medium of this kind answers to these calls, and what it then holds: its tiers have so many bytes, all zero before the
+/// first call. A file tells what it holds once it was closed and opened again.
+pub fn told(rt: &HostRuntime, kind: Kind, sizes: Sizes, calls: &str) -> Result<String> {
     match kind {
         Kind::Memory => by_memory(rt.alloc(), sizes, calls),
         Kind::Ram => by_ram(rt.alloc(), sizes, calls),
@@ -49,7 +45,8 @@ fn by_memory(alloc: Global, sizes: Sizes, calls: &str) -> Result<String> {
     told_by(alloc, media, calls)
 }
 
-fn memory(alloc: Global, sizes: Sizes) -> Result<MemMedia, AllocError> {
+/// A medium in memory whose tiers have so many bytes, all zero.
+pub fn memory(alloc: Global, sizes: Sizes) -> Result<MemMedia, AllocError> {
     let (fast, block, slow) = zeros(alloc, sizes)?;
     Ok(MemMedia::of_bytes(alloc, fast, block, slow)?)
 }

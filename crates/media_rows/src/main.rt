@@ -1,11 +1,12 @@
 //! Holds a table of device calls against each kind of medium: `MemMedia`, `RamMedia`, and `FileMedia` over a file in the folder
-//! that it runs in.
+//! that it runs in; and rows of media that fail or stop against `FaultMedia` and `StopMedia`.
 //!
 //! The table comes from standard input; its head tells the form of a row. Each row that does not hold is printed with what the
 //! medium said in place of its answers, then how many rows hold; the status is 1 where one does not.
 #![tactic(auto)]
 
 mod call;
+mod failing;
 mod kind;
 mod opening;
 mod row;

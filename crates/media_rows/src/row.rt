@@ -1,7 +1,9 @@
 // A row of the table.
-use crate::kind::{KINDS, told};
+use crate::failing::{COUNTERS, Failing, told_failing};
+use crate::kind::{KINDS, sizes_of, told};
 use crate::opening::opened;
-use anyhow::Result;
+use anyhow::{Result, bail};
+use long_media::Sizes;
 
 /// `NAME: INPUT => ANSWER`
 #[derive(Clone, Copy)]
@@ -23,7 +25,7 @@ impl<'a> Row<'a> {
     }
 }
 
-/// Whether a row holds, of each kind of medium. Where it does not, its name and what differs are printed.
+/// Whether a row holds, of each medium that it is about. Where it does not, its name and what differs are printed.
 pub fn check_row(rt: &HostRuntime, text: &str) -> Result<bool> {
     let Some(row) = Row::read(text) else {
         println!(rt; "no row: {text}")?;
@@ -35,10 +37,38 @@ pub fn check_row(rt: &HostRuntime, text: &str) -> Result<bool> {
     }
 }
 
+// `FAST BLOCK SLOW: CALLS`, or `FAST BLOCK SLOW, FAILURES: CALLS`.
 fn is_said_by_all(rt: &HostRuntime, row: Row<'_>) -> Result<bool> {
+    let Some((media, calls)) = row.input.split_once(": ") else {
+        bail!("no calls: {}", row.input);
+    };
+    match media.split_once(", ") {
+        Some((sizes, words)) => {
+            is_said_failing(rt, row, sizes_of(sizes)?, Failing::read(words)?, calls)
+        }
+        None => is_said_by_kinds(rt, row, sizes_of(media)?, calls),
+    }
+}
+
+fn is_said_by_kinds(rt: &HostRuntime, row: Row<'_>, sizes: Sizes, calls: &str) -> Result<bool> {
     let mut holds = true;
     for kind in KINDS {
-        holds &= is_said(rt, row, &told(rt, kind, row.input)?)?;
+        holds &= is_said(rt, row, &told(rt, kind, sizes, calls)?)?;
+    }
+    Ok(holds)
+}
+
+fn is_said_failing(
+    rt: &HostRuntime,
+    row: Row<'_>,
+    sizes: Sizes,
+    failing: Failing,
+    calls: &str,
+) -> Result<bool> {
+    let mut holds = true;
+    for counter in COUNTERS {
+        let said = told_failing(rt.alloc(), counter, sizes, failing, calls)?;
+        holds &= is_said(rt, row, &said)?;
     }
     Ok(holds)
 }
