@@ -1,10 +1,5 @@
-//! Tests of the shared area, over what the library makes public: small worlds that are made here block by block, with a file that has blocks on several tiers, a hole and a
-//! tail. It is read, and runs of it are moved, over sound media and over media that stop or fail within each call.
+//! Tests of what the shared area answers: a small world with a file on three tiers, a hole and a tail is read by each call, and a damaged one is not opened.
 #![tactic(auto)]
 
 #[cfg(test)]
-mod moves;
-#[cfg(test)]
 mod reads;
-#[cfg(test)]
-mod world;

@@ -2,23 +2,13 @@
 ghost use Rattle.tier_device.specs.declared.media.Tier.{Tier};
 ghost use Rattle.tier_device.specs.Media.{AtRest};
 
-use crate::world::{SIZE, World, put};
 use layout::What;
 use record_check::NodeCounts;
 use shared_area::{AreaError, Shared};
+use small_worlds::{SIZE, World, opened, put, tells_the_root};
 use std::alloc::{AllocError, Global};
 use std::test::Fail;
 use tier_device::{Media, Tier};
-
-// Over any medium: the area is then one value to the check of borrows.
-pub fn opened<M: Media + Drop>(alloc: Global, media: M) -> Result<Shared<M>, AreaError>
-    requires { (t : Tier) → AtRest (M.seen media) (M.left media (M.moment media)) t }
-{
-    match Shared::reopen(alloc, media) {
-        Ok(area) => Ok(area),
-        Err((error, _media)) => Err(error),
-    }
-}
 
 fn tells_the_whole<M: Media>(area: &Shared<M>) -> bool {
     area.charge() == 7
@@ -29,23 +19,6 @@ fn tells_the_whole<M: Media>(area: &Shared<M>) -> bool {
         && area.free(Tier::Fast) == 3
         && area.free(Tier::Block) == 513
         && area.free(Tier::Slow) == 1
-}
-
-pub fn tells_the_root<M: Media + Drop>(area: &mut Shared<M>) -> Result<bool, AreaError> {
-    let counts = NodeCounts::Directory {
-        names: 1,
-        entries: 1,
-    };
-    match area.node(1)? {
-        Some(root) => {
-            Ok(
-                root.counts() == counts
-                    && root.entry_in(b"f") == Some(true)
-                    && root.entry_in(b"g") == Some(false),
-            )
-        }
-        None => Ok(false),
-    }
 }
 
 fn tells_the_file<M: Media + Drop>(area: &mut Shared<M>) -> Result<bool, AreaError> {

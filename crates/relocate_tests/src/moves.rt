@@ -6,11 +6,10 @@ ghost use Rattle.tier_device.specs.Memory.{IsAtRest};
 ghost use Rattle.tier_device.specs.Stop.{medium_of};
 ghost use Rattle.tier_device.specs.Fault.{sound_of};
 
-use crate::reads::{opened, tells_the_root};
-use crate::world::{LONG_SIZE, SIZE, World};
 use layout::BLOCK;
 use record_check::NodeCounts;
 use shared_area::{AreaError, RelocateError, Shared};
+use small_worlds::{LONG_SIZE, SIZE, World, opened, same_bytes, tells_the_root};
 use std::alloc::{AllocError, Global};
 use std::test::Fail;
 use tier_device::{FaultMedia, Fill, Media, MemMedia, StopMedia, Tier};
@@ -353,12 +352,6 @@ fn refused_rows() -> [(RunMove, RelocateError); 16] {
         (run(whole, 2, 0, 6, Tier::Slow), RelocateError::NotMapped),
         (run(whole, 2, 0, 5, Tier::Slow), RelocateError::NoBlock),
     ]
-}
-
-fn same_bytes(media: &MemMedia, other: &MemMedia) -> bool {
-    media.bytes(Tier::Fast) == other.bytes(Tier::Fast)
-        && media.bytes(Tier::Block) == other.bytes(Tier::Block)
-        && media.bytes(Tier::Slow) == other.bytes(Tier::Slow)
 }
 
 // A refusal leaves each byte of the media as it was.

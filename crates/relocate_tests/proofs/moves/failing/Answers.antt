@@ -1,6 +1,6 @@
 use Rattle.std.proofs.Common.{◌∙◌, sym, subst}
 use Rattle.tier_device.specs.Memory.{IsAtRest}
-use Rattle.shared_tests.proofs.moves.failing.Goals as goal
+use Rattle.relocate_tests.proofs.moves.failing.Goals as goal
 
 -- the medium is the one that was given
 pub returns : goal.returns
