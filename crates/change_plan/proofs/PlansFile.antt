@@ -1,5 +1,5 @@
 -- What the steps of the plan of a file want of one another.
-use Rattle.std.proofs.Common.{◌≡◌, ◌≤◌, ◌<◌, ◌+◌, ◌*◌, ◌^◌, ◌∙◌, ℕ, List, length, take, Option, Some, None, refl, sym, ap, subst, arith, true}
+use Rattle.std.proofs.Common.{◌≡◌, ◌≤◌, ◌<◌, ◌∙◌, ℕ, List, length, take, Option, Some, None, refl, sym, ap, subst, arith, true}
 use Rattle.std.specs.Global.{Vec}
 use Rattle.std.specs.Prelude.{IfSome}
 use Rattle.std.proofs.lemmas.List.{get_or-take, length-take-le}
@@ -11,7 +11,7 @@ use Rattle.graph_change.specs.Net.{Base, Made}
 use Rattle.layout.specs.declared.slot.Slot.{Slot}
 use Rattle.layout.specs.declared.slot.Slot.TheVariants as slots
 use Rattle.layout.specs.Extents.{ExtentList}
-use Rattle.layout.specs.Places.{Sizes, IsAllowed, is_data}
+use Rattle.layout.specs.Places.{Sizes, is_data}
 use Rattle.block_map.specs.Map.{TierRuns, runs_in}
 use Rattle.block_map.specs.declared.map.Place.{Place}
 use Rattle.tree_blocks.specs.After.{started}
@@ -21,7 +21,6 @@ use Rattle.area_image.specs.Store.{Store, slot_read, logical, inode}
 use Rattle.area_image.proofs.Parts.{slot_as}
 use Rattle.area_move.specs.Lists.{IsListOf}
 use Rattle.file_plan.specs.Placed.{nth_place}
-use Rattle.free_pools.specs.Value.{PoolsView, HasRanges}
 use Rattle.change_plan.specs.File.{AreFreePlaces}
 
 -- ---- what the change starts from
@@ -62,7 +61,7 @@ first_free g s places n few free = record {
       (sym (ap (λ (q : Place). q.block) a.0) ∙ (same_block ∙ ap (λ (q : Place). q.block) b.0)));
 }
 
--- ---- lists and pools
+-- ---- lists
 
 -- the two counts of a vector's elements
 pub long : (v : Vec ℕ) → v.len ≡ length v.items
@@ -71,10 +70,3 @@ long v = v.ok.0
 pub few_lists : (i : ℕ) (m : TierRuns) (t : Tier) (o : Option ExtentList) → IsListOf i m t o → length (runs_in m t) ≤ 256 → IfSome o (λ v. length v.extents ≤ 340)
 few_lists i m t None is few = tt
 few_lists i m t (Some v) is few = omega (arith, few, ap (λ (w : ExtentList). length w.extents) is.1)
-
--- the block numbers of the node pool have 32 bits
-pub pool_fits : (g : Sizes) (p : PoolsView) → IsAllowed g → HasRanges g p → p.nodes.end < 2 ^ 32
-pool_fits g p allowed ranges =
-    let few : g.units ≤ 65536 = allowed.few_units in
-    let end : p.nodes.end ≡ 292 + (3072 + 2 * g.units) = ranges.nodes_end in
-    omega (arith, few, end)

@@ -18,13 +18,15 @@ use Rattle.file_plan.specs.Roots.{roots_wanted}
 use Rattle.change_plan.specs.Part.{IsPart}
 use Rattle.change_plan.specs.FileSteps.{AddsFile}
 use Rattle.change_plan.specs.declared.partial.PartialPlan.{PartialPlan}
-use Rattle.change_plan.proofs.PlansFile.{few_lists, pool_fits}
+use Rattle.change_plan.proofs.NextFits.{nodes_end}
+use Rattle.change_plan.proofs.PlansFile.{few_lists}
 use Rattle.change_plan.proofs.file_part.plan_written.Goals as goal
 
 pub root_placed-requires-clause-before : goal.root_placed-requires-clause-before
 root_placed-requires-clause-before g c =
-    let has = c.requires.next.pools in
-    (has.before, has.order, has.took, pool_fits c.args.journal.now.geometry has.before c.requires.next.allowed has.ranges)
+    let old = c.args.journal.now in
+    let next = c.requires.next in
+    (next.pools.before, next.pools.order, next.pools.took, nodes_end old.geometry (store_of (g.M.Media.seen old.media)) c.args.inode c.args.slot.now (change_of c.args.change.now) c.args.pools.now c.args.taken.now c.args.plan.now.nodes next)
 
 pub root_placed-requires-clause-short : goal.root_placed-requires-clause-short
 root_placed-requires-clause-short g c t =
