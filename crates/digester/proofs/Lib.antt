@@ -1,0 +1,3 @@
+mod Composed
+mod Moved
+mod Runs

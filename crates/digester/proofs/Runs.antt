@@ -1,0 +1,92 @@
+-- What good records come to is a change that the shared area takes.
+use Rattle.std.proofs.Common.{◌≡◌, ◌<◌, ◌≤◌, ◌+◌, ◌-◌, ◌*◌, ℕ, zero, suc, true, List, [], ◌∷◌, length, take, drop, Option, Some, None, ap, sym, subst, arith}
+use Rattle.std.specs.List.{AllByRecursion, sum_by}
+use Rattle.std.specs.Prelude.{option_map}
+use Rattle.std.specs.FinMap as fin
+use Rattle.std.proofs.lemmas.List.{length-take-le, length-drop, take_all}
+use Rattle.file_graph.specs.declared.effect.Kind.TheVariants as kind
+use Rattle.file_graph.specs.Graph.{Graph, Node, Body, FileBody, DirBody, is_among, touches}
+use Rattle.file_graph.specs.Units.{charge}
+use Rattle.graph_change.specs.Bounds.{AreBounded}
+use Rattle.graph_change.specs.Change.{Change, Changes, change_at, changed, writes_block}
+use Rattle.graph_change.specs.Tidy.{AreTidyChanges}
+use Rattle.graph_change.specs.View.{changes_of}
+use Rattle.graph_change.proofs.Tidying.{tidy_coalesced}
+use Rattle.log_record.specs.declared.format.Record.{Record}
+use Rattle.call_effects.specs.NodeView.{view_at, view_of_body, view_of_node}
+use Rattle.layout.specs.declared.places.TheConstants.{SPARE_BLOCKS}
+use Rattle.layout.specs.Places.{Sizes}
+use Rattle.tree_blocks.specs.After.{started}
+use Rattle.area_image.specs.Store.{Store, inode}
+use Rattle.change_plan.specs.Next.{HasFewEntries, nodes_for}
+use Rattle.change_plan.specs.Wanted.{images_for, AreWritten}
+use Rattle.coalescer.specs.Records.{effects_in}
+use Rattle.coalescer.specs.Within.{AreBlocksIn, images_of}
+use Rattle.record_check.specs.Good.{KeepsLimits}
+use Rattle.digest_plan.specs.Plan.{IsChunk}
+use Rattle.digest_plan.specs.declared.planning.Chunk.{Chunk}
+use Rattle.digest_plan.proofs.Applied.{good_bounded, good_limits, good_charge, fit_images, fit_blocks, changes_touched}
+use Rattle.digester.specs.Digesting.{IsGoodRun}
+
+-- the chunk of a plan is such a run
+pub chunk_run : (held : List ℕ) (capacity : ℕ) (g : Graph) (rs : List Record) (c : Chunk) → 0 < length rs → IsChunk held capacity g rs c → IsGoodRun held capacity g (take c.count rs) (changes_of c.change)
+chunk_run held capacity g rs c some is =
+    let most = is.run.within in
+    let one = is.run.some some in
+    let long = length-take-le c.count rs most in
+    record { some = omega (arith, one, long); good = is.good; fits = is.fits; change = is.change }
+
+-- what stands behind some elements of a list
+pub rest_of : {A : Type 0} (n : ℕ) (xs : List A) → take (length xs - n) (drop n xs) ≡ drop n xs
+rest_of n xs = take_all (length xs - n) (drop n xs) (let long = length-drop n xs in omega (arith, long))
+
+pub all_dropped : {A : Type 0} (P : A → Type 0) (n : ℕ) (xs : List A) → AllByRecursion P xs → AllByRecursion P (drop n xs)
+all_dropped P zero xs all = all
+all_dropped P (suc n) [] all = tt
+all_dropped P (suc n) (x ∷ xs) all = all_dropped P n xs all.1
+
+same_images : (cs : Changes) → images_for cs ≡ images_of cs
+same_images cs = ap (λ (f : ℕ × Change → ℕ). sum_by f (fin.entries cs)) (λ t e. each e t)
+  where
+    each : (e : ℕ × Change) → 1 + nodes_for e.1 ≡ 4 + 2 * fin.len e.1.entries
+    each e = omega arith
+
+few_in : (names : ℕ) (b : Body) → KeepsLimits (Some (view_of_body names b)) → HasFewEntries (Some (record { names = names; body = b }))
+few_in names (FileBody bytes) keeps = tt
+few_in names (DirBody entries) keeps = keeps.1
+
+few_entries : (o : Option Node) → KeepsLimits (option_map view_of_node o) → HasFewEntries o
+few_entries None keeps = tt
+few_entries (Some n) keeps = few_in n.names n.body keeps
+
+are_written : (g : Sizes) (s : Store) (cs : Changes) (bs : List (ℕ × ℕ)) → AllByRecursion (λ b. ((started (change_at cs b.0).base (inode g s b.0)).kind ≡ Some kind.File) × (writes_block (change_at cs b.0) b.1 ≡ true)) bs
+    → AllByRecursion (λ b. writes_block (change_at cs b.0) b.1 ≡ true) bs
+are_written g s cs [] all = tt
+are_written g s cs (b ∷ bs) all = (all.0.1, are_written g s cs bs all.1)
+
+module _ (held : List ℕ) (capacity : ℕ) (g : Graph) (rs : List Record) (cs : Changes) (is : IsGoodRun held capacity g rs cs) where
+  pub bounded : AreBounded cs
+  bounded = subst AreBounded (sym is.change) (good_bounded held capacity g rs is.good)
+
+  pub tidy : AreTidyChanges cs
+  tidy = subst AreTidyChanges (sym is.change) (tidy_coalesced (effects_in rs))
+
+  pub images : images_for cs ≤ 255
+  images =
+      let same = same_images cs in
+      let few = subst (λ (c : Changes). images_of c ≤ 255) (sym is.change) (fit_images (effects_in rs) is.fits) in
+      omega (arith, same, few)
+
+  pub entries : (i : ℕ) → fin.contains_key cs i ≡ true → HasFewEntries (changed cs g i)
+  entries i its =
+      few_entries (changed cs g i) (subst (λ (c : Changes). KeepsLimits (view_at (changed c g) i)) (sym is.change)
+      (good_limits held capacity g rs i is.good (subst (λ (c : Changes). fin.contains_key c i ≡ true) is.change its)))
+
+  pub units : charge (changed cs g) ≤ capacity
+  units = subst (λ (c : Changes). charge (changed c g) ≤ capacity) (sym is.change) (good_charge held capacity g rs is.some is.good)
+
+  pub few_written : (x : Sizes) (s : Store) (bs : List (ℕ × ℕ)) → AreWritten x s cs bs → length bs ≤ SPARE_BLOCKS
+  few_written x s bs are = fit_blocks (effects_in rs) bs is.fits (subst (λ (c : Changes). AreBlocksIn c bs) is.change (are.once, are_written x s cs bs are.each))
+
+  pub touched_in : (i : ℕ) → fin.contains_key cs i ≡ is_among i (touches (effects_in rs))
+  touched_in i = subst (λ (c : Changes). fin.contains_key c i ≡ is_among i (touches (effects_in rs))) (sym is.change) (changes_touched (effects_in rs) i)

@@ -1,0 +1,76 @@
+-- What a digest makes of shared media, and what a stop in it leaves.
+use Rattle.std.specs.Prelude.{◌≡◌, ◌≢◌, ◌⊎◌, ◌≤◌, ◌<◌, ◌+◌, ℕ, List, true, false, length, take, Some, Result, Err, OnOk, IfErr, IsErrOf}
+use Rattle.tier_device.specs.declared.media.Tier.{Tier}
+use Rattle.tier_device.specs.Media.{Left, Rose}
+use Rattle.file_graph.specs.Graph.{Graph, after_effects, is_among, touches}
+use Rattle.graph_change.specs.Change.{Changes, coalesced}
+use Rattle.log_record.specs.declared.format.Record.{Record}
+use Rattle.layout.specs.declared.marks.Marks.{Marks}
+use Rattle.layout.specs.Places.{Sizes}
+use Rattle.batch_journal.specs.Course.{Unmoved}
+use Rattle.batch_journal.specs.View.{JournalView}
+use Rattle.batch_journal.specs.Volume.{IsVolume}
+use Rattle.area_image.specs.Store.{Store, store_of, slot, graph, marks}
+use Rattle.area_image.specs.Reads.{Loose}
+use Rattle.area_image.specs.Spelled.{IsOpenable}
+use Rattle.change_plan.specs.Part.{IsTouchedBy}
+use Rattle.coalescer.specs.Records.{effects_in}
+use Rattle.coalescer.specs.Weight.{fits_chunk, IsLongestRun}
+use Rattle.digest_plan.specs.Plan.{AreGood, IsFirstBad}
+use Rattle.shared_area.specs.Ready.{OpensAs}
+use Rattle.digester.specs.Marking.{marks_after}
+use Rattle.digester.specs.Sealed.{undone, mark_then}
+use Rattle.digester.specs.declared.sealed.Sealed.{Sealed}
+use Rattle.digester.specs.declared.error.DigestError.{DigestError}
+use Rattle.digester.specs.declared.error.DigestError.TheVariants as errors
+
+-- Some good records that one batch takes, and what they come to.
+pub record IsGoodRun (held : List ℕ) (capacity : ℕ) (g : Graph) (rs : List Record) (cs : Changes) : Type 0 where
+  pub some : 0 < length rs
+  pub good : AreGood held capacity g rs
+  pub fits : fits_chunk (effects_in rs) ≡ true
+  pub change : cs ≡ coalesced (effects_in rs)
+
+-- The next n records of a sealed log are digested in the new store: they are the longest run that a batch takes, and each was good over the graph as those before it left it. The graph is as
+-- they leave it; the mark of their client has moved behind them, those of the others stay, and there is one digest more. What they touched tells its number, and every other slot is as it was.
+pub record IsDigested (g : Sizes) (s : Store) (x : Sealed) (n : ℕ) (new : Store) : Type 0 where
+  pub run : IsLongestRun (undone x) n
+  pub good : AreGood x.held.items g.units (graph g s) (take n (undone x))
+  pub opens : IsOpenable g new
+  pub graph_after : graph g new ≡ after_effects (graph g s) (effects_in (take n (undone x)))
+  pub before : Marks
+  pub old_marks : marks s ≡ Some before
+  pub new_marks : marks new ≡ Some (marks_after before x.client (mark_then x n))
+  pub touched : (i : ℕ) → is_among i (touches (effects_in (take n (undone x)))) ≡ true → IsTouchedBy (marks_after before x.client (mark_then x n)).digests (slot g new i)
+  pub others : (i : ℕ) → is_among i (touches (effects_in (take n (undone x)))) ≡ false → slot g new i ≡ slot g s i
+
+-- Contents from which the area opens: with the graph and the marks of that store, and all that is in use unmoved; or with the next records digested, and the mark behind them.
+pub record OpensDigestedOrNot (g : Sizes) (s : Store) (x : Sealed) (content : Tier → List ℕ) : Type 0 where
+  pub volume : IsVolume g content
+  pub store : (OpensAs g s content × Loose g s (store_of content)) ⊎ ((n : ℕ) × IsDigested g s x n (store_of content))
+
+-- The past stays. At each moment from the old one to the new one a stop leaves such contents.
+pub record StaysOrDigests (g : Sizes) (s : Store) (x : Sealed) (before now : ℕ) (old new : ℕ → Tier → List ℕ → Type 0) : Type 0 where
+  pub later : before ≤ now
+  pub past : (m : ℕ) (t : Tier) (c : List ℕ) → m ≤ before → new m t c → old m t c
+  pub kept : (m : ℕ) (t : Tier) (c : List ℕ) → m ≤ before → old m t c → new m t c
+  pub any_moment : (m : ℕ) (content : Tier → List ℕ) → before ≤ m → m ≤ now → Left new m content → OpensDigestedOrNot g s x content
+
+-- Where a record is told to be bad, it is the first bad one of the longest run that a batch takes, tested over the graph as those before it leave it.
+abbrev pub IsToldBad : Sizes → Store → Sealed → DigestError → Type 0
+IsToldBad g s x (errors.BadLog place) = (n k : ℕ) × IsLongestRun (undone x) n × IsFirstBad x.held.items g.units (graph g s) (take n (undone x)) k × (place ≡ x.done + k)
+IsToldBad g s x errors.DeviceFault = Unit {0}
+IsToldBad g s x errors.Memory = Unit {0}
+
+-- After a refusal that is no device fault nothing has moved. A device fault is answered where a device fails, and from then on: an area that has failed answers nothing else, and is not
+-- touched.
+pub record DigestsOrStays {M T : Type 0} (moment : M → ℕ) (seen : M → Tier → List ℕ) (left : M → ℕ → Tier → List ℕ → Type 0) (faults : M → ℕ) (old new : JournalView M) (result : Result T DigestError) : Type 0 where
+  pub unmoved : IfErr result (λ e. e ≢ errors.DeviceFault → Unmoved (moment old.media) (moment new.media) (seen old.media) (seen new.media) (left old.media) (left new.media))
+  pub geometry : new.geometry ≡ old.geometry
+  pub more_faults : faults old.media ≤ faults new.media
+  pub one_fault : faults new.media ≤ faults old.media + 1
+  pub quiet : OnOk result (faults new.media ≡ faults old.media)
+  pub going : OnOk result ((old.failed ≡ false) × (new.failed ≡ false))
+  pub quiet_refused : IfErr result (λ e. e ≢ errors.DeviceFault → (faults new.media ≡ faults old.media) × (old.failed ≡ false) × (new.failed ≡ false))
+  pub stays_failed : old.failed ≡ true → (result ≡ Err errors.DeviceFault) × (new ≡ old)
+  pub fault : IsErrOf result errors.DeviceFault → (new.failed ≡ true) × ((old.failed ≡ true) ⊎ Rose (faults old.media) (faults new.media))

@@ -1,0 +1,20 @@
+-- What other refusals become where records are digested.
+use Rattle.std.specs.Prelude.{◌≡◌}
+use Rattle.area_image.specs.declared.error.AreaError.{AreaError}
+use Rattle.area_image.specs.declared.error.AreaError.TheVariants as area
+use Rattle.area_apply.specs.declared.error.ApplyError.{ApplyError}
+use Rattle.area_apply.specs.declared.error.ApplyError.TheVariants as apply
+use Rattle.digester.specs.declared.error.DigestError.{DigestError}
+use Rattle.digester.specs.declared.error.DigestError.TheVariants as errors
+
+-- A refusal of the shared area that tells of no damage is told as this one.
+abbrev pub IsPlanTold : AreaError → DigestError → Type 0
+IsPlanTold area.DeviceFault e = e ≡ errors.DeviceFault
+IsPlanTold (area.Damaged what block) e = ⊥
+IsPlanTold area.Memory e = e ≡ errors.Memory
+
+-- A refusal of a change that finds its blocks is told as this one.
+abbrev pub IsApplyTold : ApplyError → DigestError → Type 0
+IsApplyTold apply.DeviceFault e = e ≡ errors.DeviceFault
+IsApplyTold apply.NoBlock e = ⊥
+IsApplyTold apply.Memory e = e ≡ errors.Memory

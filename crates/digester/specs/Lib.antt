@@ -1,0 +1,4 @@
+pub mod Digesting
+pub mod Errors
+pub mod Marking
+pub mod Sealed

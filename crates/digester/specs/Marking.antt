@@ -1,0 +1,13 @@
+-- Where marks stand after a digest.
+use Rattle.std.specs.Prelude.{ℕ, ◌+◌, ◌-◌, ◌^◌, ◌==◌, min, if◌then◌else◌, slice_set}
+use Rattle.layout.specs.declared.marks.Mark.{Mark}
+use Rattle.layout.specs.declared.marks.Marks.{Marks}
+use Rattle.update_log.specs.Counting.{next_generation}
+
+-- the mark when so many of the records of a generation are done: it moves to the next generation once they all are
+abbrev pub mark_after : ℕ → ℕ → ℕ → Mark
+mark_after g done total = if done == total then record { generation = next_generation g; done = 0 } else record { generation = g; done = done }
+
+-- with one client's mark moved, and one digest more; at its greatest value their number stays
+abbrev pub marks_after : Marks → ℕ → Mark → Marks
+marks_after v client m = record { clients = slice_set v.clients client m; digests = min (v.digests + 1) (2 ^ 64 - 1) }

@@ -1,0 +1,43 @@
+ghost use Rattle.std.specs.Prelude.{◌≢◌};
+ghost use Rattle.area_apply.specs.declared.error.ApplyError.TheVariants.{NoBlock};
+ghost use Rattle.shared_area.specs.Parts.{IsNoDamage};
+ghost use Rattle.digester.specs.Errors.{IsApplyTold, IsPlanTold};
+
+use shared_area::{ApplyError, AreaError};
+use thiserror::Error;
+
+/// Why the next records of a log are not digested.
+#[derive(Clone, Copy, Debug, PartialEq, Eq, Error)]
+pub enum DigestError {
+    #[error("the device failed")]
+    DeviceFault,
+    /// The record at this place of its region is the first bad one of those that would be digested at once.
+    #[error("record {place} of the log is bad")]
+    BadLog { place: usize },
+    #[error("out of memory")]
+    Memory,
+}
+
+/// Why no records were digested, where the shared area could not be asked; no damage is found on media that are opened.
+pub fn plan_told(error: AreaError) -> DigestError
+    requires { IsNoDamage error }
+    ensures { IsPlanTold error result }
+{
+    match error {
+        AreaError::DeviceFault => DigestError::DeviceFault,
+        AreaError::Damaged { .. } => unreachable!(),
+        AreaError::Memory => DigestError::Memory,
+    }
+}
+
+/// Why no records were digested, where the change was not made; the blocks that a run of records writes are always there.
+pub fn apply_told(error: ApplyError) -> DigestError
+    requires { error ≢ NoBlock }
+    ensures { IsApplyTold error result }
+{
+    match error {
+        ApplyError::DeviceFault => DigestError::DeviceFault,
+        ApplyError::NoBlock => unreachable!(),
+        ApplyError::Memory => DigestError::Memory,
+    }
+}

@@ -1,0 +1,65 @@
+//! Where marks stand after a digest.
+
+ghost use Rattle.std.specs.Prelude.{◌≡◌, ◌<◌, ◌≤◌, ◌+◌, ℕ, List, [], true, length, drop};
+ghost use Rattle.std.specs.List.{list_all};
+ghost use Rattle.layout.specs.declared.marks.TheConstants.{CLIENTS};
+ghost use Rattle.layout.specs.Marks.{fits_mark, fits_marks};
+ghost use Rattle.update_log.specs.Counting.{counted, next_generation, records_in};
+ghost use Rattle.digester.specs.Marking.{mark_after, marks_after};
+
+use layout::{Mark, Marks};
+use update_log::digest_counts_fewer;
+
+/// The mark when `done` of the `total` records of a generation are digested: with the last of them it moves to the next generation.
+/// Generations are counted modulo 2^64.
+pub fn mark_after(generation: u64, done: u32, total: u32) -> Mark
+    ensures { result ≡ mark_after generation done total }
+{
+    if done == total {
+        Mark {
+            generation: generation.wrapping_add(1),
+            done: 0,
+        }
+    } else {
+        Mark { generation, done }
+    }
+}
+
+// The numbers of a mark have the widths of its fields.
+fn mark_fits(mark: Mark)
+    ensures { fits_mark mark ≡ true }
+{}
+
+// So do those of some marks.
+fn marks_fit(marks: &[Mark])
+    ensures { list_all fits_mark marks.now ≡ true }
+{
+    for mark in marks {
+        mark_fits(*mark);
+    }
+}
+
+/// The marks after a digest that moves the mark of one client: those of the others stay, and there is one digest more. At its greatest
+/// value their number stays.
+pub fn marks_after(marks: Marks, client: usize, mark: Mark) -> Marks
+    requires { client < CLIENTS }
+    ensures exact { result ≡ marks_after marks client mark }
+    ensures fits { fits_marks result ≡ true }
+{
+    let mut clients = marks.clients;
+    clients[client] = mark;
+    marks_fit(&clients);
+    Marks {
+        clients,
+        digests: marks.digests.saturating_add(1),
+    }
+}
+
+/// What a client's records were that are digested does not count any more, and all that counted behind them does: also where the mark moves
+/// to the next generation, as long as no region names the one after that.
+pub fn moved_mark_leaves_the_rest()
+    ensures { (g done n : ℕ) (regions : ℕ → List ℕ) → done + n ≤ length (records_in regions g) → records_in regions (next_generation (next_generation g)) ≡ []
+        → counted (mark_after g (done + n) (length (records_in regions g))).generation (mark_after g (done + n) (length (records_in regions g))).done regions ≡ drop n (counted g done regions) }
+{
+    digest_counts_fewer();
+}
