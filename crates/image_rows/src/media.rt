@@ -63,7 +63,8 @@ impl Image {
         }
     }
 
-    fn tier(&self, tier: Tier) -> Result<Vec<u8>, AllocError> {
+    /// The bytes of a tier.
+    pub fn tier(&self, tier: Tier) -> Result<Vec<u8>, AllocError> {
         if self.bytes.is_empty() {
             return Err(AllocError);
         }

@@ -19,14 +19,20 @@ use tier_device::{Media, Tier};
 
 /// `world U,F,B,S FILE`: what stands on the media of a file, once they are opened.
 pub fn tell_world(rt: &HostRuntime, input: &mut Input<'_>, out: &mut Text) {
-    if let Some(geometry) = input.geometry() {
-        let mut image = Image::new(input.alloc(), geometry);
-        match fs::read_to_string(rt, input.rest()) {
-            Ok(lines) => put_lines(&mut image, &lines, input),
-            Err(_) => input.fail(),
-        }
+    if let Some(image) = image_of(rt, input) {
         put_image(&image, out);
     }
+}
+
+/// The media of a file, `U,F,B,S FILE`.
+pub fn image_of(rt: &HostRuntime, input: &mut Input<'_>) -> Option<Image> {
+    let geometry = input.geometry()?;
+    let mut image = Image::new(input.alloc(), geometry);
+    match fs::read_to_string(rt, input.rest()) {
+        Ok(lines) => put_lines(&mut image, &lines, input),
+        Err(_) => input.fail(),
+    }
+    Some(image)
 }
 
 fn put_lines(image: &mut Image, lines: &str, input: &mut Input<'_>) {
