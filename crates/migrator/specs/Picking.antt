@@ -6,7 +6,6 @@ use Rattle.layout.specs.Places.{Sizes}
 use Rattle.area_image.specs.Store.{Store, slot, touch_of}
 use Rattle.area_move.specs.Moving.{CanMove}
 use Rattle.shared_area.specs.Running.{file_lies, IsFirstRun}
-use Rattle.migrator.specs.declared.picking.TheConstants.{MOST_BLOCKS}
 use Rattle.migrator.specs.declared.picking.FileRun.{FileRun}
 
 -- Some block of the file at an inode lies in a tier.
@@ -21,10 +20,10 @@ touched g s i = touch_of (slot g s i)
 abbrev pub ComesBefore : Sizes → Store → ℕ → ℕ → Type 0
 ComesBefore g s i j = (touched g s i < touched g s j) ⊎ ((touched g s i ≡ touched g s j) × (i ≤ j))
 
--- Of the files with a block in a tier, as far as they are among these, the one that comes first, with its first run there.
+-- Of the files with a block in a tier, as far as they are among these, the one that comes first, with its first run there, of 256 blocks at most.
 pub record IsFirst (g : Sizes) (s : Store) (t : Tier) (among : ℕ → Type 0) (x : FileRun) : Type 0 where
   pub inside : among x.inode
-  pub run : IsFirstRun (file_lies g s x.inode t) MOST_BLOCKS x.run
+  pub run : IsFirstRun (file_lies g s x.inode t) 256 x.run
   pub least : (j : ℕ) → among j → LiesIn g s t j → ComesBefore g s x.inode j
 
 -- That is the one; none where none of these has a block there.
