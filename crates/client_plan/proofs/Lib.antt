@@ -1,0 +1,10 @@
+pub mod Asking
+pub mod Courses
+pub mod Ends
+pub mod Lacks
+pub mod Outcomes
+pub mod RootAlone
+pub mod Serving
+pub mod Spelled
+pub mod Stepping
+pub mod Whole

@@ -1,0 +1,156 @@
+-- What a call comes to is one step of the file tree.
+use Rattle.std.proofs.Common.{◌≡◌, ◌⊎◌, inl, inr, ℕ, ◌≤◌, List, [], length, refl, Some, None, Option, Ok, Err, Bool, true, false, ap, sym, ◌∙◌, subst}
+use Rattle.std.specs.Prelude.{◌&&◌, nat_le}
+use Rattle.std.proofs.lemmas.Bool.{and_parts, leb-true}
+use Rattle.posix_calls.specs.declared.call.Call.{Call}
+use Rattle.posix_calls.specs.declared.call.Reply.{Reply}
+use Rattle.posix_calls.specs.declared.operation.Operation.{Operation}
+use Rattle.posix_calls.specs.declared.operation.Operation.TheVariants.{Tell, NewDir, NewFile, OpenFile, CloseFile, Write, Resize, RemoveDir, AddName, DropName, Move}
+use Rattle.posix_calls.specs.Tree.{Own, Descriptors, with_own}
+use Rattle.posix_calls.specs.Query.{Gives, Known, run_part}
+use Rattle.posix_calls.specs.Decide.{decide}
+use Rattle.posix_calls.specs.Operations.{reply_of, own_after, Step}
+use Rattle.posix_calls.proofs.Steps.{with_same}
+use Rattle.file_graph.specs.Graph.{Graph, is_among, touches, after_effects}
+use Rattle.file_graph.specs.Units.{growth}
+use Rattle.file_graph.specs.declared.effect.Effect.{Effect}
+use Rattle.log_record.specs.Grammar.{spelling}
+use Rattle.log_record.specs.declared.format.Record.{Record}
+use Rattle.call_effects.specs.Changed.{changes}
+use Rattle.call_effects.specs.Effects.{recounted, effects_by}
+use Rattle.call_effects.specs.Known.{Knowledge, Agrees, IsPlanned, part_of}
+use Rattle.call_effects.specs.Records.{names_if, effects_asked}
+use Rattle.call_effects.specs.Wholes.{IsSound, state_of}
+use Rattle.call_effects.proofs.KnownAsking.{bind_known, result_is}
+use Rattle.call_effects.proofs.KnownSteps.{planned_step, planned_sound, refused_step}
+use Rattle.call_effects.proofs.KnownUnits.{planned_units}
+use Rattle.call_effects.proofs.SubjectLists.{subjects_touched}
+use Rattle.call_effects.proofs.Unchanged.{nothing_asked}
+use Rattle.client_plan.specs.declared.outcome.DescriptorChange.{DescriptorChange}
+use Rattle.client_plan.specs.declared.outcome.Outcome.{Outcome}
+use Rattle.client_plan.specs.declared.outcome.Outcome.TheVariants as outcomes
+use Rattle.client_plan.specs.Course.{Goes}
+use Rattle.client_plan.specs.Holdings.{Holdings}
+use Rattle.client_plan.specs.Lacking.{is_record}
+use Rattle.client_plan.specs.Planned.{answered, course, outcome, made_by, change_of, own_changed}
+use Rattle.client_plan.specs.Steps.{IsOf, IsReady}
+use Rattle.client_plan.proofs.Ends.{LogGoes, OperationGoes, course_goes, course_refuses}
+use Rattle.client_plan.proofs.Outcomes.{Answer, Error, Told, ends, reply_is, log_is}
+use Rattle.client_plan.proofs.Spelled.{record_from}
+
+-- the change of the descriptors is that of the operation
+own_is : (new : ℕ) (own : Own) (operation : Operation) → own_after new own operation ≡ own_changed own (change_of new operation)
+own_is new own (Tell answer) = refl
+own_is new own (NewDir at) = refl
+own_is new own (NewFile at number reads writes) = refl
+own_is new own (OpenFile i empties number reads writes) = refl
+own_is new own (CloseFile i number) = refl
+own_is new own (Write i at bytes) = refl
+own_is new own (Resize i len) = refl
+own_is new own (RemoveDir at i) = refl
+own_is new own (AddName at i) = refl
+own_is new own (DropName at i) = refl
+own_is new own (Move from to i is_dir replaced) = refl
+
+module _ (k : Knowledge) (h : Holdings) (of : IsOf k h) (call : Call) where
+  -- ---- a call that is logged
+
+  module _ (operation : Operation) (comes : run_part (part_of k) (decide h.own call) ≡ Known (Ok operation)) (o : Outcome) (at : OperationGoes (part_of k) h operation o) where
+    known : run_part (part_of k) (decide k.own call) ≡ Known (Ok operation)
+    known = subst (λ own. run_part (part_of k) (decide own call) ≡ Known (Ok operation)) of.own comes
+
+    quiet : changes operation ≡ false → IsPlanned k call at.new operation []
+    quiet unchanged = record { comes = known; effects = (nothing_asked (part_of k) at.new operation unchanged).gives [] refl; number = λ m. of.numbers at.new (at.number m) }
+
+    module _ (log : LogGoes (part_of k) h at.new operation at.units o) where
+      effects_are : (names : ℕ) × (effects_by names at.new operation ≡ log.change.effects)
+      effects_are =
+          let found = bind_known (part_of k) (names_if (recounted operation)) (λ names. Gives (effects_by names at.new operation)) log.change.effects log.effects in
+          (found.0, result_is (part_of k) (effects_by found.0 at.new operation) log.change.effects found.2)
+
+      leased : (i : ℕ) → is_among i (touches log.change.effects) ≡ true → h.writes i ≡ true
+      leased i there = at.leased i (subjects_touched effects_are.0 at.new i operation ∙ ap (λ (es : List Effect). is_among i (touches es)) effects_are.1 ∙ there)
+
+      ready : IsReady k h call log.change (reply_of operation) (made_by at.new operation) (change_of at.new operation)
+      ready =
+          let fits = and_parts (is_record log.change) (nat_le (length (spelling log.change)) log.most) log.fits in
+          record {
+            operation = operation;
+            new = at.new;
+            planned = record { comes = known; effects = log.effects; number = λ m. of.numbers at.new (at.number m) };
+            counted = at.grows ∙ ap (λ n. Known (Ok n)) (sym log.same);
+            enough = subst (λ n. n ≤ h.spare) (sym log.same) at.enough;
+            leased = leased;
+            pinned = at.pinned;
+            spelled = record_from log.change fits.0;
+            most = log.most;
+            room = log.room;
+            short = leb-true (length (spelling log.change)) log.most fits.1;
+            told = refl;
+            makes = refl;
+            opens = refl;
+          }
+
+  ready_as : (entry other : Record) (reply answer : Reply) (made number : Option ℕ) (change descriptor : Option DescriptorChange) → outcomes.Log entry reply made change ≡ outcomes.Log other answer number descriptor → IsReady k h call other answer number descriptor → IsReady k h call entry reply made change
+  ready_as entry other reply answer made number change descriptor e r =
+      let one : other ≡ entry = cc in
+      let two : answer ≡ reply = cc in
+      let three : number ≡ made = cc in
+      let four : descriptor ≡ change = cc in
+      subst (λ x. IsReady k h call entry reply made x) four (subst (λ x. IsReady k h call entry reply x descriptor) three (subst (λ x. IsReady k h call entry x number descriptor) two (subst (λ x. IsReady k h call x answer number descriptor) one r)))
+
+  pub logged_ready : (entry : Record) (reply : Reply) (made : Option ℕ) (change : Option DescriptorChange) → outcome (part_of k) h call ≡ outcomes.Log entry reply made change → IsReady k h call entry reply made change
+  logged_ready entry reply made change e =
+      let o = outcomes.Log entry reply made change in
+      let at = course_goes (part_of k) h call o (log_is (part_of k) h call entry reply made change e) in
+      elim (ends (part_of k) h at.0 o at.2) [
+        | inl log ↦ ready_as entry log.change reply (reply_of at.0) made (made_by at.2.new at.0) change (change_of at.2.new at.0) log.is (ready at.0 at.1 o at.2 log)
+        | inr told ↦ absurd (let clash : outcomes.Log entry reply made change ≡ answered at.2.new at.0 = told.1 in cc)
+      ]
+
+  module _ (g : Graph) (held : Descriptors) (sound : IsSound g held) (agrees : Agrees k g held) where
+    -- the client's descriptors are those that it has
+    same_held : with_own held k.client k.own ≡ held
+    same_held = let own : held k.client ≡ k.own = λ t n. agrees.own n t in ap (λ (own : Own). with_own held k.client own) (sym own) ∙ with_same held k.client
+
+    pub logged_step : (entry : Record) (reply : Reply) (made : Option ℕ) (change : Option DescriptorChange) → outcome (part_of k) h call ≡ outcomes.Log entry reply made change → Step (state_of g held) k.client call reply (state_of (after_effects g entry.effects) (with_own held k.client (own_changed k.own change)))
+    logged_step entry reply made change e =
+        let r = logged_ready entry reply made change e in
+        let own = own_is r.new k.own r.operation ∙ ap (own_changed k.own) (sym r.opens) in
+        subst (λ (x : Own). Step (state_of g held) k.client call reply (state_of (after_effects g entry.effects) (with_own held k.client x))) own (subst (λ x. Step (state_of g held) k.client call x (state_of (after_effects g entry.effects) (with_own held k.client (own_after r.new k.own r.operation)))) (sym r.told) (planned_step k g held sound agrees call r.new r.operation entry.effects r.planned))
+
+    pub logged_sound : (entry : Record) (reply : Reply) (made : Option ℕ) (change : Option DescriptorChange) → outcome (part_of k) h call ≡ outcomes.Log entry reply made change → IsSound (after_effects g entry.effects) (with_own held k.client (own_changed k.own change))
+    logged_sound entry reply made change e =
+        let r = logged_ready entry reply made change e in
+        let own = own_is r.new k.own r.operation ∙ ap (own_changed k.own) (sym r.opens) in
+        subst (λ (x : Own). IsSound (after_effects g entry.effects) (with_own held k.client x)) own (planned_sound k g held sound agrees call r.new r.operation entry.effects r.planned)
+
+    pub logged_growth : (entry : Record) (reply : Reply) (made : Option ℕ) (change : Option DescriptorChange) → outcome (part_of k) h call ≡ outcomes.Log entry reply made change → growth g entry.effects ≡ entry.units
+    logged_growth entry reply made change e =
+        let r = logged_ready entry reply made change e in
+        planned_units k g held call r.new r.operation entry.effects entry.units sound agrees r.planned r.counted
+
+    -- ---- a call that is answered
+
+    told_step : (reply : Reply) (change : Option DescriptorChange) (operation : Operation) (new : ℕ) → IsPlanned k call new operation [] → outcomes.Reply reply change ≡ answered new operation → Step (state_of g held) k.client call reply (state_of g (with_own held k.client (own_changed k.own change)))
+    told_step reply change operation new plan is =
+        let told : reply_of operation ≡ reply = cc in
+        let opens : change_of new operation ≡ change = cc in
+        let own = own_is new k.own operation ∙ ap (own_changed k.own) opens in
+        subst (λ (x : Own). Step (state_of g held) k.client call reply (state_of g (with_own held k.client x))) own (subst (λ x. Step (state_of g held) k.client call x (state_of g (with_own held k.client (own_after new k.own operation)))) told (planned_step k g held sound agrees call new operation [] plan))
+
+    by_answer : (reply : Reply) (change : Option DescriptorChange) → Answer (part_of k) h call reply change → Step (state_of g held) k.client call reply (state_of g (with_own held k.client (own_changed k.own change)))
+    by_answer reply change (Error r is told none) =
+        let known : run_part (part_of k) (decide k.own call) ≡ Known (Err r) = subst (λ own. run_part (part_of k) (decide own call) ≡ Known (Err r)) of.own (course_refuses (part_of k) h r call refl is) in
+        let own : k.own ≡ own_changed k.own change = ap (own_changed k.own) (sym none) in
+        let at : Step (state_of g held) k.client call reply (state_of g held) = subst (λ x. Step (state_of g held) k.client call x (state_of g held)) (sym told) (refused_step k g held sound agrees call r known) in
+        subst (λ (d : Descriptors). Step (state_of g held) k.client call reply (state_of g d)) (sym same_held ∙ ap (λ (x : Own). with_own held k.client x) own) at
+    by_answer reply change (Told o is e) =
+        let at = course_goes (part_of k) h call o is in
+        elim (ends (part_of k) h at.0 o at.2) [
+          | inl log ↦ absurd (let clash : outcomes.Reply reply change ≡ outcomes.Log log.change (reply_of at.0) (made_by at.2.new at.0) (change_of at.2.new at.0) = sym e ∙ log.is in cc)
+          | inr told ↦ told_step reply change at.0 at.2.new (quiet at.0 at.1 o at.2 told.0) (sym e ∙ told.1)
+        ]
+
+    pub answered_step : (reply : Reply) (change : Option DescriptorChange) → outcome (part_of k) h call ≡ outcomes.Reply reply change → Step (state_of g held) k.client call reply (state_of g (with_own held k.client (own_changed k.own change)))
+    answered_step reply change e = by_answer reply change (reply_is (part_of k) h call reply change e)

@@ -1,0 +1,90 @@
+-- What a call comes to, by what a client knows and has.
+use Rattle.std.specs.Prelude.{ℕ, Bool, true, false, Option, Some, None, if◌then◌else◌}
+use Rattle.posix_calls.specs.Tree.{Own, set_own}
+use Rattle.posix_calls.specs.Query.{Part, run_part}
+use Rattle.posix_calls.specs.Decide.{decide}
+use Rattle.posix_calls.specs.Operations.{makes, opens, reply_of}
+use Rattle.posix_calls.specs.declared.call.Call.{Call}
+use Rattle.posix_calls.specs.declared.operation.Operation.{Operation}
+use Rattle.posix_calls.specs.declared.operation.Operation.TheVariants.{NewFile, OpenFile, CloseFile}
+use Rattle.log_record.specs.declared.format.Record.{Record}
+use Rattle.call_effects.specs.Changed.{changes}
+use Rattle.call_effects.specs.Records.{effects_asked, units_asked}
+use Rattle.call_effects.specs.Subjects.{subjects_of}
+use Rattle.client_plan.specs.declared.outcome.DescriptorChange.{DescriptorChange}
+use Rattle.client_plan.specs.declared.outcome.Outcome.{Outcome}
+use Rattle.client_plan.specs.declared.outcome.Outcome.TheVariants.{Reply, Need, Log}
+use Rattle.client_plan.specs.Course.{Course, Goes, ◌>>=◌, end_of}
+use Rattle.client_plan.specs.Holdings.{Holdings}
+use Rattle.client_plan.specs.Lacking.{root_alone, not_refused, unpinned, looked, numbered, written, paid, pinned, roomy, fitting}
+
+-- ---- what is opened and closed
+
+-- what becomes of the client's descriptors, where a new node has the number new
+abbrev pub change_of : ℕ → Operation → Option DescriptorChange
+change_of new (NewFile at number reads writes) = Some (record { number = number; what = Some (record { inode = new; reads = reads; writes = writes }) })
+change_of new (OpenFile i empties number reads writes) = Some (record { number = number; what = Some (record { inode = i; reads = reads; writes = writes }) })
+change_of new (CloseFile i number) = Some (record { number = number; what = None })
+change_of new _ = None
+
+-- the descriptors after a change
+abbrev pub own_changed : Own → Option DescriptorChange → Own
+own_changed own None = own
+own_changed own (Some change) = set_own own change.number change.what
+
+-- ---- the end of the course
+
+-- the call is answered, and nothing is logged
+abbrev pub answered : ℕ → Operation → Outcome
+answered new operation = Reply (reply_of operation) (change_of new operation)
+
+-- the number of the node that is made, if one is
+abbrev pub made_by : ℕ → Operation → Option ℕ
+made_by new operation = if makes operation then Some new else None
+
+-- the record of an operation, which has these units
+abbrev pub recorded : Part → Holdings → ℕ → Operation → ℕ → Course Record
+recorded p h new operation units = do
+  es ← looked p h (effects_asked new operation)
+  Goes (record { units = units; effects = es })
+
+-- the record is logged, where there is room for it
+abbrev pub logged : Part → Holdings → ℕ → Operation → ℕ → Course Outcome
+logged p h new operation units = do
+  most ← roomy h.room
+  made ← recorded p h new operation units
+  _ ← fitting most made
+  Goes (Log made (reply_of operation) (made_by new operation) (change_of new operation))
+
+-- only what changes something is logged
+abbrev pub settled : Part → Holdings → ℕ → Operation → ℕ → Course Outcome
+settled p h new operation units = if changes operation then logged p h new operation units else Goes (answered new operation)
+
+-- what follows once a call has come to its operation
+abbrev pub planned : Part → Holdings → Operation → Course Outcome
+planned p h operation = do
+  new ← numbered h.numbers (makes operation)
+  _ ← written p h new operation (subjects_of new operation)
+  units ← looked p h (units_asked operation)
+  _ ← paid h.spare units
+  _ ← pinned h.pins (opens new operation)
+  settled p h new operation units
+
+-- ---- the whole course
+
+abbrev pub course : Part → Holdings → Call → Course Outcome
+course p h call = do
+  _ ← not_refused (run_part root_alone (decide h.own call))
+  _ ← unpinned h call
+  operation ← looked p h (decide h.own call)
+  planned p h operation
+
+-- what a call comes to: a reply, the first thing that is lacking, or a record
+abbrev pub outcome : Part → Holdings → Call → Outcome
+outcome p h call = end_of (course p h call)
+
+-- the record in an outcome, if there is one
+abbrev pub record_in : Outcome → Option Record
+record_in (Reply reply change) = None
+record_in (Need need) = None
+record_in (Log made_record reply made change) = Some made_record

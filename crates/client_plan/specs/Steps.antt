@@ -1,0 +1,40 @@
+-- How what a client has stands to what it knows, and a call that is logged.
+use Rattle.std.specs.Prelude.{◌≡◌, ℕ, ◌≤◌, length, true, Option, Some, Ok}
+use Rattle.posix_calls.specs.Query.{Known, run_part}
+use Rattle.posix_calls.specs.Operations.{opens, reply_of}
+use Rattle.posix_calls.specs.declared.call.Call.{Call}
+use Rattle.posix_calls.specs.declared.call.Reply.{Reply}
+use Rattle.posix_calls.specs.declared.descriptor.Descriptor.{Descriptor}
+use Rattle.posix_calls.specs.declared.operation.Operation.{Operation}
+use Rattle.file_graph.specs.Graph.{is_among, touches}
+use Rattle.log_record.specs.Grammar.{IsRecord, spelling}
+use Rattle.log_record.specs.declared.format.Record.{Record}
+use Rattle.call_effects.specs.Known.{Knowledge, IsPlanned, part_of}
+use Rattle.call_effects.specs.Records.{units_asked}
+use Rattle.client_plan.specs.declared.outcome.DescriptorChange.{DescriptorChange}
+use Rattle.client_plan.specs.Holdings.{Holdings}
+use Rattle.client_plan.specs.Planned.{change_of, made_by}
+
+-- what a client has is of the client that knows this
+pub record IsOf (k : Knowledge) (h : Holdings) : Type 0 where
+  pub own : h.own ≡ k.own
+  pub numbers : (i : ℕ) → is_among i h.numbers ≡ true → k.granted i ≡ true
+
+-- all that a call has to have as its record is begun: by what the client knows it comes to this record, of which each inode is held for
+-- writing; its units are there, what it opens is pinned, and the region has room for it
+pub record IsReady (k : Knowledge) (h : Holdings) (call : Call) (change : Record) (reply : Reply) (made : Option ℕ) (descriptor : Option DescriptorChange) : Type 0 where
+  pub operation : Operation
+  pub new : ℕ
+  pub planned : IsPlanned k call new operation change.effects
+  pub counted : run_part (part_of k) (units_asked operation) ≡ Known (Ok change.units)
+  pub enough : change.units ≤ h.spare
+  pub leased : (i : ℕ) → is_among i (touches change.effects) ≡ true → h.writes i ≡ true
+  pub pinned : (what : ℕ × Descriptor) → opens new operation ≡ Some what → is_among what.1.inode h.pins ≡ true
+  pub spelled : IsRecord change
+  pub most : ℕ
+  pub room : h.room ≡ Some most
+  pub short : length (spelling change) ≤ most
+  -- what is answered then, and what becomes of the client
+  pub told : reply ≡ reply_of operation
+  pub makes : made ≡ made_by new operation
+  pub opens : descriptor ≡ change_of new operation

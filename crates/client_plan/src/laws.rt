@@ -1,0 +1,51 @@
+//! What holds of every client and every call.
+
+ghost use Rattle.std.specs.Prelude.{◌≡◌, ◌≢◌, ◌<◌, ◌≤◌, ℕ, List, Option, Some};
+ghost use Rattle.posix_calls.specs.Tree.{Descriptors, with_own};
+ghost use Rattle.posix_calls.specs.Query.{Part};
+ghost use Rattle.posix_calls.specs.Operations.{Step};
+ghost use Rattle.posix_calls.specs.declared.call.Call.{Call};
+ghost use Rattle.posix_calls.specs.declared.call.Reply.{Reply};
+ghost use Rattle.file_graph.specs.Graph.{Graph, after_effects};
+ghost use Rattle.file_graph.specs.Units.{growth};
+ghost use Rattle.log_record.specs.declared.format.Record.{Record};
+ghost use Rattle.call_effects.specs.Known.{Knowledge, Agrees, part_of, with_copy, with_blocks};
+ghost use Rattle.call_effects.specs.NodeView.{NodeView};
+ghost use Rattle.call_effects.specs.Wholes.{IsSound, state_of};
+ghost use Rattle.client_plan.specs.declared.need.Need.{Need};
+ghost use Rattle.client_plan.specs.declared.need.Need.TheVariants.{Unpin, Lease, View, Blocks, Inodes, Units, Pin};
+ghost use Rattle.client_plan.specs.declared.need.Mode.{Mode};
+ghost use Rattle.client_plan.specs.declared.outcome.DescriptorChange.{DescriptorChange};
+ghost use Rattle.client_plan.specs.declared.outcome.Outcome.TheVariants as outcomes;
+ghost use Rattle.client_plan.specs.Holdings.{Holdings};
+ghost use Rattle.client_plan.specs.Planned.{outcome, own_changed};
+ghost use Rattle.client_plan.specs.Served.{IsLacking, without_pin, with_pin, with_lease, with_number, with_units};
+ghost use Rattle.client_plan.specs.Steps.{IsOf, IsReady};
+
+/// What a call is told to need the client lacks. So once it is served, the same call needs it no longer: not a pin that was given back, a lease
+/// that was taken, a copy or blocks that came, a number, units, however few were lacking, or a pin that was set.
+pub fn served_need_is_lacking_no_longer()
+    ensures lacks { (p : Part) (h : Holdings) (call : Call) (need : Need) → outcome p h call ≡ outcomes.Need need → IsLacking p h call need }
+    ensures unpin { (p : Part) (h : Holdings) (call : Call) (i : ℕ) → outcome p (without_pin h i) call ≢ outcomes.Need (Unpin i) }
+    ensures lease { (p : Part) (h : Holdings) (call : Call) (i : ℕ) (mode : Mode) → outcome p (with_lease h i mode) call ≢ outcomes.Need (Lease i mode) }
+    ensures view { (k : Knowledge) (h : Holdings) (call : Call) (i : ℕ) (copy : Option NodeView) → outcome (part_of (with_copy k i copy)) h call ≢ outcomes.Need (View i) }
+    ensures blocks { (k : Knowledge) (h : Holdings) (call : Call) (i first count : ℕ) (block : ℕ → List ℕ) → outcome (part_of (with_blocks k i first count block)) h call ≢ outcomes.Need (Blocks i first count) }
+    ensures inodes { (p : Part) (h : Holdings) (call : Call) (new n : ℕ) → outcome p (with_number h new) call ≢ outcomes.Need (Inodes n) }
+    ensures units { (p : Part) (h : Holdings) (call : Call) (n more : ℕ) → outcome p h call ≡ outcomes.Need (Units n) → outcome p (with_units h n) call ≢ outcomes.Need (Units more) }
+    ensures pin { (p : Part) (h : Holdings) (call : Call) (i : ℕ) → outcome p (with_pin h i) call ≢ outcomes.Need (Pin i) }
+{}
+
+/// A call that is answered without a record is one step of the file tree, in every sound whole that agrees with what the client knows: the tree
+/// is answered so, nothing in the whole changes, and the client's descriptors are those after the step.
+pub fn answered_call_is_a_step()
+    ensures { (k : Knowledge) (g : Graph) (held : Descriptors) (h : Holdings) (call : Call) (reply : Reply) (change : Option DescriptorChange) → IsSound g held → Agrees k g held → IsOf k h → outcome (part_of k) h call ≡ outcomes.Reply reply change → Step (state_of g held) k.client call reply (state_of g (with_own held k.client (own_changed k.own change))) }
+{}
+
+/// A call that comes to a record has all that it needs as the record is begun. In every sound whole that agrees with what the client knows its
+/// reply is one step of the file tree, to the whole after the record's effects, which is sound again and has grown by the record's units.
+pub fn logged_call_is_a_step()
+    ensures ready { (k : Knowledge) (h : Holdings) (call : Call) (change : Record) (reply : Reply) (made : Option ℕ) (descriptor : Option DescriptorChange) → IsOf k h → outcome (part_of k) h call ≡ outcomes.Log change reply made descriptor → IsReady k h call change reply made descriptor }
+    ensures step { (k : Knowledge) (g : Graph) (held : Descriptors) (h : Holdings) (call : Call) (change : Record) (reply : Reply) (made : Option ℕ) (descriptor : Option DescriptorChange) → IsSound g held → Agrees k g held → IsOf k h → outcome (part_of k) h call ≡ outcomes.Log change reply made descriptor → Step (state_of g held) k.client call reply (state_of (after_effects g change.effects) (with_own held k.client (own_changed k.own descriptor))) }
+    ensures sound { (k : Knowledge) (g : Graph) (held : Descriptors) (h : Holdings) (call : Call) (change : Record) (reply : Reply) (made : Option ℕ) (descriptor : Option DescriptorChange) → IsSound g held → Agrees k g held → IsOf k h → outcome (part_of k) h call ≡ outcomes.Log change reply made descriptor → IsSound (after_effects g change.effects) (with_own held k.client (own_changed k.own descriptor)) }
+    ensures growth { (k : Knowledge) (g : Graph) (held : Descriptors) (h : Holdings) (call : Call) (change : Record) (reply : Reply) (made : Option ℕ) (descriptor : Option DescriptorChange) → IsSound g held → Agrees k g held → IsOf k h → outcome (part_of k) h call ≡ outcomes.Log change reply made descriptor → growth g change.effects ≡ change.units }
+{}
