@@ -24,10 +24,10 @@ use Rattle.area_image.specs.Store.{Store, slot, graph}
 use Rattle.area_image.specs.Spelled.{IsSpelled}
 use Rattle.area_image.specs.Units.{slot_units}
 use Rattle.area_image.proofs.Costs.{units_told}
-use Rattle.area_move.proofs.Given.{cons_cases, cons_here, cons_there, nothing}
-use Rattle.area_room.specs.Changing.{AreInodesOnce}
+use Rattle.change_plan.proofs.Given.{cons_cases, cons_here, cons_there, nothing}
+use Rattle.change_plan.specs.Changing.{AreInodesOnce}
 use Rattle.area_apply.specs.Costs.{units_in}
-use Rattle.file_plan.proofs.Keys.{key_there, key_is}
+use Rattle.change_plan.proofs.Keys.{key_there, key_is}
 
 -- ---- the inodes of a change
 

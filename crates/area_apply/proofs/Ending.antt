@@ -17,12 +17,12 @@ use Rattle.area_image.specs.Store.{Store, store_of}
 use Rattle.area_image.specs.Spelled.{IsOpenable}
 use Rattle.area_image.specs.Damage.{OnDamage}
 use Rattle.area_image.specs.Looks.{Looks}
-use Rattle.free_pools.specs.Value.{PoolsView, HasRanges, AreFree}
-use Rattle.area_commit.specs.declared.plan.Rewrite.{Rewrite}
-use Rattle.area_commit.specs.Done.{IsCarriedOut, AllOrNothing}
-use Rattle.area_commit.specs.Settled.{IsSettled, StaysStill}
-use Rattle.area_commit.proofs.Course.{Rests}
-use Rattle.area_commit.proofs.Moments.{rest_loose}
+use Rattle.change_plan.specs.PoolsValue.{PoolsView, HasRanges, AreFree}
+use Rattle.change_plan.specs.Rewrite.{Rewrite}
+use Rattle.change_plan.specs.Done.{IsCarriedOut, AllOrNothing}
+use Rattle.change_plan.specs.Settled.{IsSettled, StaysStill}
+use Rattle.change_plan.proofs.Course.{Rests}
+use Rattle.change_plan.proofs.Moments.{rest_loose}
 use Rattle.area_apply.specs.Applying.{IsAppliedStore, IsAppliedOrNot, Applies, Ends}
 use Rattle.area_apply.specs.Errors.{IsTold, IsForced}
 use Rattle.area_apply.specs.declared.error.ApplyError.{ApplyError}

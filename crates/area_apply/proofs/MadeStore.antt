@@ -7,11 +7,11 @@ use Rattle.layout.specs.declared.slot.Slot.TheVariants as slots
 use Rattle.layout.specs.Places.{Sizes, is_inode}
 use Rattle.layout.specs.Slot.{slot_of}
 use Rattle.area_image.specs.Store.{Store, slot_bytes, slot_read, slot}
-use Rattle.area_batch.specs.declared.slots.ChangedSlot.{ChangedSlot}
-use Rattle.area_commit.specs.declared.plan.Rewrite.{Rewrite}
-use Rattle.area_commit.specs.Plan.{is_changed}
-use Rattle.area_commit.specs.Done.{IsCarriedOut}
-use Rattle.area_commit.proofs.Chosen.{has_changed}
+use Rattle.change_plan.specs.ChangedSlot.{ChangedSlot}
+use Rattle.change_plan.specs.Rewrite.{Rewrite}
+use Rattle.change_plan.specs.Plan.{is_changed}
+use Rattle.change_plan.specs.Done.{IsCarriedOut}
+use Rattle.change_plan.proofs.Chosen.{has_changed}
 
 -- an inode whose slot is not in the plan has no slot there
 not_there : (slots : List ChangedSlot) (i : ℕ) → is_changed slots i ≡ false → (c : ChangedSlot) → Contains slots c → c.inode ≢ i

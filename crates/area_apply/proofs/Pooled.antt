@@ -17,12 +17,12 @@ use Rattle.block_alloc.proofs.Blocks.{length-rising}
 use Rattle.block_map.specs.declared.map.Place.{Place}
 use Rattle.area_image.specs.Store.{Store, store_of}
 use Rattle.area_image.specs.Reads.{Free}
-use Rattle.free_pools.specs.Value.{PoolsView, data_pool, on_tier, free_data, AreInOrder, HasRanges}
-use Rattle.free_pools.specs.declared.taking.Taken.{Taken}
-use Rattle.free_pools.specs.Taking.{runs_of, taken_data, WasTaken, CanGive, WereTaken, CanUndo, SameBlocks, SameFree, KeepsRoom}
-use Rattle.area_move.specs.Placed.{EndsFit}
-use Rattle.file_plan.specs.Planned.{pair_of, pairs_of}
-use Rattle.area_commit.specs.Settled.{IsSettled}
+use Rattle.change_plan.specs.PoolsValue.{PoolsView, data_pool, on_tier, free_data, AreInOrder, HasRanges}
+use Rattle.change_plan.specs.Taken.{Taken}
+use Rattle.change_plan.specs.Taking.{runs_of, taken_data, WasTaken, CanGive, WereTaken, CanUndo, SameBlocks, SameFree, KeepsRoom}
+use Rattle.change_plan.specs.Placed.{EndsFit}
+use Rattle.change_plan.specs.Planned.{pair_of, pairs_of}
+use Rattle.change_plan.specs.Settled.{IsSettled}
 use Rattle.change_plan.specs.Adding.{HasTaken}
 use Rattle.change_plan.proofs.Sparing.{normal_ends}
 

@@ -15,8 +15,8 @@ use Rattle.batch_journal.specs.Volume.{IsVolume}
 use Rattle.area_image.specs.Store.{Store, store_of, slot, graph, marks}
 use Rattle.area_image.specs.Reads.{Loose}
 use Rattle.area_image.specs.Spelled.{IsOpenable}
-use Rattle.free_pools.specs.Value.{PoolsView}
-use Rattle.area_commit.specs.Settled.{IsSettled, StaysStill}
+use Rattle.change_plan.specs.PoolsValue.{PoolsView}
+use Rattle.change_plan.specs.Settled.{IsSettled, StaysStill}
 use Rattle.change_plan.specs.Next.{HasFewEntries}
 use Rattle.change_plan.specs.Part.{IsTouchedBy}
 use Rattle.change_plan.specs.Wanted.{images_for}

@@ -6,14 +6,13 @@ ghost use Rattle.layout.specs.declared.marks.Marks.{Marks};
 ghost use Rattle.layout.specs.Places.{Sizes, IsAllowed};
 ghost use Rattle.area_image.specs.Store.{Store};
 ghost use Rattle.area_image.specs.Spelled.{IsSpelled};
-ghost use Rattle.free_pools.specs.declared.taking.Taken.{Taken};
-ghost use Rattle.area_commit.specs.Done.{IsCarriedOut};
+ghost use Rattle.change_plan.specs.Taken.{Taken};
+ghost use Rattle.change_plan.specs.Done.{IsCarriedOut};
 ghost use Rattle.change_plan.specs.First.{IsWhole, whole_of};
 ghost use Rattle.area_apply.specs.Applying.{CanApply, IsAppliedStore};
 ghost use Rattle.change_plan.specs.declared.partial.PartialPlan.{PartialPlan};
 
-use area_commit::carried_out_marks;
-use change_plan::whole_change_can_be_carried_out;
+use change_plan::{carried_out_marks, whole_change_can_be_carried_out};
 
 /// Where the whole plan of a change is carried out, with new marks, the change is made.
 pub fn carried_out_change_is_made()

@@ -9,10 +9,10 @@ ghost use Rattle.graph_change.specs.View.{changes_of};
 ghost use Rattle.tier_device.specs.Media.{Rose};
 ghost use Rattle.layout.specs.Marks.{fits_marks};
 ghost use Rattle.area_image.specs.Store.{store_of, graph};
-ghost use Rattle.free_pools.specs.Value.{PoolsView, free_data, AreInOrder};
-ghost use Rattle.free_pools.specs.Taking.{WereTaken, CanUndo, SameFree, taken_data};
-ghost use Rattle.file_plan.specs.Planned.{pairs_of};
-ghost use Rattle.area_commit.specs.Settled.{IsSettled, StaysStill};
+ghost use Rattle.change_plan.specs.PoolsValue.{PoolsView, free_data, AreInOrder};
+ghost use Rattle.change_plan.specs.Taking.{WereTaken, CanUndo, SameFree, taken_data};
+ghost use Rattle.change_plan.specs.Planned.{pairs_of};
+ghost use Rattle.change_plan.specs.Settled.{IsSettled, StaysStill};
 ghost use Rattle.area_apply.specs.Applying.{CanApply, IsAppliedStore, Applies, Ends};
 ghost use Rattle.area_apply.specs.Errors.{IsForced};
 ghost use Rattle.change_plan.specs.First.{PlansNothing};
@@ -22,15 +22,13 @@ ghost use Rattle.area_apply.specs.declared.error.ApplyError.TheVariants.{DeviceF
 
 use crate::error::{ApplyError, told};
 use crate::writing::reserve_and_write;
-use area_batch::NodeImages;
-use area_commit::Lost;
-use area_room::nodes_never_run_out;
 use batch_journal::Journal;
 use block_alloc::AllocatorError;
 use block_map::Place;
-use change_plan::{PartialPlan, count_blocks, plan_changes, wanted_blocks_are_written};
-use file_plan::taken_places;
-use free_pools::{Pools, Taken};
+use change_plan::{
+    Lost, NodeImages, PartialPlan, Pools, Taken, count_blocks, nodes_never_run_out, plan_changes,
+    taken_places, wanted_blocks_are_written,
+};
 use graph_change::GraphChange;
 use layout::Marks;
 use std::alloc::Global;

@@ -16,8 +16,8 @@ ghost use Rattle.area_image.specs.declared.error.AreaError.TheVariants.{DeviceFa
 ghost use Rattle.area_apply.specs.Costs.{inodes_of, units_in};
 
 use area_image::{AreaError, read_slot, units_of};
-use area_room::charge_after_change;
 use batch_journal::Journal;
+use change_plan::charge_after_change;
 use graph_change::GraphChange;
 use tier_device::Media;
 

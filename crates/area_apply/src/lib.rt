@@ -15,3 +15,6 @@ pub use applying::apply;
 pub use costing::{charge_follows_the_change, units_of_change};
 pub use error::ApplyError;
 pub use writing::reserve_and_write;
+
+// Passed on to the crates above, which so need not list those below.
+pub use change_plan::{Pools, small_changes_find_blocks};

@@ -5,9 +5,9 @@ ghost use Rattle.tier_device.specs.Media.{AtRest};
 ghost use Rattle.graph_change.specs.View.{changes_of};
 ghost use Rattle.area_image.specs.Store.{store_of};
 ghost use Rattle.area_image.specs.Spelled.{IsOpenable};
-ghost use Rattle.free_pools.specs.Value.{PoolsView, data_pool, AreInOrder};
-ghost use Rattle.free_pools.specs.Taking.{WereTaken, SameFree};
-ghost use Rattle.area_commit.specs.Plan.{lost_in};
+ghost use Rattle.change_plan.specs.PoolsValue.{PoolsView, data_pool, AreInOrder};
+ghost use Rattle.change_plan.specs.Taking.{WereTaken, SameFree};
+ghost use Rattle.change_plan.specs.Plan.{lost_in};
 ghost use Rattle.change_plan.specs.Adding.{HasTaken};
 ghost use Rattle.area_apply.specs.Applying.{CanApply, Ends};
 ghost use Rattle.area_apply.specs.Errors.{IsForced};
@@ -15,10 +15,10 @@ ghost use Rattle.change_plan.specs.First.{IsWhole};
 
 use crate::applied::carried_out_change_is_made;
 use crate::error::{ApplyError, told};
-use area_commit::carry_out;
 use batch_journal::Journal;
-use change_plan::{PartialPlan, whole_change_can_be_carried_out, whole_plan};
-use free_pools::{Pools, Taken};
+use change_plan::{
+    PartialPlan, Pools, Taken, carry_out, whole_change_can_be_carried_out, whole_plan,
+};
 use graph_change::GraphChange;
 use layout::Marks;
 use std::alloc::Global;

@@ -17,3 +17,17 @@ pub use laws::{
 };
 pub use plan::{Lost, Rewrite};
 pub use writing::carry_out;
+
+// Passed on to the crates above, which so need not list those below.
+pub use area_batch::{ChangedSlot, NodeImages, put_lists};
+pub use area_move::{
+    MovableRun, RelocateError, extents_of, find_run, map_of, places_in, put_runs, read_run,
+    roots_left, slot_for, told,
+};
+pub use area_rewrite::{
+    changed_store_spells_the_graph_after, moved_store_spells_the_same_graph,
+    written_directory_is_rewritten, written_file_is_rewritten, written_free_slot_is_inode_after,
+    written_inode_is_read,
+};
+pub use area_room::{charge_after_change, nodes_never_run_out, small_changes_find_blocks};
+pub use free_pools::{Pools, Taken};

@@ -19,10 +19,10 @@ use Rattle.block_map.specs.Map.{TierRuns, runs_in}
 use Rattle.tree_blocks.specs.Inode.{inode_of}
 use Rattle.area_image.specs.Store.{Store, slot, root_of, touch_of, length_of, space_of, extents_read, place}
 use Rattle.area_image.proofs.Shown.{extents_none}
-use Rattle.area_move.specs.Lists.{IsListOf}
-use Rattle.area_move.proofs.Given.{cons_cases, nothing}
-use Rattle.area_move.proofs.Steps.{inside}
-use Rattle.area_rewrite.specs.Moved.{with_roots}
+use Rattle.area_commit.specs.MovedLists.{IsListOf}
+use Rattle.area_commit.proofs.Given.{cons_cases, nothing}
+use Rattle.area_commit.proofs.Steps.{inside}
+use Rattle.area_commit.specs.Moved.{with_roots}
 
 -- ---- lists
 

@@ -17,15 +17,15 @@ use Rattle.area_image.specs.Spelled.{IsOpenable}
 use Rattle.area_image.specs.Damage.{OnDamage}
 use Rattle.area_image.specs.Looks.{Looks}
 use Rattle.block_map.specs.Map.{TierRuns}
-use Rattle.free_pools.specs.Value.{PoolsView, HasRanges, AreFree}
-use Rattle.area_move.specs.Errors.{IsTold}
-use Rattle.area_move.specs.declared.error.RelocateError.{RelocateError}
-use Rattle.area_move.specs.declared.error.RelocateError.TheVariants as errors
+use Rattle.area_commit.specs.PoolsValue.{PoolsView, HasRanges, AreFree}
+use Rattle.area_commit.specs.MoveErrors.{IsTold}
+use Rattle.area_commit.specs.RelocateError.{RelocateError}
+use Rattle.area_commit.specs.RelocateError.TheVariants as errors
 use Rattle.area_commit.specs.declared.plan.Rewrite.{Rewrite}
 use Rattle.area_commit.specs.Done.{IsCarriedOut, AllOrNothing}
 use Rattle.area_commit.proofs.Course.{Rests}
 use Rattle.area_commit.proofs.Moments.{rest_loose}
-use Rattle.area_move.specs.declared.finding.MovableRun.{MovableRun}
+use Rattle.area_commit.specs.MovableRun.{MovableRun}
 use Rattle.area_relocate.specs.Made.{IsMovePlan, IsPlanOfMove}
 use Rattle.area_relocate.specs.Moving.{IsSettled, IsMovedStore, IsMovedOrNot, Moves, StaysStill, Ends}
 

@@ -20,12 +20,12 @@ use Rattle.area_image.specs.Reads.{Free}
 use Rattle.area_image.specs.Map.{in_tier}
 use Rattle.area_image.proofs.Parts.{slot_as}
 use Rattle.area_image.proofs.Shown.{slot_limits}
-use Rattle.free_pools.specs.Taking.{runs_of}
-use Rattle.area_move.specs.declared.finding.MovableRun.{MovableRun}
-use Rattle.area_move.specs.Lists.{SpareFits, LacksRoot}
-use Rattle.area_move.proofs.Given.{cons_cases, cons_here, nothing}
-use Rattle.area_move.proofs.Fits.{tier_is, placed_once, placed_below, placed_apart, placed_within, placed_elsewhere, elsewhere_within}
-use Rattle.area_rewrite.specs.Written.{IsFit}
+use Rattle.area_commit.specs.Taking.{runs_of}
+use Rattle.area_commit.specs.MovableRun.{MovableRun}
+use Rattle.area_commit.specs.MovedLists.{SpareFits, LacksRoot}
+use Rattle.area_commit.proofs.Given.{cons_cases, cons_here, nothing}
+use Rattle.area_commit.proofs.Fits.{tier_is, placed_once, placed_below, placed_apart, placed_within, placed_elsewhere, elsewhere_within}
+use Rattle.area_commit.specs.Written.{IsFit}
 use Rattle.area_commit.specs.declared.plan.Rewrite.{Rewrite}
 use Rattle.area_relocate.specs.Made.{first_of, IsSpareFor, IsMovePlan}
 use Rattle.area_relocate.proofs.Basics.{some_block, list_some, rootless, data_space, roots_long, roots_space}

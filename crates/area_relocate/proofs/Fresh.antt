@@ -12,11 +12,11 @@ use Rattle.block_alloc.specs.declared.error.AllocatorError.{AllocatorError}
 use Rattle.block_alloc.specs.declared.error.AllocatorError.TheVariants.{NoBlock}
 use Rattle.block_alloc.specs.Runs.{run_blocks, blocks_of, AreNormalRuns}
 use Rattle.area_image.specs.Store.{Store, root_of}
-use Rattle.free_pools.specs.Value.{PoolsView, data_pool, HasRanges, AreFree}
-use Rattle.free_pools.specs.declared.taking.Taken.{Taken}
-use Rattle.free_pools.specs.Taking.{runs_of, WereTaken}
-use Rattle.area_move.specs.declared.finding.MovableRun.{MovableRun}
-use Rattle.area_move.specs.Placed.{EndsFit}
+use Rattle.area_commit.specs.PoolsValue.{PoolsView, data_pool, HasRanges, AreFree}
+use Rattle.area_commit.specs.Taken.{Taken}
+use Rattle.area_commit.specs.Taking.{runs_of, WereTaken}
+use Rattle.area_commit.specs.MovableRun.{MovableRun}
+use Rattle.area_commit.specs.Placed.{EndsFit}
 use Rattle.area_commit.specs.Plan.{WereFree}
 use Rattle.area_relocate.specs.Made.{first_of, spare_count, IsSpareFor, IsTakenFor}
 

@@ -17,15 +17,15 @@ use Rattle.extent_nodes.specs.Places.{place_of}
 use Rattle.block_map.specs.Map.{TierRuns, runs_in, lies_at, places_of, place_list, HasBlock}
 use Rattle.area_image.specs.Store.{Store, root_of, place}
 use Rattle.area_image.specs.Spelled.{used}
-use Rattle.free_pools.specs.Taking.{runs_of}
-use Rattle.area_move.specs.declared.finding.MovableRun.{MovableRun}
-use Rattle.area_move.specs.Lists.{root_left, roots_left}
-use Rattle.area_move.specs.Placed.{is_faster}
-use Rattle.area_move.proofs.Given.{all_from, cons_here, nothing}
-use Rattle.area_move.proofs.Steps.{inside}
-use Rattle.area_move.proofs.GivenUp.{Once, once_rest, once_apart, beside, places_once, lies_there}
-use Rattle.area_move.proofs.Fits.{tier_is, run_cases, gone, stays}
-use Rattle.area_rewrite.specs.Written.{block_by}
+use Rattle.area_commit.specs.Taking.{runs_of}
+use Rattle.area_commit.specs.MovableRun.{MovableRun}
+use Rattle.area_commit.specs.MovedLists.{root_left, roots_left}
+use Rattle.area_commit.specs.Placed.{is_faster}
+use Rattle.area_commit.proofs.Given.{all_from, cons_here, nothing}
+use Rattle.area_commit.proofs.Steps.{inside}
+use Rattle.area_commit.proofs.GivenUp.{Once, once_rest, once_apart, beside, places_once, lies_there}
+use Rattle.area_commit.proofs.Fits.{tier_is, run_cases, gone, stays}
+use Rattle.area_commit.specs.Written.{block_by}
 use Rattle.area_commit.specs.declared.plan.Rewrite.{Rewrite}
 use Rattle.area_commit.specs.Plan.{Loses, IsLost, HoldLost, LieApart, is_changed, lost_in}
 use Rattle.area_relocate.specs.Made.{IsMovePlan}

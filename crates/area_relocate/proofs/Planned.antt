@@ -12,12 +12,12 @@ use Rattle.block_alloc.specs.declared.runs.Run.{Run}
 use Rattle.block_alloc.specs.Runs.{run_blocks, blocks_of, AreNormalRuns}
 use Rattle.block_map.specs.Map.{TierRuns, HasBlock}
 use Rattle.area_image.specs.Store.{Store, logical}
-use Rattle.area_batch.specs.declared.slots.ChangedSlot.{ChangedSlot}
-use Rattle.free_pools.specs.declared.taking.Taken.{Taken}
-use Rattle.free_pools.specs.Taking.{runs_of}
-use Rattle.free_pools.specs.Writing.{fences_of, tier_calls, calls_for}
-use Rattle.area_move.specs.declared.finding.MovableRun.{MovableRun}
-use Rattle.area_move.specs.Lists.{HoldsRun}
+use Rattle.area_commit.specs.ChangedSlot.{ChangedSlot}
+use Rattle.area_commit.specs.Taken.{Taken}
+use Rattle.area_commit.specs.Taking.{runs_of}
+use Rattle.area_commit.specs.Writing.{fences_of, tier_calls, calls_for}
+use Rattle.area_commit.specs.MovableRun.{MovableRun}
+use Rattle.area_commit.specs.MovedLists.{HoldsRun}
 use Rattle.area_commit.specs.declared.plan.Lost.{Lost}
 use Rattle.area_commit.specs.declared.plan.Rewrite.{Rewrite}
 use Rattle.area_commit.specs.Plan.{lost_in}

@@ -12,14 +12,14 @@ use Rattle.block_alloc.specs.declared.error.AllocatorError.{AllocatorError}
 use Rattle.block_alloc.specs.declared.error.AllocatorError.TheVariants as refusal
 use Rattle.area_image.specs.Store.{Store, store_of}
 use Rattle.area_image.specs.Reads.{Free}
-use Rattle.free_pools.specs.Value.{PoolsView, data_pool}
-use Rattle.free_pools.specs.declared.taking.Taken.{Taken}
-use Rattle.free_pools.specs.Taking.{SameBlocks, SameFree, KeepsRoom, WereTaken, CanUndo, WasUndone}
-use Rattle.area_move.specs.Errors.{relocate_error}
-use Rattle.area_move.specs.Found.{IsMovableRun}
-use Rattle.area_move.specs.declared.finding.MovableRun.{MovableRun}
-use Rattle.area_move.specs.declared.error.RelocateError.{RelocateError}
-use Rattle.area_move.specs.declared.error.RelocateError.TheVariants as errors
+use Rattle.area_commit.specs.PoolsValue.{PoolsView, data_pool}
+use Rattle.area_commit.specs.Taken.{Taken}
+use Rattle.area_commit.specs.Taking.{SameBlocks, SameFree, KeepsRoom, WereTaken, CanUndo, WasUndone}
+use Rattle.area_commit.specs.MoveErrors.{relocate_error}
+use Rattle.area_commit.specs.Found.{IsMovableRun}
+use Rattle.area_commit.specs.MovableRun.{MovableRun}
+use Rattle.area_commit.specs.RelocateError.{RelocateError}
+use Rattle.area_commit.specs.RelocateError.TheVariants as errors
 use Rattle.area_commit.specs.declared.plan.Lost.{Lost}
 use Rattle.area_commit.specs.declared.plan.Rewrite.{Rewrite}
 use Rattle.area_commit.specs.Plan.{lost_in}

@@ -21,21 +21,21 @@ use Rattle.area_image.specs.Reads.{Free}
 use Rattle.area_image.specs.Spelled.{Use, used}
 use Rattle.area_image.specs.Map.{in_tier}
 use Rattle.area_image.proofs.Lists.{place_placed}
-use Rattle.area_rewrite.specs.Written.{logical_by}
-use Rattle.area_rewrite.specs.Moved.{with_roots, StaysBlock, StaysInode as IsWrittenMoved}
-use Rattle.area_rewrite.proofs.Places.{by_there, by_same}
-use Rattle.area_batch.specs.declared.slots.ChangedSlot.{ChangedSlot}
-use Rattle.area_batch.specs.Slots.{RiseIn}
-use Rattle.free_pools.specs.declared.taking.Taken.{Taken}
-use Rattle.free_pools.specs.Value.{on_tier}
-use Rattle.free_pools.specs.Taking.{taken_data, runs_of}
-use Rattle.free_pools.specs.Writing.{block_at}
-use Rattle.free_pools.proofs.Members.{cons_cases, nothing}
-use Rattle.area_move.specs.declared.finding.MovableRun.{MovableRun}
-use Rattle.area_move.specs.Lists.{IsListOf}
-use Rattle.area_move.specs.Moving.{IsMoved}
-use Rattle.area_move.proofs.Fits.{run_cases, there, gone, stays}
-use Rattle.area_move.proofs.Steps.{inside}
+use Rattle.area_commit.specs.Written.{logical_by}
+use Rattle.area_commit.specs.Moved.{with_roots, StaysBlock, StaysInode as IsWrittenMoved}
+use Rattle.area_commit.proofs.Places.{by_there, by_same}
+use Rattle.area_commit.specs.ChangedSlot.{ChangedSlot}
+use Rattle.area_commit.specs.Slots.{RiseIn}
+use Rattle.area_commit.specs.Taken.{Taken}
+use Rattle.area_commit.specs.PoolsValue.{on_tier}
+use Rattle.area_commit.specs.Taking.{taken_data, runs_of}
+use Rattle.area_commit.specs.Writing.{block_at}
+use Rattle.area_commit.proofs.Members.{cons_cases, nothing}
+use Rattle.area_commit.specs.MovableRun.{MovableRun}
+use Rattle.area_commit.specs.MovedLists.{IsListOf}
+use Rattle.area_commit.specs.Moving.{IsMoved}
+use Rattle.area_commit.proofs.Fits.{run_cases, there, gone, stays}
+use Rattle.area_commit.proofs.Steps.{inside}
 use Rattle.area_commit.specs.declared.plan.Rewrite.{Rewrite}
 use Rattle.area_commit.specs.Done.{IsCarriedOut}
 use Rattle.area_commit.specs.Plan.{IsPlanned, IsPlannedInode, is_changed}

@@ -18,15 +18,15 @@ use Rattle.block_map.specs.Map.{TierRuns, runs_in, lies_at}
 use Rattle.area_image.specs.Store.{Store, root_of, place}
 use Rattle.area_image.specs.Spelled.{Use, used}
 use Rattle.area_image.specs.Map.{in_tier}
-use Rattle.free_pools.specs.Taking.{runs_of}
-use Rattle.area_move.specs.declared.finding.MovableRun.{MovableRun}
-use Rattle.area_move.specs.Lists.{IsListOf, root_for}
-use Rattle.area_move.proofs.Given.{cons_here, nothing}
-use Rattle.area_move.proofs.Fits.{tier_is, run_cases, there, gone, stays}
-use Rattle.area_move.proofs.Roots.{apart_parts}
-use Rattle.area_rewrite.specs.Written.{IsListed, block_by}
-use Rattle.area_rewrite.specs.Many.{HasBlockFor}
-use Rattle.area_room.specs.Changing.{BlockIsTaken}
+use Rattle.area_commit.specs.Taking.{runs_of}
+use Rattle.area_commit.specs.MovableRun.{MovableRun}
+use Rattle.area_commit.specs.MovedLists.{IsListOf, root_for}
+use Rattle.area_commit.proofs.Given.{cons_here, nothing}
+use Rattle.area_commit.proofs.Fits.{tier_is, run_cases, there, gone, stays}
+use Rattle.area_commit.proofs.Roots.{apart_parts}
+use Rattle.area_commit.specs.Written.{IsListed, block_by}
+use Rattle.area_commit.specs.Many.{HasBlockFor}
+use Rattle.area_commit.specs.Changing.{BlockIsTaken}
 use Rattle.area_commit.specs.declared.plan.Rewrite.{Rewrite}
 use Rattle.area_commit.specs.Plan.{is_changed}
 use Rattle.area_relocate.specs.Made.{first_of, IsSpareFor, IsMovePlan}

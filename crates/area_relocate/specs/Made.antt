@@ -15,16 +15,16 @@ use Rattle.block_map.specs.Map.{TierRuns, runs_in, places_of, HasBlock}
 use Rattle.area_image.specs.Store.{Store, root_of, logical}
 use Rattle.area_image.specs.Map.{in_tier}
 use Rattle.area_image.specs.declared.tiers.InodeExtents.{InodeExtents}
-use Rattle.area_rewrite.specs.Moved.{with_roots}
-use Rattle.area_batch.specs.Batches.{PutsImage}
-use Rattle.area_batch.specs.declared.slots.ChangedSlot.{ChangedSlot}
-use Rattle.free_pools.specs.declared.taking.Taken.{Taken}
-use Rattle.free_pools.specs.Taking.{runs_of, WereTaken, CanUndo}
-use Rattle.free_pools.specs.Value.{PoolsView, data_pool, AreInOrder, HasRanges, AreFree}
-use Rattle.area_move.specs.declared.finding.MovableRun.{MovableRun}
-use Rattle.area_move.specs.Found.{IsMovableRun}
-use Rattle.area_move.specs.Lists.{AreListsOf, HasRoots, SpareFits, HoldsRun, roots_left}
-use Rattle.area_move.specs.Placed.{ArePlaced}
+use Rattle.area_commit.specs.Moved.{with_roots}
+use Rattle.area_commit.specs.Batches.{PutsImage}
+use Rattle.area_commit.specs.ChangedSlot.{ChangedSlot}
+use Rattle.area_commit.specs.Taken.{Taken}
+use Rattle.area_commit.specs.Taking.{runs_of, WereTaken, CanUndo}
+use Rattle.area_commit.specs.PoolsValue.{PoolsView, data_pool, AreInOrder, HasRanges, AreFree}
+use Rattle.area_commit.specs.MovableRun.{MovableRun}
+use Rattle.area_commit.specs.Found.{IsMovableRun}
+use Rattle.area_commit.specs.MovedLists.{AreListsOf, HasRoots, SpareFits, HoldsRun, roots_left}
+use Rattle.area_commit.specs.Placed.{ArePlaced}
 use Rattle.area_commit.specs.declared.plan.Lost.{Lost}
 use Rattle.area_commit.specs.declared.plan.Rewrite.{Rewrite}
 use Rattle.area_commit.specs.Plan.{WereFree, lost_in}

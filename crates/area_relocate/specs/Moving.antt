@@ -8,10 +8,10 @@ use Rattle.batch_journal.specs.Volume.{IsVolume}
 use Rattle.area_image.specs.Store.{Store, store_of, graph, marks}
 use Rattle.area_image.specs.Reads.{Loose}
 use Rattle.area_image.specs.Spelled.{IsOpenable}
-use Rattle.free_pools.specs.Value.{PoolsView}
-use Rattle.area_move.specs.Moving.{IsMoved}
-use Rattle.area_move.specs.declared.error.RelocateError.{RelocateError}
-use Rattle.area_move.specs.declared.error.RelocateError.TheVariants.{DeviceFault}
+use Rattle.area_commit.specs.PoolsValue.{PoolsView}
+use Rattle.area_commit.specs.Moving.{IsMoved}
+use Rattle.area_commit.specs.RelocateError.{RelocateError}
+use Rattle.area_commit.specs.RelocateError.TheVariants.{DeviceFault}
 pub use Rattle.area_commit.specs.Settled.{IsSettled, StaysStill}
 
 -- A store in which the run is moved: it can be opened, and spells the same graph and marks.

@@ -5,16 +5,16 @@ ghost use Rattle.layout.specs.declared.slot.Slot.{Slot};
 ghost use Rattle.block_alloc.specs.Runs.{blocks_of};
 ghost use Rattle.block_map.specs.Map.{LieBelow};
 ghost use Rattle.tree_blocks.specs.Inode.{inode_of};
-ghost use Rattle.free_pools.specs.Taking.{runs_of};
-ghost use Rattle.area_move.specs.Placed.{EndsFit};
+ghost use Rattle.area_commit.specs.Taking.{runs_of};
+ghost use Rattle.area_commit.specs.Placed.{EndsFit};
 ghost use Rattle.area_relocate.specs.Made.{first_of, IsMade};
 
 use crate::images::images_of;
-use area_batch::{ChangedSlot, NodeImages};
-use area_move::{MovableRun, extents_of, put_runs, roots_left, slot_for};
+use area_commit::{
+    ChangedSlot, MovableRun, NodeImages, Taken, extents_of, put_runs, roots_left, slot_for,
+};
 use block_alloc::Run;
 use block_map::few_blocks_are_few_runs;
-use free_pools::Taken;
 use std::alloc::{AllocError, Global};
 use tier_device::Tier;
 

@@ -5,7 +5,7 @@ ghost use Rattle.layout.specs.declared.extents.TheConstants.{MAX_EXTENTS};
 ghost use Rattle.area_image.specs.Map.{in_tier};
 ghost use Rattle.area_relocate.specs.Made.{PutsList, HasImages};
 
-use area_batch::NodeImages;
+use area_commit::NodeImages;
 use area_image::{InodeExtents, root_of};
 use layout::{ExtentBlock, Slot};
 use std::alloc::{AllocError, Global};

@@ -7,16 +7,18 @@ ghost use Rattle.layout.specs.Places.{Sizes, IsAllowed};
 ghost use Rattle.block_map.specs.Map.{TierRuns};
 ghost use Rattle.area_image.specs.Store.{Store};
 ghost use Rattle.area_image.specs.Spelled.{IsOpenable};
-ghost use Rattle.area_move.specs.declared.finding.MovableRun.{MovableRun};
+ghost use Rattle.area_commit.specs.MovableRun.{MovableRun};
 ghost use Rattle.area_commit.specs.declared.plan.Rewrite.{Rewrite};
 ghost use Rattle.area_commit.specs.Plan.{IsPlanned};
 ghost use Rattle.area_commit.specs.Done.{IsCarriedOut};
 ghost use Rattle.area_relocate.specs.Made.{IsMovePlan};
 ghost use Rattle.area_relocate.specs.Moving.{IsMovedStore};
 
-use area_commit::{carried_out_inodes_are_written_anew, carried_out_marks};
+use area_commit::{
+    carried_out_inodes_are_written_anew, carried_out_marks, moved_store_spells_the_same_graph,
+    written_inode_is_read,
+};
 use area_image::rewritten_inodes_are_spelled;
-use area_rewrite::{moved_store_spells_the_same_graph, written_inode_is_read};
 
 /// What is made of a run that may be moved, of the blocks that were taken for it and of its bytes, is a plan that can be carried out.
 pub fn move_is_planned()

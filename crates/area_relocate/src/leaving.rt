@@ -4,15 +4,13 @@ ghost use Rattle.std.specs.List.{AllByRecursion};
 ghost use Rattle.tier_device.specs.declared.media.Tier.{Tier};
 ghost use Rattle.block_alloc.specs.Runs.{blocks_of};
 ghost use Rattle.block_map.specs.Map.{runs_in, places_of, HasBlock};
-ghost use Rattle.free_pools.specs.Value.{data_pool};
-ghost use Rattle.free_pools.specs.Taking.{SameFree, KeepsRoom};
+ghost use Rattle.area_commit.specs.PoolsValue.{data_pool};
+ghost use Rattle.area_commit.specs.Taking.{SameFree, KeepsRoom};
 ghost use Rattle.area_commit.specs.Plan.{lost_in};
 
-use area_commit::Lost;
-use area_move::places_in;
+use area_commit::{Lost, Pools, places_in};
 use block_alloc::Run;
 use block_map::BlockMap;
-use free_pools::Pools;
 use std::alloc::{AllocError, Global};
 use tier_device::Tier;
 

@@ -19,3 +19,6 @@ pub use leaving::lost_places;
 pub use planning::plan_move;
 pub use relocating::relocate;
 pub use taking::take_blocks;
+
+// Passed on to the crates above, which so need not list those below.
+pub use area_commit::RelocateError;

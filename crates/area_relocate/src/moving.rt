@@ -5,11 +5,11 @@ ghost use Rattle.layout.specs.declared.places.TheConstants.{BLOCK};
 ghost use Rattle.tier_device.specs.Media.{AtRest};
 ghost use Rattle.area_image.specs.Store.{store_of, logical};
 ghost use Rattle.area_image.specs.Spelled.{IsOpenable};
-ghost use Rattle.free_pools.specs.Value.{data_pool};
-ghost use Rattle.free_pools.specs.Taking.{WasUndone, SameFree};
-ghost use Rattle.area_move.specs.Found.{IsMovableRun};
-ghost use Rattle.area_move.specs.Lists.{HoldsRun};
-ghost use Rattle.area_move.specs.declared.error.RelocateError.TheVariants.{DeviceFault, NotMapped, NoBlock, Memory};
+ghost use Rattle.area_commit.specs.PoolsValue.{data_pool};
+ghost use Rattle.area_commit.specs.Taking.{WasUndone, SameFree};
+ghost use Rattle.area_commit.specs.Found.{IsMovableRun};
+ghost use Rattle.area_commit.specs.MovedLists.{HoldsRun};
+ghost use Rattle.area_commit.specs.RelocateError.TheVariants.{DeviceFault, NotMapped, NoBlock, Memory};
 ghost use Rattle.area_commit.specs.Room.{AreReadyFor};
 ghost use Rattle.area_relocate.specs.Made.{IsReadRun, IsReadyMove, IsPlanOfMove, HasRoomFor, AreReadyToMove};
 ghost use Rattle.area_relocate.specs.Moving.{IsSettled, Ends};
@@ -18,11 +18,11 @@ use crate::laws::{carried_out_move_moves, move_is_planned};
 use crate::leaving::lost_places;
 use crate::planning::plan_move;
 use crate::taking::take_blocks;
-use area_commit::{Lost, Rewrite, carry_out};
-use area_move::{MovableRun, RelocateError, read_run, told};
-use area_room::nodes_never_run_out;
+use area_commit::{
+    Lost, MovableRun, Pools, RelocateError, Rewrite, Taken, carry_out, nodes_never_run_out,
+    read_run, told,
+};
 use batch_journal::Journal;
-use free_pools::{Pools, Taken};
 use std::alloc::Global;
 use tier_device::{Media, Tier};
 

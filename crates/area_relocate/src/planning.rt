@@ -7,9 +7,7 @@ ghost use Rattle.area_commit.specs.Plan.{lost_in};
 ghost use Rattle.area_relocate.specs.Made.{IsReadyMove, IsPlanOfMove};
 
 use crate::changing::{NewInode, changed};
-use area_commit::{Lost, Rewrite};
-use area_move::MovableRun;
-use free_pools::Taken;
+use area_commit::{Lost, MovableRun, Rewrite, Taken};
 use std::alloc::Global;
 use tier_device::Tier;
 

@@ -2,17 +2,16 @@
 ghost use Rattle.std.specs.Prelude.{◌≡◌, ◌≢◌, ◌≤◌, ◌<◌, ◌+◌, ◌⊎◌, true, false, length, Err, OnOk, OnErr, IfErr, IsErrOf};
 ghost use Rattle.tier_device.specs.Media.{Rose};
 ghost use Rattle.area_image.specs.Store.{store_of};
-ghost use Rattle.free_pools.specs.Value.{data_pool};
-ghost use Rattle.free_pools.specs.Taking.{SameFree};
-ghost use Rattle.area_move.specs.Found.{HasFileRun};
-ghost use Rattle.area_move.specs.Moving.{CanMove};
-ghost use Rattle.area_move.specs.declared.error.RelocateError.TheVariants.{DeviceFault, NotMapped, NoBlock, Memory};
+ghost use Rattle.area_commit.specs.PoolsValue.{data_pool};
+ghost use Rattle.area_commit.specs.Taking.{SameFree};
+ghost use Rattle.area_commit.specs.Found.{HasFileRun};
+ghost use Rattle.area_commit.specs.Moving.{CanMove};
+ghost use Rattle.area_commit.specs.RelocateError.TheVariants.{DeviceFault, NotMapped, NoBlock, Memory};
 ghost use Rattle.area_relocate.specs.Moving.{IsSettled, IsMovedStore, Moves, StaysStill, Ends};
 
 use crate::moving::move_run;
-use area_move::{RelocateError, find_run, told};
+use area_commit::{Pools, RelocateError, find_run, told};
 use batch_journal::Journal;
-use free_pools::Pools;
 use std::alloc::Global;
 use tier_device::{Media, Tier};
 

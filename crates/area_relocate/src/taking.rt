@@ -3,15 +3,13 @@ ghost use Rattle.std.specs.Prelude.{◌≡◌, ◌<◌, ◌↔◌, ◌⊎◌, le
 ghost use Rattle.layout.specs.Places.{Sizes};
 ghost use Rattle.block_alloc.specs.declared.error.AllocatorError.TheVariants.{NoBlock};
 ghost use Rattle.area_image.specs.Store.{Store, root_of};
-ghost use Rattle.free_pools.specs.Value.{data_pool, AreInOrder, HasRanges, AreFree};
-ghost use Rattle.free_pools.specs.Taking.{WereTaken, CanUndo, SameFree, KeepsRoom};
+ghost use Rattle.area_commit.specs.PoolsValue.{data_pool, AreInOrder, HasRanges, AreFree};
+ghost use Rattle.area_commit.specs.Taking.{WereTaken, CanUndo, SameFree, KeepsRoom};
 ghost use Rattle.area_relocate.specs.Made.{spare_count, IsTakenFor};
 
-use area_commit::taken_blocks_were_free;
+use area_commit::{MovableRun, Pools, Taken, taken_blocks_were_free};
 use area_image::root_of;
-use area_move::MovableRun;
 use block_alloc::AllocatorError;
-use free_pools::{Pools, Taken};
 use layout::Slot;
 use tier_device::Tier;
 

@@ -16,9 +16,9 @@ use Rattle.batch_journal.specs.Images.{image_for, or_else, with_images}
 use Rattle.block_map.specs.Map.{TierRuns, runs_in}
 use Rattle.area_image.specs.Store.{Store, root_of}
 use Rattle.area_image.specs.Spelled.{Use, used, IsSpelled}
-use Rattle.area_rewrite.specs.Written.{IsFit, IsListed, block_by}
-use Rattle.area_rewrite.specs.Many.{HasBlockFor}
-use Rattle.area_batch.specs.declared.slots.ChangedSlot.{ChangedSlot}
+use Rattle.area_commit.specs.Written.{IsFit, IsListed, block_by}
+use Rattle.area_commit.specs.Many.{HasBlockFor}
+use Rattle.area_commit.specs.ChangedSlot.{ChangedSlot}
 use Rattle.area_commit.specs.declared.plan.Lost.{Lost}
 use Rattle.area_commit.specs.Plan.{Loses, LieApart, IsLost, HoldLost, lost_in, is_changed}
 use Rattle.area_commit.proofs.Chosen.{has_changed, inode_range, no_use}

@@ -12,7 +12,7 @@ use Rattle.block_alloc.specs.declared.runs.Run.{Run}
 use Rattle.block_alloc.specs.Runs.{blocks_of}
 use Rattle.block_map.specs.Map.{TierRuns}
 use Rattle.area_image.specs.Store.{Store}
-use Rattle.free_pools.proofs.Members.{nothing}
+use Rattle.area_commit.proofs.Members.{nothing}
 use Rattle.area_commit.specs.declared.plan.Lost.{Lost}
 use Rattle.area_commit.specs.Plan.{LieApart, IsLost, HoldLost, lost_in, is_changed}
 use Rattle.change_plan.specs.Part.{Share, IsIn}

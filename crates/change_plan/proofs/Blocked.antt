@@ -11,9 +11,9 @@ use Rattle.block_alloc.specs.declared.runs.Run.{Run}
 use Rattle.block_alloc.specs.Runs.{run_blocks, blocks_of}
 use Rattle.block_map.specs.Map.{HasBlock}
 use Rattle.block_map.specs.declared.map.Place.{Place}
-use Rattle.free_pools.proofs.Members.{cons_cases, nothing}
-use Rattle.area_move.proofs.Given.{all_from}
-use Rattle.area_move.proofs.GivenUp.{Once, once_rest, once_apart, beside}
+use Rattle.area_commit.proofs.Members.{cons_cases, nothing}
+use Rattle.area_commit.proofs.Given.{all_from}
+use Rattle.area_commit.proofs.GivenUp.{Once, once_rest, once_apart, beside}
 use Rattle.area_commit.specs.Plan.{LieApart}
 use Rattle.file_plan.specs.Placed.{nth_place}
 use Rattle.file_plan.specs.Planned.{pair_of, pairs_of}

@@ -9,7 +9,7 @@ use Rattle.layout.specs.Places.{Sizes}
 use Rattle.block_alloc.specs.Runs.{Rising}
 use Rattle.tree_blocks.specs.Written.{TellsWritten}
 use Rattle.area_image.specs.Store.{Store}
-use Rattle.free_pools.proofs.Members.{cons_cases, nothing}
+use Rattle.area_commit.proofs.Members.{cons_cases, nothing}
 use Rattle.file_plan.proofs.Rising.{sorted_rise}
 use Rattle.directory_plan.specs.Blocks.{spares_wanted}
 use Rattle.directory_plan.specs.Spare.{spares_for}

@@ -17,10 +17,10 @@ use Rattle.area_image.specs.Store.{Store, slot, root_of, place}
 use Rattle.area_image.specs.Spelled.{used}
 use Rattle.area_image.proofs.Lists.{slot_here_fits}
 use Rattle.area_image.proofs.Shown.{slot_limits}
-use Rattle.area_rewrite.specs.Written.{block_by}
-use Rattle.area_rewrite.specs.Changed.{place_from}
-use Rattle.area_move.specs.Lists.{roots_left}
-use Rattle.area_move.proofs.GivenUp.{Once}
+use Rattle.area_commit.specs.Written.{block_by}
+use Rattle.area_commit.specs.Changed.{place_from}
+use Rattle.area_commit.specs.MovedLists.{roots_left}
+use Rattle.area_commit.proofs.GivenUp.{Once}
 use Rattle.area_commit.specs.declared.plan.Lost.{Lost}
 use Rattle.area_commit.specs.Plan.{Loses, IsLost, HoldLost, lost_in}
 use Rattle.area_commit.proofs.Chosen.{no_use}

@@ -6,10 +6,10 @@ use Rattle.tier_device.specs.declared.media.Tier.{Tier}
 use Rattle.graph_change.specs.Net.{Base}
 use Rattle.layout.specs.Places.{Sizes, tier_blocks}
 use Rattle.block_alloc.specs.Value.{FreeBlocks}
-use Rattle.free_pools.proofs.Members.{nothing}
+use Rattle.area_commit.proofs.Members.{nothing}
 use Rattle.block_map.specs.Map.{TierRuns, lies_at, LieBelow}
 use Rattle.area_image.specs.Store.{Store}
-use Rattle.area_move.specs.Given.{IsInUse}
+use Rattle.area_commit.specs.Given.{IsInUse}
 use Rattle.change_plan.specs.File.{IsOldMap}
 use Rattle.change_plan.proofs.Blocked.{data_within}
 

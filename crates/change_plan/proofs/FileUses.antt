@@ -24,13 +24,13 @@ use Rattle.area_image.specs.Spelled.{used}
 use Rattle.area_image.specs.Map.{in_tier}
 use Rattle.area_image.proofs.Lists.{slot_here_fits}
 use Rattle.area_image.proofs.Shown.{slot_limits}
-use Rattle.area_rewrite.specs.Written.{IsFit, IsListed, block_by}
-use Rattle.area_rewrite.specs.Changed.{IsFileWritten}
-use Rattle.area_batch.specs.Batches.{AreNodes}
-use Rattle.area_batch.specs.Lists.{HaveOwnRoots}
-use Rattle.area_move.specs.Lists.{root_for}
+use Rattle.area_commit.specs.Written.{IsFit, IsListed, block_by}
+use Rattle.area_commit.specs.Changed.{IsFileWritten}
+use Rattle.area_commit.specs.Batches.{AreNodes}
+use Rattle.area_commit.specs.Lists.{HaveOwnRoots}
+use Rattle.area_commit.specs.MovedLists.{root_for}
 use Rattle.area_commit.specs.declared.plan.Lost.{Lost}
-use Rattle.free_pools.specs.Writing.{HoldData}
+use Rattle.area_commit.specs.Writing.{HoldData}
 use Rattle.file_plan.specs.Placed.{nth_number, nth_place}
 use Rattle.file_plan.specs.Mapped.{AreFresh, AreData, TakesPlace}
 use Rattle.file_plan.specs.Planned.{pair_of, pairs_of, HasData}

@@ -16,8 +16,8 @@ use Rattle.block_map.specs.declared.map.Place.{Place}
 use Rattle.tree_blocks.specs.After.{started}
 use Rattle.tree_blocks.specs.Inode.{LogicalBlocks, Inode, inode_of}
 use Rattle.area_image.specs.Store.{Store, slot, logical, inode}
-use Rattle.area_rewrite.specs.Changed.{IsFileSlot}
-use Rattle.area_move.specs.Lists.{roots_left}
+use Rattle.area_commit.specs.Changed.{IsFileSlot}
+use Rattle.area_commit.specs.MovedLists.{roots_left}
 use Rattle.area_commit.specs.declared.plan.Lost.{Lost}
 use Rattle.area_commit.specs.Plan.{LieApart}
 use Rattle.file_plan.specs.Written.{AreNumbers}

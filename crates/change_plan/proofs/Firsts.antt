@@ -17,11 +17,11 @@ use Rattle.block_map.specs.declared.map.Place.{Place}
 use Rattle.area_image.specs.Store.{Store}
 use Rattle.area_image.specs.Reads.{Free}
 use Rattle.area_image.specs.Spelled.{IsSpelled}
-use Rattle.area_batch.specs.declared.slots.ChangedSlot.{ChangedSlot}
-use Rattle.free_pools.specs.Value.{on_tier}
-use Rattle.free_pools.specs.declared.taking.Taken.{Taken}
-use Rattle.free_pools.specs.Taking.{taken_data, runs_of}
-use Rattle.free_pools.proofs.Members.{cons_cases, cons_here, cons_there, nothing}
+use Rattle.area_commit.specs.ChangedSlot.{ChangedSlot}
+use Rattle.area_commit.specs.PoolsValue.{on_tier}
+use Rattle.area_commit.specs.Taken.{Taken}
+use Rattle.area_commit.specs.Taking.{taken_data, runs_of}
+use Rattle.area_commit.proofs.Members.{cons_cases, cons_here, cons_there, nothing}
 use Rattle.file_plan.specs.Planned.{pair_of, pairs_of}
 use Rattle.area_commit.specs.Plan.{WereFree}
 use Rattle.area_commit.proofs.Chosen.{taken_free, data_has, data_range}

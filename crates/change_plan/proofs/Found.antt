@@ -7,7 +7,7 @@ use Rattle.tier_device.specs.declared.media.Tier.TheVariants.{Fast, Block, Slow}
 use Rattle.layout.specs.declared.slot.Slot.{Slot}
 use Rattle.block_map.specs.Map.{TierRuns, lies_at, LieBelow}
 use Rattle.area_image.specs.Store.{length_of}
-use Rattle.area_rewrite.specs.Written.{block_by}
+use Rattle.area_commit.specs.Written.{block_by}
 
 abbrev block_in : Option (Tier × ℕ) → ℕ
 block_in None = 0

@@ -22,9 +22,9 @@ use Rattle.area_image.specs.Spelled.{Use, used, AreUsedOnce}
 use Rattle.area_image.proofs.Apart.{place_once}
 use Rattle.area_image.proofs.Parts.{slot_as}
 use Rattle.area_image.proofs.Shown.{slot_limits}
-use Rattle.area_move.specs.Lists.{root_left, roots_left, LieAsIn}
-use Rattle.area_move.proofs.Given.{all_from, cons_cases, cons_here, nothing}
-use Rattle.area_move.proofs.GivenUp.{Once, once_rest, once_apart, beside}
+use Rattle.area_commit.specs.MovedLists.{root_left, roots_left, LieAsIn}
+use Rattle.area_commit.proofs.Given.{all_from, cons_cases, cons_here, nothing}
+use Rattle.area_commit.proofs.GivenUp.{Once, once_rest, once_apart, beside}
 use Rattle.area_commit.specs.declared.plan.Lost.{Lost}
 use Rattle.area_commit.specs.Plan.{IsLost, LieApart, lost_in}
 use Rattle.area_commit.proofs.Joined.{used_apart, apart_join}

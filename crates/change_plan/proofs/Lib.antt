@@ -28,3 +28,10 @@ pub mod NextPlaces
 pub mod NextOthers
 pub mod Walked
 mod WrittenBlocks
+-- Passed on to the crates above, which so need not list those below.
+pub use Rattle.area_commit.proofs.Chosen
+pub use Rattle.area_commit.proofs.Course
+pub use Rattle.area_commit.proofs.Given
+pub use Rattle.area_commit.proofs.Moments
+pub use Rattle.area_commit.proofs.Returned
+pub use Rattle.file_plan.proofs.Keys

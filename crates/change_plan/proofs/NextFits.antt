@@ -7,8 +7,8 @@ use Rattle.layout.specs.declared.slot.Slot.{Slot}
 use Rattle.block_alloc.specs.Runs.{blocks_of}
 use Rattle.block_alloc.proofs.Blocks.{length-rising}
 use Rattle.area_image.specs.Store.{Store}
-use Rattle.free_pools.specs.Value.{PoolsView}
-use Rattle.free_pools.specs.declared.taking.Taken.{Taken}
+use Rattle.area_commit.specs.PoolsValue.{PoolsView}
+use Rattle.area_commit.specs.Taken.{Taken}
 use Rattle.directory_plan.specs.Spare.{spares_for}
 use Rattle.directory_plan.specs.declared.changing.ChangedDirectory.{ChangedDirectory}
 use Rattle.change_plan.specs.Changed.{IsChangedFrom}

@@ -9,8 +9,8 @@ use Rattle.layout.specs.Places.{Sizes, node_end}
 use Rattle.block_alloc.specs.Runs.{blocks_of}
 use Rattle.area_image.specs.Store.{Store}
 use Rattle.area_image.specs.Reads.{Free}
-use Rattle.free_pools.specs.Value.{PoolsView}
-use Rattle.free_pools.specs.declared.taking.Taken.{Taken}
+use Rattle.area_commit.specs.PoolsValue.{PoolsView}
+use Rattle.area_commit.specs.Taken.{Taken}
 use Rattle.file_plan.proofs.Moves.{later_is_greater}
 use Rattle.change_plan.specs.Adding.{HasTaken}
 use Rattle.change_plan.specs.File.{AreFreeNodes}

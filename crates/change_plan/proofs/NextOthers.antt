@@ -10,9 +10,9 @@ use Rattle.batch_journal.specs.Images.{image_for}
 use Rattle.block_map.specs.declared.map.Place.{Place}
 use Rattle.area_image.specs.Store.{Store}
 use Rattle.area_image.specs.Spelled.{Use}
-use Rattle.area_batch.specs.declared.slots.ChangedSlot.{ChangedSlot}
-use Rattle.free_pools.specs.declared.taking.Taken.{Taken}
-use Rattle.free_pools.specs.Taking.{taken_data}
+use Rattle.area_commit.specs.ChangedSlot.{ChangedSlot}
+use Rattle.area_commit.specs.Taken.{Taken}
+use Rattle.area_commit.specs.Taking.{taken_data}
 use Rattle.file_plan.specs.Planned.{pairs_of}
 use Rattle.area_commit.specs.Plan.{WereFree}
 use Rattle.area_commit.proofs.Chosen.{data_has, data_range, node_range}

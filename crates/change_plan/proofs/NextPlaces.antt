@@ -11,8 +11,8 @@ use Rattle.graph_change.specs.Change.{Change}
 use Rattle.layout.specs.Places.{Sizes, IsAllowed, data_first, tier_blocks, is_data}
 use Rattle.block_map.specs.declared.map.Place.{Place}
 use Rattle.area_image.specs.Store.{Store}
-use Rattle.free_pools.specs.declared.taking.Taken.{Taken}
-use Rattle.free_pools.specs.Taking.{taken_data}
+use Rattle.area_commit.specs.Taken.{Taken}
+use Rattle.area_commit.specs.Taking.{taken_data}
 use Rattle.file_plan.specs.Placed.{nth_place}
 use Rattle.file_plan.specs.Planned.{pair_of, pairs_of}
 use Rattle.area_commit.specs.Plan.{WereFree}

@@ -13,7 +13,7 @@ use Rattle.tree_blocks.specs.After.{started}
 use Rattle.extent_nodes.specs.Normal.{IsNormal}
 use Rattle.block_map.specs.Map.{runs_in, lies_at}
 use Rattle.area_image.specs.Store.{Store, inode}
-use Rattle.area_rewrite.specs.Written.{IsFit, block_by}
+use Rattle.area_commit.specs.Written.{IsFit, block_by}
 use Rattle.area_commit.specs.declared.plan.Lost.{Lost}
 use Rattle.change_plan.specs.Part.{IsPart, IsIn}
 use Rattle.change_plan.specs.Adding.{GivesAll, no_runs}

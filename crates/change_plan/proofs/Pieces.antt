@@ -13,10 +13,10 @@ use Rattle.block_alloc.specs.declared.runs.Run.{Run}
 use Rattle.block_alloc.specs.Runs.{run_blocks, blocks_of}
 use Rattle.batch_journal.specs.Images.{slice}
 use Rattle.area_image.specs.Store.{Store}
-use Rattle.area_batch.specs.declared.slots.ChangedSlot.{ChangedSlot}
-use Rattle.area_batch.specs.Slots.{RiseIn}
-use Rattle.free_pools.specs.Writing.{block_at, HoldData}
-use Rattle.free_pools.proofs.Members.{cons_cases, cons_here, nothing}
+use Rattle.area_commit.specs.ChangedSlot.{ChangedSlot}
+use Rattle.area_commit.specs.Slots.{RiseIn}
+use Rattle.area_commit.specs.Writing.{block_at, HoldData}
+use Rattle.area_commit.proofs.Members.{cons_cases, cons_here, nothing}
 use Rattle.area_commit.specs.declared.plan.Lost.{Lost}
 use Rattle.area_commit.specs.Plan.{lost_in, is_changed}
 use Rattle.area_commit.proofs.Chosen.{changed_has, has_changed}

@@ -17,10 +17,10 @@ use Rattle.batch_journal.specs.Images.{image_for, with_images}
 use Rattle.block_map.specs.Map.{TierRuns, runs_in}
 use Rattle.area_image.specs.Store.{Store, root_of, touch_of}
 use Rattle.area_image.specs.Spelled.{Use, used}
-use Rattle.area_rewrite.specs.Written.{IsFit, IsListed, block_by}
-use Rattle.area_rewrite.specs.Changed.{IsDirectoryWritten}
-use Rattle.area_batch.specs.Batches.{AreNodes}
-use Rattle.area_move.specs.Given.{AreUsed, IsInUse}
+use Rattle.area_commit.specs.Written.{IsFit, IsListed, block_by}
+use Rattle.area_commit.specs.Changed.{IsDirectoryWritten}
+use Rattle.area_commit.specs.Batches.{AreNodes}
+use Rattle.area_commit.specs.Given.{AreUsed, IsInUse}
 use Rattle.area_commit.specs.declared.plan.Lost.{Lost}
 use Rattle.area_commit.specs.Plan.{Loses, IsLost, LieApart, HoldLost}
 use Rattle.area_commit.proofs.Chosen.{no_use}

@@ -19,7 +19,7 @@ use Rattle.tree_blocks.specs.Inode.{LogicalBlocks, Inode, inode_of}
 use Rattle.area_image.specs.Reads.{Free}
 use Rattle.area_image.specs.Store.{Store, slot_read, logical, inode}
 use Rattle.area_image.proofs.Parts.{slot_as}
-use Rattle.area_move.specs.Lists.{IsListOf}
+use Rattle.area_commit.specs.MovedLists.{IsListOf}
 use Rattle.file_plan.specs.Placed.{nth_place}
 use Rattle.change_plan.specs.File.{AreFreePlaces}
 

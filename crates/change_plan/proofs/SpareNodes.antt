@@ -13,8 +13,8 @@ use Rattle.batch_journal.specs.Images.{image_for}
 use Rattle.area_image.specs.Store.{Store}
 use Rattle.area_image.specs.Reads.{Free}
 use Rattle.area_image.specs.Spelled.{Use, used, IsSpelled}
-use Rattle.free_pools.specs.Value.{PoolsView}
-use Rattle.free_pools.specs.declared.taking.Taken.{Taken}
+use Rattle.area_commit.specs.PoolsValue.{PoolsView}
+use Rattle.area_commit.specs.Taken.{Taken}
 use Rattle.area_commit.proofs.Chosen.{no_use}
 use Rattle.area_commit.proofs.Returned.{were_free}
 use Rattle.directory_plan.specs.Blocks.{nth_block, HaveOwnPlaces, use_of, use_on_fast}

@@ -6,9 +6,9 @@ use Rattle.tier_device.specs.declared.media.Tier.{Tier}
 use Rattle.tier_device.specs.declared.media.Tier.TheVariants.{Fast, Block, Slow}
 use Rattle.block_alloc.specs.declared.runs.Run.{Run}
 use Rattle.block_alloc.specs.Runs.{AreNormalRuns}
-use Rattle.free_pools.specs.declared.taking.Taken.{Taken}
-use Rattle.free_pools.specs.Taking.{runs_of, tier_places, taken_data}
-use Rattle.area_move.specs.Placed.{EndsFit}
+use Rattle.area_commit.specs.Taken.{Taken}
+use Rattle.area_commit.specs.Taking.{runs_of, tier_places, taken_data}
+use Rattle.area_commit.specs.Placed.{EndsFit}
 
 range_more : (a n : ℕ) → range_with_len a (n + 1) ≡ range_with_len a n ++ (a + n) ∷ []
 range_more a zero = let e : a ≡ a + 0 = omega arith in ap (λ (x : ℕ). x ∷ []) e

@@ -25,7 +25,7 @@ use Rattle.area_image.specs.Spelled.{SpellsInode}
 use Rattle.area_image.proofs.Apart.{place_once}
 use Rattle.area_image.proofs.Parts.{slot_as}
 use Rattle.area_image.proofs.Tails.{place_past}
-use Rattle.area_move.specs.Lists.{LieAsIn}
+use Rattle.area_commit.specs.MovedLists.{LieAsIn}
 use Rattle.change_plan.specs.File.{IsOldMap}
 
 -- ---- a file that is there

@@ -16,12 +16,12 @@ use Rattle.block_map.specs.Map.{TierRuns}
 use Rattle.area_image.specs.Store.{Store, place}
 use Rattle.area_image.specs.Reads.{first_room, Free}
 use Rattle.area_image.specs.Spelled.{Use}
-use Rattle.area_rewrite.specs.Many.{HasBlockFor}
-use Rattle.free_pools.specs.Value.{on_tier}
-use Rattle.free_pools.specs.declared.taking.Taken.{Taken}
-use Rattle.free_pools.specs.Taking.{taken_data, runs_of}
-use Rattle.free_pools.proofs.Members.{cons_cases, cons_here, cons_there, nothing}
-use Rattle.area_room.specs.Changing.{BlockIsTaken}
+use Rattle.area_commit.specs.Many.{HasBlockFor}
+use Rattle.area_commit.specs.PoolsValue.{on_tier}
+use Rattle.area_commit.specs.Taken.{Taken}
+use Rattle.area_commit.specs.Taking.{taken_data, runs_of}
+use Rattle.area_commit.proofs.Members.{cons_cases, cons_here, cons_there, nothing}
+use Rattle.area_commit.specs.Changing.{BlockIsTaken}
 use Rattle.area_commit.specs.declared.plan.Rewrite.{Rewrite}
 use Rattle.area_commit.specs.Plan.{WereFree, IsPlannedInode, IsPlanned, is_rewritten}
 use Rattle.area_commit.specs.Done.{IsCarriedOut}

@@ -2,9 +2,9 @@
 use Rattle.std.proofs.Common.{refl, ◌∙◌}
 use Rattle.layout.specs.Places.{Sizes}
 use Rattle.area_image.specs.Store.{Store}
-use Rattle.free_pools.specs.Value.{PoolsView}
-use Rattle.free_pools.specs.Taking.{CanUndo}
-use Rattle.free_pools.specs.declared.taking.Taken.{Taken}
+use Rattle.area_commit.specs.PoolsValue.{PoolsView}
+use Rattle.area_commit.specs.Taking.{CanUndo}
+use Rattle.area_commit.specs.Taken.{Taken}
 use Rattle.change_plan.specs.Adding.{HasTaken, TakesMoreNodes}
 
 pub takes_none : (left : PoolsView) (taken : Taken) → CanUndo left taken → TakesMoreNodes left taken left taken

@@ -21,11 +21,11 @@ use Rattle.layout.specs.Slot.{fits_slot}
 use Rattle.block_map.specs.declared.map.Place.{Place}
 use Rattle.area_image.specs.Store.{Store, graph, slot_read}
 use Rattle.area_image.specs.Spelled.{IsSpelled}
-use Rattle.area_batch.specs.declared.slots.ChangedSlot.{ChangedSlot}
-use Rattle.free_pools.specs.Value.{PoolsView}
-use Rattle.free_pools.specs.declared.taking.Taken.{Taken}
-use Rattle.free_pools.specs.Taking.{taken_data}
-use Rattle.free_pools.proofs.Members.{cons_here, cons_there}
+use Rattle.area_commit.specs.ChangedSlot.{ChangedSlot}
+use Rattle.area_commit.specs.PoolsValue.{PoolsView}
+use Rattle.area_commit.specs.Taken.{Taken}
+use Rattle.area_commit.specs.Taking.{taken_data}
+use Rattle.area_commit.proofs.Members.{cons_here, cons_there}
 use Rattle.file_plan.specs.Planned.{pairs_of}
 use Rattle.area_commit.specs.Plan.{WereFree, is_changed}
 use Rattle.area_commit.proofs.Returned.{were_free}

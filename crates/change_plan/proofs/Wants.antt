@@ -3,7 +3,7 @@ use Rattle.std.proofs.Common.{◌≡◌, ◌≤◌, ◌<◌, ◌+◌, ◌*◌, i
 use Rattle.std.specs.List.{Contains}
 use Rattle.std.specs.FinMap as fin
 use Rattle.std.proofs.lemmas.List.{length-map}
-use Rattle.free_pools.proofs.Members.{cons_here, cons_there}
+use Rattle.area_commit.proofs.Members.{cons_here, cons_there}
 use Rattle.graph_change.specs.Bounds.{IsBounded, AreBounded}
 use Rattle.graph_change.specs.Bytes.{end}
 use Rattle.graph_change.specs.Change.{Change, Changes}

@@ -8,7 +8,7 @@ use Rattle.std.proofs.lemmas.List.{length-append, length-map}
 use Rattle.std.proofs.lemmas.List.Elements.{Contains-append_cases}
 use Rattle.std.proofs.lemmas.Map.Keys.{IsDistinct-cons}
 use Rattle.file_graph.specs.declared.effect.Kind.TheVariants as kind
-use Rattle.free_pools.proofs.Members.{cons_here, cons_there, nothing}
+use Rattle.area_commit.proofs.Members.{cons_here, cons_there, nothing}
 use Rattle.graph_change.specs.Change.{Change, Changes, change_at, writes_block}
 use Rattle.layout.specs.Places.{Sizes}
 use Rattle.tree_blocks.specs.After.{started}

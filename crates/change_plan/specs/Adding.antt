@@ -8,9 +8,9 @@ use Rattle.block_alloc.specs.Runs.{blocks_of}
 use Rattle.block_map.specs.Map.{TierRuns}
 use Rattle.block_map.specs.declared.map.Place.{Place}
 use Rattle.area_image.specs.Store.{Store}
-use Rattle.free_pools.specs.Value.{PoolsView, AreInOrder, HasRanges, AreFree}
-use Rattle.free_pools.specs.declared.taking.Taken.{Taken}
-use Rattle.free_pools.specs.Taking.{taken_data, WereTaken, CanUndo}
+use Rattle.area_commit.specs.PoolsValue.{PoolsView, AreInOrder, HasRanges, AreFree}
+use Rattle.area_commit.specs.Taken.{Taken}
+use Rattle.area_commit.specs.Taking.{taken_data, WereTaken, CanUndo}
 use Rattle.file_plan.specs.Planned.{pairs_of}
 use Rattle.area_commit.specs.declared.plan.Lost.{Lost}
 use Rattle.area_commit.specs.Plan.{HoldLost}

@@ -12,7 +12,7 @@ use Rattle.batch_journal.specs.Images.{image_for}
 use Rattle.area_image.specs.Store.{Store}
 use Rattle.area_image.specs.Reads.{Free}
 use Rattle.area_image.specs.Spelled.{Use, used}
-use Rattle.free_pools.specs.declared.taking.Taken.{Taken}
+use Rattle.area_commit.specs.Taken.{Taken}
 use Rattle.area_commit.specs.declared.plan.Lost.{Lost}
 use Rattle.area_commit.specs.Plan.{lost_in}
 use Rattle.directory_plan.specs.Planned.{HaveNoImage}

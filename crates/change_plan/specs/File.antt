@@ -24,9 +24,9 @@ use Rattle.tree_blocks.specs.After.{started}
 use Rattle.area_image.specs.Store.{Store, slot, touch_of, inode}
 use Rattle.area_image.specs.Reads.{Free}
 use Rattle.area_image.specs.declared.tiers.InodeExtents.{InodeExtents}
-use Rattle.area_rewrite.specs.Changed.{IsFileSlot}
-use Rattle.area_batch.specs.Lists.{PutsLists}
-use Rattle.area_move.specs.Lists.{AreListsOf, roots_left}
+use Rattle.area_commit.specs.Changed.{IsFileSlot}
+use Rattle.area_commit.specs.Lists.{PutsLists}
+use Rattle.area_commit.specs.MovedLists.{AreListsOf, roots_left}
 use Rattle.area_commit.specs.declared.plan.Lost.{Lost}
 use Rattle.area_commit.specs.Plan.{LieApart, lost_in}
 use Rattle.file_plan.specs.Placed.{nth_place}

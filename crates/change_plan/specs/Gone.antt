@@ -10,8 +10,8 @@ use Rattle.block_alloc.specs.Runs.{blocks_of}
 use Rattle.block_alloc.specs.Value.{FreeBlocks}
 use Rattle.extent_nodes.specs.Spelled.{IsOneToOne}
 use Rattle.block_map.specs.Map.{TierRuns, runs_in, lies_at, HasBlock}
-use Rattle.area_move.specs.Given.{AreUsed, IsInUse}
-use Rattle.area_move.specs.Lists.{roots_left}
+use Rattle.area_commit.specs.Given.{AreUsed, IsInUse}
+use Rattle.area_commit.specs.MovedLists.{roots_left}
 use Rattle.area_commit.specs.declared.plan.Lost.{Lost}
 use Rattle.file_plan.specs.Mapped.{AreAll}
 

@@ -10,3 +10,17 @@ pub mod Started
 pub mod FileSteps
 pub mod Next
 pub mod Wanted
+-- Passed on to the crates above, which so need not list those below.
+pub use Rattle.area_commit.specs.ChangedSlot
+pub use Rattle.area_commit.specs.Changing
+pub use Rattle.area_commit.specs.Done
+pub use Rattle.area_commit.specs.Placed
+pub use Rattle.area_commit.specs.Plan
+pub use Rattle.area_commit.specs.PoolsValue
+pub use Rattle.area_commit.specs.Room
+pub use Rattle.area_commit.specs.Settled
+pub use Rattle.area_commit.specs.Taken
+pub use Rattle.area_commit.specs.Taking
+pub use Rattle.area_commit.specs.declared.plan.Lost
+pub use Rattle.area_commit.specs.declared.plan.Rewrite
+pub use Rattle.file_plan.specs.Planned

@@ -15,8 +15,8 @@ use Rattle.block_map.specs.declared.map.Place.{Place}
 use Rattle.tree_blocks.specs.After.{started}
 use Rattle.area_image.specs.Store.{Store, slot_read, inode, graph}
 use Rattle.area_image.specs.Spelled.{IsSpelled}
-use Rattle.free_pools.specs.Value.{PoolsView}
-use Rattle.free_pools.specs.declared.taking.Taken.{Taken}
+use Rattle.area_commit.specs.PoolsValue.{PoolsView}
+use Rattle.area_commit.specs.Taken.{Taken}
 use Rattle.file_plan.specs.Placed.{PlacesFit}
 use Rattle.file_plan.specs.Written.{AreNumbers}
 use Rattle.change_plan.specs.Adding.{HasTaken, AddsPart}

@@ -13,10 +13,10 @@ use Rattle.tree_blocks.specs.After.{started}
 use Rattle.tree_blocks.specs.Directory.{EntryBlocks}
 use Rattle.area_image.specs.Store.{Store, root_of, touch_of, place, inode}
 use Rattle.area_image.specs.Spelled.{used}
-use Rattle.area_rewrite.specs.Written.{IsFit, IsListed, block_by}
-use Rattle.area_rewrite.specs.Changed.{IsFileWritten, IsDirectoryWritten}
-use Rattle.area_batch.specs.Batches.{AreNodes}
-use Rattle.free_pools.specs.Writing.{HoldData}
+use Rattle.area_commit.specs.Written.{IsFit, IsListed, block_by}
+use Rattle.area_commit.specs.Changed.{IsFileWritten, IsDirectoryWritten}
+use Rattle.area_commit.specs.Batches.{AreNodes}
+use Rattle.area_commit.specs.Writing.{HoldData}
 use Rattle.area_commit.specs.declared.plan.Lost.{Lost}
 use Rattle.area_commit.specs.Plan.{HoldLost}
 

@@ -13,14 +13,14 @@ use Rattle.block_map.specs.Map.{TierRuns, runs_in}
 use Rattle.area_image.specs.Store.{Store, root_of, place}
 use Rattle.area_image.specs.Reads.{Free}
 use Rattle.area_image.specs.Spelled.{Use, used}
-use Rattle.area_rewrite.specs.Written.{IsFit, IsListed, block_by}
-use Rattle.area_rewrite.specs.Many.{HasBlockFor}
-use Rattle.area_batch.specs.declared.slots.ChangedSlot.{ChangedSlot}
-use Rattle.area_batch.specs.Slots.{RiseIn}
-use Rattle.area_batch.specs.Batches.{AreNodes}
-use Rattle.free_pools.specs.declared.taking.Taken.{Taken}
-use Rattle.free_pools.specs.Taking.{taken_data}
-use Rattle.free_pools.specs.Writing.{HoldData}
+use Rattle.area_commit.specs.Written.{IsFit, IsListed, block_by}
+use Rattle.area_commit.specs.Many.{HasBlockFor}
+use Rattle.area_commit.specs.ChangedSlot.{ChangedSlot}
+use Rattle.area_commit.specs.Slots.{RiseIn}
+use Rattle.area_commit.specs.Batches.{AreNodes}
+use Rattle.area_commit.specs.Taken.{Taken}
+use Rattle.area_commit.specs.Taking.{taken_data}
+use Rattle.area_commit.specs.Writing.{HoldData}
 use Rattle.area_commit.specs.declared.plan.Lost.{Lost}
 use Rattle.area_commit.specs.Plan.{HoldLost, is_changed}
 use Rattle.change_plan.specs.Part.{Share, IsIn, IsWrittenFor, IsTouchedBy}

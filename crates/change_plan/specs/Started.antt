@@ -18,9 +18,9 @@ use Rattle.tree_blocks.specs.After.{started}
 use Rattle.tree_blocks.specs.Inode.{LogicalBlocks, inode_of}
 use Rattle.area_image.specs.Store.{Store, slot, touch_of, logical, inode}
 use Rattle.area_image.specs.Checks.{HasFound}
-use Rattle.area_rewrite.specs.Changed.{IsFileSlot}
-use Rattle.area_batch.specs.Lists.{PutsLists}
-use Rattle.area_move.specs.Lists.{AreListsOf, roots_left}
+use Rattle.area_commit.specs.Changed.{IsFileSlot}
+use Rattle.area_commit.specs.Lists.{PutsLists}
+use Rattle.area_commit.specs.MovedLists.{AreListsOf, roots_left}
 use Rattle.area_commit.specs.declared.plan.Lost.{Lost}
 use Rattle.area_commit.specs.Plan.{LieApart, lost_in}
 use Rattle.file_plan.specs.Bytes.{blocks_from}

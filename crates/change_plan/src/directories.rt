@@ -12,7 +12,7 @@ ghost use Rattle.area_image.specs.Store.{store_of, slot_read, inode as inode_in}
 ghost use Rattle.area_image.specs.Spelled.{IsSpelled};
 ghost use Rattle.area_image.specs.Looks.{Looks};
 ghost use Rattle.area_image.specs.declared.error.AreaError.TheVariants.{DeviceFault, Memory};
-ghost use Rattle.free_pools.specs.declared.taking.Taken.{Taken};
+ghost use Rattle.area_commit.specs.Taken.{Taken};
 ghost use Rattle.directory_plan.specs.Started.{IsStarted, IsSoundStart};
 ghost use Rattle.change_plan.specs.Parts.{LoseBoth};
 ghost use Rattle.change_plan.specs.Adding.{AddsPart};

@@ -12,10 +12,10 @@ ghost use Rattle.block_map.specs.Map.{TierRuns};
 ghost use Rattle.block_map.specs.declared.map.Place.{Place};
 ghost use Rattle.area_image.specs.Store.{Store, graph, slot};
 ghost use Rattle.area_image.specs.Spelled.{IsSpelled};
-ghost use Rattle.area_batch.specs.declared.slots.ChangedSlot.{ChangedSlot};
-ghost use Rattle.free_pools.specs.Value.{PoolsView, data_pool};
-ghost use Rattle.free_pools.specs.declared.taking.Taken.{Taken};
-ghost use Rattle.free_pools.specs.Taking.{taken_data};
+ghost use Rattle.area_commit.specs.ChangedSlot.{ChangedSlot};
+ghost use Rattle.area_commit.specs.PoolsValue.{PoolsView, data_pool};
+ghost use Rattle.area_commit.specs.Taken.{Taken};
+ghost use Rattle.area_commit.specs.Taking.{taken_data};
 ghost use Rattle.file_plan.specs.Planned.{pairs_of};
 ghost use Rattle.area_commit.specs.Plan.{IsPlan, is_changed, lost_in};
 ghost use Rattle.area_commit.specs.Done.{IsCarriedOut};
@@ -28,8 +28,7 @@ ghost use Rattle.change_plan.specs.declared.partial.PartialPlan.{PartialPlan};
 
 use crate::laws::{carried_out_change_is_the_graph_after, parts_are_planned};
 use crate::partial::PartialPlan;
-use area_commit::{Rewrite, taken_blocks_were_free};
-use free_pools::Taken;
+use area_commit::{Rewrite, Taken, taken_blocks_were_free};
 use layout::Marks;
 
 /// Before the first inode nothing is planned, over none of the places. What is planned of one inode more, behind them, stands with them: over the next of the places, and over the

@@ -13,18 +13,16 @@ ghost use Rattle.area_image.specs.Store.{store_of, slot_read, space_of, inode as
 ghost use Rattle.area_image.specs.Spelled.{IsSpelled};
 ghost use Rattle.area_image.specs.Looks.{Looks};
 ghost use Rattle.area_image.specs.declared.error.AreaError.TheVariants.{DeviceFault, Memory};
-ghost use Rattle.free_pools.specs.declared.taking.Taken.{Taken};
-ghost use Rattle.area_move.specs.Lists.{LieAsIn};
+ghost use Rattle.area_commit.specs.Taken.{Taken};
+ghost use Rattle.area_commit.specs.MovedLists.{LieAsIn};
 ghost use Rattle.change_plan.specs.Parts.{LoseBoth};
 ghost use Rattle.change_plan.specs.Adding.{GivesAll, AddsAll, AddsPart};
 ghost use Rattle.change_plan.specs.Gone.{IsSorted, AreAllBlocks};
 
 use crate::part_laws::gone_inode_is_a_part;
 use crate::partial::PartialPlan;
-use area_batch::ChangedSlot;
-use area_commit::Lost;
+use area_commit::{ChangedSlot, Lost, map_of, roots_left};
 use area_image::{AreaError, read_all_extents};
-use area_move::{map_of, roots_left};
 use batch_journal::Journal;
 use block_alloc::Run;
 use block_map::BlockMap;

@@ -12,7 +12,7 @@ ghost use Rattle.layout.specs.Places.{Sizes, IsAllowed, is_inode};
 ghost use Rattle.block_map.specs.Map.{TierRuns};
 ghost use Rattle.area_image.specs.Store.{Store, graph, slot};
 ghost use Rattle.area_image.specs.Spelled.{IsSpelled};
-ghost use Rattle.area_batch.specs.declared.slots.ChangedSlot.{ChangedSlot};
+ghost use Rattle.area_commit.specs.ChangedSlot.{ChangedSlot};
 ghost use Rattle.area_commit.specs.declared.plan.Lost.{Lost};
 ghost use Rattle.area_commit.specs.declared.plan.Rewrite.{Rewrite};
 ghost use Rattle.area_commit.specs.Plan.{WereFree, IsPlanned, is_rewritten};
@@ -20,10 +20,10 @@ ghost use Rattle.area_commit.specs.Done.{IsCarriedOut};
 ghost use Rattle.change_plan.specs.Part.{Share, IsPart, IsTouchedBy};
 ghost use Rattle.change_plan.specs.Parts.{AreParts, LoseBoth, HasFree, ShareNone, both, share_of, with_at};
 
-use area_commit::carried_out_inodes_are_written_anew;
-use area_rewrite::{
-    changed_store_spells_the_graph_after, written_directory_is_rewritten,
-    written_file_is_rewritten, written_free_slot_is_inode_after, written_inode_is_read,
+use area_commit::{
+    carried_out_inodes_are_written_anew, changed_store_spells_the_graph_after,
+    written_directory_is_rewritten, written_file_is_rewritten, written_free_slot_is_inode_after,
+    written_inode_is_read,
 };
 
 /// Before the first inode nothing is planned.

@@ -37,3 +37,10 @@ pub use placing::{PlacedFile, RootedFile, place_file, root_file};
 pub use spares::{last_blocks, take_spares};
 pub use starting::{StartedFile, made_file, read_file};
 pub use walking::plan_changes;
+
+// Passed on to the crates above, which so need not list those below.
+pub use area_commit::{
+    Lost, NodeImages, Pools, Taken, carried_out_marks, carry_out, charge_after_change,
+    nodes_never_run_out, small_changes_find_blocks,
+};
+pub use file_plan::taken_places;

@@ -1,5 +1,4 @@
-use area_batch::{ChangedSlot, NodeImages};
-use area_commit::Lost;
+use area_commit::{ChangedSlot, Lost, NodeImages};
 
 /// The plans of the inodes of a change that are made so far, one behind the other.
 #[derive(Debug, Drop)]

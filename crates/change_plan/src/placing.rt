@@ -16,10 +16,8 @@ ghost use Rattle.file_plan.specs.Roots.{roots_wanted};
 ghost use Rattle.change_plan.specs.Started.{IsStartedFile, IsPlacedFile, IsRootedFile};
 
 use crate::starting::StartedFile;
-use area_batch::{NodeImages, put_lists};
-use area_commit::runs_lie_apart;
+use area_commit::{NodeImages, put_lists, roots_left, runs_lie_apart};
 use area_image::InodeExtents;
-use area_move::roots_left;
 use block_alloc::Run;
 use block_map::Place;
 use file_plan::{FilePlan, plan_file, slot_after};

@@ -10,8 +10,8 @@ ghost use Rattle.area_image.specs.Looks.{Looks};
 ghost use Rattle.area_image.specs.declared.error.AreaError.TheVariants.{DeviceFault, Memory};
 ghost use Rattle.change_plan.specs.Started.{IsStartedFile};
 
+use area_commit::map_of;
 use area_image::{AreaError, InodeExtents, read_all_extents};
-use area_move::map_of;
 use batch_journal::Journal;
 use block_map::BlockMap;
 use layout::Slot;

@@ -14,15 +14,15 @@ use Rattle.layout.specs.Places.{Sizes}
 use Rattle.batch_journal.specs.Course.{Unmoved}
 use Rattle.batch_journal.specs.View.{JournalView}
 use Rattle.batch_journal.proofs.Courses.{unmoved_on}
-use Rattle.area_image.specs.Store.{Store, store_of, graph, marks}
-use Rattle.area_image.specs.Reads.{Loose}
-use Rattle.area_image.specs.Looks.{Looks}
-use Rattle.area_image.proofs.Looked.{carried_back}
-use Rattle.area_image.specs.declared.error.AreaError.{AreaError}
-use Rattle.area_image.specs.declared.error.AreaError.TheVariants as area
-use Rattle.area_apply.specs.Applying.{IsAppliedStore}
-use Rattle.area_apply.specs.declared.error.ApplyError.{ApplyError}
-use Rattle.area_apply.specs.declared.error.ApplyError.TheVariants as apply
+use Rattle.shared_area.specs.Store.{Store, store_of, graph, marks}
+use Rattle.shared_area.specs.Reads.{Loose}
+use Rattle.shared_area.specs.Looks.{Looks}
+use Rattle.shared_area.proofs.Looked.{carried_back}
+use Rattle.shared_area.specs.AreaError.{AreaError}
+use Rattle.shared_area.specs.AreaError.TheVariants as area
+use Rattle.shared_area.specs.ChangeApplying.{IsAppliedStore}
+use Rattle.shared_area.specs.ApplyError.{ApplyError}
+use Rattle.shared_area.specs.ApplyError.TheVariants as apply
 use Rattle.log_record.specs.declared.format.Record.{Record}
 use Rattle.coalescer.specs.Records.{effects_in}
 use Rattle.coalescer.specs.Weight.{IsLongestRun}

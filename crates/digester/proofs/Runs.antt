@@ -16,10 +16,10 @@ use Rattle.log_record.specs.declared.format.Record.{Record}
 use Rattle.call_effects.specs.NodeView.{view_at, view_of_body, view_of_node}
 use Rattle.layout.specs.declared.places.TheConstants.{SPARE_BLOCKS}
 use Rattle.layout.specs.Places.{Sizes}
-use Rattle.tree_blocks.specs.After.{started}
-use Rattle.area_image.specs.Store.{Store, inode}
-use Rattle.change_plan.specs.Next.{HasFewEntries, nodes_for}
-use Rattle.change_plan.specs.Wanted.{images_for, AreWritten}
+use Rattle.shared_area.specs.After.{started}
+use Rattle.shared_area.specs.Store.{Store, inode}
+use Rattle.shared_area.specs.Next.{HasFewEntries, nodes_for}
+use Rattle.shared_area.specs.Wanted.{images_for, AreWritten}
 use Rattle.coalescer.specs.Records.{effects_in}
 use Rattle.coalescer.specs.Within.{AreBlocksIn, images_of}
 use Rattle.record_check.specs.Good.{KeepsLimits}

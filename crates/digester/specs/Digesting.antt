@@ -10,10 +10,10 @@ use Rattle.layout.specs.Places.{Sizes}
 use Rattle.batch_journal.specs.Course.{Unmoved}
 use Rattle.batch_journal.specs.View.{JournalView}
 use Rattle.batch_journal.specs.Volume.{IsVolume}
-use Rattle.area_image.specs.Store.{Store, store_of, slot, graph, marks}
-use Rattle.area_image.specs.Reads.{Loose}
-use Rattle.area_image.specs.Spelled.{IsOpenable}
-use Rattle.change_plan.specs.Part.{IsTouchedBy}
+use Rattle.shared_area.specs.Store.{Store, store_of, slot, graph, marks}
+use Rattle.shared_area.specs.Reads.{Loose}
+use Rattle.shared_area.specs.Spelled.{IsOpenable}
+use Rattle.shared_area.specs.Part.{IsTouchedBy}
 use Rattle.coalescer.specs.Records.{effects_in}
 use Rattle.coalescer.specs.Weight.{fits_chunk, IsLongestRun}
 use Rattle.digest_plan.specs.Plan.{AreGood, IsFirstBad}

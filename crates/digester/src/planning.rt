@@ -3,16 +3,15 @@ ghost use Rattle.std.specs.List.{AllByRecursion};
 ghost use Rattle.std.specs.List.Sorted.{IsNonDecreasing};
 ghost use Rattle.file_graph.specs.Units.{charge};
 ghost use Rattle.log_record.specs.Grammar.{IsRecord};
-ghost use Rattle.area_image.specs.declared.error.AreaError.TheVariants.{DeviceFault};
-ghost use Rattle.area_image.specs.Store.{store_of, graph};
-ghost use Rattle.area_image.specs.Looks.{Looks};
+ghost use Rattle.shared_area.specs.AreaError.TheVariants.{DeviceFault};
+ghost use Rattle.shared_area.specs.Store.{store_of, graph};
+ghost use Rattle.shared_area.specs.Looks.{Looks};
 ghost use Rattle.shared_area.specs.Parts.{IsNoDamage};
 ghost use Rattle.digest_plan.specs.Plan.{PlanTells};
 
-use area_image::AreaError;
 use digest_plan::{Plan, PlanError, prepare};
 use log_record::Record;
-use shared_area::Shared;
+use shared_area::{AreaError, Shared};
 use std::alloc::Global;
 use tier_device::Media;
 

@@ -4,7 +4,7 @@ use Rattle.std.specs.Prelude.{nat_le}
 use Rattle.std.proofs.lemmas.Bool.{cases_lt, and_parts, leb-true, false_from_ne_true}
 use Rattle.tier_device.specs.declared.media.Tier.{Tier}
 use Rattle.layout.specs.Places.{Sizes, is_inode}
-use Rattle.area_image.specs.Store.{Store}
+use Rattle.shared_area.specs.Store.{Store}
 use Rattle.shared_area.specs.Running.{file_lies, FindsRun}
 use Rattle.shared_area.proofs.FirstRuns.{no_inode_lies}
 use Rattle.block_alloc.specs.declared.runs.Run.{Run}

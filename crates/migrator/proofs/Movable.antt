@@ -7,11 +7,11 @@ use Rattle.file_graph.specs.declared.effect.Kind.TheVariants as kind
 use Rattle.layout.specs.declared.slot.Slot.{Slot}
 use Rattle.layout.specs.declared.slot.Slot.TheVariants as slots
 use Rattle.layout.specs.Places.{Sizes}
-use Rattle.extent_nodes.specs.Places.{in_run}
-use Rattle.tree_blocks.specs.Inode.{LogicalBlocks, inode_of}
-use Rattle.area_image.specs.Store.{Store, slot, place, logical}
-use Rattle.area_image.specs.declared.error.AreaError.{AreaError}
-use Rattle.area_move.specs.Placed.{is_faster}
+use Rattle.shared_area.specs.Places.{in_run}
+use Rattle.shared_area.specs.Inode.{LogicalBlocks, inode_of}
+use Rattle.shared_area.specs.Store.{Store, slot, place, logical}
+use Rattle.shared_area.specs.AreaError.{AreaError}
+use Rattle.shared_area.specs.Placed.{is_faster}
 use Rattle.shared_area.specs.Running.{file_place, file_lies}
 use Rattle.migrator.specs.declared.picking.FileRun.{FileRun}
 use Rattle.migrator.specs.Picking.{IsPickedIn, MayBeMoved}

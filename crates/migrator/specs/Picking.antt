@@ -3,8 +3,8 @@ use Rattle.std.specs.Prelude.{◌≡◌, ◌⊎◌, ◌<◌, ◌≤◌, ℕ, Opt
 use Rattle.tier_device.specs.declared.media.Tier.{Tier}
 use Rattle.tier_device.specs.declared.media.Tier.TheVariants as tiers
 use Rattle.layout.specs.Places.{Sizes}
-use Rattle.area_image.specs.Store.{Store, slot, touch_of}
-use Rattle.area_move.specs.Moving.{CanMove}
+use Rattle.shared_area.specs.Store.{Store, slot, touch_of}
+use Rattle.shared_area.specs.RunMoving.{CanMove}
 use Rattle.shared_area.specs.Running.{file_lies, IsFirstRun}
 use Rattle.migrator.specs.declared.picking.FileRun.{FileRun}
 

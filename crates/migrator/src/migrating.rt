@@ -1,9 +1,9 @@
 // A run is moved down.
 ghost use Rattle.std.specs.Prelude.{◌≡◌, ◌≤◌, ◌+◌, false, OnOk, IsErrOf};
-ghost use Rattle.area_image.specs.Store.{store_of, graph, marks};
-ghost use Rattle.area_move.specs.Moving.{CanMove, IsMoved};
-ghost use Rattle.area_move.specs.Found.{HasFileRun};
-ghost use Rattle.area_move.specs.declared.error.RelocateError.TheVariants.{NotMapped, NoBlock, Memory};
+ghost use Rattle.shared_area.specs.Store.{store_of, graph, marks};
+ghost use Rattle.shared_area.specs.RunMoving.{CanMove, IsMoved};
+ghost use Rattle.shared_area.specs.Found.{HasFileRun};
+ghost use Rattle.shared_area.specs.RelocateError.TheVariants.{NotMapped, NoBlock, Memory};
 ghost use Rattle.shared_area.specs.Moving.{HasTooFew, HasEnough, StaysOpen, MovesOrStays};
 
 use shared_area::{RelocateError, Shared};

@@ -2,10 +2,10 @@
 ghost use Rattle.std.specs.Prelude.{◌≡◌, ◌≤◌, ◌<◌, ◌+◌, ℕ, Option, Some, None, IfOk, IfErr, IfSome, IfNone};
 ghost use Rattle.tier_device.specs.declared.media.Tier.{Tier};
 ghost use Rattle.layout.specs.Places.{Sizes};
-ghost use Rattle.area_image.specs.Store.{Store, store_of};
-ghost use Rattle.area_image.specs.Looks.{Looks};
-ghost use Rattle.area_image.specs.Map.{WantsMemory};
-ghost use Rattle.area_image.specs.declared.error.AreaError.TheVariants.{DeviceFault, Memory};
+ghost use Rattle.shared_area.specs.Store.{Store, store_of};
+ghost use Rattle.shared_area.specs.Looks.{Looks};
+ghost use Rattle.shared_area.specs.Map.{WantsMemory};
+ghost use Rattle.shared_area.specs.AreaError.TheVariants.{DeviceFault, Memory};
 ghost use Rattle.shared_area.specs.Parts.{IsNoDamage};
 ghost use Rattle.migrator.specs.Picking.{IsCandidate, IsBestBelow, IsFirstOf, IsPicked, IsPickedIn, MayBeMoved, pick_of};
 

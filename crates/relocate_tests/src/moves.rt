@@ -8,8 +8,9 @@ ghost use Rattle.tier_device.specs.Fault.{sound_of};
 
 use layout::BLOCK;
 use record_check::NodeCounts;
-use shared_area::{AreaError, RelocateError, Shared};
-use small_worlds::{LONG_SIZE, SIZE, World, opened, same_bytes, tells_the_root};
+use small_worlds::{
+    AreaError, LONG_SIZE, RelocateError, SIZE, Shared, World, opened, same_bytes, tells_the_root,
+};
 use std::alloc::{AllocError, Global};
 use std::test::Fail;
 use tier_device::{FaultMedia, Fill, Media, MemMedia, StopMedia, Tier};

@@ -19,8 +19,8 @@ use Rattle.area_image.specs.Store.{Store, store_of, graph, marks}
 use Rattle.area_image.specs.Spelled.{IsOpenable}
 use Rattle.area_image.specs.Looks.{Looks}
 use Rattle.area_image.proofs.Frames.{loose_graph, loose_marks}
-use Rattle.free_pools.specs.Value.{PoolsView, free_data, on_tier, AreInOrder, HasRanges, AreFree}
-use Rattle.area_commit.specs.Settled.{IsSettled, StaysStill}
+use Rattle.area_apply.specs.PoolsValue.{PoolsView, free_data, on_tier, AreInOrder, HasRanges, AreFree}
+use Rattle.area_apply.specs.Settled.{IsSettled, StaysStill}
 use Rattle.area_apply.specs.Applying.{IsAppliedStore, Applies, Ends}
 use Rattle.area_apply.specs.Costs.{units_in}
 use Rattle.area_apply.specs.declared.error.ApplyError.{ApplyError}

@@ -7,7 +7,7 @@ use Rattle.block_alloc.specs.Runs.{Rising}
 use Rattle.block_alloc.specs.Value.{InOrder}
 use Rattle.area_image.specs.Store.{Store}
 use Rattle.area_image.specs.Reads.{Free}
-use Rattle.free_pools.specs.Value.{PoolsView, data_pool, AreInOrder, HasRanges, AreFree}
+use Rattle.area_apply.specs.PoolsValue.{PoolsView, data_pool, AreInOrder, HasRanges, AreFree}
 use Rattle.shared_area.specs.Ready.{HasCount}
 
 order_in : (p : PoolsView) (t : Tier) → AreInOrder p → InOrder (data_pool p t)

@@ -8,3 +8,5 @@ pub mod Entries
 pub mod Wants
 pub mod Moved
 mod Applied
+-- Passed on to the crates above, which so need not list those below.
+pub use Rattle.area_image.proofs.Looked

@@ -12,10 +12,10 @@ use Rattle.batch_journal.proofs.Courses.{tiers_same}
 use Rattle.area_image.specs.Store.{Store, store_of, graph, marks}
 use Rattle.area_image.specs.Spelled.{IsOpenable}
 use Rattle.area_image.proofs.Frames.{loose_graph, loose_marks}
-use Rattle.free_pools.specs.Value.{PoolsView}
-use Rattle.area_move.specs.Moving.{IsMoved}
-use Rattle.area_move.specs.declared.error.RelocateError.{RelocateError}
-use Rattle.area_move.specs.declared.error.RelocateError.TheVariants.{DeviceFault, NotMapped, NoBlock, Memory}
+use Rattle.area_apply.specs.PoolsValue.{PoolsView}
+use Rattle.area_relocate.specs.RunMoving.{IsMoved}
+use Rattle.area_relocate.specs.RelocateError.{RelocateError}
+use Rattle.area_relocate.specs.RelocateError.TheVariants.{DeviceFault, NotMapped, NoBlock, Memory}
 use Rattle.area_relocate.specs.Moving.{IsSettled, IsMovedStore, Moves, StaysStill}
 use Rattle.shared_area.specs.Ready.{IsReady, HasFree}
 use Rattle.shared_area.specs.Moving.{HasTooFew, HasEnough, StaysOpen, MovesOrStays}

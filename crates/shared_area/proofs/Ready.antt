@@ -19,7 +19,7 @@ use Rattle.area_image.specs.Reads.{Loose}
 use Rattle.area_image.proofs.Looked.{carried}
 use Rattle.area_image.proofs.Frames.{loose_graph, loose_marks, loose_spelled}
 use Rattle.area_image.proofs.Torn.{loose_whole}
-use Rattle.free_pools.specs.Value.{PoolsView, HasRanges, AreFree}
+use Rattle.area_apply.specs.PoolsValue.{PoolsView, HasRanges, AreFree}
 use Rattle.shared_area.specs.Ready.{IsReady, OpensAs}
 
 module _ {M : Type 0} (moment : M → ℕ) (seen : M → Tier → List ℕ) (left : M → ℕ → Tier → List ℕ → Type 0) (faults : M → ℕ) where

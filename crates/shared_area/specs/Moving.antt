@@ -7,9 +7,9 @@ use Rattle.batch_journal.specs.Course.{Unmoved}
 use Rattle.batch_journal.specs.View.{JournalView}
 use Rattle.area_image.specs.Store.{Store, store_of}
 use Rattle.area_image.specs.Reads.{Loose}
-use Rattle.area_move.specs.Moving.{IsMoved}
-use Rattle.area_move.specs.declared.error.RelocateError.{RelocateError}
-use Rattle.area_move.specs.declared.error.RelocateError.TheVariants.{DeviceFault}
+use Rattle.area_relocate.specs.RunMoving.{IsMoved}
+use Rattle.area_relocate.specs.RelocateError.{RelocateError}
+use Rattle.area_relocate.specs.RelocateError.TheVariants.{DeviceFault}
 use Rattle.shared_area.specs.Ready.{HasFree, OpensAs}
 
 -- Fewer data blocks of a tier are free than so many.

@@ -11,7 +11,7 @@ use Rattle.batch_journal.specs.Volume.{IsVolume}
 use Rattle.area_image.specs.Store.{Store, store_of, graph, marks}
 use Rattle.area_image.specs.Reads.{Free}
 use Rattle.area_image.specs.Spelled.{IsOpenable}
-use Rattle.free_pools.specs.Value.{PoolsView, HasRanges, AreFree}
+use Rattle.area_apply.specs.PoolsValue.{PoolsView, HasRanges, AreFree}
 
 -- The media spell a graph, and nothing is pending on them; the pools have the free blocks, the marks are those that are spelled, and the units are what the graph costs.
 pub record IsReady (g : Sizes) (seen : Tier → List ℕ) (may_leave : Tier → List ℕ → Type 0) (pools : PoolsView) (told : Marks) (units : ℕ) : Type 0 where

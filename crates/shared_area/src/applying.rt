@@ -9,20 +9,20 @@ ghost use Rattle.graph_change.specs.View.{changes_of};
 ghost use Rattle.layout.specs.declared.places.TheConstants.{SPARE_BLOCKS};
 ghost use Rattle.layout.specs.Marks.{fits_marks};
 ghost use Rattle.area_image.specs.Store.{store_of, graph};
-ghost use Rattle.free_pools.specs.Value.{free_data};
-ghost use Rattle.area_commit.specs.Settled.{IsSettled};
+ghost use Rattle.area_apply.specs.PoolsValue.{free_data};
+ghost use Rattle.area_apply.specs.Settled.{IsSettled};
 ghost use Rattle.area_apply.specs.Applying.{CanApply, IsAppliedStore, Ends};
 ghost use Rattle.area_apply.specs.Costs.{inodes_of, units_in};
-ghost use Rattle.change_plan.specs.Next.{HasFewEntries};
-ghost use Rattle.change_plan.specs.Wanted.{images_for, AreWritten};
+ghost use Rattle.area_apply.specs.Next.{HasFewEntries};
+ghost use Rattle.area_apply.specs.Wanted.{images_for, AreWritten};
 ghost use Rattle.area_apply.specs.declared.error.ApplyError.TheVariants.{NoBlock};
 ghost use Rattle.shared_area.specs.Ready.{IsReady};
 ghost use Rattle.shared_area.specs.Applying.{HasTooFewData, StaysOrChanges, AppliesOrStays};
 
-use area_apply::{ApplyError, apply, charge_follows_the_change, units_of_change};
-use area_room::small_changes_find_blocks;
+use area_apply::{
+    ApplyError, Pools, apply, charge_follows_the_change, small_changes_find_blocks, units_of_change,
+};
 use batch_journal::Journal;
-use free_pools::Pools;
 use graph_change::GraphChange;
 use layout::Marks;
 use std::alloc::Global;

@@ -16,5 +16,5 @@ mod touching;
 
 pub use area_apply::ApplyError;
 pub use area_image::AreaError;
-pub use area_move::RelocateError;
+pub use area_relocate::RelocateError;
 pub use shared::Shared;

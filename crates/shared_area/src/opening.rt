@@ -7,12 +7,12 @@ ghost use Rattle.area_image.specs.Spelled.{IsOpenable};
 ghost use Rattle.area_image.specs.Damage.{OnDamage, IsDamaged};
 ghost use Rattle.area_image.specs.Looks.{Looks};
 ghost use Rattle.area_image.specs.declared.error.AreaError.TheVariants.{Memory};
-ghost use Rattle.free_pools.specs.Value.{HasRanges, AreFree};
+ghost use Rattle.area_apply.specs.PoolsValue.{HasRanges, AreFree};
 ghost use Rattle.shared_area.specs.Opening.{IsToldAs};
 
+use area_apply::Pools;
 use area_image::{AreaError, open_area};
 use batch_journal::{Journal, JournalError};
-use free_pools::Pools;
 use layout::Marks;
 use std::alloc::Global;
 use tier_device::Media;

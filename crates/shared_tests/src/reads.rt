@@ -4,8 +4,7 @@ ghost use Rattle.tier_device.specs.Media.{AtRest};
 
 use layout::What;
 use record_check::NodeCounts;
-use shared_area::{AreaError, Shared};
-use small_worlds::{SIZE, World, opened, put, tells_the_root};
+use small_worlds::{AreaError, SIZE, Shared, World, opened, put, tells_the_root};
 use std::alloc::{AllocError, Global};
 use std::test::Fail;
 use tier_device::{Media, Tier};

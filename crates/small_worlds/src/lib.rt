@@ -9,3 +9,6 @@ mod world;
 pub use comparing::{same_bytes, tells_the_root};
 pub use opening::opened;
 pub use world::{LONG_SIZE, SIZE, World, put};
+
+// Passed on to the crates above, which so need not list those below.
+pub use shared_area::{AreaError, RelocateError, Shared};

@@ -2,7 +2,7 @@ use Rattle.std.proofs.Common.{◌∙◌, ◌<◌, ℕ, length, inl, inr, refl, s
 use Rattle.std.proofs.lemmas.Bool.{true≢false}
 use Rattle.graph_change.specs.View.{changes_of}
 use Rattle.area_image.specs.Store.{store_of}
-use Rattle.free_pools.specs.Value.{free_data}
+use Rattle.change_plan.specs.PoolsValue.{free_data}
 use Rattle.area_apply.specs.declared.error.ApplyError.TheVariants.{DeviceFault, NoBlock}
 use Rattle.area_apply.proofs.Ending.{block_fault, err_same}
 use Rattle.area_apply.proofs.Pooled.{same_self}

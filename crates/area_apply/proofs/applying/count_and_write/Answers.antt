@@ -1,7 +1,7 @@
 use Rattle.std.specs.Prelude.{Err}
 use Rattle.graph_change.specs.View.{changes_of}
 use Rattle.area_image.proofs.Looked.{carried}
-use Rattle.area_commit.proofs.Course.{Rests}
+use Rattle.change_plan.proofs.Course.{Rests}
 use Rattle.area_apply.specs.Applying.{CanApply}
 use Rattle.change_plan.specs.Wanted.{WantsBlocks}
 use Rattle.area_apply.proofs.Ending.{told_forced, no_damage_told, forced_block, settled_still, ends_told, ends_on}

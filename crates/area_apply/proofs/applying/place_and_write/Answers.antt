@@ -3,11 +3,11 @@ use Rattle.layout.specs.Places.{IsAllowed}
 use Rattle.graph_change.specs.View.{changes_of}
 use Rattle.area_image.specs.Store.{store_of}
 use Rattle.block_map.specs.declared.map.Place.{Place}
-use Rattle.file_plan.specs.Planned.{pairs_of}
-use Rattle.free_pools.specs.Taking.{taken_data}
-use Rattle.free_pools.specs.Value.{PoolsView}
-use Rattle.area_commit.proofs.Course.{Rests}
-use Rattle.area_commit.proofs.Returned.{same_free}
+use Rattle.change_plan.specs.Planned.{pairs_of}
+use Rattle.change_plan.specs.Taking.{taken_data}
+use Rattle.change_plan.specs.PoolsValue.{PoolsView}
+use Rattle.change_plan.proofs.Course.{Rests}
+use Rattle.change_plan.proofs.Returned.{same_free}
 use Rattle.change_plan.specs.Wanted.{WantsBlocks}
 use Rattle.area_apply.specs.declared.error.ApplyError.TheVariants.{Memory}
 use Rattle.area_apply.proofs.Ending.{memory_fault, still_self, ends_refused}

@@ -2,9 +2,9 @@ use Rattle.std.proofs.Common.{Some, subst}
 use Rattle.layout.specs.Places.{IsAllowed}
 use Rattle.graph_change.specs.View.{changes_of}
 use Rattle.area_image.proofs.Looked.{carried}
-use Rattle.free_pools.specs.Value.{PoolsView}
-use Rattle.area_commit.proofs.Course.{Rests}
-use Rattle.area_commit.proofs.Returned.{same_free}
+use Rattle.change_plan.specs.PoolsValue.{PoolsView}
+use Rattle.change_plan.proofs.Course.{Rests}
+use Rattle.change_plan.proofs.Returned.{same_free}
 use Rattle.change_plan.specs.Adding.{HasTaken}
 use Rattle.area_apply.specs.Applying.{CanApply}
 use Rattle.change_plan.specs.First.{IsWhole}

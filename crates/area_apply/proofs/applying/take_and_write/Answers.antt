@@ -3,9 +3,9 @@ use Rattle.std.proofs.lemmas.List.{length-take-le}
 use Rattle.layout.specs.Places.{IsAllowed}
 use Rattle.graph_change.specs.View.{changes_of}
 use Rattle.area_image.specs.Store.{store_of}
-use Rattle.free_pools.specs.Value.{free_data}
-use Rattle.free_pools.specs.Taking.{taken_data}
-use Rattle.area_commit.proofs.Course.{Rests}
+use Rattle.change_plan.specs.PoolsValue.{free_data}
+use Rattle.change_plan.specs.Taking.{taken_data}
+use Rattle.change_plan.proofs.Course.{Rests}
 use Rattle.change_plan.specs.Wanted.{WantsBlocks}
 use Rattle.area_apply.specs.declared.error.ApplyError.TheVariants.{NoBlock, Memory}
 use Rattle.area_apply.proofs.Ending.{memory_fault, memory_block, block_fault, err_same, forced_block, still_self, ends_refused}

@@ -8,7 +8,7 @@ use Rattle.area_image.specs.Spelled.{IsSpelled}
 use Rattle.area_image.specs.Units.{slot_units}
 use Rattle.area_image.specs.Looks.{looked}
 use Rattle.area_image.proofs.Looked.{carried, carried_back, looks_none, looks_on, looks_answer}
-use Rattle.area_move.proofs.Given.{cons_here, cons_there}
+use Rattle.change_plan.proofs.Given.{cons_here, cons_there}
 use Rattle.area_apply.specs.Costs.{units_in}
 use Rattle.area_apply.proofs.Charged.{key_changes, keys_once, units_within}
 use Rattle.area_apply.proofs.costing.units_of_change.Goals as goal

@@ -2,13 +2,13 @@ use Rattle.std.proofs.Common.{◌≤◌, length, inr, refl}
 use Rattle.tier_device.specs.declared.media.Tier.{Tier}
 use Rattle.tier_device.specs.declared.media.Tier.TheVariants.{Fast, Block, Slow}
 use Rattle.area_image.specs.Store.{store_of}
-use Rattle.free_pools.specs.Value.{PoolsView, data_pool}
+use Rattle.change_plan.specs.PoolsValue.{PoolsView, data_pool}
 use Rattle.graph_change.specs.View.{changes_of}
-use Rattle.area_commit.specs.declared.plan.Lost.{Lost}
-use Rattle.area_commit.specs.Plan.{lost_in}
-use Rattle.area_commit.specs.Settled.{IsSettled}
-use Rattle.area_commit.proofs.Course.{Rests}
-use Rattle.area_commit.proofs.Returned.{same_free}
+use Rattle.change_plan.specs.Lost.{Lost}
+use Rattle.change_plan.specs.Plan.{lost_in}
+use Rattle.change_plan.specs.Settled.{IsSettled}
+use Rattle.change_plan.proofs.Course.{Rests}
+use Rattle.change_plan.proofs.Returned.{same_free}
 use Rattle.area_apply.specs.declared.error.ApplyError.TheVariants.{Memory}
 use Rattle.area_apply.proofs.Ending.{memory_fault, still_self, ends_refused}
 use Rattle.area_apply.proofs.Pooled.{settled_same, were_still, undo_still, has_still}

@@ -3,15 +3,15 @@ use Rattle.std.specs.Prelude.{Err}
 use Rattle.layout.specs.Places.{Sizes, IsAllowed}
 use Rattle.graph_change.specs.View.{changes_of}
 use Rattle.area_image.specs.Store.{Store, store_of}
-use Rattle.free_pools.specs.Value.{PoolsView}
-use Rattle.free_pools.specs.Taking.{WasUndone}
-use Rattle.area_commit.specs.declared.plan.Rewrite.{Rewrite}
-use Rattle.area_commit.specs.Plan.{IsPlan}
-use Rattle.area_commit.specs.Done.{IsCarriedOut}
-use Rattle.area_commit.specs.Room.{AreReadyFor}
-use Rattle.area_commit.specs.Settled.{IsSettled}
-use Rattle.area_commit.proofs.Course.{Rests}
-use Rattle.area_commit.proofs.Returned.{same_free}
+use Rattle.change_plan.specs.PoolsValue.{PoolsView}
+use Rattle.change_plan.specs.Taking.{WasUndone}
+use Rattle.change_plan.specs.Rewrite.{Rewrite}
+use Rattle.change_plan.specs.Plan.{IsPlan}
+use Rattle.change_plan.specs.Done.{IsCarriedOut}
+use Rattle.change_plan.specs.Room.{AreReadyFor}
+use Rattle.change_plan.specs.Settled.{IsSettled}
+use Rattle.change_plan.proofs.Course.{Rests}
+use Rattle.change_plan.proofs.Returned.{same_free}
 use Rattle.area_apply.specs.Applying.{IsAppliedStore}
 use Rattle.area_apply.proofs.Ending.{told_forced, no_damage_told, ends_done, ends_undone}
 use Rattle.area_apply.proofs.Pooled.{settled_same}

@@ -6,10 +6,10 @@ use Rattle.layout.specs.Extents.{ExtentList}
 use Rattle.block_alloc.specs.Runs.{blocks_of}
 use Rattle.block_map.specs.Map.{TierRuns, runs_in, LieBelow}
 use Rattle.area_image.specs.Map.{in_tier}
-use Rattle.free_pools.specs.Taking.{runs_of}
-use Rattle.area_move.specs.Lists.{IsListOf, HasRoots, SpareFits}
-use Rattle.area_move.specs.Placed.{ArePlaced}
-use Rattle.area_move.proofs.Fits.{placed_below}
+use Rattle.area_commit.specs.Taking.{runs_of}
+use Rattle.area_commit.specs.MovedLists.{IsListOf, HasRoots, SpareFits}
+use Rattle.area_commit.specs.Placed.{ArePlaced}
+use Rattle.area_commit.proofs.Fits.{placed_below}
 use Rattle.area_relocate.proofs.Basics.{slot_with}
 use Rattle.area_relocate.proofs.changing.changed.Goals as goal
 

@@ -4,7 +4,7 @@ use Rattle.file_graph.specs.Units.{charge}
 use Rattle.layout.specs.declared.slot.Slot.{Slot}
 use Rattle.block_map.specs.Map.{TierRuns}
 use Rattle.area_image.proofs.Parts.{slot_as}
-use Rattle.area_rewrite.specs.Moved.{StaysInode}
+use Rattle.area_commit.specs.Moved.{StaysInode}
 use Rattle.area_commit.specs.Plan.{is_changed}
 use Rattle.area_relocate.proofs.Fitting.{is_fit}
 use Rattle.area_relocate.proofs.Using.{changed_is, changed_here}

@@ -2,10 +2,10 @@ use Rattle.std.proofs.Common.{refl, sym, subst}
 use Rattle.std.specs.Prelude.{OnErr}
 use Rattle.layout.specs.Places.{IsAllowed}
 use Rattle.area_image.specs.Store.{store_of}
-use Rattle.free_pools.specs.declared.taking.Taken.{Taken}
-use Rattle.free_pools.specs.Taking.{CanUndo, WasUndone}
+use Rattle.area_commit.specs.Taken.{Taken}
+use Rattle.area_commit.specs.Taking.{CanUndo, WasUndone}
 use Rattle.area_commit.proofs.Course.{Rests}
-use Rattle.area_move.specs.declared.error.RelocateError.TheVariants.{Memory}
+use Rattle.area_commit.specs.RelocateError.TheVariants.{Memory}
 use Rattle.area_relocate.specs.Moving.{IsSettled}
 use Rattle.area_relocate.proofs.Ending.{memory_fault, still_self, ends_refused}
 use Rattle.area_relocate.proofs.Pooled.{ready_for, settled_undone}

@@ -2,7 +2,7 @@ use Rattle.std.proofs.Common.{◌≤◌, ◌<◌, refl, subst, arith}
 use Rattle.std.specs.Prelude.{OnOk}
 use Rattle.area_image.proofs.Shown.{slot_limits}
 use Rattle.area_commit.proofs.Course.{Rests}
-use Rattle.area_move.specs.declared.error.RelocateError.TheVariants.{NoBlock, Memory}
+use Rattle.area_commit.specs.RelocateError.TheVariants.{NoBlock, Memory}
 use Rattle.area_relocate.proofs.Ending.{err_same, memory_fault, memory_mapped, memory_block, err_with, still_self, ends_refused}
 use Rattle.area_relocate.proofs.Pooled.{settled_same, same_then, same_count}
 use Rattle.area_relocate.proofs.moving.move_bytes.Goals as goal

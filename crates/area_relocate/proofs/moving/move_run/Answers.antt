@@ -4,10 +4,10 @@ use Rattle.area_image.specs.Store.{logical}
 use Rattle.area_image.proofs.Looked.{carried}
 use Rattle.area_image.proofs.Shown.{slot_limits}
 use Rattle.area_commit.proofs.Course.{Rests}
-use Rattle.area_move.specs.Found.{IsMovableRun}
-use Rattle.area_move.specs.Lists.{HoldsRun}
-use Rattle.area_move.specs.declared.error.RelocateError.TheVariants.{NoBlock}
-use Rattle.area_move.proofs.Steps.{inside}
+use Rattle.area_commit.specs.Found.{IsMovableRun}
+use Rattle.area_commit.specs.MovedLists.{HoldsRun}
+use Rattle.area_commit.specs.RelocateError.TheVariants.{NoBlock}
+use Rattle.area_commit.proofs.Steps.{inside}
 use Rattle.area_relocate.proofs.Ending.{block_fault, block_memory, block_mapped, told_forced, forced_only, forced_mapped, no_damage, settled_still, still_self, ends_refused, ends_told, ends_on}
 use Rattle.area_relocate.proofs.Pooled.{same_self}
 use Rattle.std.specs.Prelude.{Err}

@@ -1,9 +1,9 @@
 use Rattle.std.proofs.Common.{refl}
 use Rattle.area_image.specs.Store.{store_of, root_of}
-use Rattle.free_pools.specs.Value.{data_pool}
+use Rattle.area_commit.specs.PoolsValue.{data_pool}
 use Rattle.area_commit.proofs.Course.{Rests}
 use Rattle.area_commit.proofs.Returned.{same_free}
-use Rattle.area_move.specs.declared.error.RelocateError.TheVariants.{NoBlock}
+use Rattle.area_commit.specs.RelocateError.TheVariants.{NoBlock}
 use Rattle.area_relocate.specs.Made.{spare_count}
 use Rattle.area_relocate.proofs.Ending.{block_fault, block_memory, on_ok, err_with, forced_only, forced_mapped, still_self, ends_refused}
 use Rattle.area_relocate.proofs.Pooled.{room_still, enough, too_few, not_fault, settled_same}

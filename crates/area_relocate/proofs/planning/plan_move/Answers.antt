@@ -1,7 +1,7 @@
 use Rattle.std.proofs.Common.{ap, length, refl, arith}
 use Rattle.layout.specs.Places.{tier_blocks, data_first}
 use Rattle.area_image.proofs.Shown.{slot_limits}
-use Rattle.free_pools.specs.Taking.{runs_of}
+use Rattle.area_commit.specs.Taking.{runs_of}
 use Rattle.area_relocate.proofs.Fresh.{ends_below}
 use Rattle.area_relocate.proofs.Planned.{tier_fits, is_move_plan}
 use Rattle.area_relocate.proofs.planning.plan_move.Goals as goal

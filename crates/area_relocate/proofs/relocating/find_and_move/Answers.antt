@@ -2,10 +2,10 @@ use Rattle.std.proofs.Common.{◌≤◌, ◌<◌, ℕ, length, subst}
 use Rattle.std.specs.Prelude.{Err}
 use Rattle.area_image.specs.Store.{store_of}
 use Rattle.area_image.proofs.Looked.{carried}
-use Rattle.free_pools.specs.Value.{data_pool}
+use Rattle.area_commit.specs.PoolsValue.{data_pool}
 use Rattle.area_commit.proofs.Course.{Rests}
-use Rattle.area_move.specs.Found.{IsMovableRun}
-use Rattle.area_move.specs.declared.error.RelocateError.TheVariants.{NotMapped, NoBlock, Memory}
+use Rattle.area_commit.specs.Found.{IsMovableRun}
+use Rattle.area_commit.specs.RelocateError.TheVariants.{NotMapped, NoBlock, Memory}
 use Rattle.area_relocate.specs.Moving.{Ends}
 use Rattle.area_relocate.proofs.Ending.{mapped_fault, mapped_memory, mapped_block, block_fault, block_memory, err_same, ok_with, err_other, told_memory, told_forced, forced_only, settled_still, ends_refused, ends_told, ends_on}
 use Rattle.area_relocate.proofs.Pooled.{same_self, own_run, found_run}

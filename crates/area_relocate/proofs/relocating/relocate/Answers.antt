@@ -1,6 +1,6 @@
 use Rattle.std.proofs.Common.{◌∙◌, inl, inr, refl, sym}
 use Rattle.std.proofs.lemmas.Bool.{true≢false}
-use Rattle.area_move.specs.declared.error.RelocateError.TheVariants.{DeviceFault, NotMapped, NoBlock, Memory}
+use Rattle.area_commit.specs.RelocateError.TheVariants.{DeviceFault, NotMapped, NoBlock, Memory}
 use Rattle.area_relocate.proofs.Ending.{memory_fault, mapped_fault, block_fault, err_same}
 use Rattle.area_relocate.proofs.Pooled.{same_self}
 use Rattle.area_relocate.proofs.relocating.relocate.Goals as goal

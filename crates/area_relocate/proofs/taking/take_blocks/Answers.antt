@@ -2,7 +2,7 @@ use Rattle.std.proofs.Common.{◌≡◌, ◌<◌, ◌⊎◌, length, take, subst
 use Rattle.std.specs.Prelude.{IfOk, IsErrOf, ◌↔◌}
 use Rattle.block_alloc.specs.declared.error.AllocatorError.TheVariants.{NoBlock}
 use Rattle.block_alloc.specs.Runs.{blocks_of}
-use Rattle.free_pools.specs.Value.{data_pool}
+use Rattle.area_commit.specs.PoolsValue.{data_pool}
 use Rattle.area_relocate.proofs.Fresh.{taken_for}
 use Rattle.area_relocate.proofs.taking.take_blocks.Goals as goal
 

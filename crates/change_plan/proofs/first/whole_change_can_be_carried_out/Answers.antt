@@ -5,7 +5,7 @@ use Rattle.layout.specs.declared.slot.Slot.{Slot}
 use Rattle.layout.specs.Places.{Sizes}
 use Rattle.block_map.specs.Map.{TierRuns}
 use Rattle.area_image.specs.Store.{Store}
-use Rattle.free_pools.specs.declared.taking.Taken.{Taken}
+use Rattle.area_commit.specs.Taken.{Taken}
 use Rattle.area_commit.specs.Plan.{IsPlanned}
 use Rattle.change_plan.specs.Parts.{AreParts, share_of}
 use Rattle.change_plan.specs.First.{IsWhole, whole_of}

@@ -8,7 +8,7 @@ use Rattle.area_image.specs.Store.{Store, store_of, slot_read, length_of}
 use Rattle.area_image.proofs.Parts.{slot_as}
 use Rattle.area_image.proofs.Shown.{slot_limits}
 use Rattle.area_image.proofs.Tails.{place_past}
-use Rattle.area_move.specs.Lists.{LieAsIn}
+use Rattle.area_commit.specs.MovedLists.{LieAsIn}
 use Rattle.change_plan.proofs.Giving.{gives_all}
 use Rattle.change_plan.proofs.gone.lost_of.Goals as goal
 

@@ -6,7 +6,7 @@ use Rattle.block_map.specs.Map.{runs_in}
 use Rattle.area_image.specs.Store.{Store, store_of, space_of}
 use Rattle.area_image.proofs.Parts.{extents_all}
 use Rattle.area_image.proofs.Tails.{place_is}
-use Rattle.area_move.specs.Lists.{AreOwnLists}
+use Rattle.area_commit.specs.MovedLists.{AreOwnLists}
 use Rattle.change_plan.proofs.NoDamage.{no_damage}
 use Rattle.change_plan.proofs.gone.read_map.Goals as goal
 

@@ -9,8 +9,8 @@ use Rattle.tree_blocks.specs.After.{IsInodeAfter}
 use Rattle.block_map.specs.Map.{TierRuns}
 use Rattle.area_image.specs.Store.{Store, inode}
 use Rattle.area_image.specs.Spelled.{IsSpelled}
-use Rattle.area_rewrite.specs.Written.{IsWritten}
-use Rattle.area_rewrite.specs.Many.{AreWrittenAnew}
+use Rattle.area_commit.specs.Written.{IsWritten}
+use Rattle.area_commit.specs.Many.{AreWrittenAnew}
 use Rattle.area_commit.specs.declared.plan.Rewrite.{Rewrite}
 use Rattle.area_commit.specs.Plan.{is_rewritten, IsPlanned}
 use Rattle.area_commit.specs.Done.{IsCarriedOut}

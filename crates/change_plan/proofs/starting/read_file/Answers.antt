@@ -7,7 +7,7 @@ use Rattle.area_image.specs.Store.{Store, store_of, space_of}
 use Rattle.area_image.proofs.Lists.{slot_here_fits}
 use Rattle.area_image.proofs.Parts.{extents_all, slot_as}
 use Rattle.area_image.proofs.Tails.{place_is}
-use Rattle.area_move.specs.Lists.{AreOwnLists, LieAsIn}
+use Rattle.area_commit.specs.MovedLists.{AreOwnLists, LieAsIn}
 use Rattle.layout.specs.Slot.{fits_slot}
 use Rattle.layout.specs.declared.slot.Slot.{Slot}
 use Rattle.std.specs.Prelude.{◌≡◌, true}

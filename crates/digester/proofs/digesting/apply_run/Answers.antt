@@ -1,5 +1,5 @@
 use Rattle.graph_change.specs.View.{changes_of}
-use Rattle.area_image.specs.Store.{store_of, graph}
+use Rattle.shared_area.specs.Store.{store_of, graph}
 use Rattle.digester.proofs.Runs as runs
 use Rattle.digester.proofs.digesting.apply_run.Goals as goal
 

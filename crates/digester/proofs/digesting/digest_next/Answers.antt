@@ -4,8 +4,8 @@ use Rattle.std.specs.List.Sorted.{IsNonDecreasing}
 use Rattle.graph_change.specs.View.{changes_of}
 use Rattle.log_record.specs.Grammar.{IsRecord}
 use Rattle.log_record.specs.declared.format.Record.{Record}
-use Rattle.area_image.specs.Store.{Store, store_of, graph}
-use Rattle.area_image.proofs.Looked.{carried}
+use Rattle.shared_area.specs.Store.{Store, store_of, graph}
+use Rattle.shared_area.proofs.Looked.{carried}
 use Rattle.digest_plan.specs.declared.planning.Plan.TheVariants as plan
 use Rattle.digester.specs.Digesting.{IsGoodRun}
 use Rattle.digester.specs.Marking.{mark_after}

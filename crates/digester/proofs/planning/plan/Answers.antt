@@ -1,6 +1,6 @@
 use Rattle.std.proofs.Common.{ℕ, subst}
 use Rattle.std.specs.Prelude.{IfOk}
-use Rattle.area_image.specs.Store.{store_of, graph}
+use Rattle.shared_area.specs.Store.{store_of, graph}
 use Rattle.digest_plan.specs.Plan.{PlanTells}
 use Rattle.digester.proofs.planning.plan.Goals as goal
 

@@ -1,8 +1,8 @@
 use Rattle.std.proofs.Common.{◌+◌, ◌∙◌, Option, sym, subst}
 use Rattle.layout.specs.Places.{Sizes}
-use Rattle.area_image.specs.Store.{Store, store_of}
-use Rattle.area_image.specs.Looks.{looked}
-use Rattle.area_image.proofs.Looked.{carried, carried_back, looks_on, looks_none, looks_answer}
+use Rattle.shared_area.specs.Store.{Store, store_of}
+use Rattle.shared_area.specs.Looks.{looked}
+use Rattle.shared_area.proofs.Looked.{carried, carried_back, looks_on, looks_none, looks_answer}
 use Rattle.migrator.specs.declared.picking.FileRun.{FileRun}
 use Rattle.migrator.specs.Picking.{IsBestBelow, IsPickedIn}
 use Rattle.migrator.proofs.Best.{best_none, best_of_all}

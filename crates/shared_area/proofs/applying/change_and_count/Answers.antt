@@ -2,11 +2,11 @@ use Rattle.std.proofs.Common.{◌≡◌, refl, sym, subst}
 use Rattle.graph_change.specs.View.{changes_of}
 use Rattle.area_image.specs.declared.error.AreaError.{AreaError}
 use Rattle.area_image.proofs.Looked.{carried, carried_back}
-use Rattle.area_commit.proofs.Course.{Rests}
+use Rattle.area_apply.proofs.Course.{Rests}
 use Rattle.area_apply.specs.Applying.{CanApply}
 use Rattle.area_apply.specs.Costs.{units_in, inodes_of}
 use Rattle.area_apply.specs.Errors.{IsTold}
-use Rattle.change_plan.specs.Wanted.{AreWritten}
+use Rattle.area_apply.specs.Wanted.{AreWritten}
 use Rattle.area_apply.specs.declared.error.ApplyError.TheVariants.{DeviceFault}
 use Rattle.area_apply.proofs.Ending.{settled_still, ends_told, ends_on}
 use Rattle.shared_area.proofs.Applied.{charge_on, units_few}

@@ -7,8 +7,8 @@ use Rattle.graph_change.specs.View.{changes_of}
 use Rattle.batch_journal.specs.View.{JournalView}
 use Rattle.area_image.specs.Store.{store_of, graph}
 use Rattle.area_apply.specs.Applying.{IsAppliedStore}
-use Rattle.change_plan.specs.Next.{HasFewEntries}
-use Rattle.change_plan.specs.Wanted.{AreWritten}
+use Rattle.area_apply.specs.Next.{HasFewEntries}
+use Rattle.area_apply.specs.Wanted.{AreWritten}
 use Rattle.area_apply.specs.declared.error.ApplyError.TheVariants.{NoBlock}
 use Rattle.shared_area.specs.Applying.{HasTooFewData, StaysOrChanges, AppliesOrStays}
 use Rattle.shared_area.proofs.shared.Shared.apply.Goals as goal

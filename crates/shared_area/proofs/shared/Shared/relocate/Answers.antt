@@ -2,9 +2,9 @@ use Rattle.std.proofs.Common.{◌≡◌, false, length, refl, subst}
 use Rattle.std.specs.Prelude.{OnOk, IsErrOf}
 use Rattle.batch_journal.specs.View.{JournalView}
 use Rattle.area_image.specs.Store.{store_of, graph, marks}
-use Rattle.free_pools.specs.Value.{data_pool}
-use Rattle.area_move.specs.Moving.{CanMove, IsMoved}
-use Rattle.area_move.specs.declared.error.RelocateError.TheVariants.{NoBlock}
+use Rattle.area_apply.specs.PoolsValue.{data_pool}
+use Rattle.area_relocate.specs.RunMoving.{CanMove, IsMoved}
+use Rattle.area_relocate.specs.RelocateError.TheVariants.{NoBlock}
 use Rattle.shared_area.specs.Moving.{HasTooFew, HasEnough, StaysOpen, MovesOrStays}
 use Rattle.shared_area.proofs.Counts.{data_count}
 use Rattle.shared_area.proofs.Moved.{ready_moved, stays_open, moves_or_stays, ok_moved, ok_graph, ok_marks, ok_enough, err_few}
