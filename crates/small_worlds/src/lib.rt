@@ -2,11 +2,15 @@
 //! a tail. Crates of tests open them, and ask whether the root is still the one that was made, and whether two media hold the same.
 #![tactic(auto)]
 
+mod breaking;
+mod cold;
 mod comparing;
+mod cutting;
 mod opening;
 mod world;
 
 pub use comparing::{same_bytes, tells_the_root};
+pub use cutting::{Change, Left, is_whole};
 pub use opening::opened;
 pub use world::{LONG_SIZE, SIZE, World, put};
 

@@ -25,7 +25,7 @@ pub struct World {
     pub slow: Vec<u8>,
 }
 
-fn zeros(alloc: Global, blocks: usize) -> Result<Vec<u8>, AllocError> {
+pub(crate) fn zeros(alloc: Global, blocks: usize) -> Result<Vec<u8>, AllocError> {
     vec![in alloc; 0u8; BLOCK.saturating_mul(blocks)]
 }
 
@@ -37,7 +37,7 @@ pub fn put(bytes: &mut [u8], block: usize, byte: usize, text: &[u8]) {
     }
 }
 
-const fn extent(logical: u32, length: u32, place: u32) -> Extent {
+pub(crate) const fn extent(logical: u32, length: u32, place: u32) -> Extent {
     Extent {
         logical,
         length,
@@ -53,9 +53,9 @@ impl World {
             block: zeros(alloc, 514)?,
             slow: zeros(alloc, 2)?,
         };
-        world.put_head(2);
+        world.put_head(Geometry::new(8, 4, 514, 2));
         world.put_root(alloc)?;
-        world.put_file(SIZE, 296);
+        world.put_file(2, SIZE, 4, [294, 295, 296]);
         world.put_extents(alloc, 294, 2, &[extent(0, 1, 3_381)])?;
         world.put_extents(alloc, 295, 2, &[extent(2, 1, 7)])?;
         world.put_extents(alloc, 296, 2, &[extent(3, 1, 1)])?;
@@ -72,9 +72,9 @@ impl World {
             block: zeros(alloc, 514)?,
             slow: zeros(alloc, 4)?,
         };
-        world.put_head(4);
+        world.put_head(Geometry::new(8, 4, 514, 4));
         world.put_root(alloc)?;
-        world.put_file(LONG_SIZE, 0);
+        world.put_file(2, LONG_SIZE, 4, [294, 295, 0]);
         world.put_extents(alloc, 294, 2, &[extent(0, 2, 3_381), extent(3, 1, 3_380)])?;
         world.put_extents(alloc, 295, 2, &[extent(2, 1, 7), extent(4, 1, 9)])?;
         put(&mut world.fast, 3_381, 0, &[b'a'; BLOCK]);
@@ -86,9 +86,9 @@ impl World {
     }
 
     // The superblock, and the marks of clients none of whose records is digested.
-    fn put_head(&mut self, slow: u32) {
+    pub(crate) fn put_head(&mut self, geometry: Option<Geometry>) {
         let mut block = [0u8; BLOCK];
-        if let Some(geometry) = Geometry::new(8, 4, 514, slow) {
+        if let Some(geometry) = geometry {
             Super { geometry }.encode(&mut block);
         }
         put(&mut self.fast, 0, 0, &block);
@@ -105,7 +105,7 @@ impl World {
     }
 
     // The root, whose entries stand in one block of the node pool.
-    fn put_root(&mut self, alloc: Global) -> Result<(), AllocError> {
+    pub(crate) fn put_root(&mut self, alloc: Global) -> Result<(), AllocError> {
         let mut slot = [0u8; SLOT_SIZE];
         let root = Slot::Directory {
             names: 1,
@@ -119,22 +119,24 @@ impl World {
         self.put_entry(alloc)
     }
 
-    fn put_file(&mut self, size: u64, slow: u32) {
+    // The slot of a file at one of the first inodes, which has these extent blocks.
+    pub(crate) fn put_file(&mut self, inode: usize, size: u64, touch: u64, roots: [u32; 3]) {
         let mut slot = [0u8; SLOT_SIZE];
         let file = Slot::File {
             names: 1,
             size,
-            touch: 4,
-            fast: 294,
-            block: 295,
-            slow,
+            touch,
+            fast: roots[0],
+            block: roots[1],
+            slow: roots[2],
         };
         file.encode(&mut slot);
-        put(&mut self.fast, 1, SLOT_SIZE, &slot);
+        let place = inode.saturating_sub(1).saturating_mul(SLOT_SIZE);
+        put(&mut self.fast, 1, place, &slot);
     }
 
     // An extent block with these extents.
-    fn put_extents(
+    pub(crate) fn put_extents(
         &mut self,
         alloc: Global,
         number: usize,
