@@ -1,8 +1,9 @@
 // The runs of the programs.
 use crate::row::Row;
+use first_run::run_first;
 use posix_calls::Errno;
 use std::io::{BufReader, Write};
-use workload_cli::{run_first, run_sh};
+use workload_cli::run_sh;
 
 // The script comes by so few bytes at a time, so that lines are cut everywhere.
 const AT_A_TIME: usize = 7;

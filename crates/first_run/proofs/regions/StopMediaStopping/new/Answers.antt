@@ -1,0 +1,8 @@
+use Rattle.std.proofs.Common.{sym, subst}
+use Rattle.tier_device.specs.Memory.{IsAtRest}
+use Rattle.tier_device.specs.declared.media.Tier.TheVariants.{Fast}
+use Rattle.first_run.proofs.regions.StopMediaStopping.new.Goals as goal
+
+-- the medium is the one that was given
+pub returns : goal.returns
+returns c = subst IsAtRest (sym c.armed.ensures.inner) c.requires Fast

@@ -1,0 +1,5 @@
+use Rattle.tier_device.specs.declared.media.Tier.TheVariants.{Fast}
+use Rattle.first_run.proofs.regions.records_after_stop.Goals as goal
+
+pub records_on-requires : goal.records_on-requires
+records_on-requires g c = c.in_ok-media.ensures.at_rest Fast

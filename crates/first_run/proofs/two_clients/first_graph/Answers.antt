@@ -1,0 +1,13 @@
+use Rattle.std.proofs.Common.{ℕ, List, ◌∙◌, ap}
+use Rattle.posix_calls.specs.declared.limits.TheConstants.{ROOT}
+use Rattle.file_graph.specs.declared.effect.Kind.TheVariants.{File}
+use Rattle.file_graph.specs.Graph.{Graph, fresh, after_effects}
+use Rattle.call_effects.specs.Effects.{making}
+use Rattle.first_run.specs.declared.two_clients.TheConstants.{FILE}
+use Rattle.first_run.proofs.two_clients.first_graph.Goals as goal
+
+pub returns : goal.returns
+returns c =
+    c.in_ok-make_file.ensures
+    ∙ ap (λ (g : Graph). after_effects g (making FILE File (record { parent = ROOT; name = c.in_ok-name.name }))) c.in_ok-graph.ensures
+    ∙ ap (λ (name : List ℕ). after_effects fresh (making FILE File (record { parent = ROOT; name = name }))) c.in_ok-name.ensures

@@ -1,9 +1,0 @@
-use Rattle.posix_calls.specs.Decide.{decide}
-use Rattle.posix_calls.specs.Own.{own_of}
-use Rattle.file_graph.specs.Graph.{graph_of}
-use Rattle.workload_cli.proofs.Asked.{told_is_run}
-use Rattle.workload_cli.proofs.two_clients.decided.Goals as goal
-
-pub returns-in-Ok-clause-comes : goal.returns-in-Ok-clause-comes
-returns-in-Ok-clause-comes c =
-    told_is_run (graph_of c.args.graph.now) (decide (own_of c.args.own.now) c.args.call.now) c.in-Ok.operation (c.decide.ensures.tells.gives c.in-Ok.operation c.in-Ok.is)
