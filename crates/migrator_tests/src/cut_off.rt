@@ -6,8 +6,7 @@ ghost use Rattle.tier_device.specs.Memory.{IsAtRest};
 
 use crate::telling::{Held, Tiers, held, migrate_run, tiers};
 use migrator::{RelocateError, pick};
-use shared_area::{AreaError, Shared};
-use small_worlds::{Change, Left, World, is_whole, opened};
+use small_worlds::{AreaError, Change, Left, Shared, World, is_whole, opened};
 use std::alloc::{AllocError, Global};
 use std::test::Fail;
 use tier_device::{Fill, Media, MemMedia, Tier};

@@ -1,7 +1,7 @@
 // What is told of the three files of a small world: what they hold, and where their blocks lie.
 use layout::BLOCK;
 use migrator::{FileRun, RelocateError, migrate};
-use shared_area::{AreaError, Shared};
+use small_worlds::{AreaError, Shared};
 use std::alloc::Global;
 use tier_device::{Media, Tier};
 
