@@ -1,0 +1,12 @@
+use Rattle.std.proofs.Common.{◌∙◌, ◌||◌, inl, inr, ap, sym, refl, cond, false, true, subst}
+use Rattle.std.proofs.lemmas.Bool.Decides.{eqb_tells}
+use Rattle.world_facts.specs.LeaseSteps.{without}
+use Rattle.kernel_book.specs.Inodes.{has}
+use Rattle.kernel_book.proofs.Rows.{has_cleared, without_none, inode_is}
+use Rattle.kernel_book.proofs.inode_set.InodeSet.remove.Goals as goal
+
+pub returns-then-not-is_inode : goal.returns-then-not-is_inode
+returns-then-not-is_inode c = without_none c.args.self.now c.args.inode (sym c.is_inode.ensures ∙ c.if-not-is_inode.true)
+
+pub returns : goal.returns
+returns c = λ i. has_cleared c.self.inside.rows c.args.inode (inode_is c.args.inode (sym c.is_inode.ensures ∙ c.if-not-is_inode.false)) c.self.told i ∙ ap (λ s. without (has s) c.args.inode i) c.self.view_is

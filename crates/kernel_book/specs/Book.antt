@@ -1,0 +1,63 @@
+-- What the book has of each client, and the machine whose accounts it keeps.
+use Rattle.std.specs.Prelude.{◌≡◌, ℕ, ◌+◌, ◌-◌, ◌<◌, ◌≤◌, List, [], length, get_or, Bool, true, ◌&&◌, ◌||◌, not, nat_le}
+use Rattle.posix_calls.specs.Tree.{any_up_to, sum_up_to}
+use Rattle.posix_calls.specs.Operations.{is_client}
+use Rattle.posix_calls.specs.declared.limits.TheConstants.{ROOT, MAX_INODE, MAX_CLIENTS}
+use Rattle.world_facts.specs.Machine.{Machine}
+use Rattle.kernel_book.specs.Inodes.{has}
+use Rattle.kernel_book.specs.declared.account.ClientAccount.{ClientAccount}
+
+-- the accounts of clients 1 to 8
+abbrev pub Accounts : Type 0
+Accounts = List ClientAccount
+
+-- nothing is out
+abbrev pub nothing : ClientAccount
+nothing = record { units = 0; waiting = 0; numbers = []; pins = [] }
+
+-- the account of a client
+abbrev pub account_of : Accounts → ℕ → ClientAccount
+account_of book c = get_or book (c - 1) nothing
+
+-- the units that a client was given and that are not digested
+abbrev pub units_of : Accounts → ℕ → ℕ
+units_of book c = (account_of book c).units
+
+-- the numbers that it was given, until the record that makes the node is digested
+abbrev pub numbers_of : Accounts → ℕ → ℕ → Bool
+numbers_of book c i = has (account_of book c).numbers i
+
+abbrev pub pins_of : Accounts → ℕ → ℕ → Bool
+pins_of book c i = has (account_of book c).pins i
+
+-- how many of the records that were accepted are not digested
+abbrev pub waiting_of : Accounts → ℕ → ℕ
+waiting_of book c = (account_of book c).waiting
+
+-- ---- of all clients
+
+-- the units that are out
+unfoldable pub out_of : Accounts → ℕ
+out_of book = sum_up_to MAX_CLIENTS (λ c. units_of book c)
+
+-- whether a number is in some account
+unfoldable pub is_granted : Accounts → ℕ → Bool
+is_granted book i = any_up_to MAX_CLIENTS (λ c. numbers_of book c i)
+
+-- whether some client has pinned an inode
+unfoldable pub is_pinned : Accounts → ℕ → Bool
+is_pinned book i = any_up_to MAX_CLIENTS (λ c. pins_of book c i)
+
+-- a number is free that is past the root's, of no node, and in no account
+abbrev pub is_free : Accounts → (ℕ → Bool) → ℕ → Bool
+is_free book nodes i = (nat_le 2 i && nat_le i MAX_INODE) && not (nodes i || is_granted book i)
+
+-- ---- the machine
+
+-- The book has the accounts of the machine's clients. Of the mark, which counts all records of a client that were ever digested, it has how far it lies behind
+-- what was accepted.
+pub record IsBookOf (book : Accounts) (m : Machine) : Type 0 where
+  pub units : (c : ℕ) → is_client c ≡ true → (m.kernel.accounts c).units ≡ units_of book c
+  pub numbers : (c i : ℕ) → is_client c ≡ true → (m.kernel.accounts c).numbers i ≡ numbers_of book c i
+  pub pins : (c i : ℕ) → is_client c ≡ true → (m.kernel.accounts c).pins i ≡ pins_of book c i
+  pub waiting : (c : ℕ) → is_client c ≡ true → m.accepted c ≡ (m.kernel.accounts c).mark + waiting_of book c

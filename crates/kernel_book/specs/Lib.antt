@@ -1,0 +1,4 @@
+pub mod Book
+pub mod Free
+pub mod Inodes
+pub mod Steps
