@@ -4,6 +4,7 @@ use Rattle.posix_calls.specs.Tree.{any_up_to, sum_up_to}
 use Rattle.posix_calls.specs.Operations.{is_client}
 use Rattle.posix_calls.specs.declared.limits.TheConstants.{ROOT, MAX_INODE, MAX_CLIENTS}
 use Rattle.world_facts.specs.Machine.{Machine}
+use Rattle.kernel_book.specs.Account.{IsAccountOf}
 use Rattle.kernel_book.specs.Inodes.{has}
 use Rattle.kernel_book.specs.declared.account.ClientAccount.{ClientAccount}
 
@@ -34,6 +35,10 @@ pins_of book c i = has (account_of book c).pins i
 abbrev pub waiting_of : Accounts → ℕ → ℕ
 waiting_of book c = (account_of book c).waiting
 
+-- a client's account has so many units, and these numbers
+abbrev pub HasThese : Accounts → ℕ → ℕ → (ℕ → Bool) → Type 0
+HasThese book c units numbers = (units ≤ units_of book c) × ((i : ℕ) → numbers i ≡ true → numbers_of book c i ≡ true)
+
 -- ---- of all clients
 
 -- the units that are out
@@ -54,10 +59,6 @@ is_free book nodes i = (nat_le 2 i && nat_le i MAX_INODE) && not (nodes i || is_
 
 -- ---- the machine
 
--- The book has the accounts of the machine's clients. Of the mark, which counts all records of a client that were ever digested, it has how far it lies behind
--- what was accepted.
-pub record IsBookOf (book : Accounts) (m : Machine) : Type 0 where
-  pub units : (c : ℕ) → is_client c ≡ true → (m.kernel.accounts c).units ≡ units_of book c
-  pub numbers : (c i : ℕ) → is_client c ≡ true → (m.kernel.accounts c).numbers i ≡ numbers_of book c i
-  pub pins : (c i : ℕ) → is_client c ≡ true → (m.kernel.accounts c).pins i ≡ pins_of book c i
-  pub waiting : (c : ℕ) → is_client c ≡ true → m.accepted c ≡ (m.kernel.accounts c).mark + waiting_of book c
+-- the book has the accounts of the machine's clients
+abbrev pub IsBookOf : Accounts → Machine → Type 0
+IsBookOf book m = (c : ℕ) → is_client c ≡ true → IsAccountOf (account_of book c) (m.kernel.accounts c) (m.accepted c)

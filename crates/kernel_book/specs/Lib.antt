@@ -1,3 +1,4 @@
+pub mod Account
 pub mod Book
 pub mod Free
 pub mod Inodes

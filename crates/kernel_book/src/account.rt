@@ -1,6 +1,11 @@
-ghost use Rattle.std.specs.Prelude.{◌≡◌, ◌-◌, ◌&&◌, ℕ, [], not, false};
+ghost use Rattle.std.specs.Prelude.{◌≡◌, ◌+◌, ◌-◌, ◌^◌, ◌<◌, ◌≤◌, ◌||◌, ◌&&◌, ℕ, not, length, min, false};
 ghost use Rattle.world_facts.specs.Logs.{is_made, is_made_in, units_in};
-ghost use Rattle.kernel_book.specs.Inodes.{has};
+ghost use Rattle.world_facts.specs.World.{Account};
+ghost use Rattle.world_facts.specs.LeaseSteps.{also, without};
+ghost use Rattle.world_facts.specs.Machine.{account_after};
+ghost use Rattle.world_facts.specs.Opening.{idle_account};
+ghost use Rattle.kernel_book.specs.Account.{IsAccountOf};
+ghost use Rattle.kernel_book.specs.Inodes.{IsInode, has};
 
 use crate::inode_set::InodeSet;
 use file_graph::Effect;
@@ -22,10 +27,8 @@ pub struct ClientAccount {
 impl ClientAccount {
     // Nothing is out.
     pub(crate) fn new() -> Self
+        ensures is { (mark : ℕ) → IsAccountOf result (idle_account mark) mark }
         ensures units { result.units ≡ 0 }
-        ensures waiting { result.waiting ≡ 0 }
-        ensures numbers { (i : ℕ) → has result.numbers i ≡ false }
-        ensures pins { (i : ℕ) → has result.pins i ≡ false }
     {
         ClientAccount {
             units: 0,
@@ -35,8 +38,69 @@ impl ClientAccount {
         }
     }
 
-    // The records are digested: their units leave the account, and the numbers of the nodes that they make.
-    pub(crate) fn digest(&mut self, records: &[Record])
+    // Units and numbers are granted.
+    pub(crate) fn grant(&mut self, units: u64, numbers: &InodeSet)
+        requires { self.old.units + units < 2 ^ 64 }
+        ensures step { (of : Account) (accepted : ℕ) → IsAccountOf self.old of accepted → IsAccountOf self.new (record of { units = of.units + units; numbers = λ i. of.numbers i || has numbers.now i }) accepted }
+        ensures units { self.new.units ≡ self.old.units + units }
+    {
+        self.units += units;
+        self.numbers.insert_all(numbers);
+    }
+
+    // Units and numbers are given back; it answers how many units it had of them.
+    pub(crate) fn take_back(&mut self, units: u64, numbers: &InodeSet) -> u64
+        ensures step { (of : Account) (accepted : ℕ) → IsAccountOf self.old of accepted → IsAccountOf self.new (record of { units = of.units - units; numbers = λ i. of.numbers i && not (has numbers.now i) }) accepted }
+        ensures units { self.new.units + result ≡ self.old.units }
+        ensures given { result ≡ min units self.old.units }
+    {
+        let given = units.min(self.units);
+        self.units -= given;
+        self.numbers.remove_all(numbers);
+        given
+    }
+
+    // An inode is pinned.
+    pub(crate) fn pin(&mut self, inode: u32)
+        requires { IsInode inode }
+        ensures step { (of : Account) (accepted : ℕ) → IsAccountOf self.old of accepted → IsAccountOf self.new (record of { pins = also of.pins inode }) accepted }
+        ensures units { self.new.units ≡ self.old.units }
+    {
+        self.pins.insert(inode);
+    }
+
+    // A pin is dropped.
+    pub(crate) fn unpin(&mut self, inode: u32)
+        ensures step { (of : Account) (accepted : ℕ) → IsAccountOf self.old of accepted → IsAccountOf self.new (record of { pins = without of.pins inode }) accepted }
+        ensures units { self.new.units ≡ self.old.units }
+    {
+        self.pins.remove(inode);
+    }
+
+    // So many records are accepted.
+    pub(crate) fn accept(&mut self, count: u32)
+        ensures step { (of : Account) (accepted : ℕ) → IsAccountOf self.old of accepted → IsAccountOf self.new of (of.mark + count) }
+        ensures units { self.new.units ≡ self.old.units }
+        ensures waiting { self.new.waiting ≡ count }
+    {
+        self.waiting = count;
+    }
+
+    // Its next records are digested; it answers how many units it had of theirs.
+    pub(crate) fn digest(&mut self, records: &[Record]) -> u64
+        requires { length records.now ≤ self.old.waiting }
+        ensures step { (of : Account) (accepted : ℕ) → IsAccountOf self.old of accepted → IsAccountOf self.new (account_after of records.now) accepted }
+        ensures units { self.new.units + result ≡ self.old.units }
+        ensures given { result ≡ min (units_in records.now) self.old.units }
+    {
+        let before = self.units;
+        self.remove_records(records);
+        self.waiting -= records.len() as u32;
+        before - self.units
+    }
+
+    // The units of records leave the account, and the numbers of the nodes that they make.
+    fn remove_records(&mut self, records: &[Record])
         ensures units { self.new.units ≡ self.old.units - units_in records.now }
         ensures numbers { (i : ℕ) → has self.new.numbers i ≡ (has self.old.numbers i && not (is_made_in i records.now)) }
         ensures waiting { self.new.waiting ≡ self.old.waiting }
@@ -46,6 +110,19 @@ impl ClientAccount {
             self.units = self.units.saturating_sub(record.units as u64);
             remove_made(&mut self.numbers, record.effects.as_slice());
         }
+    }
+
+    // Nothing is left of it but the records that are waiting; it answers how many units it had.
+    pub(crate) fn bury(&mut self) -> u64
+        ensures step { (of : Account) (accepted : ℕ) → IsAccountOf self.old of accepted → IsAccountOf self.new (idle_account of.mark) accepted }
+        ensures units { self.new.units ≡ 0 }
+        ensures given { result ≡ self.old.units }
+    {
+        let given = self.units;
+        self.units = 0;
+        self.numbers = InodeSet::new();
+        self.pins = InodeSet::new();
+        given
     }
 }
 

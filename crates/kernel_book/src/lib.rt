@@ -17,9 +17,13 @@ mod account;
 mod book;
 mod error;
 mod inode_set;
+mod laws;
 mod lowest;
 
 pub use account::ClientAccount;
 pub use book::Book;
 pub use error::RefillError;
 pub use inode_set::InodeSet;
+pub use laws::{
+    book_has_what_its_machine_has, granted_and_taken_back_one_by_one, grants_keep_the_book,
+};

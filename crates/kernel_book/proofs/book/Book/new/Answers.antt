@@ -1,0 +1,22 @@
+use Rattle.std.proofs.Common.{◌-◌, ◌≤◌, refl, arith}
+use Rattle.posix_calls.specs.Tree.{sum_up_to}
+use Rattle.world_facts.specs.Opening.{idle_account}
+use Rattle.world_facts.proofs.Owners.{is_low, is_high}
+use Rattle.kernel_book.specs.Book.{out_of}
+use Rattle.kernel_book.specs.Account.{IsAccountOf}
+use Rattle.kernel_book.proofs.Accounts.{each_of}
+use Rattle.kernel_book.proofs.book.Book.new.Goals as goal
+
+pub invariant_of-result : goal.invariant_of-result
+unfolding out_of sum_up_to
+invariant_of-result c = (refl, omega (arith, c.new.ensures.units, c.new-2.ensures.units, c.new-3.ensures.units, c.new-4.ensures.units, c.new-5.ensures.units, c.new-6.ensures.units, c.new-7.ensures.units, c.new-8.ensures.units))
+
+pub returns-clause-out : goal.returns-clause-out
+unfolding out_of sum_up_to
+returns-clause-out c = omega (arith, c.new.ensures.units, c.new-2.ensures.units, c.new-3.ensures.units, c.new-4.ensures.units, c.new-5.ensures.units, c.new-6.ensures.units, c.new-7.ensures.units, c.new-8.ensures.units)
+
+pub returns-clause-opens : goal.returns-clause-opens
+returns-clause-opens c = λ g capacity d is_d.
+    let low : 1 ≤ d = is_low d is_d in
+    let high : d ≤ 8 = is_high d is_d in
+    each_of (λ a. IsAccountOf a (idle_account 0) 0) _ (c.new.ensures.is 0, c.new-2.ensures.is 0, c.new-3.ensures.is 0, c.new-4.ensures.is 0, c.new-5.ensures.is 0, c.new-6.ensures.is 0, c.new-7.ensures.is 0, c.new-8.ensures.is 0, tt) (d - 1) (omega (arith, low, high))
