@@ -1,6 +1,6 @@
 -- One account of the book changes.
-use Rattle.std.proofs.Common.{◌≡◌, ◌≢◌, inl, inr, ℕ, zero, suc, ◌+◌, ◌-◌, ◌<◌, ◌≤◌, min, List, [], ◌∷◌, ◌||◌, length, get_or, set, Bool, true, false, cond, refl, ap, sym, ◌∙◌, subst, arith}
-use Rattle.std.proofs.lemmas.Bool.Decides.{eqb_tells}
+use Rattle.std.proofs.Common.{◌≡◌, ◌≢◌, inl, inr, ℕ, zero, suc, ◌+◌, ◌-◌, ◌<◌, ◌≤◌, min, List, [], ◌∷◌, ◌||◌, ◌&&◌, not, ◌==◌, nat_le, length, get_or, set, Bool, true, false, cond, refl, ap, sym, ◌∙◌, subst, arith}
+use Rattle.std.proofs.lemmas.Bool.Decides.{eqb_tells, nat_tests}
 use Rattle.std.proofs.Math.Decide.{dec_le}
 use Rattle.std.proofs.lemmas.List.{get_or-set_same, get_or-set_other, get_or_default, length-set}
 use Rattle.posix_calls.specs.Tree.{any_up_to, sum_up_to}
@@ -10,6 +10,7 @@ use Rattle.world_facts.specs.World.{Account, Kernel, at}
 use Rattle.world_facts.specs.Machine.{Machine}
 use Rattle.world_facts.proofs.Owners.{is_low, is_high}
 use Rattle.kernel_book.specs.declared.account.ClientAccount.{ClientAccount}
+use Rattle.kernel_book.specs.Free.{is_absent}
 use Rattle.kernel_book.specs.Account.{IsAccountOf}
 use Rattle.kernel_book.specs.Book.{Accounts, account_of, nothing, units_of, out_of, IsBookOf}
 
@@ -166,3 +167,45 @@ found_more n m p next = ap (λ k. any_up_to k p) next ∙ ap (λ k. p k || any_u
 pub none_yet : (p : ℕ → Bool) → any_up_to 0 p ≡ false
 unfolding any_up_to
 none_yet p = refl
+
+-- the account that a loop over all reads next
+pub item_of : (book now : Accounts) (k : ℕ) (d : ClientAccount) → book ≡ now → length book ≡ 8 → k < 8 → account_of now (k + 1) ≡ get_or book k d
+item_of book now k d same long low =
+    let back : k + 1 - 1 ≡ k = omega arith in
+    sym (ap (λ b. account_of b (k + 1)) same) ∙ ap (λ j. get_or book j nothing) back ∙ get_or_default book k nothing d (omega (arith, long, low))
+
+pub or_swap : (a b : Bool) → (a || b) ≡ (b || a)
+or_swap true true = refl
+or_swap true false = refl
+or_swap false true = refl
+or_swap false false = refl
+
+-- ---- what is free
+
+le_true : (a b : ℕ) → a ≤ b → nat_le a b ≡ true
+le_true a b low = grind (arith, nat_tests)
+
+le_false : (a b : ℕ) → b < a → nat_le a b ≡ false
+le_false a b low = grind (arith, nat_tests)
+
+low_same : (i : ℕ) → i ≢ 1 → nat_le 1 i ≡ nat_le 2 i
+low_same i other = elim (dec_le 2 i) [
+  | yes after ↦ le_true 1 i (omega (arith, after)) ∙ sym (le_true 2 i after)
+  | no before ↦ le_false 1 i (omega (arith, before, other)) ∙ sym (le_false 2 i (omega (arith, before)))
+]
+
+and_false : (a : Bool) → (a && false) ≡ false
+and_false true = refl
+and_false false = refl
+
+-- what is not taken is free, where the root, the nodes and all that is in some account are taken
+pub free_absent : (taken nodes : ℕ → Bool) (granted : Bool) (i : ℕ) → taken i ≡ (i == 1 || (granted || nodes i)) → is_absent taken i ≡ ((nat_le 2 i && nat_le i 1024) && not (nodes i || granted))
+free_absent taken nodes granted i is = elim (eqb_tells i 1) [
+  | inl same ↦
+      let out : nat_le 2 i ≡ false = ap (λ k. nat_le 2 k) same.1 in
+      let in_it : taken i ≡ true = is ∙ ap (λ b. b || (granted || nodes i)) same.0 in
+      ap (λ b. (nat_le 1 i && nat_le i 1024) && not b) in_it ∙ and_false (nat_le 1 i && nat_le i 1024) ∙ sym (ap (λ b. (b && nat_le i 1024) && not (nodes i || granted)) out)
+  | inr other ↦
+      ap (λ b. (nat_le 1 i && nat_le i 1024) && not b) (is ∙ ap (λ b. b || (granted || nodes i)) other.0 ∙ or_swap granted (nodes i))
+      ∙ ap (λ b. (b && nat_le i 1024) && not (nodes i || granted)) (low_same i other.1)
+]

@@ -1,3 +1,5 @@
 pub mod Accounts
 pub mod Choosing
+pub mod Machines
+pub mod OneByOne
 pub mod Rows

@@ -94,8 +94,9 @@ impl ClientAccount {
         ensures given { result ≡ min (units_in records.now) self.old.units }
     {
         let before = self.units;
+        let waiting = self.waiting;
         self.remove_records(records);
-        self.waiting -= records.len() as u32;
+        self.waiting = waiting - records.len() as u32;
         before - self.units
     }
 

@@ -1,4 +1,4 @@
-ghost use Rattle.std.specs.Prelude.{◌≡◌, ◌≢◌, ◌↔◌, ◌+◌, ◌-◌, ◌^◌, ◌<◌, ◌≤◌, ℕ, List, length, min, true, false, IsTrue, IfOk, OnErr, OnOk, IsErrOf};
+ghost use Rattle.std.specs.Prelude.{◌≡◌, ◌≢◌, ◌↔◌, ◌+◌, ◌-◌, ◌^◌, ◌<◌, ◌≤◌, ℕ, List, length, min, true, false, IsTrue, IfSome, None, IfOk, OnErr, OnOk, IsErrOf};
 ghost use Rattle.posix_calls.specs.Operations.{is_client};
 ghost use Rattle.file_graph.specs.Graph.{Graph};
 ghost use Rattle.world_facts.specs.Logs.{units_in};
@@ -129,13 +129,24 @@ impl Book {
         if !has_room(charge, self.out, units, capacity) {
             return Err(RefillError::NoUnits);
         }
-        let taken = self.taken(nodes);
-        match lowest_absent(taken, inodes) {
+        match self.lowest_free(nodes, inodes) {
             Some(numbers) => {
                 self.grant(client, units, &numbers);
                 Ok(numbers)
             }
             None => Err(RefillError::NoInode),
+        }
+    }
+
+    // The lowest numbers that are free, so many; none where fewer are.
+    fn lowest_free(&self, nodes: &InodeSet, count: u32) -> Option<InodeSet>
+        ensures lowest { IfSome result (λ chosen. AreLowest (is_free self.now (has nodes.now)) (has chosen) count) }
+        ensures enough { IfSome result (λ chosen. count ≤ count_of (is_free self.now (has nodes.now))) }
+        ensures none { result ≡ None → count_of (is_free self.now (has nodes.now)) < count }
+    {
+        match lowest_absent(self.taken(nodes), count) {
+            Some(chosen) => Some(chosen),
+            None => None,
         }
     }
 

@@ -4,4 +4,4 @@ use Rattle.kernel_book.specs.Book.{pins_of}
 use Rattle.kernel_book.proofs.book.Book.is_pinned.Given as goal
 
 abbrev pub invariant-clients : goal.invariant-clients
-invariant-clients l = any_up_to l.account-index (λ c. pins_of l.self c l.inode) ≡ false
+invariant-clients l = any_up_to l.account-index (λ c. pins_of l.fn.self c l.fn.inode) ≡ false

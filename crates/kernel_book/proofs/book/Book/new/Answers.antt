@@ -1,10 +1,10 @@
-use Rattle.std.proofs.Common.{◌-◌, ◌≤◌, refl, arith}
+use Rattle.std.proofs.Common.{[], ◌∷◌, ◌-◌, ◌≤◌, refl, arith}
 use Rattle.posix_calls.specs.Tree.{sum_up_to}
 use Rattle.world_facts.specs.Opening.{idle_account}
 use Rattle.world_facts.proofs.Owners.{is_low, is_high}
 use Rattle.kernel_book.specs.Book.{out_of}
 use Rattle.kernel_book.specs.Account.{IsAccountOf}
-use Rattle.kernel_book.proofs.Accounts.{each_of}
+use Rattle.kernel_book.proofs.Accounts.{AreAll, each_of}
 use Rattle.kernel_book.proofs.book.Book.new.Goals as goal
 
 pub invariant_of-result : goal.invariant_of-result
@@ -19,4 +19,6 @@ pub returns-clause-opens : goal.returns-clause-opens
 returns-clause-opens c = λ g capacity d is_d.
     let low : 1 ≤ d = is_low d is_d in
     let high : d ≤ 8 = is_high d is_d in
-    each_of (λ a. IsAccountOf a (idle_account 0) 0) _ (c.new.ensures.is 0, c.new-2.ensures.is 0, c.new-3.ensures.is 0, c.new-4.ensures.is 0, c.new-5.ensures.is 0, c.new-6.ensures.is 0, c.new-7.ensures.is 0, c.new-8.ensures.is 0, tt) (d - 1) (omega (arith, low, high))
+    let all : AreAll (λ a. IsAccountOf a (idle_account 0) 0) (c.new.result ∷ c.new-2.result ∷ c.new-3.result ∷ c.new-4.result ∷ c.new-5.result ∷ c.new-6.result ∷ c.new-7.result ∷ c.new-8.result ∷ []) =
+      (c.new.ensures.is 0, (c.new-2.ensures.is 0, (c.new-3.ensures.is 0, (c.new-4.ensures.is 0, (c.new-5.ensures.is 0, (c.new-6.ensures.is 0, (c.new-7.ensures.is 0, (c.new-8.ensures.is 0, tt)))))))) in
+    each_of (λ a. IsAccountOf a (idle_account 0) 0) (c.new.result ∷ c.new-2.result ∷ c.new-3.result ∷ c.new-4.result ∷ c.new-5.result ∷ c.new-6.result ∷ c.new-7.result ∷ c.new-8.result ∷ []) all (d - 1) (omega (arith, low, high))

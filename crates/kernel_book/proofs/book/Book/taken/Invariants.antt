@@ -5,4 +5,4 @@ use Rattle.kernel_book.specs.Inodes.{has}
 use Rattle.kernel_book.proofs.book.Book.taken.Given as goal
 
 abbrev pub invariant-clients : goal.invariant-clients
-invariant-clients l = (i : ℕ) → has l.taken i ≡ any_up_to l.account-index (λ c. numbers_of l.self c i)
+invariant-clients l = (i : ℕ) → has l.taken i ≡ any_up_to l.account-index (λ c. numbers_of l.fn.self c i)

@@ -1,0 +1,8 @@
+use Rattle.kernel_book.proofs.OneByOne.{granted, taken_back}
+use Rattle.kernel_book.proofs.laws.granted_and_taken_back_one_by_one.Goals as goal
+
+pub returns-clause-granted : goal.returns-clause-granted
+returns-clause-granted c = λ m k units is. granted m k units is
+
+pub returns-clause-taken_back : goal.returns-clause-taken_back
+returns-clause-taken_back c = λ m k units is. taken_back m k units is
