@@ -1,12 +1,12 @@
 -- One account of the book changes.
-use Rattle.std.proofs.Common.{◌≡◌, ◌≢◌, inl, inr, ℕ, zero, suc, ◌+◌, ◌-◌, ◌<◌, ◌≤◌, min, List, [], ◌∷◌, ◌||◌, ◌&&◌, not, ◌==◌, nat_le, length, get_or, set, Bool, true, false, cond, refl, ap, sym, ◌∙◌, subst, arith}
+use Rattle.std.proofs.Common.{◌≡◌, ◌≢◌, inl, inr, ℕ, zero, suc, ◌+◌, ◌-◌, ◌<◌, ◌≤◌, min, List, [], ◌∷◌, ◌||◌, ◌&&◌, not, ◌==◌, nat_le, length, get_or, set, Bool, true, false, refl, ap, sym, ◌∙◌, subst, arith}
 use Rattle.std.proofs.lemmas.Bool.Decides.{eqb_tells, nat_tests}
 use Rattle.std.proofs.Math.Decide.{dec_le}
 use Rattle.std.proofs.lemmas.List.{get_or-set_same, get_or-set_other, get_or_default, length-set}
 use Rattle.posix_calls.specs.Tree.{any_up_to, sum_up_to}
 use Rattle.posix_calls.specs.Operations.{is_client}
 use Rattle.posix_calls.proofs.Sums.{same_if, there_if}
-use Rattle.world_facts.specs.World.{Account, Kernel, at}
+use Rattle.world_facts.specs.World.{Account, at}
 use Rattle.world_facts.specs.Machine.{Machine}
 use Rattle.world_facts.proofs.Owners.{is_low, is_high}
 use Rattle.kernel_book.specs.declared.account.ClientAccount.{ClientAccount}

@@ -2,13 +2,13 @@
 use Rattle.std.proofs.Common.{◌≡◌, ◌≢◌, inl, inr, ℕ, zero, suc, ◌+◌, ◌<◌, ◌≤◌, Bool, true, false, ◌||◌, ◌&&◌, not, cond, if◌then◌else◌, refl, ap, sym, ◌∙◌, subst, arith}
 use Rattle.std.proofs.lemmas.Bool.{false≢true}
 use Rattle.std.proofs.Math.Decide.{dec_le}
-use Rattle.std.proofs.lemmas.Bool.Decides.{eqb_tells, nat_tests}
+use Rattle.std.proofs.lemmas.Bool.Decides.{eqb_tells}
 use Rattle.posix_calls.specs.Tree.{sum_up_to}
 use Rattle.world_facts.specs.LeaseSteps.{also}
 use Rattle.kernel_book.specs.Free.{AreLowest, count_of, is_absent}
 use Rattle.kernel_book.specs.Inodes.{IsInode, is_inode}
 use Rattle.kernel_book.proofs.Rows.{inode_is, inside}
-use Rattle.posix_calls.proofs.Sums.{one_changes, all_zero, same_if}
+use Rattle.posix_calls.proofs.Sums.{one_changes, all_zero}
 
 -- ---- counts
 
@@ -33,7 +33,7 @@ count_none p none = all_zero 1024 (λ i. if p i then 1 else 0) (λ i. ap (λ b. 
 pub count_more : (p q : ℕ → Bool) (d : ℕ) → IsInode d → p d ≡ false → q d ≡ true → ((j : ℕ) → j ≢ d → q j ≡ p j) → count_of q ≡ count_of p + 1
 count_more p q d is was now same =
     let sums : sum_up_to 1024 (λ i. if q i then 1 else 0) + (if p d then 1 else 0) ≡ sum_up_to 1024 (λ i. if p i then 1 else 0) + (if q d then 1 else 0)
-        = one_changes 1024 (λ i. if p i then 1 else 0) (λ i. if q i then 1 else 0) d is.0 is.1 (λ j other. ap (λ b. cond b 1 0) (same j other)) in
+    = one_changes 1024 (λ i. if p i then 1 else 0) (λ i. if q i then 1 else 0) d is.0 is.1 (λ j other. ap (λ b. cond b 1 0) (same j other)) in
     let none : ◌≡◌ {A = ℕ} (if p d then 1 else 0) 0 = ap (λ b. cond b 1 0) was in
     let some : ◌≡◌ {A = ℕ} (if q d then 1 else 0) 1 = ap (λ b. cond b 1 0) now in
     omega (arith, sums, none, some)

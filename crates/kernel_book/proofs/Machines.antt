@@ -1,25 +1,19 @@
 -- What a book tells of its machine, and that grants keep what holds of it.
-use Rattle.std.proofs.Common.{◌≡◌, ◌≢◌, ◌⊎◌, inl, inr, ℕ, zero, suc, ◌+◌, ◌-◌, ◌<◌, ◌≤◌, Bool, true, false, ◌||◌, ◌&&◌, not, nat_le, Option, Some, None, refl, ap, sym, ◌∙◌, subst, arith}
+use Rattle.std.proofs.Common.{◌≡◌, ◌⊎◌, inl, inr, ℕ, zero, suc, ◌+◌, ◌-◌, ◌≤◌, Bool, true, false, ◌||◌, ◌&&◌, not, nat_le, Option, Some, None, refl, ap, sym, ◌∙◌, subst, arith}
 use Rattle.std.proofs.lemmas.Bool.{false≢true}
 use Rattle.std.proofs.lemmas.Bool.Decides.{nat_tests}
-use Rattle.std.proofs.Math.Decide.{dec_le}
 use Rattle.posix_calls.specs.Tree.{any_up_to, sum_up_to}
 use Rattle.posix_calls.specs.Operations.{is_client}
 use Rattle.posix_calls.proofs.Sums.{any_there, any_is}
 use Rattle.file_graph.specs.Graph.{Node}
 use Rattle.file_graph.specs.Units.{charge}
-use Rattle.world_facts.specs.Logs.{IsNameless}
 use Rattle.world_facts.specs.World.{Account, Kernel, at}
-use Rattle.world_facts.specs.Standing.{IsBooked}
 use Rattle.world_facts.specs.BookSteps.{HasRoom, IsUnbooked}
-use Rattle.world_facts.specs.KernelSteps.{CanReclaim}
-use Rattle.world_facts.specs.Machine.{Machine, IsRunning, with_account}
+use Rattle.world_facts.specs.Machine.{Machine, IsRunning}
 use Rattle.world_facts.proofs.Kernels.{each, booked_moved, units_moved}
 use Rattle.world_facts.proofs.Owners.{is_low, is_high, client_is}
 use Rattle.world_facts.proofs.Records.{either}
-use Rattle.kernel_book.specs.Account.{IsAccountOf}
 use Rattle.kernel_book.specs.Book.{Accounts, numbers_of, pins_of, units_of, out_of, is_free, is_granted, is_pinned, IsBookOf}
-use Rattle.kernel_book.specs.Inodes.{has}
 use Rattle.kernel_book.specs.Steps.{AreNodes, is_node, grant, take_back}
 use Rattle.kernel_book.proofs.Choosing.{and_true, first_of, second_of, not_true}
 
@@ -143,28 +137,28 @@ module _ (m : Machine) (runs : IsRunning m) (c : ℕ) (is_c : is_client c ≡ tr
   pub grant_runs : (units : ℕ) (numbers : ℕ → Bool) → HasRoom k units → ((i : ℕ) → numbers i ≡ true → IsUnbooked k i) → IsRunning (grant m c units numbers)
   grant_runs units numbers room free =
       let sums : sum_up_to 8 (λ d. (at k.accounts c (record old { units = old.units + units; numbers = λ i. old.numbers i || numbers i }) d).units) + old.units ≡ sum_up_to 8 (λ d. (k.accounts d).units) + (old.units + units)
-            = units_moved k c k.shared (record old { units = old.units + units; numbers = λ i. old.numbers i || numbers i }) runs.booked is_c in
+      = units_moved k c k.shared (record old { units = old.units + units; numbers = λ i. old.numbers i || numbers i }) runs.booked is_c in
       record {
         booked = booked_moved k c k.shared (record old { units = old.units + units; numbers = λ i. old.numbers i || numbers i }) runs.booked is_c
-          (λ i e. elim (or_cases (old.numbers i) (numbers i) e) [ inl was ↦ runs.booked.free c i is_c was | inr new ↦ (free i new).none ])
-          (λ d i is_d off e. runs.booked.free d i is_d e)
-          (λ i e. elim (or_cases (old.numbers i) (numbers i) e) [ inl was ↦ runs.booked.range c i is_c was | inr new ↦ ((free i new).low, (free i new).high) ])
-          (λ d i is_d off e. elim (or_cases (old.numbers i) (numbers i) e) [ inl was ↦ runs.booked.alone c d i is_c is_d off was | inr new ↦ (free i new).nobody d is_d ])
-          runs.booked.limits (omega (arith, sums, room));
+            (λ i e. elim (or_cases (old.numbers i) (numbers i) e) [ inl was ↦ runs.booked.free c i is_c was | inr new ↦ (free i new).none ])
+            (λ d i is_d off e. runs.booked.free d i is_d e)
+            (λ i e. elim (or_cases (old.numbers i) (numbers i) e) [ inl was ↦ runs.booked.range c i is_c was | inr new ↦ ((free i new).low, (free i new).high) ])
+            (λ d i is_d off e. elim (or_cases (old.numbers i) (numbers i) e) [ inl was ↦ runs.booked.alone c d i is_c is_d off was | inr new ↦ (free i new).nobody d is_d ])
+            runs.booked.limits (omega (arith, sums, room));
         accepted = marks_stay (record old { units = old.units + units; numbers = λ i. old.numbers i || numbers i }) refl;
       }
 
   pub take_back_runs : (units : ℕ) (numbers : ℕ → Bool) → IsRunning (take_back m c units numbers)
   take_back_runs units numbers =
       let sums : sum_up_to 8 (λ d. (at k.accounts c (record old { units = old.units - units; numbers = λ i. old.numbers i && not (numbers i) }) d).units) + old.units ≡ sum_up_to 8 (λ d. (k.accounts d).units) + (old.units - units)
-            = units_moved k c k.shared (record old { units = old.units - units; numbers = λ i. old.numbers i && not (numbers i) }) runs.booked is_c in
+      = units_moved k c k.shared (record old { units = old.units - units; numbers = λ i. old.numbers i && not (numbers i) }) runs.booked is_c in
       let fits : charge k.shared + sum_up_to 8 (λ d. (k.accounts d).units) ≤ k.capacity = runs.booked.fits in
       record {
         booked = booked_moved k c k.shared (record old { units = old.units - units; numbers = λ i. old.numbers i && not (numbers i) }) runs.booked is_c
-          (λ i e. runs.booked.free c i is_c (first_of (old.numbers i) (not (numbers i)) e))
-          (λ d i is_d off e. runs.booked.free d i is_d e)
-          (λ i e. runs.booked.range c i is_c (first_of (old.numbers i) (not (numbers i)) e))
-          (λ d i is_d off e. runs.booked.alone c d i is_c is_d off (first_of (old.numbers i) (not (numbers i)) e))
-          runs.booked.limits (omega (arith, sums, fits));
+            (λ i e. runs.booked.free c i is_c (first_of (old.numbers i) (not (numbers i)) e))
+            (λ d i is_d off e. runs.booked.free d i is_d e)
+            (λ i e. runs.booked.range c i is_c (first_of (old.numbers i) (not (numbers i)) e))
+            (λ d i is_d off e. runs.booked.alone c d i is_c is_d off (first_of (old.numbers i) (not (numbers i)) e))
+            runs.booked.limits (omega (arith, sums, fits));
         accepted = marks_stay (record old { units = old.units - units; numbers = λ i. old.numbers i && not (numbers i) }) refl;
       }

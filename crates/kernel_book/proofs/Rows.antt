@@ -1,5 +1,5 @@
 -- Bits of rows, and the inodes that they are for.
-use Rattle.std.proofs.Common.{◌≡◌, ◌≢◌, ◌⊎◌, inl, inr, ℕ, ◌+◌, ◌-◌, ◌*◌, ◌/◌, ◌%◌, ◌^◌, ◌<◌, ◌≤◌, List, length, get_or, set, Bool, true, false, ◌&&◌, ◌||◌, not, cond, nat_eq, nat_le, refl, ap, sym, ◌∙◌, subst, arith, bit_and, bit_or, w64, min, max}
+use Rattle.std.proofs.Common.{◌≡◌, ◌≢◌, ◌⊎◌, inl, inr, ℕ, ◌+◌, ◌-◌, ◌*◌, ◌/◌, ◌%◌, ◌^◌, ◌<◌, ◌≤◌, List, length, get_or, set, Bool, true, false, ◌&&◌, ◌||◌, not, cond, nat_eq, ap, sym, ◌∙◌, subst, arith, bit_and, bit_or, w64, min, max}
 use Rattle.std.specs.Int.{bit_at, bit_not, trailing_zeros}
 use Rattle.std.specs.Int.Bits.{and_lt}
 use Rattle.std.proofs.lemmas.Bool.{false≢true, eqb-true}
@@ -165,11 +165,11 @@ module _ (a b : List ℕ) where
       by_bits (λ i. has new i ≡ (has a i || has b i))
       (λ i out. has_none new i out ∙ sym (to_or (has a i) (has b i) false false (has_none a i out) (has_none b i out)))
       (λ r p row low.
-        has_bit new r p row low
-        ∙ ap (λ n. nat_eq (bit_at n p) 1) (each r row)
-        ∙ ap (λ n. nat_eq n 1) (bit_at_or (get_or a r 0) (get_or b r 0) p)
-        ∙ or_bits (bit_at (get_or a r 0) p) (bit_at (get_or b r 0) p) (bit_at-lt (get_or a r 0) p) (bit_at-lt (get_or b r 0) p)
-        ∙ sym (to_or (has a (r * 64 + p + 1)) (has b (r * 64 + p + 1)) _ _ (has_bit a r p row low) (has_bit b r p row low)))
+      has_bit new r p row low
+      ∙ ap (λ n. nat_eq (bit_at n p) 1) (each r row)
+      ∙ ap (λ n. nat_eq n 1) (bit_at_or (get_or a r 0) (get_or b r 0) p)
+      ∙ or_bits (bit_at (get_or a r 0) p) (bit_at (get_or b r 0) p) (bit_at-lt (get_or a r 0) p) (bit_at-lt (get_or b r 0) p)
+      ∙ sym (to_or (has a (r * 64 + p + 1)) (has b (r * 64 + p + 1)) _ _ (has_bit a r p row low) (has_bit b r p row low)))
 
   and_not : (x y u v : Bool) → x ≡ u → y ≡ v → (x && not y) ≡ (u && not v)
   and_not x y u v e f = ap (λ t. t && not y) e ∙ ap (λ t. u && not t) f
@@ -179,11 +179,11 @@ module _ (a b : List ℕ) where
       by_bits (λ i. has new i ≡ (has a i && not (has b i)))
       (λ i out. has_none new i out ∙ sym (and_not (has a i) (has b i) false false (has_none a i out) (has_none b i out)))
       (λ r p row low.
-        has_bit new r p row low
-        ∙ ap (λ n. nat_eq (bit_at n p) 1) (each r row)
-        ∙ ap (λ n. nat_eq n 1) (bit_at_and (get_or a r 0) (bit_not w64 (get_or b r 0)) p ∙ ap (min (bit_at (get_or a r 0) p)) (bit_at_not w64 (get_or b r 0) p (fits r row) low))
-        ∙ less_bits (bit_at (get_or a r 0) p) (bit_at (get_or b r 0) p) (bit_at-lt (get_or a r 0) p) (bit_at-lt (get_or b r 0) p)
-        ∙ sym (and_not (has a (r * 64 + p + 1)) (has b (r * 64 + p + 1)) _ _ (has_bit a r p row low) (has_bit b r p row low)))
+      has_bit new r p row low
+      ∙ ap (λ n. nat_eq (bit_at n p) 1) (each r row)
+      ∙ ap (λ n. nat_eq n 1) (bit_at_and (get_or a r 0) (bit_not w64 (get_or b r 0)) p ∙ ap (min (bit_at (get_or a r 0) p)) (bit_at_not w64 (get_or b r 0) p (fits r row) low))
+      ∙ less_bits (bit_at (get_or a r 0) p) (bit_at (get_or b r 0) p) (bit_at-lt (get_or a r 0) p) (bit_at-lt (get_or b r 0) p)
+      ∙ sym (and_not (has a (r * 64 + p + 1)) (has b (r * 64 + p + 1)) _ _ (has_bit a r p row low) (has_bit b r p row low)))
 
 -- no bit is set, or all are
 pub has_zero : (rows : List ℕ) → ((r : ℕ) → r < 16 → get_or rows r 0 ≡ 0) → (i : ℕ) → has rows i ≡ false
@@ -211,24 +211,26 @@ module _ (rows : List ℕ) (row : ℕ) (in_rows : row < 16) where
 
   pub first_set : (t : ℕ) → t < 64 → bit_at bits t ≡ 1 → ((b : ℕ) → b < t → bit_at bits b ≡ 0) → ((r : ℕ) → r < row → get_or rows r 0 ≡ 0)
       → IsInode (row * 64 + t + 1) × (has rows (row * 64 + t + 1) ≡ true) × ((j : ℕ) → j < row * 64 + t + 1 → has rows j ≡ false)
-  first_set t low here lower before =
-      ((omega (arith, in_rows, low), omega (arith, in_rows, low)),
-       has_bit rows row t in_rows low ∙ ap (λ n. nat_eq n 1) here,
-       λ j less. elim (inode_tells j) [
-         | inl js ↦ below_by_bits (λ j. has rows j ≡ false) row t in_rows low
-             (λ r b row_low bit_low. has_bit rows r b (omega (arith, row_low, in_rows)) bit_low ∙ ap (λ n. nat_eq (bit_at n b) 1) (before r row_low) ∙ ap (λ n. nat_eq n 1) (bit_at-zero b))
-             (λ b bit_low. has_bit rows row b in_rows (omega (arith, bit_low, low)) ∙ ap (λ n. nat_eq n 1) (lower b bit_low)) j js less
-         | inr out ↦ has_none rows j out
-       ])
+  first_set t low here lower before = (
+    (omega (arith, in_rows, low), omega (arith, in_rows, low)),
+    has_bit rows row t in_rows low ∙ ap (λ n. nat_eq n 1) here,
+    λ j less. elim (inode_tells j) [
+      | inl js ↦ below_by_bits (λ j. has rows j ≡ false) row t in_rows low
+          (λ r b row_low bit_low. has_bit rows r b (omega (arith, row_low, in_rows)) bit_low ∙ ap (λ n. nat_eq (bit_at n b) 1) (before r row_low) ∙ ap (λ n. nat_eq n 1) (bit_at-zero b))
+          (λ b bit_low. has_bit rows row b in_rows (omega (arith, bit_low, low)) ∙ ap (λ n. nat_eq n 1) (lower b bit_low)) j js less
+      | inr out ↦ has_none rows j out
+    ],
+  )
 
   pub first_clear : (t : ℕ) → t < 64 → bit_at bits t ≡ 0 → ((b : ℕ) → b < t → bit_at bits b ≡ 1) → ((r : ℕ) → r < row → get_or rows r 0 ≡ 2 ^ 64 - 1)
       → IsInode (row * 64 + t + 1) × (has rows (row * 64 + t + 1) ≡ false) × ((j : ℕ) → IsInode j → j < row * 64 + t + 1 → has rows j ≡ true)
-  first_clear t low here lower before =
-      ((omega (arith, in_rows, low), omega (arith, in_rows, low)),
-       has_bit rows row t in_rows low ∙ ap (λ n. nat_eq n 1) here,
-       below_by_bits (λ j. has rows j ≡ true) row t in_rows low
-             (λ r b row_low bit_low. has_bit rows r b (omega (arith, row_low, in_rows)) bit_low ∙ ap (λ n. nat_eq (bit_at n b) 1) (before r row_low) ∙ ap (λ n. nat_eq n 1) (bit_at_ones 64 b bit_low))
-             (λ b bit_low. has_bit rows row b in_rows (omega (arith, bit_low, low)) ∙ ap (λ n. nat_eq n 1) (lower b bit_low)))
+  first_clear t low here lower before = (
+    (omega (arith, in_rows, low), omega (arith, in_rows, low)),
+    has_bit rows row t in_rows low ∙ ap (λ n. nat_eq n 1) here,
+    below_by_bits (λ j. has rows j ≡ true) row t in_rows low
+        (λ r b row_low bit_low. has_bit rows r b (omega (arith, row_low, in_rows)) bit_low ∙ ap (λ n. nat_eq (bit_at n b) 1) (before r row_low) ∙ ap (λ n. nat_eq n 1) (bit_at_ones 64 b bit_low))
+        (λ b bit_low. has_bit rows row b in_rows (omega (arith, bit_low, low)) ∙ ap (λ n. nat_eq n 1) (lower b bit_low)),
+  )
 
 pub has_ones : (rows : List ℕ) → ((r : ℕ) → r < 16 → get_or rows r 0 ≡ 2 ^ 64 - 1) → (i : ℕ) → IsInode i → has rows i ≡ true
 has_ones rows all i is =
@@ -269,11 +271,11 @@ lacks_none some rows fits none =
     by_bits (λ i. has some i ≡ true → has rows i ≡ true)
     (λ i out e. absurd (false≢true (sym (has_none some i out) ∙ e)))
     (λ r p row low e.
-      let there : bit_at (get_or some r 0) p ≡ 1 = eqb-true _ _ (sym (has_bit some r p row low) ∙ e) in
-      let both : min (bit_at (get_or some r 0) p) (1 - bit_at (get_or rows r 0) p) ≡ 0 = sym (bit_at_and (get_or some r 0) (bit_not w64 (get_or rows r 0)) p ∙ ap (min (bit_at (get_or some r 0) p)) (bit_at_not w64 (get_or rows r 0) p (fits r row) low)) ∙ ap (λ n. bit_at n p) (none r row) ∙ bit_at-zero p in
-      let few : bit_at (get_or rows r 0) p < 2 = bit_at-lt (get_or rows r 0) p in
-      let has_it : bit_at (get_or rows r 0) p ≡ 1 = omega (arith, there, both, few) in
-      has_bit rows r p row low ∙ ap (λ n. nat_eq n 1) has_it)
+    let there : bit_at (get_or some r 0) p ≡ 1 = eqb-true _ _ (sym (has_bit some r p row low) ∙ e) in
+    let both : min (bit_at (get_or some r 0) p) (1 - bit_at (get_or rows r 0) p) ≡ 0 = sym (bit_at_and (get_or some r 0) (bit_not w64 (get_or rows r 0)) p ∙ ap (min (bit_at (get_or some r 0) p)) (bit_at_not w64 (get_or rows r 0) p (fits r row) low)) ∙ ap (λ n. bit_at n p) (none r row) ∙ bit_at-zero p in
+    let few : bit_at (get_or rows r 0) p < 2 = bit_at-lt (get_or rows r 0) p in
+    let has_it : bit_at (get_or rows r 0) p ≡ 1 = omega (arith, there, both, few) in
+    has_bit rows r p row low ∙ ap (λ n. nat_eq n 1) has_it)
 
 -- who is no inode is in no set, and taken out of none
 pub without_none : (rows : List ℕ) (i : ℕ) → is_inode i ≡ false → (j : ℕ) → has rows j ≡ without (has rows) i j

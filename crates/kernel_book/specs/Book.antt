@@ -1,8 +1,8 @@
 -- What the book has of each client, and the machine whose accounts it keeps.
-use Rattle.std.specs.Prelude.{◌≡◌, ℕ, ◌+◌, ◌-◌, ◌<◌, ◌≤◌, List, [], length, get_or, Bool, true, ◌&&◌, ◌||◌, not, nat_le}
+use Rattle.std.specs.Prelude.{◌≡◌, ℕ, ◌-◌, ◌≤◌, List, [], get_or, Bool, true, ◌&&◌, ◌||◌, not, nat_le}
 use Rattle.posix_calls.specs.Tree.{any_up_to, sum_up_to}
 use Rattle.posix_calls.specs.Operations.{is_client}
-use Rattle.posix_calls.specs.declared.limits.TheConstants.{ROOT, MAX_INODE, MAX_CLIENTS}
+use Rattle.posix_calls.specs.declared.limits.TheConstants.{MAX_INODE, MAX_CLIENTS}
 use Rattle.world_facts.specs.Machine.{Machine}
 use Rattle.kernel_book.specs.Account.{IsAccountOf}
 use Rattle.kernel_book.specs.Inodes.{has}

@@ -1,4 +1,4 @@
-use Rattle.std.proofs.Common.{◌≡◌, ℕ, ◌+◌, ◌∙◌, true, false, ap, sym, arith, add-one}
+use Rattle.std.proofs.Common.{◌≡◌, ◌+◌, ◌∙◌, true, false, ap, sym, arith, add-one}
 use Rattle.posix_calls.specs.Tree.{any_up_to}
 use Rattle.posix_calls.proofs.Sums.{any_there}
 use Rattle.kernel_book.specs.declared.account.ClientAccount.{ClientAccount}
@@ -13,16 +13,16 @@ clients-init c = none_yet _
 pub clients-preserved : goal.clients-preserved
 clients-preserved c =
     let here : pins_of c.args.self.now (c.clients.account-index + 1) c.args.inode ≡ false =
-      ap (λ (x : ClientAccount). has x.pins c.args.inode) (item_of c.self.inside.accounts c.args.self.now c.clients.account-index c.account-item.result c.self.view_is c.self.invariant.0 c.clients-test.true)
-      ∙ sym c.contains.ensures ∙ c.if-contains.false in
+    ap (λ (x : ClientAccount). has x.pins c.args.inode) (item_of c.self.inside.accounts c.args.self.now c.clients.account-index c.account-item.result c.self.view_is c.self.invariant.0 c.clients-test.true)
+    ∙ sym c.contains.ensures ∙ c.if-contains.false in
     not_found c.clients.account-index (c.clients.account-index + 1) (λ d. pins_of c.args.self.now d c.args.inode) (add-one c.clients.account-index) here c.clients.invariant
 
 pub returns-then-contains : goal.returns-then-contains
 unfolding is_pinned
 returns-then-contains c =
     let here : pins_of c.args.self.now (c.clients.account-index + 1) c.args.inode ≡ true =
-      ap (λ (x : ClientAccount). has x.pins c.args.inode) (item_of c.self.inside.accounts c.args.self.now c.clients.account-index c.account-item.result c.self.view_is c.self.invariant.0 c.clients-test.true)
-      ∙ sym c.contains.ensures ∙ c.if-contains.true in
+    ap (λ (x : ClientAccount). has x.pins c.args.inode) (item_of c.self.inside.accounts c.args.self.now c.clients.account-index c.account-item.result c.self.view_is c.self.invariant.0 c.clients-test.true)
+    ∙ sym c.contains.ensures ∙ c.if-contains.true in
     sym (any_there 8 (c.clients.account-index + 1) (λ d. pins_of c.args.self.now d c.args.inode) (omega arith) (omega (arith, c.clients-test.true)) here)
 
 pub returns : goal.returns

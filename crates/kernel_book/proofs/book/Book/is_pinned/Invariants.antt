@@ -1,4 +1,4 @@
-use Rattle.std.proofs.Common.{◌≡◌, ℕ, false}
+use Rattle.std.proofs.Common.{◌≡◌, false}
 use Rattle.posix_calls.specs.Tree.{any_up_to}
 use Rattle.kernel_book.specs.Book.{pins_of}
 use Rattle.kernel_book.proofs.book.Book.is_pinned.Given as goal

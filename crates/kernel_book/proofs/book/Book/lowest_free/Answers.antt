@@ -1,4 +1,4 @@
-use Rattle.std.proofs.Common.{◌≡◌, ℕ, ◌<◌, ◌≤◌, refl, subst}
+use Rattle.std.proofs.Common.{◌≡◌, ◌<◌, ◌≤◌, refl, subst}
 use Rattle.kernel_book.specs.Inodes.{has}
 use Rattle.kernel_book.specs.Free.{AreLowest, count_of, is_absent}
 use Rattle.kernel_book.specs.Book.{is_free}

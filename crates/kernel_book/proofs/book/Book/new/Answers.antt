@@ -20,5 +20,5 @@ returns-clause-opens c = λ g capacity d is_d.
     let low : 1 ≤ d = is_low d is_d in
     let high : d ≤ 8 = is_high d is_d in
     let all : AreAll (λ a. IsAccountOf a (idle_account 0) 0) (c.new.result ∷ c.new-2.result ∷ c.new-3.result ∷ c.new-4.result ∷ c.new-5.result ∷ c.new-6.result ∷ c.new-7.result ∷ c.new-8.result ∷ []) =
-      (c.new.ensures.is 0, (c.new-2.ensures.is 0, (c.new-3.ensures.is 0, (c.new-4.ensures.is 0, (c.new-5.ensures.is 0, (c.new-6.ensures.is 0, (c.new-7.ensures.is 0, (c.new-8.ensures.is 0, tt)))))))) in
+    (c.new.ensures.is 0, (c.new-2.ensures.is 0, (c.new-3.ensures.is 0, (c.new-4.ensures.is 0, (c.new-5.ensures.is 0, (c.new-6.ensures.is 0, (c.new-7.ensures.is 0, (c.new-8.ensures.is 0, tt)))))))) in
     each_of (λ a. IsAccountOf a (idle_account 0) 0) (c.new.result ∷ c.new-2.result ∷ c.new-3.result ∷ c.new-4.result ∷ c.new-5.result ∷ c.new-6.result ∷ c.new-7.result ∷ c.new-8.result ∷ []) all (d - 1) (omega (arith, low, high))

@@ -1,4 +1,4 @@
-use Rattle.std.proofs.Common.{◌≡◌, ◌+◌, ◌∙◌, min, ap, sym, subst, arith}
+use Rattle.std.proofs.Common.{◌≡◌, ◌∙◌, min, ap, sym, subst, arith}
 use Rattle.kernel_book.specs.declared.account.ClientAccount.{ClientAccount}
 use Rattle.kernel_book.specs.Book.{out_of, units_of, IsBookOf}
 use Rattle.kernel_book.specs.Account.{IsAccountOf}

@@ -1,4 +1,4 @@
-use Rattle.std.proofs.Common.{◌≡◌, ℕ, ◌+◌, ◌∙◌, ◌||◌, ◌==◌, true, false, ap, sym, arith, add-one, get_or}
+use Rattle.std.proofs.Common.{◌≡◌, ◌+◌, ◌∙◌, ◌||◌, ◌==◌, ap, sym, arith, add-one, get_or}
 use Rattle.posix_calls.specs.Tree.{any_up_to}
 use Rattle.kernel_book.specs.declared.account.ClientAccount.{ClientAccount}
 use Rattle.kernel_book.specs.Inodes.{has}
@@ -22,4 +22,4 @@ returns c = λ i.
     let all : c.clients.account-index ≡ 8 = omega (arith, c.clients-test.false, c.clients.auto.account-index-end) in
     free_absent (has c.insert.new.self) (has c.args.nodes.now) (is_granted c.args.self.now i) i
     (c.insert.ensures i ∙ ap (λ b. i == 1 || b) (c.insert_all-2.ensures i)
-     ∙ ap (λ b. i == 1 || (b || has c.args.nodes.now i)) (c.clients.invariant i ∙ ap (λ n. any_up_to n (λ d. numbers_of c.args.self.now d i)) all))
+    ∙ ap (λ b. i == 1 || (b || has c.args.nodes.now i)) (c.clients.invariant i ∙ ap (λ n. any_up_to n (λ d. numbers_of c.args.self.now d i)) all))

@@ -1,4 +1,4 @@
-use Rattle.std.proofs.Common.{◌≡◌, ℕ, ◌<◌, ◌≤◌, get_or, bit_and, w64}
+use Rattle.std.proofs.Common.{◌≡◌, ℕ, ◌<◌, get_or, bit_and, w64}
 use Rattle.std.specs.Int.{bit_not}
 use Rattle.kernel_book.proofs.inode_set.InodeSet.contains_all.Given as goal
 

@@ -1,4 +1,4 @@
-use Rattle.std.proofs.Common.{◌-◌, ◌*◌, ◌/◌, ◌%◌, ◌^◌, ap, ◌∙◌, get_or, bit_or, arith}
+use Rattle.std.proofs.Common.{◌-◌, ◌*◌, ◌/◌, ◌%◌, ◌^◌, ap, ◌∙◌, get_or, arith}
 use Rattle.std.proofs.lemmas.Nat.{or_lt}
 use Rattle.world_facts.specs.LeaseSteps.{also}
 use Rattle.kernel_book.specs.Inodes.{has}

@@ -1,4 +1,4 @@
-use Rattle.std.proofs.Common.{◌∙◌, ◌||◌, ℕ, ◌<◌, ◌^◌, ap, arith, get_or, bit_or, subst, sym}
+use Rattle.std.proofs.Common.{◌∙◌, ◌||◌, ◌<◌, ◌^◌, ap, arith, get_or, subst, sym}
 use Rattle.std.proofs.lemmas.Nat.{or_lt}
 use Rattle.std.proofs.Math.Decide.{dec_le}
 use Rattle.kernel_book.specs.Inodes.{has}

@@ -1,6 +1,5 @@
-use Rattle.std.proofs.Common.{◌≡◌, ℕ, ◌<◌, ◌≤◌, length, get_or, true, false}
-use Rattle.std.specs.Prelude.{bit_or, bit_and}
-use Rattle.kernel_book.specs.Inodes.{IsInode, has}
+use Rattle.std.proofs.Common.{◌≡◌, ℕ, ◌<◌, ◌≤◌, get_or}
+use Rattle.std.specs.Prelude.{bit_or}
 use Rattle.kernel_book.proofs.inode_set.InodeSet.insert_all.Given as goal
 
 abbrev pub invariant-rows : goal.invariant-rows

@@ -1,5 +1,4 @@
-use Rattle.std.proofs.Common.{◌∙◌, ◌||◌, inl, inr, ap, sym, refl, cond, false, true, subst}
-use Rattle.std.proofs.lemmas.Bool.Decides.{eqb_tells}
+use Rattle.std.proofs.Common.{◌∙◌, ap, sym}
 use Rattle.world_facts.specs.LeaseSteps.{without}
 use Rattle.kernel_book.specs.Inodes.{has}
 use Rattle.kernel_book.proofs.Rows.{has_cleared, without_none, inode_is}
