@@ -1,0 +1,5 @@
+pub mod Bodies
+pub mod Codes
+pub mod Forgotten
+pub mod Held
+pub mod Put

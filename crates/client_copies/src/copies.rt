@@ -1,0 +1,174 @@
+ghost use Rattle.std.specs.Prelude.{◌≡◌, ◌==◌, ◌<◌, ℕ, length, Some, None, not, true, false, IfOk, OnOk, OnErr};
+ghost use Rattle.std.specs.List.{filter};
+ghost use Rattle.block_cache.specs.Cached.{put as put_first, used};
+ghost use Rattle.block_cache.specs.declared.bytes.TheConstants.{BLOCK_SIZE};
+ghost use Rattle.file_graph.specs.Graph.{is_among};
+ghost use Rattle.file_graph.specs.Numbers.{is_inode};
+ghost use Rattle.call_effects.specs.Known.{IsForgetful, with_blocks, with_copy, with_granted};
+ghost use Rattle.posix_calls.specs.Content.{resized};
+ghost use Rattle.posix_calls.specs.declared.limits.TheConstants.{MAX_DESCRIPTORS};
+ghost use Rattle.posix_calls.specs.Own.{own_of};
+ghost use Rattle.client_copies.specs.Held.{knows};
+ghost use Rattle.client_copies.specs.Put.{IsBlockLong};
+ghost use Rattle.client_copies.specs.Forgotten.{with_descriptor, without_blocks, without_inode, without_granted};
+
+use crate::node_copy::NodeCopy;
+use crate::slots::{Slot, forget_slot, unknown_slots};
+use block_cache::{BLOCK_SIZE, Blocks};
+use posix_calls::{Bytes, Descriptor, OwnDescriptors};
+use std::alloc::{AllocError, Global};
+use std::marker::Model;
+
+/// What one client knows: its descriptors, its copies of nodes without the bytes of files, its blocks of files, and the numbers for new
+/// nodes that it was granted. Contracts see these parts, and by them what the client knows (`knows`).
+#[derive(Drop)]
+pub struct ClientCopies {
+    pub(crate) alloc: Global,
+    pub(crate) client: u32,
+    pub(crate) own: OwnDescriptors,
+    pub(crate) copies: Vec<Slot>,
+    pub(crate) blocks: Blocks,
+    pub(crate) numbers: Vec<u32>,
+}
+
+impl Model for ClientCopies {
+    ghost use Rattle.std.specs.Prelude.{◌≡◌, length};
+    ghost use Rattle.client_copies.specs.Held.{Held, held_code};
+
+    ghost Value = { Held };
+
+    ghost coded = { held_code };
+
+    ghost view = { λ c. record { client = c.client; own = c.own; copies = c.copies.items; blocks = c.blocks; numbers = c.numbers.items } };
+
+    ghost invariant = { λ c. length c.copies.items ≡ 1025 };
+}
+
+impl ClientCopies {
+    /// A client that knows nothing but its number.
+    pub fn new(alloc: Global, client: u32) -> Result<Self, AllocError>
+        ensures client { IfOk result (λ c. (knows c).client ≡ client) }
+        ensures own { IfOk result (λ c. (number : ℕ) → (knows c).own number ≡ None) }
+        ensures copies { IfOk result (λ c. (i : ℕ) → (knows c).copies i ≡ None) }
+        ensures blocks { IfOk result (λ c. (i b : ℕ) → (knows c).blocks i b ≡ None) }
+        ensures granted { IfOk result (λ c. (i : ℕ) → (knows c).granted i ≡ false) }
+    {
+        let copies = unknown_slots(alloc)?;
+        let blocks = Blocks::new(alloc)?;
+        Ok(ClientCopies {
+            alloc,
+            client,
+            own: OwnDescriptors::new(),
+            copies,
+            blocks,
+            numbers: Vec::new(alloc),
+        })
+    }
+
+    /// A copy of what stands at an inode, or that nothing stands there, in place of what was known of it; its blocks go. It takes no
+    /// memory.
+    pub fn put_view(&mut self, inode: u32, view: Option<NodeCopy>)
+        requires { is_inode inode ≡ true }
+        ensures known { knows self.new ≡ with_copy (without_blocks (knows self.old) inode) inode view }
+        ensures more { (knows self.old).copies inode ≡ None → knows self.new ≡ with_copy (knows self.old) inode view }
+    {
+        self.copies[inode as usize] = Some(view);
+        self.blocks.drop_file(inode)
+    }
+
+    /// A block of a file that there is a copy of: the bytes that the file has there, the last one fewer than 4,096 where the file ends in
+    /// it. It is the one used last, and past 256 blocks the one used longest ago is forgotten. Where there is no memory for it, nothing
+    /// changes.
+    pub fn put_block(&mut self, inode: u32, block: u32, bytes: &[u8]) -> Result<(), AllocError>
+        requires { IsBlockLong (knows self.old) inode block bytes.now }
+        ensures there { OnOk result ((knows self.new).blocks inode block ≡ Some bytes.now) }
+        ensures kept { OnOk result (self.new ≡ record self.old { blocks = put_first inode block (resized BLOCK_SIZE bytes.now) self.old.blocks }) }
+        ensures no_more { OnOk result (IsForgetful (with_blocks (knows self.old) inode block 1 (λ _. bytes.now)) (knows self.new)) }
+        ensures copies { OnOk result ((knows self.new).copies ≡ (knows self.old).copies) }
+        ensures granted { OnOk result ((knows self.new).granted ≡ (knows self.old).granted) }
+        ensures refused { OnErr result (self.new ≡ self.old) }
+    {
+        let padded = padded(self.alloc, bytes)?;
+        self.blocks.put(inode, block, padded.as_slice())
+    }
+
+    /// A block that is kept is the one used last now, and nothing else changes (`used_block_is_known_as_before`). It takes no memory.
+    pub fn use_block(&mut self, inode: u32, block: u32)
+        ensures { self.new ≡ record self.old { blocks = used inode block self.old.blocks } }
+    {
+        let _ = self.blocks.get(inode, block);
+    }
+
+    /// What is known of an inode goes: the copy and the blocks, and no others. It takes no memory.
+    pub fn forget(&mut self, inode: u32)
+        ensures { knows self.new ≡ without_inode (knows self.old) inode }
+    {
+        self.blocks.drop_file(inode);
+        forget_slot(&mut self.copies, inode as usize);
+    }
+
+    /// A number for a new node is granted. Where there is no memory for it, nothing changes.
+    pub fn grant(&mut self, number: u32) -> Result<(), AllocError>
+        ensures granted { OnOk result (knows self.new ≡ with_granted (knows self.old) number) }
+        ensures refused { OnErr result (self.new ≡ self.old) }
+    {
+        if self.numbers.contains(&number) {
+            return Ok(());
+        }
+        self.numbers.push(number)?;
+        Ok(())
+    }
+
+    /// A number that was granted is used, and granted no longer. It takes no memory.
+    pub fn use_number(&mut self, number: u32)
+        ensures { knows self.new ≡ without_granted (knows self.old) number }
+    {
+        without_number(&mut self.numbers, number);
+    }
+
+    /// Something is open at a number, or nothing any more.
+    pub fn set_descriptor(&mut self, number: u32, what: Option<Descriptor>)
+        requires { number < MAX_DESCRIPTORS }
+        ensures { knows self.new ≡ with_descriptor (knows self.old) number what }
+    {
+        self.own.set(number, what);
+    }
+
+    /// The client's number.
+    pub fn client(&self) -> u32
+        ensures { result ≡ (knows self.now).client }
+    {
+        self.client
+    }
+
+    /// What the client has open.
+    pub fn own(&self) -> &OwnDescriptors
+        ensures { own_of result.now ≡ (knows self.now).own }
+    {
+        &self.own
+    }
+
+    /// The numbers for new nodes that were granted and are not used; the one granted first is used next.
+    pub fn numbers(&self) -> &[u32]
+        ensures { (i : ℕ) → is_among i result.now ≡ (knows self.now).granted i }
+    {
+        &self.numbers
+    }
+}
+
+// A number is among these no longer.
+fn without_number(numbers: &mut Vec<u32>, number: u32)
+    ensures { numbers.new.items ≡ filter (λ n. not (n == number)) numbers.old.items }
+{
+    numbers.retain(|n| *n != number);
+}
+
+// The bytes of a block, and zeros up to its whole length.
+fn padded(alloc: Global, bytes: &[u8]) -> Result<Bytes, AllocError>
+    ensures padded { IfOk result (λ padded. padded ≡ resized BLOCK_SIZE bytes.now) }
+    ensures whole { IfOk result (λ padded. length padded ≡ BLOCK_SIZE) }
+{
+    let mut padded = bytes.to_vec(alloc)?;
+    padded.resize(BLOCK_SIZE, 0)?;
+    Ok(Bytes::from_vec(padded))
+}

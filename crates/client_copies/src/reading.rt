@@ -1,0 +1,137 @@
+// What is read of a file whose blocks are kept.
+ghost use Rattle.std.specs.Prelude.{◌≡◌, ◌<◌, ◌+◌, ◌-◌, ◌*◌, ◌^◌, ◌++◌, ℕ, List, true, IfOk, IfErr, IfSome, OnOk, Some, None, is_some, option_map, take};
+ghost use Rattle.posix_calls.specs.Content.{range};
+ghost use Rattle.posix_calls.specs.Query.{blocks_touched};
+ghost use Rattle.call_effects.specs.Blocks.{blocks_joined, range_by};
+ghost use Rattle.posix_calls.specs.declared.limits.TheConstants.{UNIT_BYTES};
+ghost use Rattle.client_copies.specs.Held.{block_by, file_block};
+
+use block_cache::Blocks;
+use posix_calls::{Bytes, UNIT_BYTES};
+use std::alloc::{AllocError, Global};
+
+// How many blocks 32 bits number.
+const MOST_NUMBERED: u64 = 4_294_967_296;
+
+const UNIT: u64 = UNIT_BYTES as u64;
+
+/// So many bytes of a file from an offset on, where its size is known and all blocks that they touch are kept. Memory is wanted where they are, and else not.
+pub fn read(
+    alloc: Global,
+    size: Option<u64>,
+    blocks: &Blocks,
+    inode: u32,
+    at: u64,
+    count: u64,
+) -> Result<Option<Bytes>, AllocError>
+    ensures bytes { IfOk result (λ bytes. bytes ≡ range_by (block_by size blocks.now inode) at count) }
+    ensures memory { IfErr result (λ _. is_some (range_by (block_by size blocks.now inode) at count) ≡ true) }
+{
+    match size {
+        Some(size) => read_file(alloc, blocks, inode, size, at, count),
+        None => Ok(read_nothing(alloc, count)),
+    }
+}
+
+// Of what is no file no bytes are known but none.
+fn read_nothing(alloc: Global, count: u64) -> Option<Bytes>
+    ensures { (at : ℕ) → result ≡ range_by (λ b. None) at count }
+{
+    if count == 0 {
+        return Some(Bytes::from_vec(Vec::new(alloc)));
+    }
+    None
+}
+
+fn read_file(
+    alloc: Global,
+    blocks: &Blocks,
+    inode: u32,
+    size: u64,
+    at: u64,
+    count: u64,
+) -> Result<Option<Bytes>, AllocError>
+    ensures bytes { IfOk result (λ bytes. bytes ≡ range_by (file_block size blocks.now inode) at count) }
+    ensures memory { IfErr result (λ _. is_some (range_by (file_block size blocks.now inode) at count) ≡ true) }
+{
+    let touched = blocks_touched(at, count);
+    if !are_kept(blocks, inode, size, at / UNIT, touched) {
+        return Ok(None);
+    }
+    let mut joined = Vec::new(alloc);
+    join(&mut joined, blocks, inode, size, at / UNIT, touched)?;
+    Ok(Some(Bytes::copy_of(alloc, range(&joined, at % UNIT, count))?))
+}
+
+fn blocks_touched(at: u64, count: u64) -> u64
+    ensures { result ≡ blocks_touched at count }
+{
+    if count == 0 {
+        return 0;
+    }
+    let last = (at as u128 + count as u128 - 1) / UNIT as u128;
+    1 + last as u64 - at / UNIT
+}
+
+// A block of a file of so many bytes, if it is kept.
+fn file_block<'a>(blocks: &'a Blocks, inode: u32, size: u64, block: u64) -> Option<&'a [u8]>
+    ensures bytes { option_map (λ b. b.now) result ≡ file_block size blocks.now inode block }
+    ensures low { IfSome result (λ _. block < 2 ^ 32) }
+{
+    if block >= MOST_NUMBERED {
+        return None;
+    }
+    match blocks.peek(inode, block as u32) {
+        Some(bytes) => Some(cut(bytes, size.saturating_sub(UNIT * block))),
+        None => None,
+    }
+}
+
+fn cut(bytes: &[u8], len: u64) -> &[u8]
+    ensures { result.now ≡ take len bytes.now }
+{
+    &bytes[..(len as usize).min(bytes.len())]
+}
+
+fn range(bytes: &[u8], at: u64, count: u64) -> &[u8]
+    ensures { result.now ≡ range at count bytes.now }
+{
+    let rest = &bytes[(at as usize).min(bytes.len())..];
+    cut(rest, count)
+}
+
+// Whether so many blocks from a first one on are kept.
+fn are_kept(blocks: &Blocks, inode: u32, size: u64, first: u64, count: u64) -> bool
+    ensures { result ≡ is_some (blocks_joined (file_block size blocks.now inode) first count) }
+{
+    if count == 0 {
+        return true;
+    }
+    match file_block(blocks, inode, size, first) {
+        Some(_) => are_kept(blocks, inode, size, first + 1, count - 1),
+        None => false,
+    }
+}
+
+// Puts so many blocks, which are kept, behind the bytes.
+fn join(
+    bytes: &mut Vec<u8>,
+    blocks: &Blocks,
+    inode: u32,
+    size: u64,
+    first: u64,
+    count: u64,
+) -> Result<(), AllocError>
+    ensures { OnOk result ((joined : List ℕ) → blocks_joined (file_block size blocks.now inode) first count ≡ Some joined → bytes.new.items ≡ bytes.old.items ++ joined) }
+{
+    if count == 0 {
+        return Ok(());
+    }
+    match file_block(blocks, inode, size, first) {
+        Some(block) => {
+            bytes.extend_from_slice(block)?;
+            join(bytes, blocks, inode, size, first + 1, count - 1)
+        }
+        None => Ok(()),
+    }
+}
