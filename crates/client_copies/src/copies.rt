@@ -148,9 +148,10 @@ impl ClientCopies {
         &self.own
     }
 
-    /// The numbers for new nodes that were granted and are not used; the one granted first is used next.
+    /// The numbers for new nodes that were granted and are not used.
     pub fn numbers(&self) -> &[u32]
-        ensures { (i : ℕ) → is_among i result.now ≡ (knows self.now).granted i }
+        ensures list { result.now ≡ self.now.numbers }
+        ensures granted { (i : ℕ) → is_among i result.now ≡ (knows self.now).granted i }
     {
         &self.numbers
     }
