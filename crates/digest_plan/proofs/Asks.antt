@@ -34,23 +34,6 @@ touched_in [] k r inside is i among = absurd (omega (arith, inside))
 touched_in (x ∷ rs) zero r inside is i among = touched_first x rs i (ap (λ (y : Record). is_among i (touches y.effects)) (sym is) ∙ among)
 touched_in (x ∷ rs) (suc k) r inside is i among = touched_later x rs i (touched_in rs k r (omega (arith, inside)) is i among)
 
-either : (b c : Bool) → (b || c) ≡ true → (b ≡ true) ⊎ (c ≡ true)
-either true c h = inl refl
-either false c h = inr h
-
--- those of the first records
-pub touched_taken : (rs : List Record) (n : ℕ) → AreAmong (touches (effects_in (take n rs))) (touches (effects_in rs))
-touched_taken [] n i among = ap (λ (xs : List Record). is_among i (touches (effects_in xs))) (sym (take-nil n)) ∙ among
-touched_taken (r ∷ rs) zero i among = absurd (true≢false (sym among))
-touched_taken (r ∷ rs) (suc n) i among =
-    let rest = effects_in (take n rs) in
-    let split : (is_among i (touches r.effects) || is_among i (touches rest)) ≡ true =
-    sym (ap (is_among i) (touches_joined r.effects rest) ∙ among_joined i (touches r.effects) (touches rest)) ∙ among in
-    elim (either (is_among i (touches r.effects)) (is_among i (touches rest)) split) [
-      | inl here ↦ touched_first r rs i here
-      | inr later ↦ touched_later r rs i (touched_taken rs n i later)
-    ]
-
 -- ---- what is known
 
 map_some : (f : Option NodeView → Option NodeView) (o : Option (Option NodeView)) → is_some (option_map f o) ≡ is_some o
@@ -131,11 +114,3 @@ module _ {S E : Type 0} (asked : S → S → List ℕ → Option E → Type 0) w
 
   pub none_once : (among : List ℕ) (first : S) → asked first first [] None → AskedOnce asked among first first None
   none_once among first none = record { inodes = []; needed = tt; once = tt; led = none }
-
-  -- the same among more
-  pub once_among : (is js : List ℕ) (first now : S) (refusal : Option E) → ((i : ℕ) → is_among i is ≡ true → is_among i js ≡ true) → AskedOnce asked is first now refusal → AskedOnce asked js first now refusal
-  once_among is js first now refusal wider before = record { inodes = before.inodes; needed = wider_all is js before.inodes wider before.needed; once = before.once; led = before.led }
-    where
-      wider_all : (is js ks : List ℕ) → ((i : ℕ) → is_among i is ≡ true → is_among i js ≡ true) → AllByRecursion (λ i. is_among i is ≡ true) ks → AllByRecursion (λ i. is_among i js ≡ true) ks
-      wider_all is js [] wider all = tt
-      wider_all is js (k ∷ ks) wider all = (wider k all.0, wider_all is js ks wider all.1)

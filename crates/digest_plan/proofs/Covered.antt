@@ -12,8 +12,8 @@ use Rattle.coalescer.specs.Records.{effects_in}
 use Rattle.record_check.specs.Good.{KeepsLimits}
 use Rattle.record_check.proofs.Rises.{growth_told}
 use Rattle.digest_plan.specs.Covered.{IsCovered, AreCovered, AreSameAt, units_of}
-use Rattle.digest_plan.specs.Plan.{AreGood, PlanTells}
-use Rattle.digest_plan.specs.declared.planning.Plan.TheVariants as plan
+use Rattle.digest_plan.specs.Plan.{AreGood, Finds}
+use Rattle.digest_plan.specs.declared.testing.Found.TheVariants as found
 use Rattle.digest_plan.proofs.Known.{among_joined, touches_joined}
 use Rattle.digest_plan.proofs.Runs.{never}
 
@@ -72,14 +72,13 @@ good held capacity g (r ∷ rs) all few =
       good held capacity (after_effects g r.effects) rs all.1 (omega (arith, risen, paid, few)),
     )
 
--- ---- what is planned
+-- ---- what a test of the first ones finds
 
 good_front : (held : List ℕ) (capacity : ℕ) (g : Graph) (rs : List Record) (n : ℕ) → AreGood held capacity g rs → AreGood held capacity g (take n rs)
 good_front held capacity g [] n all = subst (AreGood held capacity g) (sym (take-nil n)) tt
 good_front held capacity g (r ∷ rs) zero all = tt
 good_front held capacity g (r ∷ rs) (suc n) all = (all.0, good_front held capacity (after_effects g r.effects) rs n all.1)
 
-pub never_bad : (held : List ℕ) (capacity : ℕ) (g h : Graph) (rs : List Record) (place : ℕ) → AreCovered held g rs → AreSameAt (touches (effects_in rs)) g h → charge h + units_of rs ≤ capacity → PlanTells held capacity h rs (plan.Bad place) → ⊥
-never_bad held capacity g h rs place all same few told =
-    let n = told.0 in
-    never held capacity h (take n rs) place told.2 (good_front held capacity h rs n (good held capacity h rs (local held g h rs all same) few))
+pub never_bad : (held : List ℕ) (capacity : ℕ) (g h : Graph) (rs : List Record) (n place : ℕ) → AreCovered held g rs → AreSameAt (touches (effects_in rs)) g h → charge h + units_of rs ≤ capacity → Finds held capacity h (take n rs) (found.FirstBad place) → ⊥
+never_bad held capacity g h rs n place all same few told =
+    never held capacity h (take n rs) place told (good_front held capacity h rs n (good held capacity h rs (local held g h rs all same) few))

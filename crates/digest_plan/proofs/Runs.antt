@@ -1,6 +1,8 @@
 -- Records one after the other: good ones, and the first that is not.
-use Rattle.std.proofs.Common.{◌≡◌, ℕ, zero, suc, ◌+◌, ◌<◌, List, [], ◌∷◌, ◌++◌, length, take, get_or, refl, ap, sym, ◌∙◌, subst, arith}
+use Rattle.std.proofs.Common.{◌≡◌, ℕ, zero, suc, ◌+◌, ◌<◌, ◌≤◌, List, [], ◌∷◌, ◌++◌, length, take, get_or, refl, ap, sym, ◌∙◌, subst, arith}
+use Rattle.std.specs.Prelude.{Result, Ok, Err, IfErr}
 use Rattle.std.proofs.Math.Seq.{take-nil}
+use Rattle.std.proofs.lemmas.List.{length-append}
 use Rattle.file_graph.specs.declared.effect.Effect.{Effect}
 use Rattle.file_graph.specs.Graph.{Graph, after_effects, after_effect}
 use Rattle.log_record.specs.declared.format.Record.{Record}
@@ -70,7 +72,17 @@ never held capacity g [] k is all = is
 never held capacity g (r ∷ rs) zero is all = is all.0
 never held capacity g (r ∷ rs) (suc k) is all = never held capacity (after_effects g r.effects) rs k is.1 all.1
 
--- where some of the first are there, there are some
-pub some_taken : (rs : List Record) (n : ℕ) → 0 < length (take n rs) → 0 < length rs
-some_taken [] n some = subst (λ (xs : List Record). 0 < length xs) (take-nil n) some
-some_taken (r ∷ rs) n some = omega arith
+-- the first ones have no more effects than all
+pub fewer_taken : (rs : List Record) (n : ℕ) → length (effects_in (take n rs)) ≤ length (effects_in rs)
+fewer_taken [] n = subst (λ (xs : List Record). length (effects_in xs) ≤ 0) (sym (take-nil n)) (omega arith)
+fewer_taken (r ∷ rs) zero = omega arith
+fewer_taken (r ∷ rs) (suc n) =
+    let sum = length-append r.effects (effects_in rs) in
+    let taken = length-append r.effects (effects_in (take n rs)) in
+    let fewer = fewer_taken rs n in
+    omega (arith, sum, taken, fewer)
+
+-- what holds whatever the refusal is
+pub refused_for : {T E : Type 0} (r : Result T E) (A : Type 0) → A → IfErr r (λ _. A)
+refused_for (Ok x) A a = tt
+refused_for (Err e) A a = a

@@ -1,4 +1,4 @@
-//! What holds of every plan.
+//! What holds of every run of records.
 
 ghost use Rattle.std.specs.Prelude.{◌≡◌, ◌<◌, ◌≤◌, ◌+◌, ℕ, List, true, false, length, take, get_or};
 ghost use Rattle.std.specs.FinMap as fin;
@@ -15,8 +15,8 @@ ghost use Rattle.coalescer.specs.Weight.{fits_chunk};
 ghost use Rattle.coalescer.specs.Within.{AreBlocksIn, images_of};
 ghost use Rattle.record_check.specs.Good.{IsGood, KeepsLimits};
 ghost use Rattle.digest_plan.specs.Covered.{AreCovered, AreSameAt, units_of};
-ghost use Rattle.digest_plan.specs.Plan.{AreGood, IsFirstBad, PlanTells};
-ghost use Rattle.digest_plan.specs.declared.planning.Plan.TheVariants as plan;
+ghost use Rattle.digest_plan.specs.Plan.{AreGood, Finds, IsFirstBad};
+ghost use Rattle.digest_plan.specs.declared.testing.Found.TheVariants as found;
 
 /// What is counted for a chunk is there on the shared media: as many images as a batch takes, and as many data blocks as are spare.
 pub fn a_chunk_is_a_batch()
@@ -35,11 +35,12 @@ pub fn a_first_bad_record_is_the_only_one()
 {}
 
 /// Records that their client's leases cover and their units pay for are never bad, whatever was digested before them: that they are covered
-/// depends on what they touch alone, and where the graph's charge and their units are within what there is, each of them is good.
+/// depends on what they touch alone, and where the graph's charge and their units are within what there is, each of them is good; so no test of
+/// the first of them finds a bad one.
 pub fn covered_records_are_never_bad()
     ensures local { (held : List ℕ) (g h : Graph) (rs : List Record) → AreCovered held g rs → AreSameAt (touches (effects_in rs)) g h → AreCovered held h rs }
     ensures good { (held : List ℕ) (capacity : ℕ) (g : Graph) (rs : List Record) → AreCovered held g rs → charge g + units_of rs ≤ capacity → AreGood held capacity g rs }
-    ensures never { (held : List ℕ) (capacity : ℕ) (g h : Graph) (rs : List Record) (place : ℕ) → AreCovered held g rs → AreSameAt (touches (effects_in rs)) g h → charge h + units_of rs ≤ capacity → PlanTells held capacity h rs (plan.Bad place) → ⊥ }
+    ensures never { (held : List ℕ) (capacity : ℕ) (g h : Graph) (rs : List Record) (n place : ℕ) → AreCovered held g rs → AreSameAt (touches (effects_in rs)) g h → charge h + units_of rs ≤ capacity → Finds held capacity h (take n rs) (found.FirstBad place) → ⊥ }
 {}
 
 /// What good records of one chunk come to is a change that the shared media take in one batch: it keeps to the limits of the format, with the

@@ -1,76 +1,29 @@
-ghost use Rattle.std.specs.Prelude.{◌≡◌, ◌<◌, None, IfErr, IfOk, OnOk, length};
-ghost use Rattle.std.specs.List.{AllByRecursion};
-ghost use Rattle.std.specs.List.Sorted.{IsNonDecreasing};
-ghost use Rattle.file_graph.specs.Graph.{touches};
-ghost use Rattle.file_graph.specs.Units.{charge};
-ghost use Rattle.log_record.specs.Grammar.{IsRecord};
+ghost use Rattle.std.specs.Prelude.{◌<◌, IfErr, IfOk, length};
+ghost use Rattle.graph_change.specs.View.{changes_of};
 ghost use Rattle.coalescer.specs.Records.{effects_in};
-ghost use Rattle.digest_plan.specs.Asked.{AskedOnce, refusal_of};
-ghost use Rattle.digest_plan.specs.Plan.{PlanTells};
+ghost use Rattle.digest_plan.specs.Plan.{IsNextRun};
 
-use crate::error::PlanError;
-use crate::testing::{Found, test_records};
 use coalescer::{coalesce, longest_run};
 use graph_change::GraphChange;
 use log_record::Record;
-use record_check::Nodes;
-use std::alloc::Global;
+use std::alloc::{AllocError, Global};
 
 /// The next records of a log that are digested at once, and what they come to.
 #[derive(Drop)]
-pub struct Chunk {
+pub struct NextRun {
     /// How many records they are.
     pub count: usize,
     /// What they make of the graph.
     pub change: GraphChange,
-    /// The charge of the graph after them, in units.
-    pub charge: u64,
 }
 
-/// What is to be done with the next records of a log.
-#[derive(Drop)]
-pub enum Plan {
-    /// They are good.
-    Digest(Chunk),
-    /// The record at this place is the first bad one among those that would be digested at once.
-    Bad { place: usize },
-}
-
-/// What is to be done with the records of a client that are not digested yet, where it holds the inodes `held` for writing, listed rising,
-/// and where there are `capacity` units in all, of which the graph that the nodes are told of takes `used`. The records that are taken are the
-/// longest run of the first ones that a batch holds, one at least where there is one. Each is tested over the graph as those before it
-/// leave it. No node is asked for twice, nor one that no record touches.
-pub fn prepare<N: Nodes>(
-    alloc: Global,
-    nodes: &mut N,
-    used: u64,
-    capacity: u64,
-    held: &[u32],
-    records: &[Record],
-) -> Result<Plan, PlanError<N::Error>>
-    requires spelled { AllByRecursion IsRecord records.now }
-    requires rising { IsNonDecreasing held.now }
-    requires used { charge (N.graph nodes.old) ≡ used }
-    ensures stays { N.graph nodes.new ≡ N.graph nodes.old }
-    ensures tells { IfOk result (PlanTells held.now capacity (N.graph nodes.old) records.now) }
-    ensures answered { OnOk result (AskedOnce N.asked (touches (effects_in records.now)) nodes.old nodes.new None) }
-    ensures refused { IfErr result (λ e. AskedOnce N.asked (touches (effects_in records.now)) nodes.old nodes.new (refusal_of e)) }
-    ensures some { IfErr result (λ e. 0 < length records.now) }
+/// The longest run of the first of these records that a batch takes, one at least where there is one, and what it comes to. It is a matter of
+/// the records alone, whatever the graph is. An error is want of memory, which is asked for only where a record has an effect.
+pub fn next_run(alloc: Global, records: &[Record]) -> Result<NextRun, AllocError>
+    ensures exact { IfOk result (λ run. IsNextRun records.now run.count (changes_of run.change)) }
+    ensures memory { IfErr result (λ _. 0 < length (effects_in records.now)) }
 {
-    let count = match longest_run(alloc, records) {
-        Ok(count) => count,
-        Err(_) => return Err(PlanError::Memory),
-    };
-    let run = &records[..count];
-    match test_records(alloc, nodes, used, capacity, held, run)? {
-        Found::FirstBad { place } => Ok(Plan::Bad { place }),
-        Found::AllGood { charge } => match coalesce(alloc, run) {
-            Ok(change) => Ok(Plan::Digest(Chunk {
-                count,
-                change,
-                charge,
-            })),
-            Err(_) => Err(PlanError::Memory),
-        },
-    }
+    let count = longest_run(alloc, records)?;
+    let change = coalesce(alloc, &records[..count])?;
+    Ok(NextRun { count, change })
 }

@@ -6,7 +6,7 @@ ghost use Rattle.std.specs.List.Sorted.{IsNonDecreasing};
 ghost use Rattle.log_record.specs.Grammar.{IsRecord};
 
 use crate::replayed::Replayed;
-use digest_plan::{Plan, prepare};
+use digest_plan::{Found, next_run, test_records};
 use file_graph::{Effect, Effects, Kind};
 use log_record::Record;
 use posix_calls::{Bytes, Name};
@@ -96,17 +96,19 @@ fn planned(
     let Some(mut nodes) = Replayed::new(alloc, made(alloc, 2, Kind::File, 0)?)? else {
         return Err(AllocError);
     };
+    let next = next_run(alloc, records)?;
+    let run = &records[..next.count];
     let mut held = Vec::new(alloc);
     for inode in 1u32..100 {
         held.push(inode)?;
     }
-    if !are_spelled(records) || !are_rising(&held) {
+    if !are_spelled(run) || !are_rising(&held) {
         return Err(AllocError);
     }
     let used = nodes.charge();
-    match prepare(alloc, &mut nodes, used, capacity, &held, records) {
-        Ok(Plan::Digest(chunk)) => Ok((chunk.count, chunk.change.nodes.len(), chunk.charge)),
-        Ok(Plan::Bad { place }) => Ok((place, 0, 0)),
+    match test_records(alloc, &mut nodes, used, capacity, &held, run) {
+        Ok(Found::AllGood { charge }) => Ok((next.count, next.change.nodes.len(), charge)),
+        Ok(Found::FirstBad { place }) => Ok((place, 0, 0)),
         Err(_) => Err(AllocError),
     }
 }

@@ -1,8 +1,9 @@
--- A plan, and then the change that is planned: what is left at each moment, and what is refused.
-use Rattle.std.proofs.Common.{◌≡◌, ◌≢◌, ◌<◌, ◌≤◌, ◌+◌, ◌-◌, inl, inr, ℕ, List, length, take, drop, refl, sym, ◌∙◌, ap, subst, arith}
-use Rattle.std.specs.Prelude.{Some, Result, Ok, Err}
-use Rattle.std.proofs.lemmas.Bool.{true≢false}
-use Rattle.std.proofs.lemmas.List.{length-drop, length-take-le}
+-- A test of the records of a chunk, and then the change that they come to: what is left at each moment, and what is refused.
+use Rattle.std.proofs.Common.{◌≡◌, ◌≢◌, ◌==◌, ◌<◌, ◌≤◌, ◌+◌, ◌-◌, ◌^◌, inl, inr, ℕ, List, true, length, take, drop, refl, sym, ◌∙◌, ap, subst, arith}
+use Rattle.std.specs.Prelude.{◌&&◌, nat_lt, Option, Some, Result, Ok, Err}
+use Rattle.std.specs.List.{AllByRecursion, list_all}
+use Rattle.std.proofs.lemmas.Bool.{true≢false, and_parts, eqb-true}
+use Rattle.std.proofs.lemmas.List.{length-drop, length-set, length-take-le, get_or-set_same}
 use Rattle.tier_device.specs.declared.media.Tier.{Tier}
 use Rattle.tier_device.specs.Media.{Left, Rose}
 use Rattle.graph_change.specs.Change.{Changes, changed}
@@ -10,6 +11,8 @@ use Rattle.graph_change.proofs.Law.{coalesced_law}
 use Rattle.graph_change.specs.View.{changes_of}
 use Rattle.layout.specs.declared.marks.Mark.{Mark}
 use Rattle.layout.specs.declared.marks.Marks.{Marks}
+use Rattle.layout.specs.declared.marks.TheConstants.{CLIENTS}
+use Rattle.layout.specs.Marks.{fits_mark, fits_marks}
 use Rattle.layout.specs.Places.{Sizes}
 use Rattle.batch_journal.specs.Course.{Unmoved}
 use Rattle.batch_journal.specs.View.{JournalView}
@@ -23,96 +26,133 @@ use Rattle.shared_area.specs.AreaError.TheVariants as area
 use Rattle.shared_area.specs.ChangeApplying.{IsAppliedStore}
 use Rattle.shared_area.specs.ApplyError.{ApplyError}
 use Rattle.shared_area.specs.ApplyError.TheVariants as apply
+use Rattle.log_record.specs.Grammar.{IsRecord}
 use Rattle.log_record.specs.declared.format.Record.{Record}
 use Rattle.coalescer.specs.Records.{effects_in}
-use Rattle.coalescer.specs.Weight.{IsLongestRun}
 use Rattle.shared_area.specs.Ready.{OpensAs}
 use Rattle.shared_area.specs.Applying.{StaysOrChanges, AppliesOrStays}
-use Rattle.digest_plan.specs.Plan.{IsChunk, PlanTells}
-use Rattle.digest_plan.specs.declared.planning.Chunk.{Chunk}
-use Rattle.digest_plan.specs.declared.planning.Plan.{Plan}
-use Rattle.digest_plan.specs.declared.planning.Plan.TheVariants as plan
+use Rattle.digest_plan.specs.Plan.{AreGood, Finds, IsFirstBad, IsNextRun}
+use Rattle.digest_plan.specs.declared.testing.Found.{Found}
 use Rattle.digest_plan.proofs.Runs.{place as bad_place}
+use Rattle.digester.specs.Chunk.{IsChunkOf, is_next}
 use Rattle.digester.specs.Digesting.{IsGoodRun, IsDigested, IsToldBad, StaysOrDigests, DigestsOrStays}
-use Rattle.digester.specs.Errors.{IsApplyTold, IsPlanTold}
-use Rattle.digester.specs.Marking.{marks_after}
-use Rattle.digester.specs.Sealed.{undone, mark_then}
-use Rattle.digester.specs.declared.sealed.Sealed.{Sealed}
+use Rattle.digester.specs.Errors.{IsApplyTold, IsTestTold}
+use Rattle.digester.specs.Marking.{mark_after, marks_after}
+use Rattle.digester.specs.SealedLog.{IsSealed, StandsAt, StandsAtMark, done_to, undone, mark_then}
+use Rattle.digester.specs.declared.chunk.Chunk.{Chunk}
+use Rattle.digester.specs.declared.sealed_log.SealedLog.{SealedLog}
 use Rattle.digester.specs.declared.error.DigestError.{DigestError}
 use Rattle.digester.specs.declared.error.DigestError.TheVariants as errors
-use Rattle.digester.proofs.Runs.{rest_of, chunk_run, touched_in}
+use Rattle.digester.proofs.Runs.{all_dropped, all_taken, good_run, touched_in}
 
--- ---- what is digested
+-- ---- the records of a chunk
 
-module _ (x : Sealed) (g : Sizes) (s : Store) (n : ℕ) (run : IsLongestRun (undone x) n) (cs : Changes) (good : IsGoodRun x.held.items g.units (graph g s) (take n (undone x)) cs) where
-  -- the change of a good run is made, with the mark behind it
-  pub digested : (v : Marks) (new : Store) → marks s ≡ Some v → IsAppliedStore g s cs (marks_after v x.client (mark_then x n)) new → IsDigested g s x n new
-  digested v new was applied =
-      let rs = take n (undone x) in
-      record {
-        run = run;
-        good = good.good;
-        opens = applied.opens;
-        graph_after = applied.graph_after ∙ ap (λ (c : Changes). changed c (graph g s)) good.change ∙ coalesced_law (effects_in rs) (graph g s);
-        before = v;
-        old_marks = was;
-        new_marks = applied.new_marks;
-        touched = λ i its. applied.touched i (touched_in x.held.items g.units (graph g s) rs cs good i ∙ its);
-        others = λ i its. applied.others i (touched_in x.held.items g.units (graph g s) rs cs good i ∙ its);
-      }
+module _ (x : SealedLog) (c : Chunk) (sealed : IsSealed x) (is : IsChunkOf x c) (next : is_next x c ≡ true) where
+  pub begins : c.first ≡ x.done
+  begins = eqb-true c.first x.done (and_parts (c.client == x.client && c.generation == x.generation) (c.first == x.done) next).1
 
-module _ (x : Sealed) (g : Sizes) (s : Store) where
-  -- what is said of a plan over the slices that are lent
-  pub tells_of : (held : List ℕ) (rs : List Record) (p q : Plan) → held ≡ x.held.items → rs ≡ x.records.items → p ≡ q → PlanTells held g.units (graph g s) (take (length rs - x.done) (drop x.done rs)) p → PlanTells x.held.items g.units (graph g s) (undone x) q
-  tells_of held rs p q its all is tells =
-      subst (λ (r : List Record). PlanTells x.held.items g.units (graph g s) r q) (rest_of x.done x.records.items)
-      (subst (λ (r : List Record). PlanTells x.held.items g.units (graph g s) (take (length r - x.done) (drop x.done r)) q) all
-      (subst (λ (h : List ℕ). PlanTells h g.units (graph g s) (take (length rs - x.done) (drop x.done rs)) q) its
-      (subst (PlanTells held g.units (graph g s) (take (length rs - x.done) (drop x.done rs))) is tells)))
+  pub its_run : IsNextRun (undone x) c.count (changes_of c.change)
+  its_run = subst (λ (k : ℕ). IsNextRun (drop k x.records.items) c.count (changes_of c.change)) begins is.run
 
-  -- what is planned for its next records is such a run
-  pub its_run : (c : Chunk) → x.done < length x.records.items → IsChunk x.held.items g.units (graph g s) (undone x) c → IsGoodRun x.held.items g.units (graph g s) (take c.count (undone x)) (changes_of c.change)
-  its_run c some is = chunk_run x.held.items g.units (graph g s) (undone x) c (let long = length-drop x.done x.records.items in omega (arith, long, some)) is
+  -- no more than there are
+  pub its_end : x.done + c.count ≤ length x.records.items
+  its_end = (let long = length-drop x.done x.records.items in let within = its_run.run.within in let some = sealed.some in omega (arith, long, some, within))
 
-  -- no more of them than there are
-  pub its_count : (c : Chunk) → x.done < length x.records.items → IsChunk x.held.items g.units (graph g s) (undone x) c → x.done + c.count ≤ length x.records.items
-  its_count c some is = (let long = length-drop x.done x.records.items in let within = is.run.within in omega (arith, long, some, within))
+  -- as they are lent
+  pub lent : (rs : List Record) (end : ℕ) → rs ≡ x.records.items → end ≡ x.done + c.count → take (end - x.done) (drop x.done rs) ≡ take c.count (undone x)
+  lent rs end all to =
+      let many : end - x.done ≡ c.count = omega (arith, to) in
+      ap (λ (r : List Record). take (end - x.done) (drop x.done r)) all ∙ ap (λ (k : ℕ). take k (undone x)) many
 
-  pub its_digest : (c : Chunk) (m : Mark) → x.done < length x.records.items → IsChunk x.held.items g.units (graph g s) (undone x) c → m ≡ mark_then x c.count
-      → (v : Marks) (new : Store) → marks s ≡ Some v → IsAppliedStore g s (changes_of c.change) (marks_after v x.client m) new → IsDigested g s x c.count new
-  its_digest c m some is moved v new was applied =
-      digested x g s c.count is.run (changes_of c.change) (its_run c some is) v new was (subst (λ (n : Mark). IsAppliedStore g s (changes_of c.change) (marks_after v x.client n) new) moved applied)
+  -- what is told of them
+  pub lent_tells : (g : Sizes) (s : Store) (held : List ℕ) (rs : List Record) (end : ℕ) (f h : Found) → held ≡ x.held.items → rs ≡ x.records.items → end ≡ x.done + c.count → f ≡ h
+      → Finds held g.units (graph g s) (take (end - x.done) (drop x.done rs)) f → Finds x.held.items g.units (graph g s) (take c.count (undone x)) h
+  lent_tells g s held rs end f h its all to is tells =
+      subst (λ (r : List Record). Finds x.held.items g.units (graph g s) r h) (lent rs end all to)
+      (subst (λ (l : List ℕ). Finds l g.units (graph g s) (take (end - x.done) (drop x.done rs)) h) its
+      (subst (Finds held g.units (graph g s) (take (end - x.done) (drop x.done rs))) is tells))
 
-  -- a bad record is told by its place in the region
-  pub told_bad : (place : ℕ) → PlanTells x.held.items g.units (graph g s) (undone x) (plan.Bad place) → IsToldBad g s x (errors.BadLog (x.done + place))
-  told_bad place tells = (tells.0, place, tells.1, tells.2, refl)
+  pub its_spelled : AllByRecursion IsRecord (take c.count (undone x))
+  its_spelled = all_taken IsRecord c.count (undone x) (all_dropped IsRecord x.done x.records.items sealed.spelled)
 
-  -- and it is one of its records
-  pub bad_within : (place : ℕ) → x.done < length x.records.items → PlanTells x.held.items g.units (graph g s) (undone x) (plan.Bad place) → x.done + place < length x.records.items
-  bad_within place some tells =
-      let within = tells.1.within in
-      let long = length-drop x.done x.records.items in
-      let few = length-take-le tells.0 (undone x) within in
-      let its = bad_place x.held.items g.units (graph g s) (take tells.0 (undone x)) place tells.2 in
-      omega (arith, within, long, few, its, some)
+  module _ (g : Sizes) (s : Store) where
+    -- where they are good, they are such a run
+    pub its_good_run : AreGood x.held.items g.units (graph g s) (take c.count (undone x)) → IsGoodRun x.held.items g.units (graph g s) (take c.count (undone x)) (changes_of c.change)
+    its_good_run good =
+        good_run x.held.items g.units (graph g s) (undone x) c.count (changes_of c.change) (let long = length-drop x.done x.records.items in let some = sealed.some in omega (arith, long, some))
+        (all_dropped IsRecord x.done x.records.items sealed.spelled) its_run good
 
+    -- the change of a good run is made, with the mark behind it
+    pub digested : AreGood x.held.items g.units (graph g s) (take c.count (undone x)) → (v : Marks) (new : Store) → marks s ≡ Some v → StandsAt x v
+        → IsAppliedStore g s (changes_of c.change) (marks_after v x.client (mark_then x c.count)) new → IsDigested g s x c.count new
+    digested good v new was stood applied =
+        let rs = take c.count (undone x) in
+        let run = its_good_run good in
+        record {
+          run = its_run.run;
+          good = good;
+          opens = applied.opens;
+          graph_after = applied.graph_after ∙ ap (λ (d : Changes). changed d (graph g s)) run.change ∙ coalesced_law (effects_in rs) (graph g s);
+          before = v;
+          old_marks = was;
+          stood = stood;
+          new_marks = applied.new_marks;
+          touched = λ i its. applied.touched i (touched_in x.held.items g.units (graph g s) rs (changes_of c.change) run i ∙ its);
+          others = λ i its. applied.others i (touched_in x.held.items g.units (graph g s) rs (changes_of c.change) run i ∙ its);
+        }
+
+    -- a bad one is told by its place in the region
+    pub told_bad : (place : ℕ) → IsFirstBad x.held.items g.units (graph g s) (take c.count (undone x)) place → IsToldBad g s x c.count (errors.BadLog (x.done + place))
+    told_bad place bad = (place, bad, refl)
+
+    -- and it is one of the records
+    pub bad_within : (place : ℕ) → IsFirstBad x.held.items g.units (graph g s) (take c.count (undone x)) place → x.done + place < length x.records.items
+    bad_within place bad =
+        let few = length-take-le c.count (undone x) its_run.run.within in
+        let inside = bad_place x.held.items g.units (graph g s) (take c.count (undone x)) place bad in
+        let end = its_end in
+        omega (arith, few, inside, end)
+
+module _ (x : SealedLog) (g : Sizes) (s : Store) (n : ℕ) where
   -- no other refusal is
-  pub plan_not_bad : (e : AreaError) (r : DigestError) → IsPlanTold e r → IsToldBad g s x r
-  plan_not_bad area.DeviceFault r told = subst (IsToldBad g s x) (sym told) tt
-  plan_not_bad (area.Damaged what block) r told = absurd told
-  plan_not_bad area.Memory r told = subst (IsToldBad g s x) (sym told) tt
+  pub test_not_bad : (e : AreaError) (r : DigestError) → IsTestTold e r → IsToldBad g s x n r
+  test_not_bad area.DeviceFault r told = subst (IsToldBad g s x n) (sym told) tt
+  test_not_bad (area.Damaged what block) r told = absurd told
+  test_not_bad area.Memory r told = subst (IsToldBad g s x n) (sym told) tt
 
-  pub apply_not_bad : (e : ApplyError) (r : DigestError) → IsApplyTold e r → IsToldBad g s x r
-  apply_not_bad apply.DeviceFault r told = subst (IsToldBad g s x) (sym told) tt
+  pub apply_not_bad : (e : ApplyError) (r : DigestError) → IsApplyTold e r → IsToldBad g s x n r
+  apply_not_bad apply.DeviceFault r told = subst (IsToldBad g s x n) (sym told) tt
   apply_not_bad apply.NoBlock r told = absurd told
-  apply_not_bad apply.Memory r told = subst (IsToldBad g s x) (sym told) tt
+  apply_not_bad apply.Memory r told = subst (IsToldBad g s x n) (sym told) tt
+
+-- ---- the mark
+
+fits_long : (v : Marks) → fits_marks v ≡ true → length v.clients ≡ CLIENTS
+fits_long v fits =
+    let all = list_all fits_mark v.clients in
+    let first = and_parts (length v.clients == CLIENTS && all) (nat_lt v.digests (2 ^ 64)) fits in
+    eqb-true (length v.clients) CLIENTS (and_parts (length v.clients == CLIENTS) all first.0).0
+
+-- the log stands at the mark that was moved for it
+pub stands_behind : (x : SealedLog) (done : ℕ) (v : Marks) (m : Mark) (new : Store) → x.client < CLIENTS → m ≡ mark_after x.generation done (length x.records.items) → fits_marks (marks_after v x.client m) ≡ true → marks new ≡ Some (marks_after v x.client m) → StandsAtMark (done_to done x) new
+stands_behind x done v m new client moved fits new_marks =
+    let long = fits_long (marks_after v x.client m) fits in
+    let same = length-set v.clients x.client m in
+    (marks_after v x.client m, new_marks, get_or-set_same v.clients x.client m (record { generation = 0; done = 0 }) (omega (arith, long, same, client)) ∙ moved)
+
+some_is : (o : Option Marks) (v w : Marks) → o ≡ Some v → o ≡ Some w → v ≡ w
+some_is o v w one two = cc
+
+-- so at that of the store before
+pub stood_at : (x : SealedLog) (s : Store) (v : Marks) → marks s ≡ Some v → StandsAtMark x s → StandsAt x v
+stood_at x s v was at = subst (StandsAt x) (some_is (marks s) at.0 v at.1 was) at.2
 
 -- ---- what a stop leaves
 
-module _ (x : Sealed) (g : Sizes) (s : Store) (before : ℕ) (old : ℕ → Tier → List ℕ → Type 0) where
+module _ (x : SealedLog) (g : Sizes) (s : Store) (n : ℕ) (before : ℕ) (old : ℕ → Tier → List ℕ → Type 0) where
   -- what is left where nothing has moved
   pub stays_open : (now : ℕ) (seen seen' : Tier → List ℕ) (new : ℕ → Tier → List ℕ → Type 0) → Unmoved before now seen seen' old new
-      → ((content : Tier → List ℕ) → Left old before content → OpensAs g s content) → ((content : Tier → List ℕ) → Left old before content → Loose g s (store_of content)) → StaysOrDigests g s x before now old new
+      → ((content : Tier → List ℕ) → Left old before content → OpensAs g s content) → ((content : Tier → List ℕ) → Left old before content → Loose g s (store_of content)) → StaysOrDigests g s x n before now old new
   stays_open now seen seen' new still opens loose = record {
     later = (let clock = still.clock in omega (arith, clock));
     past = still.past;
@@ -124,31 +164,31 @@ module _ (x : Sealed) (g : Sizes) (s : Store) (before : ℕ) (old : ℕ → Tier
         record { volume = (opens content at).volume; store = inl (opens content at, loose content at) };
   }
 
-  -- what a change leaves behind a plan
-  pub digests_open : (mid now : ℕ) (seen seen' : Tier → List ℕ) (between new : ℕ → Tier → List ℕ → Type 0) (n : ℕ) (cs : Changes) (v : Marks) (m : Mark) → Unmoved before mid seen seen' old between
+  -- what a change leaves behind a test
+  pub digests_open : (mid now : ℕ) (seen seen' : Tier → List ℕ) (between new : ℕ → Tier → List ℕ → Type 0) (cs : Changes) (v : Marks) (m : Mark) → Unmoved before mid seen seen' old between
       → ((new_store : Store) → IsAppliedStore g s cs (marks_after v x.client m) new_store → IsDigested g s x n new_store)
-      → StaysOrChanges g s cs (marks_after v x.client m) mid now between new → StaysOrDigests g s x before now old new
-  digests_open mid now seen seen' between new n cs v m still done changes = record {
+      → StaysOrChanges g s cs (marks_after v x.client m) mid now between new → StaysOrDigests g s x n before now old new
+  digests_open mid now seen seen' between new cs v m still done changes = record {
     later = (let clock = still.clock in let later = changes.later in omega (arith, clock, later));
     past = λ k t c le l. (let clock = still.clock in still.past k t c le (changes.past k t c (omega (arith, clock, le)) l));
     kept = λ k t c le l. (let clock = still.clock in changes.kept k t c (omega (arith, clock, le)) (still.kept k t c le l));
     any_moment = λ k content lo hi l.
         let clock = still.clock in
         let at = changes.any_moment k content (omega (arith, clock, lo)) hi l in
-        record { volume = at.volume; store = elim (at.store) [ inl same ↦ inl same | inr applied ↦ inr (n, done (store_of content) applied) ] };
+        record { volume = at.volume; store = elim (at.store) [ inl same ↦ inl same | inr applied ↦ inr (done (store_of content) applied) ] };
   }
 
 -- ---- what is answered
 
-plan_fault : (e : AreaError) (r : DigestError) → IsPlanTold e r → r ≡ errors.DeviceFault → e ≡ area.DeviceFault
-plan_fault area.DeviceFault r told is = refl
-plan_fault (area.Damaged what block) r told is = absurd told
-plan_fault area.Memory r told is = cc
+test_fault : (e : AreaError) (r : DigestError) → IsTestTold e r → r ≡ errors.DeviceFault → e ≡ area.DeviceFault
+test_fault area.DeviceFault r told is = refl
+test_fault (area.Damaged what block) r told is = absurd told
+test_fault area.Memory r told is = cc
 
-plan_other : (e : AreaError) (r : DigestError) → IsPlanTold e r → r ≢ errors.DeviceFault → e ≢ area.DeviceFault
-plan_other area.DeviceFault r told other is = other told
-plan_other (area.Damaged what block) r told other is = told
-plan_other area.Memory r told other is = cc
+test_other : (e : AreaError) (r : DigestError) → IsTestTold e r → r ≢ errors.DeviceFault → e ≢ area.DeviceFault
+test_other area.DeviceFault r told other is = other told
+test_other (area.Damaged what block) r told other is = told
+test_other area.Memory r told other is = cc
 
 apply_fault : (e : ApplyError) (r : DigestError) → IsApplyTold e r → r ≡ errors.DeviceFault → e ≡ apply.DeviceFault
 apply_fault apply.DeviceFault r told is = refl
@@ -166,49 +206,63 @@ err_is r e f one two = cc
 area_err_is : {T : Type 0} (r : Result T AreaError) (e f : AreaError) → r ≡ Err e → r ≡ Err f → e ≡ f
 area_err_is r e f one two = cc
 
-plan_is_fault : (e : AreaError) (r : DigestError) → IsPlanTold e r → e ≡ area.DeviceFault → r ≡ errors.DeviceFault
-plan_is_fault area.DeviceFault r told is = told
-plan_is_fault (area.Damaged what block) r told is = absurd told
-plan_is_fault area.Memory r told is = cc
+test_is_fault : (e : AreaError) (r : DigestError) → IsTestTold e r → e ≡ area.DeviceFault → r ≡ errors.DeviceFault
+test_is_fault area.DeviceFault r told is = told
+test_is_fault (area.Damaged what block) r told is = absurd told
+test_is_fault area.Memory r told is = cc
 
 module _ {M : Type 0} (moment : M → ℕ) (seen : M → Tier → List ℕ) (left : M → ℕ → Tier → List ℕ → Type 0) (faults : M → ℕ) where
-  -- the change of a plan, with the mark behind it
-  module _ {P : Type 0} (x : Sealed) (old mid : JournalView M) (p : P) (c : Chunk) (m : Mark) (some : x.done < length x.records.items) (looks : Looks moment seen left faults old mid (Ok p))
-      (is : IsChunk x.held.items old.geometry.units (graph old.geometry (store_of (seen old.media))) (undone x) c) (moved : m ≡ mark_then x c.count) where
-    pub digested_at : (new : Store) → (v : Marks) × (marks (store_of (seen mid.media)) ≡ Some v) × IsAppliedStore mid.geometry (store_of (seen mid.media)) (changes_of c.change) (marks_after v x.client m) new → IsDigested old.geometry (store_of (seen old.media)) x c.count new
+  -- the change behind a test, with the mark behind it
+  module _ {P : Type 0} (x : SealedLog) (c : Chunk) (sealed : IsSealed x) (is : IsChunkOf x c) (next : is_next x c ≡ true) (old mid : JournalView M) (p : P) (m : Mark) (looks : Looks moment seen left faults old mid (Ok p))
+      (at : StandsAtMark x (store_of (seen old.media))) (good : AreGood x.held.items old.geometry.units (graph old.geometry (store_of (seen old.media))) (take c.count (undone x))) (moved : m ≡ mark_then x c.count) where
+    its_digest : (v : Marks) (new : Store) → marks (store_of (seen old.media)) ≡ Some v → IsAppliedStore old.geometry (store_of (seen old.media)) (changes_of c.change) (marks_after v x.client m) new → IsDigested old.geometry (store_of (seen old.media)) x c.count new
+    its_digest v new was applied =
+        let s : Store = store_of (seen old.media) in
+        digested x c sealed is next old.geometry s good v new was (stood_at x s v was at) (subst (λ (k : Mark). IsAppliedStore old.geometry s (changes_of c.change) (marks_after v x.client k) new) moved applied)
+
+    pub digested_at : (new : Store) → (v : Marks) × (marks (store_of (seen mid.media)) ≡ Some v) × IsAppliedStore mid.geometry (store_of (seen mid.media)) (changes_of c.change) (marks_after v x.client m) new
+        → IsDigested old.geometry (store_of (seen old.media)) x c.count new
     digested_at new made =
-        its_digest x old.geometry (store_of (seen old.media)) c m some is moved made.0 new (carried_back moment seen left faults (λ h s. marks s ≡ Some made.0) old mid (Ok p) looks made.1)
+        its_digest made.0 new (carried_back moment seen left faults (λ h s. marks s ≡ Some made.0) old mid (Ok p) looks made.1)
         (carried_back moment seen left faults (λ h s. IsAppliedStore h s (changes_of c.change) (marks_after made.0 x.client m) new) old mid (Ok p) looks made.2)
+
+    -- the log stands at the mark again
+    pub stands_at : (done : ℕ) (new : Store) → done ≡ x.done + c.count → (v : Marks) × (marks (store_of (seen mid.media)) ≡ Some v) × (fits_marks (marks_after v x.client m) ≡ true)
+        → (v : Marks) × (marks (store_of (seen mid.media)) ≡ Some v) × IsAppliedStore mid.geometry (store_of (seen mid.media)) (changes_of c.change) (marks_after v x.client m) new → StandsAtMark (done_to done x) new
+    stands_at done new to fit made =
+        let same : fit.0 ≡ made.0 = some_is (marks (store_of (seen mid.media))) fit.0 made.0 fit.1 made.1 in
+        stands_behind x done made.0 m new sealed.client (moved ∙ ap (λ k. mark_after x.generation k (length x.records.items)) (sym to))
+        (subst (λ (v : Marks). fits_marks (marks_after v x.client m) ≡ true) same fit.2) made.2.new_marks
 
     pub digests_at : (now : ℕ) (new : ℕ → Tier → List ℕ → Type 0)
         → (v : Marks) × (marks (store_of (seen mid.media)) ≡ Some v) × StaysOrChanges mid.geometry (store_of (seen mid.media)) (changes_of c.change) (marks_after v x.client m) (moment mid.media) now (left mid.media) new
-        → StaysOrDigests old.geometry (store_of (seen old.media)) x (moment old.media) now (left old.media) new
+        → StaysOrDigests old.geometry (store_of (seen old.media)) x c.count (moment old.media) now (left old.media) new
     digests_at now new changes =
         let g = old.geometry in
         let s : Store = store_of (seen old.media) in
         let v = changes.0 in
         let was = carried_back moment seen left faults (λ h t. marks t ≡ Some v) old mid (Ok p) looks changes.1 in
-        digests_open x g s (moment old.media) (left old.media) (moment mid.media) now (seen old.media) (seen mid.media) (left mid.media) new c.count (changes_of c.change) v m looks.unmoved
-        (λ store applied. its_digest x g s c m some is moved v store was applied)
+        digests_open x g s c.count (moment old.media) (left old.media) (moment mid.media) now (seen old.media) (seen mid.media) (left mid.media) new (changes_of c.change) v m looks.unmoved
+        (λ store applied. its_digest v store was applied)
         (carried_back moment seen left faults (λ h t. StaysOrChanges h t (changes_of c.change) (marks_after v x.client m) (moment mid.media) now (left mid.media) new) old mid (Ok p) looks changes.2)
 
-  -- the plan was refused
-  pub plan_refused : {P T : Type 0} (old new : JournalView M) (e : AreaError) (r : DigestError) → Looks {T = P} moment seen left faults old new (Err e) → IsPlanTold e r → DigestsOrStays {T = T} moment seen left faults old new (Err r)
-  plan_refused {P = P} {T = T} old new e r looks told = record {
+  -- the test was refused
+  pub test_refused : {P T : Type 0} (old new : JournalView M) (e : AreaError) (r : DigestError) → Looks {T = P} moment seen left faults old new (Err e) → IsTestTold e r → DigestsOrStays {T = T} moment seen left faults old new (Err r)
+  test_refused {P = P} {T = T} old new e r looks told = record {
     unmoved = λ other. looks.unmoved;
     geometry = looks.geometry;
     more_faults = looks.more_faults;
     one_fault = looks.one_fault;
     quiet = tt;
     going = tt;
-    quiet_refused = λ other. looks.quiet_refused (plan_other e r told other);
-    stays_failed = λ was. (let s = looks.stays_failed was in (ap Err (plan_is_fault e r told (area_err_is {T = P} (Err e) e area.DeviceFault refl s.0)), s.1));
-    fault = λ is. looks.fault (plan_fault e r told (err_is {T = T} (Err r) r errors.DeviceFault refl is));
+    quiet_refused = λ other. looks.quiet_refused (test_other e r told other);
+    stays_failed = λ was. (let s = looks.stays_failed was in (ap Err (test_is_fault e r told (area_err_is {T = P} (Err e) e area.DeviceFault refl s.0)), s.1));
+    fault = λ is. looks.fault (test_fault e r told (err_is {T = T} (Err r) r errors.DeviceFault refl is));
   }
 
   -- a record is bad
-  pub plan_bad : {P T : Type 0} (old new : JournalView M) (plan : P) (r : DigestError) → Looks moment seen left faults old new (Ok plan) → r ≢ errors.DeviceFault → DigestsOrStays {T = T} moment seen left faults old new (Err r)
-  plan_bad {T = T} old new plan r looks other = record {
+  pub test_bad : {P T : Type 0} (old new : JournalView M) (plan : P) (r : DigestError) → Looks moment seen left faults old new (Ok plan) → r ≢ errors.DeviceFault → DigestsOrStays {T = T} moment seen left faults old new (Err r)
+  test_bad {T = T} old new plan r looks other = record {
     unmoved = λ _. looks.unmoved;
     geometry = looks.geometry;
     more_faults = looks.more_faults;
@@ -221,8 +275,8 @@ module _ {M : Type 0} (moment : M → ℕ) (seen : M → Tier → List ℕ) (lef
   }
 
   -- the change was made
-  pub plan_done : {P T : Type 0} (old mid new : JournalView M) (plan : P) (x : T) → Looks moment seen left faults old mid (Ok plan) → AppliesOrStays moment seen left faults mid new (Ok tt) → DigestsOrStays moment seen left faults old new (Ok x)
-  plan_done old mid new plan x looks applies = record {
+  pub test_done : {P T : Type 0} (old mid new : JournalView M) (plan : P) (x : T) → Looks moment seen left faults old mid (Ok plan) → AppliesOrStays moment seen left faults mid new (Ok tt) → DigestsOrStays moment seen left faults old new (Ok x)
+  test_done old mid new plan x looks applies = record {
     unmoved = tt;
     geometry = applies.geometry ∙ looks.geometry;
     more_faults = (let a = looks.more_faults in let b = applies.more_faults in omega (arith, a, b));

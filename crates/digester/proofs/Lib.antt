@@ -1,3 +1,4 @@
 mod Composed
 mod Moved
 mod Runs
+mod Stands

@@ -10,8 +10,8 @@ use Rattle.file_graph.specs.Units.{charge}
 use Rattle.graph_change.specs.Bounds.{AreBounded}
 use Rattle.graph_change.specs.Change.{Change, Changes, change_at, changed, writes_block}
 use Rattle.graph_change.specs.Tidy.{AreTidyChanges}
-use Rattle.graph_change.specs.View.{changes_of}
 use Rattle.graph_change.proofs.Tidying.{tidy_coalesced}
+use Rattle.log_record.specs.Grammar.{IsRecord}
 use Rattle.log_record.specs.declared.format.Record.{Record}
 use Rattle.call_effects.specs.NodeView.{view_at, view_of_body, view_of_node}
 use Rattle.layout.specs.declared.places.TheConstants.{SPARE_BLOCKS}
@@ -20,25 +20,27 @@ use Rattle.shared_area.specs.After.{started}
 use Rattle.shared_area.specs.Store.{Store, inode}
 use Rattle.shared_area.specs.Next.{HasFewEntries, nodes_for}
 use Rattle.shared_area.specs.Wanted.{images_for, AreWritten}
+use Rattle.coalescer.proofs.Single.{run}
 use Rattle.coalescer.specs.Records.{effects_in}
 use Rattle.coalescer.specs.Within.{AreBlocksIn, images_of}
 use Rattle.record_check.specs.Good.{KeepsLimits}
-use Rattle.digest_plan.specs.Plan.{IsChunk}
-use Rattle.digest_plan.specs.declared.planning.Chunk.{Chunk}
+use Rattle.digest_plan.specs.Plan.{AreGood, IsNextRun}
 use Rattle.digest_plan.proofs.Applied.{good_bounded, good_limits, good_charge, fit_images, fit_blocks, changes_touched}
 use Rattle.digester.specs.Digesting.{IsGoodRun}
 
--- the chunk of a plan is such a run
-pub chunk_run : (held : List ℕ) (capacity : ℕ) (g : Graph) (rs : List Record) (c : Chunk) → 0 < length rs → IsChunk held capacity g rs c → IsGoodRun held capacity g (take c.count rs) (changes_of c.change)
-chunk_run held capacity g rs c some is =
+-- the next run of records, where they are good, is such a run
+pub good_run : (held : List ℕ) (capacity : ℕ) (g : Graph) (rs : List Record) (n : ℕ) (cs : Changes) → 0 < length rs → AllByRecursion IsRecord rs → IsNextRun rs n cs → AreGood held capacity g (take n rs) → IsGoodRun held capacity g (take n rs) cs
+good_run held capacity g rs n cs some spelled is good =
     let most = is.run.within in
     let one = is.run.some some in
-    let long = length-take-le c.count rs most in
-    record { some = omega (arith, one, long); good = is.good; fits = is.fits; change = is.change }
+    let long = length-take-le n rs most in
+    record { some = omega (arith, one, long); good = good; fits = run rs n spelled is.run; change = is.change }
 
--- what stands behind some elements of a list
-pub rest_of : {A : Type 0} (n : ℕ) (xs : List A) → take (length xs - n) (drop n xs) ≡ drop n xs
-rest_of n xs = take_all (length xs - n) (drop n xs) (let long = length-drop n xs in omega (arith, long))
+-- what holds of all holds of the first ones, and of those behind them
+pub all_taken : {A : Type 0} (P : A → Type 0) (n : ℕ) (xs : List A) → AllByRecursion P xs → AllByRecursion P (take n xs)
+all_taken P zero xs all = tt
+all_taken P (suc n) [] all = tt
+all_taken P (suc n) (x ∷ xs) all = (all.0, all_taken P n xs all.1)
 
 pub all_dropped : {A : Type 0} (P : A → Type 0) (n : ℕ) (xs : List A) → AllByRecursion P xs → AllByRecursion P (drop n xs)
 all_dropped P zero xs all = all

@@ -19,8 +19,8 @@ use Rattle.coalescer.specs.Weight.{fits_chunk, IsLongestRun}
 use Rattle.digest_plan.specs.Plan.{AreGood, IsFirstBad}
 use Rattle.shared_area.specs.Ready.{OpensAs}
 use Rattle.digester.specs.Marking.{marks_after}
-use Rattle.digester.specs.Sealed.{undone, mark_then}
-use Rattle.digester.specs.declared.sealed.Sealed.{Sealed}
+use Rattle.digester.specs.SealedLog.{StandsAt, undone, mark_then}
+use Rattle.digester.specs.declared.sealed_log.SealedLog.{SealedLog}
 use Rattle.digester.specs.declared.error.DigestError.{DigestError}
 use Rattle.digester.specs.declared.error.DigestError.TheVariants as errors
 
@@ -32,35 +32,36 @@ pub record IsGoodRun (held : List ℕ) (capacity : ℕ) (g : Graph) (rs : List R
   pub change : cs ≡ coalesced (effects_in rs)
 
 -- The next n records of a sealed log are digested in the new store: they are the longest run that a batch takes, and each was good over the graph as those before it left it. The graph is as
--- they leave it; the mark of their client has moved behind them, those of the others stay, and there is one digest more. What they touched tells its number, and every other slot is as it was.
-pub record IsDigested (g : Sizes) (s : Store) (x : Sealed) (n : ℕ) (new : Store) : Type 0 where
+-- they leave it; the mark of their client, at which the log stood, has moved behind them, those of the others stay, and there is one digest more. What they touched tells its number, and every other slot is as it was.
+pub record IsDigested (g : Sizes) (s : Store) (x : SealedLog) (n : ℕ) (new : Store) : Type 0 where
   pub run : IsLongestRun (undone x) n
   pub good : AreGood x.held.items g.units (graph g s) (take n (undone x))
   pub opens : IsOpenable g new
   pub graph_after : graph g new ≡ after_effects (graph g s) (effects_in (take n (undone x)))
   pub before : Marks
   pub old_marks : marks s ≡ Some before
+  pub stood : StandsAt x before
   pub new_marks : marks new ≡ Some (marks_after before x.client (mark_then x n))
   pub touched : (i : ℕ) → is_among i (touches (effects_in (take n (undone x)))) ≡ true → IsTouchedBy (marks_after before x.client (mark_then x n)).digests (slot g new i)
   pub others : (i : ℕ) → is_among i (touches (effects_in (take n (undone x)))) ≡ false → slot g new i ≡ slot g s i
 
--- Contents from which the area opens: with the graph and the marks of that store, and all that is in use unmoved; or with the next records digested, and the mark behind them.
-pub record OpensDigestedOrNot (g : Sizes) (s : Store) (x : Sealed) (content : Tier → List ℕ) : Type 0 where
+-- Contents from which the area opens: with the graph and the marks of that store, and all that is in use unmoved; or with the next n records digested, and the mark behind them.
+pub record OpensDigestedOrNot (g : Sizes) (s : Store) (x : SealedLog) (n : ℕ) (content : Tier → List ℕ) : Type 0 where
   pub volume : IsVolume g content
-  pub store : (OpensAs g s content × Loose g s (store_of content)) ⊎ ((n : ℕ) × IsDigested g s x n (store_of content))
+  pub store : (OpensAs g s content × Loose g s (store_of content)) ⊎ IsDigested g s x n (store_of content)
 
 -- The past stays. At each moment from the old one to the new one a stop leaves such contents.
-pub record StaysOrDigests (g : Sizes) (s : Store) (x : Sealed) (before now : ℕ) (old new : ℕ → Tier → List ℕ → Type 0) : Type 0 where
+pub record StaysOrDigests (g : Sizes) (s : Store) (x : SealedLog) (n : ℕ) (before now : ℕ) (old new : ℕ → Tier → List ℕ → Type 0) : Type 0 where
   pub later : before ≤ now
   pub past : (m : ℕ) (t : Tier) (c : List ℕ) → m ≤ before → new m t c → old m t c
   pub kept : (m : ℕ) (t : Tier) (c : List ℕ) → m ≤ before → old m t c → new m t c
-  pub any_moment : (m : ℕ) (content : Tier → List ℕ) → before ≤ m → m ≤ now → Left new m content → OpensDigestedOrNot g s x content
+  pub any_moment : (m : ℕ) (content : Tier → List ℕ) → before ≤ m → m ≤ now → Left new m content → OpensDigestedOrNot g s x n content
 
--- Where a record is told to be bad, it is the first bad one of the longest run that a batch takes, tested over the graph as those before it leave it.
-abbrev pub IsToldBad : Sizes → Store → Sealed → DigestError → Type 0
-IsToldBad g s x (errors.BadLog place) = (n k : ℕ) × IsLongestRun (undone x) n × IsFirstBad x.held.items g.units (graph g s) (take n (undone x)) k × (place ≡ x.done + k)
-IsToldBad g s x errors.DeviceFault = Unit {0}
-IsToldBad g s x errors.Memory = Unit {0}
+-- Where a record is told to be bad, it is the first bad one of the next n, tested over the graph as those before it leave it; its place is that in its region.
+abbrev pub IsToldBad : Sizes → Store → SealedLog → ℕ → DigestError → Type 0
+IsToldBad g s x n (errors.BadLog place) = (k : ℕ) × IsFirstBad x.held.items g.units (graph g s) (take n (undone x)) k × (place ≡ x.done + k)
+IsToldBad g s x n errors.DeviceFault = Unit {0}
+IsToldBad g s x n errors.Memory = Unit {0}
 
 -- After a refusal that is no device fault nothing has moved. A device fault is answered where a device fails, and from then on: an area that has failed answers nothing else, and is not
 -- touched.

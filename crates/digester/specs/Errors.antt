@@ -8,10 +8,10 @@ use Rattle.digester.specs.declared.error.DigestError.{DigestError}
 use Rattle.digester.specs.declared.error.DigestError.TheVariants as errors
 
 -- A refusal of the shared area that tells of no damage is told as this one.
-abbrev pub IsPlanTold : AreaError → DigestError → Type 0
-IsPlanTold area.DeviceFault e = e ≡ errors.DeviceFault
-IsPlanTold (area.Damaged what block) e = ⊥
-IsPlanTold area.Memory e = e ≡ errors.Memory
+abbrev pub IsTestTold : AreaError → DigestError → Type 0
+IsTestTold area.DeviceFault e = e ≡ errors.DeviceFault
+IsTestTold (area.Damaged what block) e = ⊥
+IsTestTold area.Memory e = e ≡ errors.Memory
 
 -- A refusal of a change that finds its blocks is told as this one.
 abbrev pub IsApplyTold : ApplyError → DigestError → Type 0

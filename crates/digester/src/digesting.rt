@@ -1,23 +1,26 @@
-//! The next records of a sealed log reach the shared area in one batch, with the mark behind them.
+//! A chunk of a sealed log reaches the shared area in one batch, with the mark behind it.
 
-ghost use Rattle.std.specs.Prelude.{◌≡◌, ◌<◌, ◌+◌, ℕ, List, false, Some, IfOk, IfErr, OnOk, OnErr, IsErrOf};
+ghost use Rattle.std.specs.Prelude.{◌≡◌, ◌<◌, ◌≤◌, ◌+◌, ℕ, List, true, false, length, Some, IfErr, IfOk, OnOk, OnErr, IsErrOf};
 ghost use Rattle.graph_change.specs.View.{changes_of};
 ghost use Rattle.log_record.specs.declared.format.Record.{Record};
+ghost use Rattle.layout.specs.Marks.{fits_marks};
 ghost use Rattle.layout.specs.declared.marks.Marks.{Marks};
 ghost use Rattle.layout.specs.declared.marks.TheConstants.{CLIENTS};
 ghost use Rattle.shared_area.specs.Store.{store_of, graph, marks as marks_of};
 ghost use Rattle.shared_area.specs.ChangeApplying.{IsAppliedStore};
 ghost use Rattle.shared_area.specs.ApplyError.TheVariants.{NoBlock};
 ghost use Rattle.shared_area.specs.Applying.{StaysOrChanges, AppliesOrStays};
+ghost use Rattle.digester.specs.Chunk.{IsChunkOf, is_next};
 ghost use Rattle.digester.specs.Digesting.{IsGoodRun, IsDigested, IsToldBad, StaysOrDigests, DigestsOrStays};
 ghost use Rattle.digester.specs.Marking.{marks_after};
-ghost use Rattle.digester.specs.Sealed.{IsSealed, IsDoneBy};
+ghost use Rattle.digester.specs.SealedLog.{IsSealed, IsDoneBy, StandsAtMark, done_to};
 
-use crate::error::{DigestError, apply_told, plan_told};
+use crate::chunk::Chunk;
+use crate::error::{DigestError, apply_told, test_told};
 use crate::marking::{mark_after, marks_after};
-use crate::planning::plan;
-use crate::sealed::Sealed;
-use digest_plan::Plan;
+use crate::sealed_log::SealedLog;
+use crate::testing::test_run;
+use digest_plan::Found;
 use graph_change::GraphChange;
 use layout::Mark;
 use shared_area::{ApplyError, Shared};
@@ -38,6 +41,7 @@ fn apply_run<M: Media>(
         × StaysOrChanges area.old.geometry (store_of (M.seen area.old.media)) (changes_of change.now) (marks_after v client mark) (M.moment area.old.media) (M.moment area.new.media) (M.left area.old.media) (M.left area.new.media) }
     ensures applied { OnOk result ((v : Marks) × (marks_of (store_of (M.seen area.old.media)) ≡ Some v)
         × IsAppliedStore area.old.geometry (store_of (M.seen area.old.media)) (changes_of change.now) (marks_after v client mark) (store_of (M.seen area.new.media))) }
+    ensures fits { (v : Marks) × (marks_of (store_of (M.seen area.old.media)) ≡ Some v) × (fits_marks (marks_after v client mark) ≡ true) }
     ensures never { IsErrOf result NoBlock → ⊥ }
     ensures applies { AppliesOrStays M.moment M.seen M.left M.faults area.old area.new result }
 {
@@ -45,57 +49,81 @@ fn apply_run<M: Media>(
     area.apply(change, marks)
 }
 
-// Digests the next records, and answers how many of all are digested then.
+// Where the records of the next chunk of a log end.
+fn end_of(sealed: &SealedLog, chunk: &Chunk) -> usize
+    requires sealed { IsSealed sealed.now }
+    requires chunk { IsChunkOf sealed.now chunk.now }
+    requires next { is_next sealed.now chunk.now ≡ true }
+    ensures end { result ≡ sealed.now.done + chunk.now.count }
+    ensures within { result ≤ length sealed.now.records.items }
+{
+    sealed.done as usize + chunk.count
+}
+
+// Digests a chunk, and answers how many records of its log are digested then.
 fn digest_next<M: Media>(
     alloc: Global,
     area: &mut Shared<M>,
-    sealed: &Sealed,
+    sealed: &SealedLog,
+    chunk: &Chunk,
 ) -> Result<u32, DigestError>
     requires sealed { IsSealed sealed.now }
-    ensures any_moment { area.old.failed ≡ false → StaysOrDigests area.old.geometry (store_of (M.seen area.old.media)) sealed.now (M.moment area.old.media) (M.moment area.new.media) (M.left area.old.media) (M.left area.new.media) }
-    ensures digested { IfOk result (λ done. (n : ℕ) × IsDigested area.old.geometry (store_of (M.seen area.old.media)) sealed.now n (store_of (M.seen area.new.media)) × (done ≡ sealed.now.done + n)) }
-    ensures bad { IfErr result (IsToldBad area.old.geometry (store_of (M.seen area.old.media)) sealed.now) }
+    requires chunk { IsChunkOf sealed.now chunk.now }
+    requires next { is_next sealed.now chunk.now ≡ true }
+    requires at_mark { area.old.failed ≡ false → StandsAtMark sealed.now (store_of (M.seen area.old.media)) }
+    ensures any_moment { area.old.failed ≡ false → StaysOrDigests area.old.geometry (store_of (M.seen area.old.media)) sealed.now chunk.now.count (M.moment area.old.media) (M.moment area.new.media) (M.left area.old.media) (M.left area.new.media) }
+    ensures digested { OnOk result (IsDigested area.old.geometry (store_of (M.seen area.old.media)) sealed.now chunk.now.count (store_of (M.seen area.new.media))) }
+    ensures done { IfOk result (λ done. done ≡ sealed.now.done + chunk.now.count) }
+    ensures at_mark { IfOk result (λ done. StandsAtMark (done_to done sealed.now) (store_of (M.seen area.new.media))) }
+    ensures bad { IfErr result (IsToldBad area.old.geometry (store_of (M.seen area.old.media)) sealed.now chunk.now.count) }
     ensures digests { DigestsOrStays M.moment M.seen M.left M.faults area.old area.new result }
 {
     area.left_now();
     let done = sealed.done as usize;
-    match plan(alloc, area, &sealed.held, &sealed.records[done..]) {
-        Ok(Plan::Digest(chunk)) => {
+    let end = end_of(sealed, chunk);
+    match test_run(alloc, area, &sealed.held, &sealed.records[done..end]) {
+        Ok(Found::AllGood { .. }) => {
             let total = sealed.records.len() as u32;
-            let done = (done + chunk.count) as u32;
-            let mark = mark_after(sealed.generation, done, total);
+            let mark = mark_after(sealed.generation, end as u32, total);
             match apply_run(area, sealed.client, mark, &chunk.change) {
-                Ok(()) => Ok(done),
+                Ok(()) => Ok(end as u32),
                 Err(error) => Err(apply_told(error)),
             }
         }
-        Ok(Plan::Bad { place }) => Err(DigestError::BadLog {
+        Ok(Found::FirstBad { place }) => Err(DigestError::BadLog {
             place: done + place,
         }),
-        Err(error) => Err(plan_told(error)),
+        Err(error) => Err(test_told(error)),
     }
 }
 
-/// Digests the next records of a sealed log: the longest run of them that one batch takes, one at least. What they come to reaches the shared area in that batch, together with
-/// the mark of their client, which moves to the next generation with the last records of the region. At each moment a stop leaves graph and mark both as before, or both
-/// after. After Ok the sealed log tells how many of its records are digested; it has to have one that is not.
+/// Digests the next chunk of a sealed log, which stands at the mark of its client. Its records are tested one after the other over the shared area, and what they come to reaches
+/// the area in one batch, together with the client's mark, which moves behind them, or to the next generation with the last records of the region. At each moment a stop leaves
+/// graph and mark both as before, or both after. After Ok the log tells how many of its records are digested, and stands at the mark again.
 ///
-/// `BadLog` exactly where a record of the run is bad, by the place of the first one in its region: tested over the graph as the records before it leave it, it touches an inode
+/// `BadLog` exactly where a record of the chunk is bad, by the place of the first one in its region: tested over the graph as the records before it leave it, it touches an inode
 /// that the client does not hold for writing, raises the graph by more than its units, or passes a limit, the units of the area among them. `Memory` where there was none.
-/// After these nothing has changed. `DeviceFault` where a device failed: the area answers nothing else then, until the medium is opened again.
+/// After these nothing has changed. `DeviceFault` where a device failed: the area answers nothing else then, until the medium is opened again. After each refusal the log
+/// is as it was.
 pub fn digest_chunk<M: Media>(
     alloc: Global,
     area: &mut Shared<M>,
-    sealed: &mut Sealed,
+    sealed: &mut SealedLog,
+    chunk: &Chunk,
 ) -> Result<(), DigestError>
     requires sealed { IsSealed sealed.old }
-    ensures any_moment { area.old.failed ≡ false → StaysOrDigests area.old.geometry (store_of (M.seen area.old.media)) sealed.old (M.moment area.old.media) (M.moment area.new.media) (M.left area.old.media) (M.left area.new.media) }
-    ensures digested { OnOk result ((n : ℕ) × IsDigested area.old.geometry (store_of (M.seen area.old.media)) sealed.old n (store_of (M.seen area.new.media)) × IsDoneBy sealed.old n sealed.new) }
-    ensures bad { IfErr result (IsToldBad area.old.geometry (store_of (M.seen area.old.media)) sealed.old) }
+    requires chunk { IsChunkOf sealed.old chunk.now }
+    requires next { is_next sealed.old chunk.now ≡ true }
+    requires at_mark { area.old.failed ≡ false → StandsAtMark sealed.old (store_of (M.seen area.old.media)) }
+    ensures any_moment { area.old.failed ≡ false → StaysOrDigests area.old.geometry (store_of (M.seen area.old.media)) sealed.old chunk.now.count (M.moment area.old.media) (M.moment area.new.media) (M.left area.old.media) (M.left area.new.media) }
+    ensures digested { OnOk result (IsDigested area.old.geometry (store_of (M.seen area.old.media)) sealed.old chunk.now.count (store_of (M.seen area.new.media))) }
+    ensures done { OnOk result (IsDoneBy sealed.old chunk.now.count sealed.new) }
+    ensures at_mark { OnOk result (StandsAtMark sealed.new (store_of (M.seen area.new.media))) }
+    ensures bad { IfErr result (IsToldBad area.old.geometry (store_of (M.seen area.old.media)) sealed.old chunk.now.count) }
     ensures refused { OnErr result (sealed.new ≡ sealed.old) }
     ensures digests { DigestsOrStays M.moment M.seen M.left M.faults area.old area.new result }
 {
-    match digest_next(alloc, area, sealed) {
+    match digest_next(alloc, area, sealed, chunk) {
         Ok(done) => {
             sealed.done = done;
             Ok(())

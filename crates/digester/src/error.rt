@@ -1,7 +1,7 @@
 ghost use Rattle.std.specs.Prelude.{◌≢◌};
 ghost use Rattle.shared_area.specs.ApplyError.TheVariants.{NoBlock};
 ghost use Rattle.shared_area.specs.Parts.{IsNoDamage};
-ghost use Rattle.digester.specs.Errors.{IsApplyTold, IsPlanTold};
+ghost use Rattle.digester.specs.Errors.{IsApplyTold, IsTestTold};
 
 use shared_area::{ApplyError, AreaError};
 use thiserror::Error;
@@ -11,7 +11,7 @@ use thiserror::Error;
 pub enum DigestError {
     #[error("the device failed")]
     DeviceFault,
-    /// The record at this place of its region is the first bad one of those that would be digested at once.
+    /// The record at this place of its region is the first bad one of the chunk.
     #[error("record {place} of the log is bad")]
     BadLog { place: usize },
     #[error("out of memory")]
@@ -19,9 +19,9 @@ pub enum DigestError {
 }
 
 /// Why no records were digested, where the shared area could not be asked; no damage is found on media that are opened.
-pub fn plan_told(error: AreaError) -> DigestError
+pub fn test_told(error: AreaError) -> DigestError
     requires { IsNoDamage error }
-    ensures { IsPlanTold error result }
+    ensures { IsTestTold error result }
 {
     match error {
         AreaError::DeviceFault => DigestError::DeviceFault,

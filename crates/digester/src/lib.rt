@@ -1,19 +1,19 @@
 //! The digester: the next records of a client's sealed log reach the shared area, in one batch with the mark behind them.
 //!
-//! `plan` tells what is to be done with a client's records, over the shared area itself: it asks the area for each node that a test of the
-//! records needs, takes no lock and changes no device. `digest_chunk` does it.
+//! `prepare` takes the next records of a log and coalesces them, without the shared area: so several logs are prepared side by side, and one
+//! log even twice. `digest_chunk` then tests them over the shared area, which it asks for the nodes that they touch, and makes their change;
+//! it demands that the chunk is still the next one of its log, which `Chunk::is_next` tells.
 #![tactic(auto)]
 
+mod chunk;
 mod digesting;
 mod error;
 mod marking;
-mod planning;
-mod sealed;
+mod sealed_log;
+mod testing;
 
-pub use digest_plan::{Chunk, Plan};
+pub use chunk::{Chunk, prepare};
 pub use digesting::digest_chunk;
 pub use error::DigestError;
 pub use marking::{mark_after, marks_after, moved_mark_leaves_the_rest};
-pub use planning::plan;
-pub use sealed::Sealed;
-pub use shared_area::AreaError;
+pub use sealed_log::SealedLog;

@@ -1,14 +1,14 @@
 //! Where marks stand after a digest.
 
-ghost use Rattle.std.specs.Prelude.{◌≡◌, ◌<◌, ◌≤◌, ◌+◌, ℕ, List, [], true, length, drop};
+ghost use Rattle.std.specs.Prelude.{◌≡◌, ◌<◌, ◌≤◌, ◌+◌, ℕ, List, true, length, drop};
 ghost use Rattle.std.specs.List.{list_all};
 ghost use Rattle.layout.specs.declared.marks.TheConstants.{CLIENTS};
 ghost use Rattle.layout.specs.Marks.{fits_mark, fits_marks};
-ghost use Rattle.update_log.specs.Counting.{counted, next_generation, records_in};
-ghost use Rattle.digester.specs.Marking.{mark_after, marks_after};
+ghost use Rattle.update_log.specs.Counting.{counted, records_in};
+ghost use Rattle.digester.specs.Marking.{is_mark, mark_after, mark_of, marks_after};
 
 use layout::{Mark, Marks};
-use update_log::digest_counts_fewer;
+use update_log::{digest_counts_fewer, wipe_counts_nothing};
 
 /// The mark when `done` of the `total` records of a generation are digested: with the last of them it moves to the next generation.
 /// Generations are counted modulo 2^64.
@@ -23,6 +23,22 @@ pub fn mark_after(generation: u64, done: u32, total: u32) -> Mark
     } else {
         Mark { generation, done }
     }
+}
+
+/// The mark of a client.
+#[tactic(auto, using(crate::proofs::Stands::mark_there))]
+pub fn mark_of(marks: &Marks, client: usize) -> Mark
+    requires { client < CLIENTS }
+    ensures { result ≡ mark_of marks.now client }
+{
+    marks.clients[client]
+}
+
+/// Whether a mark is another one.
+pub fn is_mark(mark: Mark, other: Mark) -> bool
+    ensures { result ≡ is_mark mark other }
+{
+    mark.generation == other.generation && mark.done == other.done
 }
 
 // The numbers of a mark have the widths of its fields.
@@ -55,11 +71,12 @@ pub fn marks_after(marks: Marks, client: usize, mark: Mark) -> Marks
     }
 }
 
-/// What a client's records were that are digested does not count any more, and all that counted behind them does: also where the mark moves
-/// to the next generation, as long as no region names the one after that.
+/// Some of a client's records that were digested do not count any more, and all that counted behind them do: also where the mark moves to the
+/// next generation.
 pub fn moved_mark_leaves_the_rest()
-    ensures { (g done n : ℕ) (regions : ℕ → List ℕ) → done + n ≤ length (records_in regions g) → records_in regions (next_generation (next_generation g)) ≡ []
+    ensures { (g done n : ℕ) (regions : ℕ → List ℕ) → 0 < n → done + n ≤ length (records_in regions g)
         → counted (mark_after g (done + n) (length (records_in regions g))).generation (mark_after g (done + n) (length (records_in regions g))).done regions ≡ drop n (counted g done regions) }
 {
     digest_counts_fewer();
+    wipe_counts_nothing();
 }

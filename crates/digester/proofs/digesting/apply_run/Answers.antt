@@ -1,4 +1,7 @@
+use Rattle.std.proofs.Common.{◌≡◌, true, subst}
 use Rattle.graph_change.specs.View.{changes_of}
+use Rattle.layout.specs.Marks.{fits_marks}
+use Rattle.layout.specs.declared.marks.Marks.{Marks}
 use Rattle.shared_area.specs.Store.{store_of, graph}
 use Rattle.digester.proofs.Runs as runs
 use Rattle.digester.proofs.digesting.apply_run.Goals as goal
@@ -39,3 +42,7 @@ returns-clause-never g c is =
     let s = store_of (g.M.Media.seen old.media) in
     let r = c.requires.run in
     c.apply.ensures.never (runs.few_written r.0 old.geometry.units (graph old.geometry s) r.1 (changes_of c.args.change.now) r.2 old.geometry s) is
+
+pub returns-clause-fits : goal.returns-clause-fits
+returns-clause-fits g c =
+    (c.marks.result, c.marks.ensures c.requires.going, subst (λ (v : Marks). fits_marks v ≡ true) c.marks_after-marks.ensures.exact c.marks_after-marks.ensures.fits)

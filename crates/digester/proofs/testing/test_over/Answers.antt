@@ -1,18 +1,18 @@
 use Rattle.std.proofs.Common.{Err}
 use Rattle.shared_area.specs.AreaError.TheVariants as errors
 use Rattle.shared_area.proofs.Looked.{looks_answer, looks_other, looks_err}
-use Rattle.digester.proofs.planning.plan_over.Goals as goal
+use Rattle.digester.proofs.testing.test_over.Goals as goal
 
 pub returns-in-Ok-clause-looks : goal.returns-in-Ok-clause-looks
 returns-in-Ok-clause-looks g c =
     let m = g.M.Media in
-    looks_answer m.moment m.seen m.left m.faults c.args.area.now c.prepare.new.nodes tt c.in-Ok.plan (c.in-Ok.ensures.answered.led c.requires.going).0
+    looks_answer m.moment m.seen m.left m.faults c.args.area.now c.test_records.new.nodes tt c.in-Ok.found (c.in-Ok.ensures.answered.led c.requires.going).0
 
 pub returns-in-Err-Memory-clause-looks : goal.returns-in-Err-Memory-clause-looks
 returns-in-Err-Memory-clause-looks g c =
     let m = g.M.Media in
     let told = rw c.in-Err-Memory.field-0-is at c.in-Err-Memory.ensures.refused in
-    looks_other m.moment m.seen m.left m.faults c.args.area.now c.prepare.new.nodes tt (Err errors.Memory) (told.led c.requires.going).0 (λ e. cc)
+    looks_other m.moment m.seen m.left m.faults c.args.area.now c.test_records.new.nodes tt (Err errors.Memory) (told.led c.requires.going).0 (λ e. cc)
 
 pub returns-in-Err-Nodes-clause-only : goal.returns-in-Err-Nodes-clause-only
 returns-in-Err-Nodes-clause-only g c = let told = rw c.in-Err-Nodes.field-0-is at c.in-Err-Nodes.ensures.refused in (told.led c.requires.going).1
@@ -21,4 +21,4 @@ pub returns-in-Err-Nodes-clause-looks : goal.returns-in-Err-Nodes-clause-looks
 returns-in-Err-Nodes-clause-looks g c =
     let m = g.M.Media in
     let told = rw c.in-Err-Nodes.field-0-is at c.in-Err-Nodes.ensures.refused in
-    looks_err m.moment m.seen m.left m.faults c.args.area.now c.prepare.new.nodes c.in-Err-Nodes.error (told.led c.requires.going).0
+    looks_err m.moment m.seen m.left m.faults c.args.area.now c.test_records.new.nodes c.in-Err-Nodes.error (told.led c.requires.going).0

@@ -1,3 +1,5 @@
+//! The records of a chunk are tested over the shared area.
+
 ghost use Rattle.std.specs.Prelude.{◌≡◌, ◌≢◌, ◌<◌, false, IfErr, IfOk, length};
 ghost use Rattle.std.specs.List.{AllByRecursion};
 ghost use Rattle.std.specs.List.Sorted.{IsNonDecreasing};
@@ -7,28 +9,28 @@ ghost use Rattle.shared_area.specs.AreaError.TheVariants.{DeviceFault};
 ghost use Rattle.shared_area.specs.Store.{store_of, graph};
 ghost use Rattle.shared_area.specs.Looks.{Looks};
 ghost use Rattle.shared_area.specs.Parts.{IsNoDamage};
-ghost use Rattle.digest_plan.specs.Plan.{PlanTells};
+ghost use Rattle.digest_plan.specs.Plan.{Finds};
 
-use digest_plan::{Plan, PlanError, prepare};
+use digest_plan::{Found, PlanError, test_records};
 use log_record::Record;
 use shared_area::{AreaError, Shared};
 use std::alloc::Global;
 use tier_device::Media;
 
-/// What is to be done with the records of a client that are not digested yet, where it holds the inodes `held` for writing, listed rising:
-/// over the graph of the shared area, and within its units. It takes no lock and changes no device.
+/// What a test of records finds over the graph of the shared area and within its units, where their client holds the inodes `held` for
+/// writing, listed rising. It asks the area for nodes that these records touch, and changes no device.
 ///
 /// `DeviceFault` at once where a device has failed, and where one fails while the area is read. `Memory` where there was none; then nothing
 /// has changed.
-pub fn plan<M: Media>(
+pub fn test_run<M: Media>(
     alloc: Global,
     area: &mut Shared<M>,
     held: &[u32],
     records: &[Record],
-) -> Result<Plan, AreaError>
+) -> Result<Found, AreaError>
     requires spelled { AllByRecursion IsRecord records.now }
     requires rising { IsNonDecreasing held.now }
-    ensures tells { IfOk result (λ plan. PlanTells held.now area.old.geometry.units (graph area.old.geometry (store_of (M.seen area.old.media))) records.now plan) }
+    ensures tells { IfOk result (Finds held.now area.old.geometry.units (graph area.old.geometry (store_of (M.seen area.old.media))) records.now) }
     ensures only { IfErr result IsNoDamage }
     ensures some { IfErr result (λ e. e ≢ DeviceFault → 0 < length records.now) }
     ensures looks { Looks M.moment M.seen M.left M.faults area.old area.new result }
@@ -38,7 +40,7 @@ pub fn plan<M: Media>(
     }
     let used = area.charge();
     let capacity = capacity_of(area);
-    plan_over(alloc, area, used, capacity, held, records)
+    test_over(alloc, area, used, capacity, held, records)
 }
 
 // How many units there are in all.
@@ -49,25 +51,25 @@ fn capacity_of<M: Media>(area: &Shared<M>) -> u64
 }
 
 // The same over an area of which no device has failed.
-fn plan_over<M: Media>(
+fn test_over<M: Media>(
     alloc: Global,
     area: &mut Shared<M>,
     used: u64,
     capacity: u64,
     held: &[u32],
     records: &[Record],
-) -> Result<Plan, AreaError>
+) -> Result<Found, AreaError>
     requires spelled { AllByRecursion IsRecord records.now }
     requires rising { IsNonDecreasing held.now }
     requires going { area.old.failed ≡ false }
     requires used { charge (graph area.old.geometry (store_of (M.seen area.old.media))) ≡ used }
-    ensures tells { IfOk result (λ plan. PlanTells held.now capacity (graph area.old.geometry (store_of (M.seen area.old.media))) records.now plan) }
+    ensures tells { IfOk result (Finds held.now capacity (graph area.old.geometry (store_of (M.seen area.old.media))) records.now) }
     ensures only { IfErr result IsNoDamage }
     ensures some { IfErr result (λ e. 0 < length records.now) }
     ensures looks { Looks M.moment M.seen M.left M.faults area.old area.new result }
 {
-    match prepare(alloc, area, used, capacity, held, records) {
-        Ok(plan) => Ok(plan),
+    match test_records(alloc, area, used, capacity, held, records) {
+        Ok(found) => Ok(found),
         Err(PlanError::Memory) => Err(AreaError::Memory),
         Err(PlanError::Nodes(error)) => Err(error),
     }

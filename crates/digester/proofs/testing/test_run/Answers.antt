@@ -1,11 +1,11 @@
 use Rattle.std.proofs.Common.{ℕ, subst}
 use Rattle.std.specs.Prelude.{IfOk}
 use Rattle.shared_area.specs.Store.{store_of, graph}
-use Rattle.digest_plan.specs.Plan.{PlanTells}
-use Rattle.digester.proofs.planning.plan.Goals as goal
+use Rattle.digest_plan.specs.Plan.{Finds}
+use Rattle.digester.proofs.testing.test_run.Goals as goal
 
 pub returns-clause-tells : goal.returns-clause-tells
 returns-clause-tells g c =
     let old = c.args.area.now in
     let s = store_of (g.M.Media.seen old.media) in
-    subst (λ (n : ℕ). IfOk c.plan_over.result (λ plan. PlanTells c.args.held.now n (graph old.geometry s) c.args.records.now plan)) c.capacity_of-capacity.ensures c.plan_over.ensures.tells
+    subst (λ (n : ℕ). IfOk c.test_over.result (λ found. Finds c.args.held.now n (graph old.geometry s) c.args.records.now found)) c.capacity_of-capacity.ensures c.test_over.ensures.tells

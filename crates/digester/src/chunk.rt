@@ -1,0 +1,59 @@
+//! The next records of a sealed log, as they are prepared to be digested at once.
+
+ghost use Rattle.std.specs.Prelude.{◌≡◌, ◌<◌, true, IfErr, IfOk, length};
+ghost use Rattle.coalescer.specs.Records.{effects_in};
+ghost use Rattle.digester.specs.Chunk.{IsChunkOf, is_next};
+ghost use Rattle.digester.specs.SealedLog.{IsSealed, undone};
+ghost use Rattle.digester.specs.declared.error.DigestError.TheVariants.{Memory};
+
+use crate::error::DigestError;
+use crate::sealed_log::SealedLog;
+use digest_plan::next_run;
+use graph_change::GraphChange;
+use std::alloc::Global;
+
+/// Records of a sealed log that are digested at once, and what they come to.
+#[derive(Drop)]
+pub struct Chunk {
+    /// Whose log it is.
+    pub client: usize,
+    /// The generation of the log.
+    pub generation: u64,
+    /// How many records of the log stand before these.
+    pub first: u32,
+    /// How many records they are.
+    pub count: usize,
+    /// What they make of the graph.
+    pub change: GraphChange,
+}
+
+impl Chunk {
+    /// Whether it begins where a log stands: with the first record of the log that is not digested.
+    pub fn is_next(&self, log: &SealedLog) -> bool
+        ensures exact { result ≡ is_next log.now self.now }
+    {
+        self.client == log.client && self.generation == log.generation && self.first == log.done
+    }
+}
+
+/// Prepares the next chunk of a sealed log that has a record left: the longest run of its next records that one batch takes, one at least, and
+/// what it comes to. It needs neither the shared area nor a lock: whoever digests the chunk asks then whether it is still the next one, and
+/// tests its records. An error is want of memory, which is asked for only where a record has an effect.
+pub fn prepare(alloc: Global, log: &SealedLog) -> Result<Chunk, DigestError>
+    requires sealed { IsSealed log.now }
+    ensures exact { IfOk result (IsChunkOf log.now) }
+    ensures next { IfOk result (λ chunk. is_next log.now chunk ≡ true) }
+    ensures only { IfErr result (λ e. e ≡ Memory) }
+    ensures memory { IfErr result (λ _. 0 < length (effects_in (undone log.now))) }
+{
+    match next_run(alloc, &log.records[log.done as usize..]) {
+        Ok(run) => Ok(Chunk {
+            client: log.client,
+            generation: log.generation,
+            first: log.done,
+            count: run.count,
+            change: run.change,
+        }),
+        Err(_) => Err(DigestError::Memory),
+    }
+}
