@@ -3,3 +3,6 @@ pub mod Choosing
 pub mod Machines
 pub mod OneByOne
 pub mod Rows
+pub mod Leading
+pub mod Members
+pub mod MarksGo

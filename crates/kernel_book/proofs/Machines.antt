@@ -14,7 +14,8 @@ use Rattle.world_facts.proofs.Kernels.{each, booked_moved, units_moved}
 use Rattle.world_facts.proofs.Owners.{is_low, is_high, client_is}
 use Rattle.world_facts.proofs.Records.{either}
 use Rattle.kernel_book.specs.Book.{Accounts, numbers_of, pins_of, units_of, out_of, is_free, is_granted, is_pinned, IsBookOf}
-use Rattle.kernel_book.specs.Steps.{AreNodes, is_node, grant, take_back}
+use Rattle.kernel_book.specs.Nodes.{AreNodes, is_node}
+use Rattle.kernel_book.specs.Steps.{grant, opened, take_back}
 use Rattle.kernel_book.proofs.Choosing.{and_true, first_of, second_of, not_true}
 
 sum_alike : (n : ℕ) (f g : ℕ → ℕ) → ((j : ℕ) → 1 ≤ j → j ≤ n → f j ≡ g j) → sum_up_to n f ≡ sum_up_to n g

@@ -7,7 +7,9 @@ use Rattle.world_facts.specs.World.{Account, at}
 use Rattle.world_facts.specs.LeaseSteps.{also, without}
 use Rattle.world_facts.specs.Machine.{Machine, with_account, book_units, unbook_units, book_number, unbook_number}
 use Rattle.kernel_book.specs.Steps.{grant, take_back, book_numbers, unbook_numbers}
+use Rattle.kernel_book.specs.Inodes.{has, members}
 use Rattle.kernel_book.proofs.Choosing.{swapped}
+use Rattle.kernel_book.proofs.Members.{member}
 
 -- an account that is put twice
 twice : (m : Machine) (c : ℕ) (x next : Account) (more : Account → Account) → more x ≡ next → with_account (with_account m c x) c (more ((with_account m c x).kernel.accounts c)) ≡ with_account m c next
@@ -88,3 +90,11 @@ module _ (m : Machine) (c units : ℕ) where
   pub taken_back : (is : List ℕ) → take_back m c units (λ k. is_among k is) ≡ unbook_numbers (unbook_units m c units) c is
   taken_back [] = ap (λ (f : ℕ → Bool). with_account m c (poorer f)) (λ t k. sym (and_true (old.numbers k)) t)
   taken_back (i ∷ is) = sym (one_less i is) ∙ ap (λ n. unbook_number n c i) (taken_back is)
+
+  -- ---- a set of them
+
+  pub granted_set : (rows : List ℕ) → grant m c units (has rows) ≡ book_numbers (book_units m c units) c (members rows)
+  granted_set rows = ap (grant m c units) (λ t i. sym (member rows i) t) ∙ granted (members rows)
+
+  pub taken_back_set : (rows : List ℕ) → take_back m c units (has rows) ≡ unbook_numbers (unbook_units m c units) c (members rows)
+  taken_back_set rows = ap (take_back m c units) (λ t i. sym (member rows i) t) ∙ taken_back (members rows)

@@ -1,7 +1,12 @@
--- The steps of the kernel's machine that are made of several: units and numbers at once.
-use Rattle.std.specs.Prelude.{◌≡◌, ℕ, ◌+◌, ◌-◌, List, [], ◌∷◌, Bool, true, false, ◌&&◌, ◌||◌, not, Option, Some, None}
-use Rattle.file_graph.specs.Graph.{Graph, Node}
+-- The kernel's machine as it is opened, and its steps that are made of several: units and numbers at once.
+use Rattle.std.specs.Prelude.{◌≡◌, ℕ, ◌+◌, ◌-◌, List, [], ◌∷◌, Bool, ◌&&◌, ◌||◌, not}
+use Rattle.file_graph.specs.Graph.{Graph}
 use Rattle.world_facts.specs.Machine.{Machine, with_account, book_number, unbook_number}
+use Rattle.world_facts.specs.Opening.{idle_account}
+
+-- a machine that was just opened over a graph, where so many records of each client were ever digested: all that were accepted
+abbrev pub opened : Graph → ℕ → (ℕ → ℕ) → Machine
+opened g capacity marks = record { kernel = record { shared = g; capacity = capacity; accounts = λ c. idle_account (marks c) }; accepted = marks }
 
 -- units and numbers are granted
 abbrev pub grant : Machine → ℕ → ℕ → (ℕ → Bool) → Machine
@@ -20,14 +25,3 @@ book_numbers m c (i ∷ is) = book_number (book_numbers m c is) c i
 abbrev pub unbook_numbers : Machine → ℕ → List ℕ → Machine
 unbook_numbers m c [] = m
 unbook_numbers m c (i ∷ is) = unbook_number (unbook_numbers m c is) c i
-
--- ---- the shared graph
-
--- whether there is a node
-abbrev pub is_node : Option Node → Bool
-is_node None = false
-is_node (Some n) = true
-
--- these are the inodes of the graph
-abbrev pub AreNodes : Graph → (ℕ → Bool) → Type 0
-AreNodes g nodes = (i : ℕ) → nodes i ≡ is_node (g i)

@@ -90,6 +90,7 @@ impl ClientAccount {
     pub(crate) fn digest(&mut self, records: &[Record]) -> u64
         requires { length records.now ≤ self.old.waiting }
         ensures step { (of : Account) (accepted : ℕ) → IsAccountOf self.old of accepted → IsAccountOf self.new (account_after of records.now) accepted }
+        ensures waiting { self.new.waiting + length records.now ≡ self.old.waiting }
         ensures units { self.new.units + result ≡ self.old.units }
         ensures given { result ≡ min (units_in records.now) self.old.units }
     {

@@ -2,12 +2,11 @@ ghost use Rattle.std.specs.Prelude.{◌≡◌, ◌≢◌, ◌↔◌, ◌+◌, �
 ghost use Rattle.posix_calls.specs.Operations.{is_client};
 ghost use Rattle.file_graph.specs.Graph.{Graph};
 ghost use Rattle.world_facts.specs.Logs.{units_in};
-ghost use Rattle.world_facts.specs.Opening.{idle_world};
-ghost use Rattle.world_facts.specs.Machine.{Machine, Sealed, CanAccept, accept as accepted, digest as digested, book_pin, unbook_pin, bury as buried};
+ghost use Rattle.world_facts.specs.Machine.{Machine, Sealed, accept as accepted, digest as digested, book_pin, unbook_pin, bury as buried};
 ghost use Rattle.kernel_book.specs.Book.{account_of, units_of, waiting_of, out_of, is_pinned, is_free, HasThese, IsBookOf};
 ghost use Rattle.kernel_book.specs.Free.{AreLowest, count_of, is_absent};
 ghost use Rattle.kernel_book.specs.Inodes.{IsInode, has};
-ghost use Rattle.kernel_book.specs.Steps.{grant as granted, take_back as taken_back};
+ghost use Rattle.kernel_book.specs.Steps.{grant as granted, opened, take_back as taken_back};
 ghost use Rattle.kernel_book.specs.declared.error.RefillError.TheVariants.{NoUnits, NoInode};
 
 use crate::account::ClientAccount;
@@ -15,13 +14,13 @@ use crate::error::RefillError;
 use crate::inode_set::InodeSet;
 use crate::lowest::lowest_absent;
 use log_record::Record;
-use posix_calls::ROOT;
+use posix_calls::{MAX_CLIENTS, ROOT};
 use std::marker::Model;
 
 // How many clients there are.
-const CLIENTS: usize = 8;
+const CLIENTS: usize = MAX_CLIENTS as usize;
 
-/// The accounts of clients 1 to 8. It has a constant size, and takes no memory.
+/// The accounts of clients 1 to 8, which are counted from 1 in each call. It has a constant size, and takes no memory.
 #[derive(Debug, Drop)]
 pub struct Book {
     accounts: [ClientAccount; CLIENTS],
@@ -49,9 +48,9 @@ fn has_room(charge: u64, out: u64, units: u64, capacity: u64) -> bool
 }
 
 impl Book {
-    /// Nothing is out, nothing granted, nothing pinned, nothing accepted.
+    /// Nothing is out, nothing granted, nothing pinned, and no record waits, however many of each client were digested before.
     pub fn new() -> Self
-        ensures opens { (g : Graph) (capacity : ℕ) → IsBookOf result (record { kernel = (idle_world capacity g).kernel; accepted = λ c. 0 }) }
+        ensures opens { (g : Graph) (capacity : ℕ) (marks : ℕ → ℕ) → IsBookOf result (opened g capacity marks) }
         ensures out { out_of result ≡ 0 }
     {
         let accounts = [
@@ -208,7 +207,7 @@ impl Book {
         requires client { is_client client ≡ true }
         requires before { waiting_of self.old client ≡ 0 }
         ensures waiting { waiting_of self.new client ≡ count }
-        ensures step { (m : Machine) (s : Sealed) → IsBookOf self.old m → CanAccept m client s → length s.records ≡ count → IsBookOf self.new (accepted m client s) }
+        ensures step { (m : Machine) (s : Sealed) → IsBookOf self.old m → m.accepted client ≡ s.past → length s.records ≡ count → IsBookOf self.new (accepted m client s) }
         ensures out { out_of self.new ≡ out_of self.old }
     {
         self.accounts[(client - 1) as usize].accept(count);
@@ -218,6 +217,7 @@ impl Book {
     pub fn digest(&mut self, client: u32, records: &[Record])
         requires client { is_client client ≡ true }
         requires waiting { length records.now ≤ waiting_of self.old client }
+        ensures waiting { waiting_of self.new client + length records.now ≡ waiting_of self.old client }
         ensures step { (m : Machine) → IsBookOf self.old m → IsBookOf self.new (digested m client records.now) }
         ensures out { out_of self.new + min (units_in records.now) (units_of self.old client) ≡ out_of self.old }
         // What they raise of the charge they have in units.

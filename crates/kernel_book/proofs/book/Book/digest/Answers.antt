@@ -1,9 +1,9 @@
-use Rattle.std.proofs.Common.{◌≡◌, ◌∙◌, min, ap, sym, subst, arith}
+use Rattle.std.proofs.Common.{◌≡◌, ◌∙◌, ◌-◌, set, min, ap, sym, subst, arith}
 use Rattle.world_facts.specs.Logs.{units_in}
 use Rattle.kernel_book.specs.declared.account.ClientAccount.{ClientAccount}
 use Rattle.kernel_book.specs.Book.{out_of, units_of, waiting_of, IsBookOf}
 use Rattle.kernel_book.specs.Account.{IsAccountOf}
-use Rattle.kernel_book.proofs.Accounts.{long_still, less_left, less_out, moved_account, read_own, within_out, still_fits}
+use Rattle.kernel_book.proofs.Accounts.{long_still, own_account, less_left, less_out, moved_account, read_own, within_out, still_fits}
 use Rattle.kernel_book.proofs.book.Book.digest.Goals as goal
 
 pub overflow_sub-self : goal.overflow_sub-self
@@ -35,3 +35,12 @@ returns-clause-step c = λ m is.
     let own : IsBookOf c.self.inside.accounts m = subst (λ b. IsBookOf b m) (sym c.self.view_is) is in
     moved_account c.self.inside.accounts c.args.client _ c.self.invariant.0 c.requires.client m _ own
     (c.digest-given.ensures.step (m.kernel.accounts c.args.client) (m.accepted c.args.client) (subst (λ x. IsAccountOf x (m.kernel.accounts c.args.client) (m.accepted c.args.client)) (sym (read_own c.self.inside.accounts c.args.client c.index-self-client.result c.self.invariant.0 c.requires.client)) (own c.args.client c.requires.client)))
+
+pub returns-clause-waiting : goal.returns-clause-waiting
+returns-clause-waiting c =
+    let a : ClientAccount = c.digest-given.new.self in
+    let now : waiting_of (set c.self.inside.accounts (c.args.client - 1) a) c.args.client ≡ a.waiting = ap (λ (x : ClientAccount). x.waiting) (own_account c.self.inside.accounts c.args.client a c.self.invariant.0 c.requires.client) in
+    let own : _ = ap (λ (x : ClientAccount). x.waiting) (read_own c.self.inside.accounts c.args.client c.index-self-client.result c.self.invariant.0 c.requires.client) in
+    let same : waiting_of c.self.inside.accounts c.args.client ≡ waiting_of c.args.self.now c.args.client = ap (λ b. waiting_of b c.args.client) c.self.view_is in
+    let less : _ = c.digest-given.ensures.waiting in
+    omega (arith, now, own, same, less)
