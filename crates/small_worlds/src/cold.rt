@@ -13,7 +13,7 @@ impl World {
             block: zeros(alloc, 520)?,
             slow: zeros(alloc, 2)?,
         };
-        world.put_head(Geometry::new(16, 6, 520, 2));
+        world.put_head(Geometry::new(16, 6, 520, 2), 4);
         world.put_root(alloc)?;
         world.put_file(2, 4_101, 6, [294, 295, 0]);
         world.put_file(3, LONG_SIZE, 4, [296, 297, 0]);

@@ -53,7 +53,7 @@ impl World {
             block: zeros(alloc, 514)?,
             slow: zeros(alloc, 2)?,
         };
-        world.put_head(Geometry::new(8, 4, 514, 2));
+        world.put_head(Geometry::new(8, 4, 514, 2), 4);
         world.put_root(alloc)?;
         world.put_file(2, SIZE, 4, [294, 295, 296]);
         world.put_extents(alloc, 294, 2, &[extent(0, 1, 3_381)])?;
@@ -72,7 +72,7 @@ impl World {
             block: zeros(alloc, 514)?,
             slow: zeros(alloc, 4)?,
         };
-        world.put_head(Geometry::new(8, 4, 514, 4));
+        world.put_head(Geometry::new(8, 4, 514, 4), 4);
         world.put_root(alloc)?;
         world.put_file(2, LONG_SIZE, 4, [294, 295, 0]);
         world.put_extents(alloc, 294, 2, &[extent(0, 2, 3_381), extent(3, 1, 3_380)])?;
@@ -85,8 +85,8 @@ impl World {
         Ok(world)
     }
 
-    // The superblock, and the marks of clients none of whose records is digested.
-    pub(crate) fn put_head(&mut self, geometry: Option<Geometry>) {
+    // The superblock, and the marks of clients none of whose records counts as digested, after so many digests.
+    pub(crate) fn put_head(&mut self, geometry: Option<Geometry>, digests: u64) {
         let mut block = [0u8; BLOCK];
         if let Some(geometry) = geometry {
             Super { geometry }.encode(&mut block);
@@ -98,7 +98,7 @@ impl World {
         };
         let marks = Marks {
             clients: [none; 8],
-            digests: 4,
+            digests,
         };
         marks.encode(&mut block);
         put(&mut self.fast, MARKS_BLOCK as usize, 0, &block);
