@@ -11,7 +11,7 @@ use Rattle.file_graph.specs.declared.effect.Kind.TheVariants as kind
 use Rattle.call_effects.specs.NodeView.{NodeView, FileView, DirView}
 use Rattle.call_effects.specs.Known.{Knowledge, tells, is_dir_by}
 use Rattle.block_cache.specs.Cached.{Block, bytes_at}
-use Rattle.client_copies.specs.Codes.{view_code}
+use Rattle.record_check.specs.Summary.{view_code}
 
 -- the client's number, its descriptors by their numbers, its copies by their inodes, the blocks that it keeps, and the numbers granted to it
 pub record Held : Type 0 where

@@ -1,16 +1,16 @@
 ghost use Rattle.std.specs.Prelude.{◌≡◌, Bool, Some, None, option_map};
 ghost use Rattle.posix_calls.specs.Answers.{entry_in};
 ghost use Rattle.call_effects.specs.Known.{part_of, is_dir_by};
+ghost use Rattle.record_check.specs.Seen.{seen};
 ghost use Rattle.file_graph.specs.declared.effect.Kind.TheVariants as kind;
-ghost use Rattle.client_copies.specs.Bodies.{seen};
 ghost use Rattle.client_copies.specs.Held.{knows, known_dir_in, told_in};
 
 use crate::copies::ClientCopies;
-use crate::node_copy::NodeCopy;
 use crate::reading::read;
 use crate::slots::{Slot, is_told, size_at, slot_at};
 use file_graph::Kind;
 use posix_calls::{Bytes, Description, NamedInode, Names, ROOT, TreeAnswers};
+use record_check::NodeSummary;
 use std::alloc::{AllocError, Global};
 
 impl TreeAnswers for ClientCopies {
@@ -107,7 +107,7 @@ fn told_dir(slots: &[Slot], inode: u32) -> Option<Option<bool>>
 }
 
 // What a directory has under a name, with whether that is a directory.
-fn child_in(slots: &[Slot], copy: &NodeCopy, name: &[u8]) -> Option<NamedInode>
+fn child_in(slots: &[Slot], copy: &NodeSummary, name: &[u8]) -> Option<NamedInode>
     ensures inode { option_map (λ e. e.inode) result ≡ entry_in name.now (seen copy.now) }
     ensures kind { (e : NamedInode) (is_dir : Bool) → result ≡ Some e → e.is_dir ≡ Some is_dir → known_dir_in slots.now e.inode ≡ Some (Some is_dir) }
 {

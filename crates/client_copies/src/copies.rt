@@ -1,6 +1,6 @@
 ghost use Rattle.std.specs.Prelude.{◌≡◌, ◌==◌, ◌<◌, ℕ, length, Some, None, not, true, false, IfOk, OnOk, OnErr};
 ghost use Rattle.std.specs.List.{filter};
-ghost use Rattle.block_cache.specs.Cached.{put as put_first, used};
+ghost use Rattle.block_cache.specs.Cached.{put as put_first, used, without_file};
 ghost use Rattle.block_cache.specs.declared.bytes.TheConstants.{BLOCK_SIZE};
 ghost use Rattle.file_graph.specs.Graph.{is_among};
 ghost use Rattle.file_graph.specs.Numbers.{is_inode};
@@ -12,10 +12,10 @@ ghost use Rattle.client_copies.specs.Held.{knows};
 ghost use Rattle.client_copies.specs.Put.{IsBlockLong};
 ghost use Rattle.client_copies.specs.Forgotten.{with_descriptor, without_blocks, without_inode, without_granted};
 
-use crate::node_copy::NodeCopy;
 use crate::slots::{Slot, forget_slot, unknown_slots};
 use block_cache::{BLOCK_SIZE, Blocks};
 use posix_calls::{Bytes, Descriptor, OwnDescriptors};
+use record_check::NodeSummary;
 use std::alloc::{AllocError, Global};
 use std::marker::Model;
 
@@ -67,10 +67,11 @@ impl ClientCopies {
 
     /// A copy of what stands at an inode, or that nothing stands there, in place of what was known of it; its blocks go. It takes no
     /// memory.
-    pub fn put_view(&mut self, inode: u32, view: Option<NodeCopy>)
+    pub fn put_view(&mut self, inode: u32, view: Option<NodeSummary>)
         requires { is_inode inode ≡ true }
         ensures known { knows self.new ≡ with_copy (without_blocks (knows self.old) inode) inode view }
         ensures more { (knows self.old).copies inode ≡ None → knows self.new ≡ with_copy (knows self.old) inode view }
+        ensures rest { self.new ≡ record self.old { copies = self.new.copies; blocks = without_file inode self.old.blocks } }
     {
         self.copies[inode as usize] = Some(view);
         self.blocks.drop_file(inode)
@@ -84,6 +85,8 @@ impl ClientCopies {
         ensures there { OnOk result ((knows self.new).blocks inode block ≡ Some bytes.now) }
         ensures kept { OnOk result (self.new ≡ record self.old { blocks = put_first inode block (resized BLOCK_SIZE bytes.now) self.old.blocks }) }
         ensures no_more { OnOk result (IsForgetful (with_blocks (knows self.old) inode block 1 (λ _. bytes.now)) (knows self.new)) }
+        ensures client { OnOk result ((knows self.new).client ≡ (knows self.old).client) }
+        ensures own { OnOk result ((knows self.new).own ≡ (knows self.old).own) }
         ensures copies { OnOk result ((knows self.new).copies ≡ (knows self.old).copies) }
         ensures granted { OnOk result ((knows self.new).granted ≡ (knows self.old).granted) }
         ensures refused { OnErr result (self.new ≡ self.old) }
@@ -101,7 +104,8 @@ impl ClientCopies {
 
     /// What is known of an inode goes: the copy and the blocks, and no others. It takes no memory.
     pub fn forget(&mut self, inode: u32)
-        ensures { knows self.new ≡ without_inode (knows self.old) inode }
+        ensures known { knows self.new ≡ without_inode (knows self.old) inode }
+        ensures rest { self.new ≡ record self.old { copies = self.new.copies; blocks = without_file inode self.old.blocks } }
     {
         self.blocks.drop_file(inode);
         forget_slot(&mut self.copies, inode as usize);
@@ -110,6 +114,7 @@ impl ClientCopies {
     /// A number for a new node is granted. Where there is no memory for it, nothing changes.
     pub fn grant(&mut self, number: u32) -> Result<(), AllocError>
         ensures granted { OnOk result (knows self.new ≡ with_granted (knows self.old) number) }
+        ensures rest { self.new ≡ record self.old { numbers = self.new.numbers } }
         ensures refused { OnErr result (self.new ≡ self.old) }
     {
         if self.numbers.contains(&number) {
@@ -121,7 +126,8 @@ impl ClientCopies {
 
     /// A number that was granted is used, and granted no longer. It takes no memory.
     pub fn use_number(&mut self, number: u32)
-        ensures { knows self.new ≡ without_granted (knows self.old) number }
+        ensures known { knows self.new ≡ without_granted (knows self.old) number }
+        ensures kept { self.new ≡ record self.old { numbers = filter (λ n. not (n == number)) self.old.numbers } }
     {
         without_number(&mut self.numbers, number);
     }
@@ -129,7 +135,8 @@ impl ClientCopies {
     /// Something is open at a number, or nothing any more.
     pub fn set_descriptor(&mut self, number: u32, what: Option<Descriptor>)
         requires { number < MAX_DESCRIPTORS }
-        ensures { knows self.new ≡ with_descriptor (knows self.old) number what }
+        ensures known { knows self.new ≡ with_descriptor (knows self.old) number what }
+        ensures rest { self.new ≡ record self.old { own = self.new.own } }
     {
         self.own.set(number, what);
     }

@@ -1,7 +1,7 @@
 //! What one client knows of the file tree, kept in memory.
 //!
-//! `ClientCopies` has a client's descriptors, its copies of nodes without the bytes of files (`NodeCopy`), its blocks of files, and the numbers
-//! for new nodes that it was granted. What it knows by them is `knows` of `specs/Held.antt`: a `Knowledge` of `call_effects`, whose laws say when
+//! `ClientCopies` has a client's descriptors, its copies of nodes without the bytes of files (`NodeSummary` of `record_check`, as the kernel tells
+//! them), its blocks of files, and the numbers for new nodes that it was granted. What it knows by them is `knows` of `specs/Held.antt`: a `Knowledge` of `call_effects`, whose laws say when
 //! it agrees with the whole. It answers what calls ask by that alone (`TreeAnswers` of `posix_calls`): a copy is found by its inode at once,
 //! and no memory is wanted where nothing is known.
 //!
@@ -16,10 +16,8 @@
 mod answers;
 mod copies;
 mod laws;
-mod node_copy;
 mod reading;
 mod slots;
 
 pub use copies::ClientCopies;
 pub use laws::{forgetting_leaves_no_more, used_block_is_known_as_before};
-pub use node_copy::NodeCopy;

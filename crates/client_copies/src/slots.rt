@@ -4,13 +4,13 @@ ghost use Rattle.std.specs.List.{list_any};
 ghost use Rattle.call_effects.specs.Known.{same_kind, tells};
 ghost use Rattle.client_copies.specs.Held.{copy_at, size_known, told_in};
 
-use crate::node_copy::NodeCopy;
 use file_graph::{Kind, PlainEntry};
 use posix_calls::MAX_INODE;
+use record_check::NodeSummary;
 use std::alloc::{AllocError, Global};
 
 /// What is known to stand at an inode; `None` where nothing is known, `Some(None)` where nothing stands there.
-pub type Slot = Option<Option<NodeCopy>>;
+pub type Slot = Option<Option<NodeSummary>>;
 
 /// A slot for 0 and one for each inode, of which nothing is known.
 pub fn unknown_slots(alloc: Global) -> Result<Vec<Slot>, AllocError>
@@ -26,7 +26,7 @@ pub fn unknown_slots(alloc: Global) -> Result<Vec<Slot>, AllocError>
 }
 
 /// What is known of an inode.
-pub fn slot_at(slots: &[Slot], inode: u32) -> Option<&Option<NodeCopy>>
+pub fn slot_at(slots: &[Slot], inode: u32) -> Option<&Option<NodeSummary>>
     ensures { option_map (λ c. c.now) result ≡ copy_at slots.now inode }
 {
     match slots.get(inode as usize) {
@@ -77,7 +77,7 @@ fn tells(slots: &[Slot], dir: u32, inode: u32, kind: Kind) -> bool
     }
 }
 
-fn copy_tells(copy: &NodeCopy, inode: u32, kind: Kind) -> bool
+fn copy_tells(copy: &NodeSummary, inode: u32, kind: Kind) -> bool
     ensures { result ≡ tells inode kind (Some copy.now) }
 {
     any_names(copy.entries(), inode, kind)

@@ -4,4 +4,5 @@ pub mod Known
 pub mod Memory
 pub mod Rises
 pub mod Row
+pub mod Seen
 pub mod Summary

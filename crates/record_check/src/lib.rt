@@ -1,9 +1,10 @@
 //! What a record does to nodes that are known without the bytes of files, and what it costs: whoever digests a log tests each record so, before it
 //! changes anything.
 //!
-//! A file is known by its size, a directory by its entries (`NodeSummary`). What effects make of such a node is what they make of the node, and its
-//! numbers after them are told without doing them (`counts_after`). By how much effects raise the charge of a graph is told by the nodes that they touch
-//! (`record_costs`): a map tells what stands at each of these inodes, or that nothing does. Who has the graph tells its nodes one by one (`Nodes`).
+//! A file is known by its size, a directory by its entries (`NodeSummary`), which is all that a call asks of a node but its bytes. What effects make of
+//! such a node is what they make of the node, and its numbers after them are told without doing them (`counts_after`). By how much effects raise the
+//! charge of a graph is told by the nodes that they touch (`record_costs`): a map tells what stands at each of these inodes, or that nothing does. Who has
+//! the graph tells its nodes one by one (`Nodes`).
 //!
 //! A record is good (`IsGood` in `specs/Good.antt`) where its client holds every inode that it touches for writing, its units pay for what it raises, what
 //! it touches keeps the limits after it, and the graph after it costs no more than there is. `test_record` tells that, or names an inode to be looked up.
@@ -15,6 +16,7 @@ mod counting;
 mod known;
 mod laws;
 mod node_counts;
+mod node_seen;
 mod node_summary;
 mod nodes;
 mod record_check;

@@ -17,8 +17,8 @@ use std::marker::Model;
 /// A node without the bytes of a file. Contracts see it as the view of a node.
 #[derive(Drop)]
 pub struct NodeSummary {
-    names: u32,
-    body: SummaryBody,
+    pub(crate) names: u32,
+    pub(crate) body: SummaryBody,
 }
 
 /// What is known of what is in a node.

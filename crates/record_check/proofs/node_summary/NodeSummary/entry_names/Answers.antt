@@ -1,7 +1,7 @@
 use Rattle.std.proofs.Common.{◌∙◌}
 use Rattle.std.proofs.lemmas.Result.{IfOk-weaker, IfErr-weaker}
-use Rattle.client_copies.proofs.Views.{of_file, of_directory, no_names, listed, some_counted}
-use Rattle.client_copies.proofs.node_copy.NodeCopy.entry_names.Goals as goal
+use Rattle.record_check.proofs.Shown.{of_file, of_directory, no_names, listed, some_counted}
+use Rattle.record_check.proofs.node_summary.NodeSummary.entry_names.Goals as goal
 
 pub returns-in-File-clause-names : goal.returns-in-File-clause-names
 returns-in-File-clause-names c = c.from_vec.ensures ∙ c.new.ensures.items ∙ no_names _ _ _ (of_file _ _ _ _ c.self.view_is c.in-File.is)

@@ -1,9 +1,9 @@
 use Rattle.std.proofs.Common.{Some, ap, sym, ◌∙◌}
 use Rattle.posix_calls.specs.Answers.{count_in, description_of}
 use Rattle.posix_calls.specs.declared.operation.Description.TheVariants as description
-use Rattle.client_copies.specs.Bodies.{seen}
-use Rattle.client_copies.proofs.Views.{of_directory, counted}
-use Rattle.client_copies.proofs.node_copy.NodeCopy.describe.Goals as goal
+use Rattle.record_check.specs.Seen.{seen}
+use Rattle.record_check.proofs.Shown.{of_directory, counted}
+use Rattle.record_check.proofs.node_summary.NodeSummary.describe.Goals as goal
 
 pub returns-in-Directory : goal.returns-in-Directory
 returns-in-Directory c =

@@ -1,8 +1,8 @@
 use Rattle.std.proofs.Common.{◌≡◌, ap, ◌∙◌, rules}
 use Rattle.std.specs.Prelude.{option_map}
 use Rattle.std.specs.FinMap as fin
-use Rattle.client_copies.proofs.Views.{of_file, of_directory, no_child, no_entry, child_named}
-use Rattle.client_copies.proofs.node_copy.NodeCopy.child.Goals as goal
+use Rattle.record_check.proofs.Shown.{of_file, of_directory, no_child, no_entry, child_named}
+use Rattle.record_check.proofs.node_summary.NodeSummary.child.Goals as goal
 
 pub returns-in-File-clause-there : goal.returns-in-File-clause-there
 returns-in-File-clause-there c = no_child c.args.name.now _ _ _ (of_file _ _ _ _ c.self.view_is c.in-File.is)

@@ -1,19 +1,12 @@
--- What is kept of a node, as contracts see it.
+-- What a call sees of a node that is known without its bytes.
 use Rattle.std.specs.Prelude.{ℕ, Option, Some, None}
 use Rattle.std.specs.FinMap as fin
 use Rattle.posix_calls.specs.Content.{Entries}
 use Rattle.posix_calls.specs.Query.{Seen}
 use Rattle.file_graph.specs.declared.effect.Kind.{Kind}
 use Rattle.call_effects.specs.NodeView.{NodeView, FileView, DirView, view_seen}
-use Rattle.client_copies.specs.declared.node_copy.CopyBody.{CopyBody}
-use Rattle.client_copies.specs.declared.node_copy.CopyBody.TheVariants as body
 
--- the view of a body with so many names
-abbrev pub view_of : ℕ → CopyBody → NodeView
-view_of names (body.File size) = FileView names size
-view_of names (body.Directory entries) = DirView names entries
-
--- what a call sees of a copy
+-- a node as a call sees it
 abbrev pub seen : NodeView → Option Seen
 seen v = Some (view_seen v)
 
