@@ -6,6 +6,7 @@ pub mod Entries
 pub mod Law
 pub mod Making
 pub mod Maps
+pub mod Marks
 pub mod Nodes
 pub mod Overs
 pub mod Patches

@@ -6,10 +6,10 @@ use Rattle.std.proofs.lemmas.List.FromFn.{length-map-range_with_len, get_or-map-
 use Rattle.posix_calls.specs.declared.limits.TheConstants.{UNIT_BYTES}
 use Rattle.graph_change.specs.Change.{Patch, patched, IsWhole}
 
-patched_long : (patch : Patch) (old : List ℕ) → length (patched patch old) ≡ length old
+pub patched_long : (patch : Patch) (old : List ℕ) → length (patched patch old) ≡ length old
 patched_long patch old = length-map-range_with_len (λ p. unwrap_or (patch p) (get_or old p 0)) 0 (length old)
 
-patched_at : (patch : Patch) (old : List ℕ) (p : ℕ) → p < length old → get_or (patched patch old) p 0 ≡ unwrap_or (patch p) (get_or old p 0)
+pub patched_at : (patch : Patch) (old : List ℕ) (p : ℕ) → p < length old → get_or (patched patch old) p 0 ≡ unwrap_or (patch p) (get_or old p 0)
 patched_at patch old p lt = get_or-map-range_with_len (λ q. unwrap_or (patch q) (get_or old q 0)) 0 (length old) p p 0 lt (omega arith)
 
 -- up to a place the bytes are put, and behind it they are the old ones

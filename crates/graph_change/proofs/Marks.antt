@@ -1,0 +1,255 @@
+-- Marks of bytes that are put into a block, and how many of them are set.
+use Rattle.std.proofs.Common.{◌≡◌, ◌↔◌, inl, inr, if◌then◌else◌, ◌≤◌, ◌<◌, ◌+◌, ◌-◌, ◌*◌, ℕ, zero, suc, Bool, true, false, cond, List, [], ◌∷◌, ◌++◌, length, get_or, take, drop, refl, ap, sym, subst, ◌∙◌, arith, Some, None, Option}
+use Rattle.std.specs.Prelude.{replicate, nat_le, nat_lt, ◌&&◌, ◌==◌, IsTrue, IsSome, unwrap_or, vec_capacity}
+use Rattle.std.specs.Global.{Vec}
+use Rattle.std.specs.List.{count_by}
+use Rattle.std.proofs.lemmas.Bool.{and_from, le-leb, cond-true, cond-false, eq-eqb, eqb-true, false≢true}
+use Rattle.std.proofs.lemmas.Bool.Decides.{eqb_tells, leb_tells}
+use Rattle.std.proofs.lemmas.Grind.{common_steps}
+use Rattle.std.proofs.lemmas.List.{append-nil, drop-drop, drop_all, ext_get_or, get_or-replicate, get_or_past, length-drop, length-replicate, take_all}
+use Rattle.std.proofs.lemmas.List.Folds.{sum_by-replicate}
+use Rattle.std.proofs.lemmas.List.Sums.{count_by-le-length, sum_by-append, sum_by-take-drop}
+use Rattle.posix_calls.specs.declared.limits.TheConstants.{UNIT_BYTES}
+use Rattle.graph_change.specs.Bytes.{in_run}
+use Rattle.graph_change.specs.Change.{patched, put_patch, cut_patch, IsWhole}
+use Rattle.graph_change.specs.Kept.{marks_in, IsKept}
+use Rattle.graph_change.specs.View.{patch_of}
+use Rattle.graph_change.proofs.Overs.{patched_long, patched_at}
+
+one_more : (ms : List Bool) → count_by (λ m. m) (true ∷ ms) ≡ 1 + count_by (λ m. m) ms
+one_more ms = sum_by-append (λ m. cond m 1 0) (true ∷ []) ms
+
+no_more : (ms : List Bool) → count_by (λ m. m) (false ∷ ms) ≡ 0 + count_by (λ m. m) ms
+no_more ms = sum_by-append (λ m. cond m 1 0) (false ∷ []) ms
+
+-- where all are set they are alike, and so they are where none is
+all_set : (ms : List Bool) → count_by (λ m. m) ms ≡ length ms → ms ≡ replicate (length ms) true
+all_set [] e = refl
+all_set (true ∷ ms) e = let more = one_more ms in ap (λ rest. true ∷ rest) (all_set ms (omega (arith, e, more)))
+all_set (false ∷ ms) e =
+    let more = no_more ms in
+    let few = count_by-le-length (λ m. m) ms in
+    absurd (omega (arith, e, few, more))
+
+none_set : (ms : List Bool) → count_by (λ m. m) ms ≡ 0 → ms ≡ replicate (length ms) false
+none_set [] e = refl
+none_set (true ∷ ms) e = let more = one_more ms in absurd (omega (arith, e, more))
+none_set (false ∷ ms) e = let more = no_more ms in ap (λ rest. false ∷ rest) (none_set ms (omega (arith, e, more)))
+
+-- where each is set, as many are as there are
+each_set : (ms : List Bool) → ((p : ℕ) → p < length ms → get_or ms p false ≡ true) → count_by (λ m. m) ms ≡ length ms
+each_set [] each = refl
+each_set (true ∷ ms) each =
+    let more = one_more ms in
+    let rest = each_set ms (λ p lt. each (suc p) (omega (arith, lt))) in
+    omega (arith, rest, more)
+each_set (false ∷ ms) each = absurd (false≢true (each 0 (omega arith)))
+
+-- ---- how many are set
+
+abbrev one_if : Bool → ℕ
+one_if m = cond m 1 0
+
+length-take-at-most : (n : ℕ) (ms : List Bool) → length (take n ms) ≤ n
+length-take-at-most n ms = grind (arith, common_steps)
+
+-- where so many from a place on are set, those of them that were not set come to the others
+pub more_set : (ms new : List Bool) (at n m set : ℕ) → m ≡ n → new ≡ take at ms ++ replicate n true ++ drop (at + n) ms → set ≡ count_by (λ b. b) (take m (drop at ms)) → count_by (λ b. b) ms + (n - set) ≡ count_by (λ b. b) new
+more_set ms new at n m set same is told =
+    let front : count_by (λ b. b) (take at ms) + count_by (λ b. b) (drop at ms) ≡ count_by (λ b. b) ms = sum_by-take-drop one_if ms at in
+    let part : count_by (λ b. b) (take m (drop at ms)) + count_by (λ b. b) (drop m (drop at ms)) ≡ count_by (λ b. b) (drop at ms) = sum_by-take-drop one_if (drop at ms) m in
+    let behind : count_by (λ b. b) (drop m (drop at ms)) ≡ count_by (λ b. b) (drop (at + n) ms) = ap (count_by (λ b. b)) (drop-drop m at ms ∙ ap (λ k. drop (at + k) ms) same) in
+    let joined : count_by (λ b. b) new ≡ count_by (λ b. b) (take at ms ++ replicate n true) + count_by (λ b. b) (drop (at + n) ms) = ap (count_by (λ b. b)) is ∙ sum_by-append one_if (take at ms ++ replicate n true) (drop (at + n) ms) in
+    let rest : count_by (λ b. b) (take at ms ++ replicate n true) ≡ count_by (λ b. b) (take at ms) + count_by (λ b. b) (replicate n true) = sum_by-append one_if (take at ms) (replicate n true) in
+    let all : count_by (λ b. b) (replicate n true) ≡ n * 1 = sum_by-replicate one_if n true in
+    let few = count_by-le-length (λ b. b) (take m (drop at ms)) in
+    let short = length-take-at-most m (drop at ms) in
+    omega (arith, same, told, front, part, behind, joined, rest, all, few, short)
+
+-- where all from a place on are taken out, those of them that were set go
+pub fewer_set : (ms new : List Bool) (at m set : ℕ) → m ≡ length ms - at → new ≡ take at ms ++ replicate (length ms - at) false → set ≡ count_by (λ b. b) (take m (drop at ms)) → count_by (λ b. b) new + set ≡ count_by (λ b. b) ms
+fewer_set ms new at m set same is told =
+    let long = length-drop at ms in
+    let front : count_by (λ b. b) (take at ms) + count_by (λ b. b) (drop at ms) ≡ count_by (λ b. b) ms = sum_by-take-drop one_if ms at in
+    let whole : count_by (λ b. b) (take m (drop at ms)) ≡ count_by (λ b. b) (drop at ms) = ap (count_by (λ b. b)) (take_all m (drop at ms) (omega (arith, long, same))) in
+    let joined : count_by (λ b. b) new ≡ count_by (λ b. b) (take at ms) + count_by (λ b. b) (replicate (length ms - at) false) = ap (count_by (λ b. b)) is ∙ sum_by-append one_if (take at ms) (replicate (length ms - at) false) in
+    let none : count_by (λ b. b) (replicate (length ms - at) false) ≡ (length ms - at) * 0 = sum_by-replicate one_if (length ms - at) false in
+    omega (arith, told, front, whole, joined, none)
+
+-- so many places of nothing are filled
+pub filled : {A : Type 0} (old : List A) (n gap : ℕ) (x : A) → old ≡ [] → gap ≡ 0 → take n old ++ replicate (n - gap) x ≡ replicate n x
+filled {A = A} old n gap x none zero' =
+    let all : n - gap ≡ n = omega (arith, zero') in
+    ap (λ (os : List _). take n os ++ replicate (n - gap) x) none ∙ nothing n (replicate (n - gap) x) ∙ ap (λ k. replicate k x) all
+  where
+    nothing : (k : ℕ) (ys : List A) → take k [] ++ ys ≡ ys
+    nothing zero ys = refl
+    nothing (suc k) ys = refl
+
+-- ---- what is kept
+
+marks_none : (kept : List Bool) → marks_in 0 kept ≡ replicate UNIT_BYTES false
+marks_none kept = refl
+
+pub marks_all : (n : ℕ) (kept : List Bool) → n ≡ UNIT_BYTES → marks_in n kept ≡ replicate UNIT_BYTES true
+marks_all n kept e = ap (λ k. marks_in k kept) e
+
+-- the marks that are kept are those that count, whatever is said of them where they are alike
+pub settled : (ms : List Bool) (n : ℕ) → length ms ≡ UNIT_BYTES → count_by (λ m. m) ms ≡ n → marks_in n ms ≡ ms
+settled ms n long is = elim (eqb_tells n 0) [
+  | inl none ↦ cond-true (n == 0) _ _ none.0 ∙ ap (λ k. replicate k false) (sym long) ∙ sym (none_set ms (is ∙ none.1))
+  | inr some ↦ cond-false (n == 0) _ _ some.0 ∙ elim (eqb_tells n UNIT_BYTES) [
+    | inl all ↦ cond-true (n == UNIT_BYTES) _ _ all.0 ∙ ap (λ k. replicate k true) (sym long) ∙ sym (all_set ms (is ∙ all.1 ∙ sym long))
+    | inr few ↦ cond-false (n == UNIT_BYTES) _ _ few.0
+  ]
+]
+
+pub kept_some : (bytes : Vec ℕ) (marks : Vec Bool) (n : ℕ) → UNIT_BYTES ≤ vec_capacity bytes → UNIT_BYTES ≤ vec_capacity marks → length bytes.items ≡ UNIT_BYTES → length marks.items ≡ UNIT_BYTES → count_by (λ m. m) marks.items ≡ n → IsKept bytes marks n
+kept_some bytes marks n room marks_room bytes_long long is =
+    let same = settled marks.items n long is in (record {
+      room = room;
+      marks_room = marks_room;
+      long = ap length same ∙ long;
+      counted = ap (count_by (λ m. m)) same ∙ is;
+      bytes_long = λ some. bytes_long;
+    })
+
+pub kept_none : (bytes : Vec ℕ) (marks : Vec Bool) → UNIT_BYTES ≤ vec_capacity bytes → UNIT_BYTES ≤ vec_capacity marks → IsKept bytes marks 0
+kept_none bytes marks room marks_room = record {
+  room = room;
+  marks_room = marks_room;
+  long = length-replicate UNIT_BYTES false;
+  counted = sum_by-replicate (λ m. cond m 1 0) UNIT_BYTES false;
+  bytes_long = λ some. absurd (omega (arith, some));
+}
+
+pub kept_all : (bytes : Vec ℕ) (marks : Vec Bool) (n : ℕ) → n ≡ UNIT_BYTES → UNIT_BYTES ≤ vec_capacity bytes → UNIT_BYTES ≤ vec_capacity marks → length bytes.items ≡ UNIT_BYTES → IsKept bytes marks n
+kept_all bytes marks n is room marks_room bytes_long =
+    let all = marks_all n marks.items is in (record {
+      room = room;
+      marks_room = marks_room;
+      long = ap length all ∙ length-replicate UNIT_BYTES true;
+      counted = ap (count_by (λ m. m)) all ∙ sum_by-replicate (λ m. cond m 1 0) UNIT_BYTES true ∙ sym is;
+      bytes_long = λ some. bytes_long;
+    })
+
+-- ---- what is put
+
+-- a byte is put where its mark is set
+marked : (bytes : List ℕ) (marks : List Bool) (p : ℕ) → get_or marks p false ≡ true → patch_of (bytes, marks) p ≡ Some (get_or bytes p 0)
+marked bytes marks p set = cond-true (get_or marks p false) _ _ set
+
+empty : (o : Option ℕ) → o ≡ None → IsSome o → ⊥
+empty o none some = cc
+
+is_set : (bytes : List ℕ) (marks : List Bool) (p : ℕ) (b : Bool) → get_or marks p false ≡ b → IsSome (patch_of (bytes, marks) p) → get_or marks p false ≡ true
+is_set bytes marks p true is some = is
+is_set bytes marks p false is some = absurd (empty _ (cond-false (get_or marks p false) (Some (get_or bytes p 0)) None is) some)
+
+-- so many bytes are put as a block has, or not each of them
+pub whole_by_count : (bytes : Vec ℕ) (marks : Vec Bool) (n : ℕ) → IsKept bytes marks n → (n ≡ UNIT_BYTES) ↔ IsWhole (patch_of (bytes.items, marks_in n marks.items))
+whole_by_count bytes marks n kept = (there, back)
+  where
+    there : n ≡ UNIT_BYTES → IsWhole (patch_of (bytes.items, marks_in n marks.items))
+    there is p lt =
+        let set = ap (λ ms. get_or ms p false) (marks_all n marks.items is) ∙ get_or-replicate UNIT_BYTES p true false lt in
+        subst IsSome (sym (marked bytes.items (marks_in n marks.items) p set)) cc
+
+    back : IsWhole (patch_of (bytes.items, marks_in n marks.items)) → n ≡ UNIT_BYTES
+    back whole =
+        let ms = marks_in n marks.items in
+        let long = kept.long in
+        sym kept.counted ∙ each_set ms (λ p lt. is_set bytes.items ms p (get_or ms p false) refl (whole p (omega (arith, lt, long)))) ∙ long
+
+pub whole_told : (bytes : Vec ℕ) (marks : Vec Bool) (n : ℕ) → IsKept bytes marks n → IsTrue (n == UNIT_BYTES) ↔ IsWhole (patch_of (bytes.items, marks_in n marks.items))
+whole_told bytes marks n kept = let told = whole_by_count bytes marks n kept in (λ is. told.0 (eqb-true n UNIT_BYTES is), λ whole. eq-eqb n UNIT_BYTES (told.1 whole))
+
+pub all_put_over : (bytes : List ℕ) (marks : List Bool) (n : ℕ) (old : List ℕ) → n ≡ UNIT_BYTES → length bytes ≡ UNIT_BYTES → length old ≡ UNIT_BYTES → bytes ≡ patched (patch_of (bytes, marks_in n marks)) old
+all_put_over bytes marks n old is long old_long =
+    let patch = patch_of (bytes, marks_in n marks) in
+    ext_get_or 0 _ _ (long ∙ sym old_long ∙ sym (patched_long patch old)) (λ p lt.
+    let within : p < UNIT_BYTES = omega (arith, lt, long) in
+    let set = ap (λ ms. get_or ms p false) (marks_all n marks is) ∙ get_or-replicate UNIT_BYTES p true false within in
+    sym (patched_at patch old p (omega (arith, within, old_long)) ∙ ap (λ o. unwrap_or o (get_or old p 0)) (marked bytes (marks_in n marks) p set)))
+
+unset : (n p : ℕ) → get_or (replicate n false) p false ≡ false
+unset zero p = refl
+unset (suc n) zero = refl
+unset (suc n) (suc p) = unset n p
+
+pub none_put_over : (bytes : List ℕ) (marks : List Bool) (n : ℕ) (old : List ℕ) → n ≡ 0 → old ≡ patched (patch_of (bytes, marks_in n marks)) old
+none_put_over bytes marks n old is =
+    let patch = patch_of (bytes, marks_in n marks) in
+    ext_get_or 0 _ _ (sym (patched_long patch old)) (λ p lt.
+    sym (patched_at patch old p lt ∙ ap (λ o. unwrap_or o (get_or old p 0)) (cond-false (get_or (marks_in n marks) p false) _ _ (ap (λ k. get_or (marks_in k marks) p false) is ∙ unset UNIT_BYTES p))))
+
+-- ---- what is put at a place, and what is cut
+
+-- a vector that was lent as a slice has the bytes of the slice
+pub written_back : {A : Type 0} (n : ℕ) (new old : List A) → n ≡ length old → length new ≡ length old → take n (new ++ drop (length new) old) ≡ new
+written_back n new old long same =
+    ap (λ rest. take n (new ++ rest)) (drop_all (length new) old (omega (arith, same))) ∙ ap (take n) (append-nil new) ∙ take_all n new (omega (arith, long, same))
+
+-- where none is put, it makes no difference which bytes there are
+same_patch : (count : ℕ) (old now : List ℕ) (kept : List Bool) → (0 < count → now ≡ old) → (p : ℕ) → patch_of (now, marks_in count kept) p ≡ patch_of (old, marks_in count kept) p
+same_patch zero old now kept same p =
+    let none = unset UNIT_BYTES p in
+    cond-false (get_or (marks_in 0 kept) p false) (Some (get_or now p 0)) None none ∙ sym (cond-false (get_or (marks_in 0 kept) p false) (Some (get_or old p 0)) None none)
+same_patch (suc count) old now kept same p = ap (λ bytes. patch_of (bytes, marks_in (suc count) kept) p) (same (omega arith))
+
+put_at : (bs part nb : List ℕ) (ms nm : List Bool) (at : ℕ) → at + length part ≤ length bs → length bs ≡ length ms → nb ≡ take at bs ++ part ++ drop (at + length part) bs → nm ≡ take at ms ++ replicate (length part) true ++ drop (at + length part) ms
+    → (p : ℕ) → patch_of (nb, nm) p ≡ put_patch at part (patch_of (bs, ms)) p
+put_at bs part nb ms nm at within long bytes marks p = grind (arith, common_steps)
+
+cut_at : (bs : List ℕ) (ms nm : List Bool) (at : ℕ) → at ≤ length ms → nm ≡ take at ms ++ replicate (length ms - at) false → (p : ℕ) → patch_of (bs, nm) p ≡ cut_patch at (patch_of (bs, ms)) p
+cut_at bs ms nm at within marks p = grind (arith, common_steps)
+
+pub put_settled : (count more at : ℕ) (old bs nb part : List ℕ) (kept ms nm : List Bool)
+    → ms ≡ marks_in count kept → (0 < count → bs ≡ old) → length bs ≡ UNIT_BYTES → length ms ≡ UNIT_BYTES → count_by (λ b. b) ms ≡ count → at + length part ≤ UNIT_BYTES
+    → nb ≡ take at bs ++ part ++ drop (at + length part) bs → nm ≡ take at ms ++ replicate (length part) true ++ drop (at + length part) ms → length nm ≡ length ms → count_by (λ b. b) ms + more ≡ count_by (λ b. b) nm
+    → (p : ℕ) → patch_of (nb, marks_in (count + more) nm) p ≡ put_patch at part (patch_of (old, marks_in count kept)) p
+put_settled count more at old bs nb part kept ms nm spread same bs_long ms_long counted within bytes marks nm_long sum p =
+    let settle = settled nm (count + more) (nm_long ∙ ms_long) (omega (arith, sum, counted)) in
+    ap (λ m. patch_of (nb, m) p) settle
+    ∙ put_at bs part nb ms nm at (omega (arith, within, bs_long)) (bs_long ∙ sym ms_long) bytes marks p
+    ∙ ap (λ m. put_patch at part (patch_of (bs, m)) p) spread
+    ∙ ap (λ o. if in_run at (length part) p then Some (get_or part (p - at) 0) else o) (same_patch count old bs kept same p)
+
+pub cut_settled : (count less at : ℕ) (old bs : List ℕ) (kept ms nm : List Bool)
+    → ms ≡ marks_in count kept → (0 < count → bs ≡ old) → length ms ≡ UNIT_BYTES → count_by (λ b. b) ms ≡ count → at ≤ UNIT_BYTES
+    → nm ≡ take at ms ++ replicate (length ms - at) false → length nm ≡ length ms → count_by (λ b. b) nm + less ≡ count_by (λ b. b) ms
+    → (p : ℕ) → patch_of (bs, marks_in (count - less) nm) p ≡ cut_patch at (patch_of (old, marks_in count kept)) p
+cut_settled count less at old bs kept ms nm spread same ms_long counted within marks nm_long sum p =
+    let settle = settled nm (count - less) (nm_long ∙ ms_long) (omega (arith, sum, counted)) in
+    ap (λ m. patch_of (bs, m) p) settle
+    ∙ cut_at bs ms nm at (omega (arith, within, ms_long)) marks p
+    ∙ ap (λ m. cut_patch at (patch_of (bs, m)) p) spread
+    ∙ ap (λ o. if nat_lt p at then o else None) (same_patch count old bs kept same p)
+
+and_no : (b : Bool) → (b && false) ≡ false
+and_no true = refl
+and_no false = refl
+
+-- where a whole block is put, what was put before makes no difference
+pub all_settled : (count n at : ℕ) (old nb part : List ℕ) (kept nm : List Bool) → length (marks_in count kept) ≡ UNIT_BYTES → n ≡ UNIT_BYTES → length part ≡ UNIT_BYTES → at + length part ≤ UNIT_BYTES → nb ≡ part
+    → (p : ℕ) → patch_of (nb, marks_in n nm) p ≡ put_patch at part (patch_of (old, marks_in count kept)) p
+all_settled count n at old nb part kept nm long is part_long within bytes p = elim (leb_tells (suc p) (at + length part)) [
+  | inl there ↦
+      let lt = there.1 in
+      let here : p < UNIT_BYTES = omega (arith, lt, within) in
+      let set = ap (λ ms. get_or ms p false) (marks_all n nm is) ∙ get_or-replicate UNIT_BYTES p true false here in
+      let run = and_from (nat_le at p) (nat_lt p (at + length part)) (le-leb at p (omega (arith, part_long, within))) there.0 in
+      let place : p ≡ p - at = omega (arith, part_long, within) in
+      marked nb (marks_in n nm) p set
+      ∙ ap Some (ap (λ bs. get_or bs p 0) bytes ∙ ap (λ k. get_or part k 0) place)
+      ∙ sym (cond-true (in_run at (length part) p) (Some (get_or part (p - at) 0)) (patch_of (old, marks_in count kept) p) run)
+  | inr out ↦
+      let past = out.1 in
+      let new_long = ap length (marks_all n nm is) ∙ length-replicate UNIT_BYTES true in
+      let none_new = get_or_past (marks_in n nm) p false (omega (arith, past, part_long, new_long)) in
+      let none_old = get_or_past (marks_in count kept) p false (omega (arith, past, part_long, long)) in
+      let run = ap (λ b. nat_le at p && b) out.0 ∙ and_no (nat_le at p) in
+      cond-false (get_or (marks_in n nm) p false) (Some (get_or nb p 0)) None none_new
+      ∙ sym (cond-false (get_or (marks_in count kept) p false) (Some (get_or old p 0)) None none_old)
+      ∙ sym (cond-false (in_run at (length part) p) (Some (get_or part (p - at) 0)) (patch_of (old, marks_in count kept) p) run)
+]
