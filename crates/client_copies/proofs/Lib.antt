@@ -1,7 +1,14 @@
+pub mod Agreement
+pub mod Copied
 pub mod Forgetting
+pub mod Inodes
 pub mod Joined
 pub mod Known
+pub mod Nodes
 pub mod Numbers
+pub mod Preparable
 pub mod Put
 pub mod Tables
+pub mod Touched
+pub mod Untouched
 pub mod Views

@@ -1,3 +1,5 @@
 pub mod Forgotten
 pub mod Held
+pub mod Logged
+pub mod Prepared
 pub mod Put

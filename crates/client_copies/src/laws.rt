@@ -1,7 +1,22 @@
 //! What holds of every client's knowledge.
-ghost use Rattle.std.specs.Prelude.{◌≡◌, ℕ};
+ghost use Rattle.std.specs.Prelude.{◌≡◌, ℕ, true, Option};
+ghost use Rattle.std.specs.Option.{ForSome};
 ghost use Rattle.block_cache.specs.Cached.{used};
-ghost use Rattle.call_effects.specs.Known.{Knowledge, IsForgetful};
+ghost use Rattle.posix_calls.specs.Tree.{Descriptors, with_own};
+ghost use Rattle.posix_calls.specs.declared.call.Call.{Call};
+ghost use Rattle.posix_calls.specs.declared.call.Reply.{Reply};
+ghost use Rattle.file_graph.specs.Graph.{Graph, after_effects};
+ghost use Rattle.file_graph.specs.Numbers.{is_inode};
+ghost use Rattle.log_record.specs.Grammar.{IsRecord};
+ghost use Rattle.log_record.specs.declared.format.Record.{Record};
+ghost use Rattle.call_effects.specs.Known.{Knowledge, Agrees, IsForgetful, part_of};
+ghost use Rattle.call_effects.specs.Wholes.{IsSound};
+ghost use Rattle.client_plan.specs.declared.outcome.DescriptorChange.{DescriptorChange};
+ghost use Rattle.client_plan.specs.declared.outcome.Outcome.TheVariants as outcomes;
+ghost use Rattle.client_plan.specs.Holdings.{Holdings};
+ghost use Rattle.client_plan.specs.Planned.{outcome, own_changed};
+ghost use Rattle.client_plan.specs.Steps.{IsOf};
+ghost use Rattle.client_copies.specs.Logged.{knows_logged};
 ghost use Rattle.client_copies.specs.Held.{Held, knows};
 ghost use Rattle.client_copies.specs.Forgotten.{without_blocks, without_granted, without_inode};
 
@@ -15,4 +30,16 @@ pub fn forgetting_leaves_no_more()
 /// Which block was used last changes nothing that is known.
 pub fn used_block_is_known_as_before()
     ensures { (h : Held) (inode block : ℕ) → knows (record h { blocks = used inode block h.blocks }) ≡ knows h }
+{}
+
+/// The record that a call comes to has a spelling, and the node that it makes has the number of an inode, as `prepare` demands.
+pub fn logged_call_can_be_prepared()
+    ensures spelled { (k : Knowledge) (h : Holdings) (call : Call) (entry : Record) (reply : Reply) (made : Option ℕ) (change : Option DescriptorChange) → IsOf k h → outcome (part_of k) h call ≡ outcomes.Log entry reply made change → IsRecord entry }
+    ensures made { (k : Knowledge) (h : Holdings) (call : Call) (entry : Record) (reply : Reply) (made : Option ℕ) (change : Option DescriptorChange) → IsOf k h → outcome (part_of k) h call ≡ outcomes.Log entry reply made change → ForSome made (λ n. is_inode n ≡ true) }
+{}
+
+/// What a client knows once its change is committed agrees with the whole after the record's effects, where what it knew before agreed with
+/// the whole before them.
+pub fn logged_call_keeps_agreement()
+    ensures { (k : Knowledge) (g : Graph) (held : Descriptors) (h : Holdings) (call : Call) (entry : Record) (reply : Reply) (made : Option ℕ) (change : Option DescriptorChange) → IsSound g held → Agrees k g held → IsOf k h → outcome (part_of k) h call ≡ outcomes.Log entry reply made change → Agrees (knows_logged k entry.effects made change) (after_effects g entry.effects) (with_own held k.client (own_changed k.own change)) }
 {}

@@ -8,16 +8,26 @@
 //! Blocks are kept by `block_cache`, each padded to its whole length; what is known of one is what lies within the size of the copy. A copy that
 //! is put in place of another takes that one's blocks with it.
 //!
-//! To come: what the client knows after a record of its own (`knows_made` of `call_effects`), made beside before the record is begun and put in
-//! place without memory; and a count of the entries that tell a kind, so that the kind of an inode without a copy is not looked for in all
-//! copied directories.
+//! A record of the client's own is prepared before it is begun (`prepare`): what the client has of the inodes that the record touches is made beside, as
+//! the record leaves it, with all memory that this takes, and nothing changes. Once the record is in the log the change is committed (`commit`), which
+//! takes no memory: then the client knows what the record left (`specs/Logged.antt`), and no block of what it touched.
+//!
+//! To come: a directory that is changed in place, in room that was taken ahead, where today it is copied; blocks that are written over where a record
+//! writes them; and a count of the entries that tell a kind, so that the kind of an inode without a copy is not looked for in all copied directories.
 #![tactic(auto)]
 
 mod answers;
+mod committing;
 mod copies;
 mod laws;
+mod own_change;
+mod preparing;
 mod reading;
 mod slots;
 
 pub use copies::ClientCopies;
-pub use laws::{forgetting_leaves_no_more, used_block_is_known_as_before};
+pub use laws::{
+    forgetting_leaves_no_more, logged_call_can_be_prepared, logged_call_keeps_agreement,
+    used_block_is_known_as_before,
+};
+pub use own_change::OwnChange;

@@ -1,0 +1,13 @@
+use Rattle.std.proofs.Common.{◌≡◌, ℕ, cond, Some, None}
+use Rattle.std.specs.Ordering.{nat_cmp}
+use Rattle.std.specs.BTreeMap.{get}
+use Rattle.client_copies.specs.Held.{copy_at}
+use Rattle.client_copies.specs.Logged.{is_made}
+use Rattle.client_copies.proofs.Touched.{touched_next, all_touched}
+use Rattle.client_copies.proofs.preparing.touched.Goals as goal
+
+pub loop-effect-preserved : goal.loop-effect-preserved
+loop-effect-preserved c = touched_next (λ j. cond (is_made c.args.made j) (Some None) (copy_at c.args.slots.now j)) c.args.effects.now c.loop-effect.effect-index c.effect-item.result c.subject.result (get nat_cmp c.loop-effect.nodes) (get nat_cmp c.put_copy.new.nodes) c.loop-effect-test.true c.effect-item.is c.subject.ensures.alone c.in_ok-put_copy.ensures c.loop-effect.invariant
+
+pub returns : goal.returns
+returns c = all_touched (λ j. cond (is_made c.args.made j) (Some None) (copy_at c.args.slots.now j)) c.args.effects.now c.loop-effect.effect-index (get nat_cmp c.loop-effect.nodes) c.loop-effect-test.false c.loop-effect.invariant

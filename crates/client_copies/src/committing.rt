@@ -1,0 +1,117 @@
+//! What a client knows after a record of its own.
+ghost use Rattle.std.specs.Prelude.{◌≡◌, ◌<◌, ◌==◌, ℕ, true, None, IfOk, if◌then◌else◌};
+ghost use Rattle.std.specs.Option.{ForSome};
+ghost use Rattle.std.specs.List.{AllByRecursion};
+ghost use Rattle.std.specs.Ordering.{nat_cmp};
+ghost use Rattle.std.specs.BTreeMap.{get};
+ghost use Rattle.posix_calls.specs.declared.limits.TheConstants.{MAX_DESCRIPTORS};
+ghost use Rattle.file_graph.specs.Numbers.{is_inode};
+ghost use Rattle.log_record.specs.Grammar.{Fits, IsRecord};
+ghost use Rattle.client_copies.specs.Held.{knows};
+ghost use Rattle.client_copies.specs.Logged.{knows_logged, put_over, with_change, with_effects, with_made};
+ghost use Rattle.client_copies.specs.Prepared.{IsPreparedFor, nodes_after};
+
+use crate::copies::ClientCopies;
+use crate::own_change::OwnChange;
+use crate::preparing::nodes_after;
+use client_plan::DescriptorChange;
+use file_graph::Effect;
+use log_record::Record;
+use record_check::NodeSummary;
+use std::alloc::AllocError;
+use std::collections::BTreeMap;
+
+impl ClientCopies {
+    /// Prepares a change of the client's own by what it knows: its record, the number of the node that it makes, and the descriptor
+    /// that it changes, as `plan_call` tells them. All memory is taken that what it knows after the record needs, and nothing changes.
+    pub fn prepare(
+        &self,
+        entry: Record,
+        made: Option<u32>,
+        descriptor: Option<DescriptorChange>,
+    ) -> Result<OwnChange, AllocError>
+        requires spelled { IsRecord entry }
+        requires made { ForSome made (λ n. is_inode n ≡ true) }
+        requires number { ForSome descriptor (λ d. d.number < MAX_DESCRIPTORS) }
+        ensures same { IfOk result (λ c. (c.entry ≡ entry) × (c.made ≡ made) × (c.descriptor ≡ descriptor)) }
+        ensures prepared { IfOk result (IsPreparedFor (knows self.now)) }
+    {
+        let effects = entry.effects.as_slice();
+        let nodes = nodes_after(self.alloc, &self.copies, made, effects)?;
+        Ok(OwnChange {
+            entry,
+            made,
+            descriptor,
+            nodes,
+        })
+    }
+
+    /// The record of a change is in the client's log: the client knows what it left. It takes no memory, and cannot fail.
+    pub fn commit(&mut self, change: OwnChange)
+        requires { IsPreparedFor (knows self.old) change }
+        ensures { knows self.new ≡ knows_logged (knows self.old) change.entry.effects change.made change.descriptor }
+    {
+        let OwnChange {
+            entry,
+            made,
+            descriptor,
+            nodes,
+        } = change;
+        self.use_made(made);
+        self.change_descriptor(descriptor);
+        self.put_nodes(entry.effects.as_slice(), nodes);
+    }
+
+    // The number of a node that is made is used, and nothing stands there yet.
+    fn use_made(&mut self, made: Option<u32>)
+        requires { ForSome made (λ n. is_inode n ≡ true) }
+        ensures { knows self.new ≡ with_made (knows self.old) made }
+    {
+        if let Some(number) = made {
+            self.put_view(number, None);
+            self.use_number(number);
+        }
+    }
+
+    fn change_descriptor(&mut self, change: Option<DescriptorChange>)
+        requires { ForSome change (λ d. d.number < MAX_DESCRIPTORS) }
+        ensures { knows self.new ≡ with_change (knows self.old) change }
+    {
+        if let Some(change) = change {
+            self.set_descriptor(change.number, change.what);
+        }
+    }
+
+    // The copies of what effects touch are put in the place of those before them.
+    fn put_nodes(&mut self, effects: &[Effect], mut nodes: BTreeMap<u32, Option<NodeSummary>>)
+        requires fit { AllByRecursion Fits effects.now }
+        requires nodes { (i : ℕ) → get nat_cmp nodes i ≡ nodes_after effects.now (knows self.old).copies i }
+        ensures { knows self.new ≡ with_effects (knows self.old) effects.now }
+    {
+        for effect in effects {
+            let inode = effect.subject();
+            let node = take_node(&mut nodes, inode);
+            self.put_over(inode, node);
+        }
+    }
+
+    fn put_over(&mut self, inode: u32, node: Option<Option<NodeSummary>>)
+        requires { is_inode inode ≡ true }
+        ensures { knows self.new ≡ put_over (knows self.old) inode node }
+    {
+        if let Some(node) = node {
+            self.put_view(inode, node);
+        }
+    }
+}
+
+// What there is of an inode is taken out.
+fn take_node(
+    nodes: &mut BTreeMap<u32, Option<NodeSummary>>,
+    inode: u32,
+) -> Option<Option<NodeSummary>>
+    ensures taken { result ≡ get nat_cmp nodes.old inode }
+    ensures rest { (i : ℕ) → get nat_cmp nodes.new i ≡ (if i == inode then None else get nat_cmp nodes.old i) }
+{
+    nodes.remove(&inode)
+}

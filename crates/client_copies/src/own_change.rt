@@ -1,0 +1,24 @@
+ghost use Rattle.std.specs.Prelude.{◌≡◌};
+
+use client_plan::DescriptorChange;
+use log_record::Record;
+use record_check::NodeSummary;
+use std::collections::BTreeMap;
+
+/// A change that a client makes by a record of its own, with the copies that it has after the record, for which all memory is taken.
+#[derive(Drop)]
+pub struct OwnChange {
+    pub(crate) entry: Record,
+    pub(crate) made: Option<u32>,
+    pub(crate) descriptor: Option<DescriptorChange>,
+    pub(crate) nodes: BTreeMap<u32, Option<NodeSummary>>,
+}
+
+impl OwnChange {
+    /// The record, which goes into the client's log first.
+    pub fn entry(&self) -> &Record
+        ensures { result.now ≡ self.now.entry }
+    {
+        &self.entry
+    }
+}
