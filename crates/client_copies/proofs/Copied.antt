@@ -1,6 +1,6 @@
 -- Entries in the order of their names, put into a map one after the other.
-use Rattle.std.proofs.Common.{◌≡◌, ◌<◌, ℕ, ◌+◌, Bool, true, false, T, cond, List, [], ◌∷◌, ◌++◌, length, get_or, take, Option, Some, None, Ok, refl, ap, sym, ◌∙◌, subst, add-one, zero, suc, arith}
-use Rattle.std.specs.Prelude.{◌&&◌, map}
+use Rattle.std.proofs.Common.{◌≡◌, ◌<◌, ℕ, ◌+◌, Bool, true, false, T, cond, List, [], ◌∷◌, ◌++◌, length, get_or, take, Some, None, refl, ap, sym, ◌∙◌, subst, add-one, zero, suc, arith}
+use Rattle.std.specs.Prelude.{◌&&◌}
 use Rattle.std.specs.FinMap as fin
 use Rattle.std.specs.FinMap.Entries.{below_all}
 use Rattle.std.specs.Ordering.{nat_cmp, is_eq, is_lt, ordering_reverse}
@@ -15,7 +15,6 @@ use Rattle.file_graph.specs.declared.effect.Kind.{Kind}
 use Rattle.call_effects.specs.NodeView.{NodeView, FileView, DirView}
 use Rattle.record_check.specs.Counts.{counts_of}
 use Rattle.record_check.specs.Seen.{entries_of}
-use Rattle.record_check.specs.declared.node_counts.NodeCounts.{NodeCounts}
 use Rattle.record_check.specs.declared.node_counts.NodeCounts.TheVariants as counts
 
 abbrev Row : Type 0

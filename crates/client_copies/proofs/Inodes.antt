@@ -1,6 +1,5 @@
 -- What effects that keep the limits touch is an inode.
 use Rattle.std.proofs.Common.{◌≡◌, ℕ, true, ap, ◌∙◌, arith}
-use Rattle.std.specs.Prelude.{◌&&◌, nat_le}
 use Rattle.std.proofs.lemmas.Bool.Decides.{nat_tests}
 use Rattle.file_graph.specs.Numbers.{is_inode}
 use Rattle.file_graph.specs.Subject.{subject}

@@ -1,5 +1,5 @@
 -- Nodes that are put in the place of the copies that a client has, one after the other.
-use Rattle.std.proofs.Common.{◌≡◌, ◌≢◌, ◌<◌, ◌≤◌, ◌+◌, length, get_or, drop, inl, inr, ℕ, Bool, true, false, cond, List, [], ◌∷◌, Option, Some, None, refl, ap, sym, ◌∙◌, subst}
+use Rattle.std.proofs.Common.{◌≡◌, ◌≢◌, ◌<◌, ◌≤◌, ◌+◌, length, get_or, drop, inl, inr, ℕ, true, false, cond, List, [], ◌∷◌, Option, Some, None, refl, ap, sym, ◌∙◌, subst}
 use Rattle.std.specs.Prelude.{◌==◌, ◌||◌, is_some, option_map}
 use Rattle.std.proofs.lemmas.List.{drop_all, drop_more}
 use Rattle.std.proofs.lemmas.Bool.{cases_eq, eq-eqb, ne_eqb, cond-true, cond-false}
@@ -11,7 +11,7 @@ use Rattle.record_check.proofs.Steps.{on_one}
 use Rattle.client_copies.specs.Forgotten.{without_blocks}
 use Rattle.client_copies.specs.Held.{Held, copy_at, size_known, block_by, block_known, knows}
 use Rattle.client_copies.specs.Logged.{put_over, with_effects}
-use Rattle.client_copies.specs.Prepared.{nodes_after, touched}
+use Rattle.client_copies.specs.Prepared.{nodes_after}
 use Rattle.client_copies.proofs.Untouched.{among_more, untouched_copy}
 
 abbrev Copy : Type 0

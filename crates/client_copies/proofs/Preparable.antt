@@ -1,7 +1,7 @@
 -- A call that is logged comes to a change that can be prepared.
-use Rattle.std.proofs.Common.{◌≡◌, ℕ, true, List, [], ◌∷◌, Option, Some, None, Ok, ap, sym, ◌∙◌, subst}
+use Rattle.std.proofs.Common.{◌≡◌, ℕ, true, List, [], ◌∷◌, Option, Some, Ok, ap, sym, ◌∙◌, subst}
 use Rattle.std.specs.List.{AllByRecursion}
-use Rattle.posix_calls.specs.Query.{Part, Gives, ◌>>=◌, Known, run_part}
+use Rattle.posix_calls.specs.Query.{Part, ◌>>=◌, Known, run_part}
 use Rattle.posix_calls.specs.declared.call.Call.{Call}
 use Rattle.posix_calls.specs.declared.call.Reply.{Reply}
 use Rattle.posix_calls.specs.declared.operation.Operation.{Operation}
@@ -10,14 +10,14 @@ use Rattle.file_graph.specs.Numbers.{is_inode}
 use Rattle.file_graph.specs.declared.effect.Effect.{Effect}
 use Rattle.file_graph.specs.declared.effect.Effect.TheVariants as effect
 use Rattle.file_graph.specs.declared.effect.Kind.TheVariants as kind
-use Rattle.log_record.specs.Grammar.{Fits, IsInode, IsRecord}
+use Rattle.log_record.specs.Grammar.{Fits, IsRecord}
 use Rattle.log_record.specs.declared.format.Record.{Record}
 use Rattle.call_effects.specs.Known.{Knowledge, part_of}
-use Rattle.call_effects.specs.Records.{names_if, effects_asked}
+use Rattle.call_effects.specs.Records.{effects_asked}
 use Rattle.client_plan.specs.declared.outcome.DescriptorChange.{DescriptorChange}
 use Rattle.client_plan.specs.declared.outcome.Outcome.TheVariants as outcomes
 use Rattle.client_plan.specs.Holdings.{Holdings}
-use Rattle.client_plan.specs.Planned.{change_of, made_by, outcome}
+use Rattle.client_plan.specs.Planned.{made_by, outcome}
 use Rattle.client_plan.specs.Steps.{IsOf, IsReady}
 use Rattle.client_plan.proofs.Stepping.{logged_ready}
 use Rattle.client_copies.proofs.Inodes.{inode_is}

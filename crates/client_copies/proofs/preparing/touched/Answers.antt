@@ -1,4 +1,4 @@
-use Rattle.std.proofs.Common.{◌≡◌, ℕ, cond, Some, None}
+use Rattle.std.proofs.Common.{cond, Some, None}
 use Rattle.std.specs.Ordering.{nat_cmp}
 use Rattle.std.specs.BTreeMap.{get}
 use Rattle.client_copies.specs.Held.{copy_at}

@@ -1,7 +1,6 @@
-use Rattle.std.proofs.Common.{◌≡◌, ℕ, List, Option, ap, sym, ◌∙◌}
+use Rattle.std.proofs.Common.{◌≡◌, List, ap, sym, ◌∙◌}
 use Rattle.file_graph.specs.declared.effect.Effect.{Effect}
 use Rattle.call_effects.specs.Known.{Knowledge}
-use Rattle.call_effects.specs.NodeView.{NodeView}
 use Rattle.client_copies.specs.Held.{knows}
 use Rattle.client_copies.specs.Logged.{with_change, with_made}
 use Rattle.client_copies.specs.Prepared.{nodes_after}

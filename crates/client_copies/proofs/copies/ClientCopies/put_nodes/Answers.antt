@@ -1,7 +1,7 @@
 use Rattle.std.specs.Ordering.{nat_cmp}
 use Rattle.std.specs.BTreeMap.{get}
 use Rattle.client_copies.specs.Held.{knows}
-use Rattle.client_copies.proofs.Nodes.{all_nodes_put, next_left, none_put_yet}
+use Rattle.client_copies.proofs.Nodes.{all_nodes_put, next_left}
 use Rattle.client_copies.proofs.copies.ClientCopies.put_nodes.Goals as goal
 
 pub loop-effect-preserved : goal.loop-effect-preserved
