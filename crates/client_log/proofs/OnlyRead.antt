@@ -1,0 +1,68 @@
+-- A region that was only read is as it was.
+use Rattle.std.specs.Prelude.{is_some}
+use Rattle.std.proofs.Common.{◌≡◌, ◌⊎◌, ℕ, Bool, List, take, refl, sym, ◌∙◌, ap, subst, arith}
+use Rattle.tier_device.specs.declared.media.Tier.{Tier}
+use Rattle.tier_device.specs.declared.media.Tier.TheVariants.{Fast}
+use Rattle.tier_device.specs.Media.{Keeps}
+use Rattle.update_log.specs.Frames.{before_gate, header, spelled}
+use Rattle.update_log.specs.Stage.{IsAppending}
+use Rattle.update_log.specs.View.{RegionView, header_of, records_of}
+use Rattle.update_log.specs.Wipe.{CanWipe, IsWiping}
+use Rattle.update_log.specs.Wiping.{generation}
+use Rattle.update_log.specs.declared.stage.Stage.{Stage}
+use Rattle.update_log.specs.declared.stage.Stage.TheVariants as stages
+use Rattle.client_log.specs.Calls.{IsOnlyRead}
+use Rattle.client_log.specs.Regions.{CountsNothing, IsSealed, IsStale, IsWiped, IsWritten, NamesBy, is_pending}
+
+module _ {M : Type 0} (seen : M → Tier → List ℕ) (moment : M → ℕ) (left : M → ℕ → Tier → List ℕ → Type 0) (faults : M → ℕ) where
+  past_not : (v : RegionView M) → Keeps (moment v.media) (moment v.media) (left v.media) (left v.media)
+  past_not v = record { later = omega arith; at_most_one = omega arith; nothing_else = λ m t c le l. l; keeps = λ m t c le l. l }
+
+  pub not_read : (v : RegionView M) → IsOnlyRead seen moment left faults v v
+  not_read v = record { same_end = refl; same_stage = refl; same_begun = refl; same_seen = λ t. refl; clock = refl; past = past_not v; faults_rise = omega arith; one_fault = omega arith }
+
+  module _ (old new : RegionView M) (read : IsOnlyRead seen moment left faults old new) where
+    pub header_read : header_of seen new ≡ header_of seen old
+    header_read i = header (take (read.same_end i) (read.same_seen Fast i))
+
+    pub records_read : records_of seen new ≡ records_of seen old
+    records_read i = spelled (before_gate (take (read.same_end i) (read.same_seen Fast i)))
+
+    -- what is left now was left before
+    pub left_read : (c : List ℕ) → left new.media (moment new.media) Fast c → left old.media (moment old.media) Fast c
+    left_read c l = subst (λ m. left old.media m Fast c) read.clock (read.past.nothing_else (moment new.media) Fast c (omega (arith, read.clock)) l)
+
+    pub none_read : (g : ℕ) → CountsNothing moment left g old → CountsNothing moment left g new
+    none_read g none c l = none c (left_read c l)
+
+    pub wiped_read : (g : ℕ) → IsWiped seen g old → IsWiped seen g new
+    wiped_read g w = record {
+      rests = read.same_stage ∙ w.rests;
+      nothing = read.same_begun ∙ w.nothing;
+      empty = records_read ∙ w.empty;
+      names = ap generation header_read ∙ w.names;
+    }
+
+    pub sealed_read : (g : ℕ) → IsSealed seen g old → IsSealed seen g new
+    sealed_read g s = record {
+      rests = read.same_stage ∙ s.rests;
+      nothing = read.same_begun ∙ s.nothing;
+      names = ap generation header_read ∙ s.names;
+      some = λ e. s.some (sym records_read ∙ e);
+    }
+
+    pub written_read : (failed : Bool) (g : ℕ) → IsWritten seen failed g old → IsWritten seen failed g new
+    written_read failed g w = record {
+      names = ap generation header_read ∙ w.names;
+      settled = subst (λ (s : Stage). IsWiping s → ⊥) (sym read.same_stage) w.settled;
+      going = λ e. subst (λ (s : Stage). (s ≡ stages.Resting) ⊎ IsAppending s) (sym read.same_stage) (w.going e);
+      pending = ap is_some read.same_begun ∙ w.pending ∙ ap is_pending (sym read.same_stage);
+    }
+
+    pub stale_read : (failed : Bool) (g : ℕ) → IsStale seen moment left failed g old → IsStale seen moment left failed g new
+    stale_read failed g s = record {
+      nothing = read.same_begun ∙ s.nothing;
+      going = λ e. subst CanWipe (sym read.same_stage) (s.going e);
+      names = subst (λ (t : Stage). NamesBy t g (generation (header_of seen new))) (sym read.same_stage) (subst (λ (h : List ℕ). NamesBy old.stage g (generation h)) (sym header_read) s.names);
+      none = none_read g s.none;
+    }

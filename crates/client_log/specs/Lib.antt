@@ -1,0 +1,6 @@
+pub mod View
+pub mod Regions
+pub mod Calls
+pub mod Counts
+pub mod Turns
+pub mod Steps

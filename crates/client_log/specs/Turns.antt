@@ -1,0 +1,64 @@
+-- The steps of two regions in turn, over what a client's log has, as plain data.
+use Rattle.std.specs.Prelude.{◌≡◌, ◌≢◌, ℕ, Bool, true, false, List, [], ◌∷◌, ◌++◌, Option, Some, None}
+use Rattle.tier_device.specs.declared.media.Tier.{Tier}
+use Rattle.log_record.specs.declared.format.Record.{Record}
+use Rattle.update_log.specs.View.{RegionView}
+use Rattle.client_log.specs.View.{LogView, written}
+
+-- where the region is that is not written: wiped, away, or back and not wiped yet
+pub data Place : Type 0 where
+  Wiped : Place
+  Away : Place
+  Back : Place
+
+pub record Turn : Type 0 where
+  -- the records of the region that is written
+  pub current : List Record
+  pub other : Place
+  -- whether the region that is written is wiped to its generation
+  pub ready : Bool
+  -- a record that is begun
+  pub begun : Option Record
+
+abbrev pub place_of : {M : Type 0} → Option (RegionView M) → Bool → Place
+place_of None _ = Away
+place_of (Some _) true = Wiped
+place_of (Some _) false = Back
+
+-- a client's log, read so
+abbrev pub turn_of : {M : Type 0} → (M → Tier → List ℕ) → LogView M → Turn
+turn_of seen v = record { current = written seen v; other = place_of v.other v.clean; ready = v.ready; begun = v.current.begun }
+
+-- a region that is wiped may be written
+abbrev pub is_wiped : Place → Bool
+is_wiped Wiped = true
+is_wiped _ = false
+
+-- the region that is written is handed over, and the other one is written from now on
+pub record CanSeal (t : Turn) : Type 0 where
+  pub idle : t.begun ≡ None
+  pub some : t.current ≢ []
+  pub back : t.other ≢ Away
+
+abbrev pub sealed : Turn → Turn
+sealed t = record { current = []; other = Away; ready = is_wiped t.other; begun = None }
+
+-- the one that is away comes back
+abbrev pub taken_back : Turn → Turn
+taken_back t = record t { other = Back }
+
+-- the one that is back is wiped
+abbrev pub other_wiped : Turn → Turn
+other_wiped t = record t { other = Wiped }
+
+-- the one that is written is wiped
+abbrev pub current_wiped : Turn → Turn
+current_wiped t = record t { current = []; ready = true }
+
+-- a record is begun
+abbrev pub record_begun : Turn → Record → Turn
+record_begun t r = record t { begun = Some r }
+
+-- and appended
+abbrev pub record_appended : Turn → Record → Turn
+record_appended t r = record t { current = t.current ++ r ∷ []; begun = None }

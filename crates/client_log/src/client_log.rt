@@ -1,0 +1,404 @@
+ghost use Rattle.std.specs.Prelude.{◌≡◌, ◌≢◌, ◌⊎◌, ◌≤◌, ◌<◌, ◌+◌, ◌↔◌, ℕ, List, [], length, Some, None, Ok, Err, true, false, is_some, IfErr, IfOk, IfSome, IsErr, IsErrOf, IsOk, IsSome, IsTrue, OnErr, OnOk, IfNone, OnSome};
+ghost use Rattle.tier_device.specs.declared.media.Tier.TheVariants.{Fast};
+ghost use Rattle.tier_device.specs.Media.{Rose};
+ghost use Rattle.log_record.specs.Grammar.{IsRecord, spelling};
+ghost use Rattle.update_log.specs.Calls.{ShowsCall};
+ghost use Rattle.update_log.specs.Counting.{next_generation};
+ghost use Rattle.update_log.specs.Frames.{end_behind};
+ghost use Rattle.update_log.specs.Stage.{next, progress};
+ghost use Rattle.update_log.specs.View.{RegionView, records_of};
+ghost use Rattle.update_log.specs.declared.format.TheConstants.{REGION_SIZE};
+ghost use Rattle.update_log.specs.declared.stage.Progress.TheVariants as appends;
+ghost use Rattle.update_log.specs.declared.stage.Stage.TheVariants as stages;
+ghost use Rattle.update_log.specs.declared.stage.WipeProgress.TheVariants as wipes;
+ghost use Rattle.client_log.specs.declared.error.LogError.TheVariants.{DeviceFault, NotWiped, RegionFull, Memory};
+ghost use Rattle.client_log.specs.Calls.{IsOnlyRead, IsMovedOnce};
+ghost use Rattle.client_log.specs.Counts.{AreLeft, CountOf};
+ghost use Rattle.client_log.specs.Regions.{AreWiped, CountsNothing, IsWiped, in_turn};
+ghost use Rattle.client_log.specs.Steps.{IsOpened, HasRoom, CanBeSealed, sealed_view, WipesCurrent, WipesOther};
+ghost use Rattle.client_log.specs.Turns.{turn_of, record_begun, record_appended, CanSeal, sealed, Away, taken_back, current_wiped, other_wiped};
+ghost use Rattle.client_log.specs.View.{written};
+
+use crate::error::LogError;
+use crate::handed_over::HandedOver;
+use crate::regions::{in_turn, is_empty, is_pending, is_wiped, next_generation, wipe_call};
+use log_record::Record;
+use std::alloc::Global;
+use std::marker::Model;
+use std::mem;
+use tier_device::Media;
+use update_log::{Progress, Region, RegionError, Stage, WipeProgress};
+
+/// A client's log: the region that is written, and the other one, which is here or was handed over.
+///
+/// Contracts see both regions, the generation that is written, whether each region that is here is wiped to its generation, and whether a device has failed. A
+/// log of which a device has failed makes no device call any more, answers `DeviceFault` in place of each, and hands nothing over.
+#[derive(Debug, Drop)]
+pub struct ClientLog<M: Media> {
+    alloc: Global,
+    generation: u64,
+    current: Region<M>,
+    ready: bool,
+    other: Option<Region<M>>,
+    clean: bool,
+    failed: bool,
+}
+
+impl<M: Media> Model for ClientLog<M> {
+    ghost use Rattle.client_log.specs.Regions.{IsSound};
+    ghost use Rattle.client_log.specs.View.{LogView};
+
+    ghost Value = { LogView M };
+
+    ghost view = { λ l. record { generation = l.generation; current = l.current; ready = l.ready; other = l.other; clean = l.clean; failed = l.failed } };
+
+    ghost invariant = { λ l. IsSound M.seen M.moment M.left l.generation l.current l.ready l.other l.clean l.failed };
+}
+
+impl<M: Media> ClientLog<M> {
+    /// The log of two regions, that of even generations and that of odd ones, as a format or a recovery leaves them: the region of a generation is wiped
+    /// to it, and the other to the next one. It reads their headers.
+    ///
+    /// `NotWiped` exactly where they are not; the regions are handed back as they were.
+    pub fn open(
+        alloc: Global,
+        regions: (Region<M>, Region<M>),
+        generation: u64,
+    ) -> Result<Self, (LogError, (Region<M>, Region<M>))>
+        ensures opened { IfOk result (IsOpened M.seen M.moment M.left M.faults generation regions) }
+        ensures wiped { OnOk result (AreWiped M.seen generation regions) }
+        ensures not_wiped { IfErr result (λ e. e.0 ≡ NotWiped → AreWiped M.seen generation regions → ⊥) }
+        ensures only { IfErr result (λ e. (e.0 ≡ NotWiped) ⊎ (e.0 ≡ DeviceFault)) }
+        ensures fault { IfErr result (λ e. e.0 ≡ DeviceFault → Rose (M.faults regions.0.media) (M.faults e.1.0.media) ⊎ Rose (M.faults regions.1.media) (M.faults e.1.1.media)) }
+        ensures even_back { IfErr result (λ e. IsOnlyRead M.seen M.moment M.left M.faults regions.0 e.1.0) }
+        ensures odd_back { IfErr result (λ e. IsOnlyRead M.seen M.moment M.left M.faults regions.1 e.1.1) }
+    {
+        let (mut current, mut other) = in_turn(regions, generation);
+        match are_wiped(&mut current, &mut other, generation) {
+            Ok(true) => Ok(ClientLog {
+                alloc,
+                generation,
+                current,
+                ready: true,
+                other: Some(other),
+                clean: true,
+                failed: false,
+            }),
+            Ok(false) => Err((LogError::NotWiped, in_turn((current, other), generation))),
+            Err(error) => Err((error, in_turn((current, other), generation))),
+        }
+    }
+
+    /// Whether the region that is written is wiped to its generation and has room for a record.
+    pub fn room(&self, entry: &Record) -> bool
+        requires { IsRecord entry.now }
+        ensures { IsTrue result ↔ HasRoom M.seen self.now entry.now }
+    {
+        self.current.left_now();
+        match self.current.room() {
+            Some(most) => self.ready && entry.spelled_len() <= most,
+            None => false,
+        }
+    }
+
+    /// Begins to append a record. It makes no device call and takes no memory.
+    ///
+    /// Refused, with nothing changed, are a log of which a device has failed, then one whose region is not wiped to its generation, then a record that does
+    /// not fit.
+    pub fn begin(&mut self, entry: &Record) -> Result<(), LogError>
+        requires idle { self.old.current.begun ≡ None }
+        requires fits { IsRecord entry.now }
+        ensures begun { OnOk result (turn_of M.seen self.new ≡ record_begun (turn_of M.seen self.old) entry.now) }
+        ensures stage { OnOk result (self.new.current.stage ≡ stages.Begun) }
+        ensures media { self.new.current.media ≡ self.old.current.media }
+        ensures rest { self.new ≡ record self.old { current = self.new.current } }
+        ensures failed { IsErrOf result DeviceFault ↔ (self.old.failed ≡ true) }
+        ensures not_wiped { IsErrOf result NotWiped ↔ ((self.old.failed ≡ false) × (self.old.ready ≡ false)) }
+        ensures full { IsErrOf result RegionFull ↔ ((self.old.failed ≡ false) × (self.old.ready ≡ true) × (REGION_SIZE < end_behind (records_of M.seen self.old.current) + 5 + length (spelling entry.now) + 1)) }
+        ensures only { IfErr result (λ e. e ≢ Memory) }
+        ensures refused { OnErr result (self.new ≡ self.old) }
+    {
+        if self.failed {
+            return Err(LogError::DeviceFault);
+        }
+        if !self.ready {
+            return Err(LogError::NotWiped);
+        }
+        match self.current.begin(entry) {
+            Ok(()) => Ok(()),
+            Err(_) => Err(LogError::RegionFull),
+        }
+    }
+
+    /// Makes one device call of the append that was begun, as `Region::step` does; the fourth that succeeds ends the append. It takes no memory.
+    ///
+    /// Where the device fails, the log has failed, and the record stays begun: it may stand in the region or not.
+    pub fn step(&mut self) -> Result<Progress, LogError>
+        requires { IsSome self.old.current.begun }
+
+        // At each moment of the call what counted before it counts, with the begun record or without.
+        ensures any_moment { (regions : ℕ → List ℕ) → AreLeft M.moment M.left self.old self.new regions → CountOf self.old.generation (is_some self.old.other) (written M.seen self.old) self.old.current.begun regions }
+
+        ensures shown { OnOk result (ShowsCall self.old.current.stage self.old.current.end self.old.current.begun (M.seen self.old.current.media) (M.seen self.new.current.media)) }
+        ensures progress { IfOk result (λ p. p ≡ progress self.old.current.stage) }
+        ensures stage { OnOk result (self.new.current.stage ≡ next self.old.current.stage) }
+
+        // The last call appends the begun record; until then nothing of the log changes but its region.
+        ensures appended { IfOk result (λ p. p ≡ appends.Appended → IfSome self.old.current.begun (λ r. turn_of M.seen self.new ≡ record_appended (turn_of M.seen self.old) r)) }
+        ensures going { IfOk result (λ p. p ≡ appends.Going → turn_of M.seen self.new ≡ turn_of M.seen self.old) }
+        ensures unanswered { OnErr result (turn_of M.seen self.new ≡ turn_of M.seen self.old) }
+
+        ensures moved { self.old.failed ≡ false → IsMovedOnce M.moment M.left M.faults self.old.current self.new.current result }
+        ensures rest { self.new ≡ record self.old { current = self.new.current; failed = self.new.failed } }
+        ensures sound { OnOk result ((self.old.failed ≡ false) × (self.new.failed ≡ false)) }
+        ensures failed { OnErr result (self.new.failed ≡ true) }
+        ensures only { IfErr result (λ e. e ≡ DeviceFault) }
+        ensures stays_failed { self.old.failed ≡ true → (result ≡ Err DeviceFault) × (self.new ≡ self.old) }
+    {
+        self.current.left_now();
+        if self.failed {
+            return Err(LogError::DeviceFault);
+        }
+        let stepped = self.current.step();
+        self.current.left_now();
+        match stepped {
+            Ok(progress) => Ok(progress),
+            Err(_) => {
+                self.failed = true;
+                Err(LogError::DeviceFault)
+            }
+        }
+    }
+
+    /// Hands over the region that is written, and goes on in the other one with the next generation. That one may still have to be wiped. It makes no device call
+    /// and takes no memory.
+    ///
+    /// `None`, with nothing changed, exactly where there is no record, a record is begun, the other region is away, or a device has failed.
+    pub fn seal(&mut self) -> Option<HandedOver<M>>
+        ensures exact { IsSome result ↔ CanBeSealed M.seen self.old }
+        ensures unchanged { IfNone result (self.new ≡ self.old) }
+        ensures region { IfSome result (λ h. h.region ≡ self.old.current) }
+        ensures generation { IfSome result (λ h. h.generation ≡ self.old.generation) }
+        ensures goes_on { OnSome result (IfSome self.old.other (λ r. self.new ≡ sealed_view self.old r)) }
+
+        // It is the machine's step.
+        ensures may { OnSome result (CanSeal (turn_of M.seen self.old)) }
+        ensures turn { OnSome result (turn_of M.seen self.new ≡ sealed (turn_of M.seen self.old)) }
+    {
+        if !self.can_be_sealed() {
+            return None;
+        }
+        match self.other.take() {
+            Some(other) => {
+                let region = mem::replace(&mut self.current, other);
+                let generation = self.generation;
+                self.generation = next_generation(generation);
+                self.ready = self.clean;
+                self.clean = false;
+                Some(HandedOver::new(region, generation))
+            }
+            None => None,
+        }
+    }
+
+    // Whether the region that is written may be handed over.
+    fn can_be_sealed(&self) -> bool
+        ensures exact { IsTrue result ↔ CanBeSealed M.seen self.now }
+    {
+        !self.failed
+            && self.ready
+            && self.other.is_some()
+            && !is_pending(self.current.stage())
+            && !is_empty(&self.current)
+    }
+
+    /// Takes a region back that was handed over, to be wiped. Whoever calls sees to it that all its records are digested. It makes no device call and takes no
+    /// memory.
+    ///
+    /// Refused, with nothing changed and the region given back, exactly where no region is away or the generation is not the one before that which is written.
+    pub fn take_back(&mut self, back: HandedOver<M>) -> Result<(), HandedOver<M>>
+        ensures taken { OnOk result (self.new ≡ record self.old { other = Some back.region; clean = false }) }
+        ensures exact { IsOk result ↔ ((self.old.other ≡ None) × (next_generation back.generation ≡ self.old.generation)) }
+        ensures unchanged { OnErr result (self.new ≡ self.old) }
+        ensures given_back { IfErr result (λ h. h ≡ back) }
+
+        // It is the machine's step, where all those records are digested.
+        ensures may { OnOk result ((turn_of M.seen self.old).other ≡ Away) }
+        ensures turn { OnOk result (turn_of M.seen self.new ≡ taken_back (turn_of M.seen self.old)) }
+    {
+        if self.other.is_some() || next_generation(back.generation()) != self.generation {
+            return Err(back);
+        }
+        back.left_now();
+        match self.other.replace(back.into_region()) {
+            None => {}
+            Some(_) => unreachable!(),
+        }
+        Ok(())
+    }
+
+    /// Makes one device call of a wipe: of the region that is written, to its generation, where it is not wiped yet; else of the other one, to the next generation,
+    /// where it is here and not wiped. It takes no memory. `None`, with nothing changed, where nothing is to be wiped.
+    ///
+    /// Where the device fails, the log has failed.
+    pub fn wipe_step(&mut self) -> Result<Option<WipeProgress>, LogError>
+        // At each moment of the call just those records count that counted before it.
+        ensures any_moment { (regions : ℕ → List ℕ) → AreLeft M.moment M.left self.old self.new regions → CountOf self.old.generation (is_some self.old.other) (written M.seen self.old) self.old.current.begun regions }
+
+        ensures current { self.old.failed ≡ false → self.old.ready ≡ false → WipesCurrent M.seen M.moment M.left M.faults self.old self.new result }
+        ensures other { self.old.failed ≡ false → self.old.ready ≡ true → self.old.clean ≡ false → (r : RegionView M) → self.old.other ≡ Some r → WipesOther M.seen M.moment M.left M.faults r self.old self.new result }
+        ensures nothing { self.old.failed ≡ false → self.old.ready ≡ true → ((self.old.clean ≡ true) ⊎ (self.old.other ≡ None)) → (result ≡ Ok None) × (self.new ≡ self.old) }
+
+        // The last call is the machine's step, and before it nothing changes there.
+        ensures current_wiped { IfOk result (λ p. p ≡ Some wipes.Wiped → self.old.ready ≡ false → turn_of M.seen self.new ≡ current_wiped (turn_of M.seen self.old)) }
+        ensures other_wiped { IfOk result (λ p. p ≡ Some wipes.Wiped → self.old.ready ≡ true → turn_of M.seen self.new ≡ other_wiped (turn_of M.seen self.old)) }
+        ensures going { IfOk result (λ p. p ≢ Some wipes.Wiped → turn_of M.seen self.new ≡ turn_of M.seen self.old) }
+        ensures unwiped { OnErr result (turn_of M.seen self.new ≡ turn_of M.seen self.old) }
+
+        ensures sound { OnOk result ((self.old.failed ≡ false) × (self.new.failed ≡ false)) }
+        ensures failed { OnErr result (self.new.failed ≡ true) }
+        ensures only { IfErr result (λ e. e ≡ DeviceFault) }
+        ensures stays_failed { self.old.failed ≡ true → (result ≡ Err DeviceFault) × (self.new ≡ self.old) }
+    {
+        self.current.left_now();
+        if self.failed {
+            return Err(LogError::DeviceFault);
+        }
+        if !self.ready {
+            return self.wipe_current();
+        }
+        self.wipe_other()
+    }
+
+    fn wipe_current(&mut self) -> Result<Option<WipeProgress>, LogError>
+        requires failed { self.old.failed ≡ false }
+        requires ready { self.old.ready ≡ false }
+        ensures current { WipesCurrent M.seen M.moment M.left M.faults self.old self.new result }
+    {
+        match wipe_call(&mut self.current, self.generation) {
+            Ok(progress) => {
+                self.ready = progress == WipeProgress::Wiped;
+                Ok(Some(progress))
+            }
+            Err(error) => {
+                self.failed = true;
+                Err(error)
+            }
+        }
+    }
+
+    fn wipe_other(&mut self) -> Result<Option<WipeProgress>, LogError>
+        requires failed { self.old.failed ≡ false }
+        ensures other { self.old.clean ≡ false → (r : RegionView M) → self.old.other ≡ Some r → WipesOther M.seen M.moment M.left M.faults r self.old self.new result }
+        ensures nothing { (self.old.clean ≡ true) ⊎ (self.old.other ≡ None) → (result ≡ Ok None) × (self.new ≡ self.old) }
+    {
+        if self.clean {
+            return Ok(None);
+        }
+        let next = next_generation(self.generation);
+        let Some(region) = &mut self.other else {
+            return Ok(None);
+        };
+        match wipe_call(region, next) {
+            Ok(progress) => {
+                self.clean = progress == WipeProgress::Wiped;
+                Ok(Some(progress))
+            }
+            Err(error) => {
+                self.failed = true;
+                Err(error)
+            }
+        }
+    }
+
+    /// The records of the generation that is written, in their order. It reads them from the medium. Where the device fails, the log has failed.
+    pub fn records(&mut self) -> Result<Vec<Record>, LogError>
+        ensures found { IfOk result (λ found. found.items ≡ written M.seen self.old) }
+        ensures same { self.new ≡ record self.old { current = self.new.current; failed = self.new.failed } }
+        ensures read { IsOnlyRead M.seen M.moment M.left M.faults self.old.current self.new.current }
+        ensures sound { OnOk result ((self.old.failed ≡ false) × (self.new.failed ≡ false)) }
+        ensures failed { IsErrOf result DeviceFault → self.new.failed ≡ true }
+        ensures memory { IsErrOf result Memory → (self.old.failed ≡ false) × (self.new.failed ≡ false) }
+        ensures only { IfErr result (λ e. (e ≡ DeviceFault) ⊎ (e ≡ Memory)) }
+        ensures fault { IsErrOf result DeviceFault → (self.old.failed ≡ true) ⊎ Rose (M.faults self.old.current.media) (M.faults self.new.current.media) }
+        ensures quiet { IsErrOf result DeviceFault ⊎ (M.faults self.new.current.media ≡ M.faults self.old.current.media) }
+        ensures stays_failed { self.old.failed ≡ true → (result ≡ Err DeviceFault) × (self.new ≡ self.old) }
+    {
+        if self.failed {
+            return Err(LogError::DeviceFault);
+        }
+        if !self.ready {
+            return Ok(Vec::new(self.alloc));
+        }
+        match self.current.records() {
+            Ok(found) => Ok(found),
+            Err(RegionError::Memory) => Err(LogError::Memory),
+            Err(_) => {
+                self.failed = true;
+                Err(LogError::DeviceFault)
+            }
+        }
+    }
+
+    /// What a stop may leave now, between two calls: of what the two regions hold then, just the log's records count, with the begun one or without.
+    pub fn left_now(&self)
+        ensures counts { (regions : ℕ → List ℕ) → AreLeft M.moment M.left self.now self.now regions → CountOf self.now.generation (is_some self.now.other) (written M.seen self.now) self.now.current.begun regions }
+    {
+        self.current.left_now();
+    }
+
+    /// The generation that is written.
+    pub fn generation(&self) -> u64
+        ensures { result ≡ self.now.generation }
+    {
+        self.generation
+    }
+
+    /// Whether a record is begun and not appended.
+    pub fn has_begun(&self) -> bool
+        ensures { result ≡ is_some self.now.current.begun }
+    {
+        self.ready && is_pending(self.current.stage())
+    }
+
+    /// Whether a region is handed over and not back.
+    pub fn is_away(&self) -> bool
+        ensures { IsTrue result ↔ (self.now.other ≡ None) }
+    {
+        self.other.is_none()
+    }
+
+    /// Whether a device has failed.
+    pub fn has_failed(&self) -> bool
+        ensures { result ≡ self.now.failed }
+    {
+        self.failed
+    }
+
+    /// The regions that are here: the one that is written, and the other.
+    pub fn into_regions(self) -> (Region<M>, Option<Region<M>>)
+        ensures { (result.0 ≡ self.current) × (result.1 ≡ self.other) }
+    {
+        (self.current, self.other)
+    }
+}
+
+// Whether the region of a generation is wiped to it, and the other to the next one.
+fn are_wiped<M: Media>(
+    current: &mut Region<M>,
+    other: &mut Region<M>,
+    generation: u64,
+) -> Result<bool, LogError>
+    ensures exact { IfOk result (λ is. IsTrue is ↔ (IsWiped M.seen generation current.old × IsWiped M.seen (next_generation generation) other.old)) }
+    ensures none { IfOk result (λ is. IsTrue is → (g : ℕ) → CountsNothing M.moment M.left g other.new) }
+    ensures read { IsOnlyRead M.seen M.moment M.left M.faults current.old current.new }
+    ensures other_read { IsOnlyRead M.seen M.moment M.left M.faults other.old other.new }
+    ensures only { IfErr result (λ e. e ≡ DeviceFault) }
+    ensures fault { OnErr result (Rose (M.faults current.old.media) (M.faults current.new.media) ⊎ Rose (M.faults other.old.media) (M.faults other.new.media)) }
+    ensures quiet { OnOk result ((M.faults current.new.media ≡ M.faults current.old.media) × (M.faults other.new.media ≡ M.faults other.old.media)) }
+{
+    if !is_wiped(current, generation)? {
+        return Ok(false);
+    }
+    is_wiped(other, next_generation(generation))
+}
