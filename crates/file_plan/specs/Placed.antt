@@ -28,3 +28,13 @@ pub record CanBePlaced (numbers : List ℕ) (places : List Place) : Type 0 where
   pub enough : length numbers ≤ length places
   pub numbers_fit : (n : ℕ) → n < length numbers → nth_number numbers n + 1 < 2 ^ 32
   pub places_fit : (n : ℕ) → n < length numbers → (nth_place places n).block + 1 < 2 ^ 32
+
+-- A number and its place lie so many behind those of another, in one tier.
+pub record LiesBehind (numbers : List ℕ) (places : List Place) (first n : ℕ) : Type 0 where
+  pub number : nth_number numbers (first + n) ≡ nth_number numbers first + n
+  pub tier : (nth_place places (first + n)).tier ≡ (nth_place places first).tier
+  pub block : (nth_place places (first + n)).block ≡ (nth_place places first).block + n
+
+-- So many numbers from one on follow one another, and so do their places.
+abbrev pub GoOn : List ℕ → List Place → ℕ → ℕ → Type 0
+GoOn numbers places first count = (n : ℕ) → n < count → LiesBehind numbers places first n

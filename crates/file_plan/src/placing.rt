@@ -1,12 +1,12 @@
 // Where the blocks of a file lie once some are written elsewhere, and some are cut off.
-ghost use Rattle.std.specs.Prelude.{◌≡◌, ◌<◌, ◌≤◌, ◌+◌, ◌^◌, ℕ, length, OnOk};
+ghost use Rattle.std.specs.Prelude.{◌≡◌, ◌<◌, ◌≤◌, ◌+◌, ◌^◌, ℕ, length, OnOk, IsTrue};
 ghost use Rattle.posix_calls.specs.declared.limits.TheConstants.{MAX_FILE};
 ghost use Rattle.block_alloc.specs.Runs.{Rising};
 ghost use Rattle.block_map.specs.Map.{ArePut};
 ghost use Rattle.graph_change.specs.Bytes.{end};
 ghost use Rattle.graph_change.specs.Tidy.{IsTidyChange};
 ghost use Rattle.graph_change.specs.View.{change_of};
-ghost use Rattle.file_plan.specs.Placed.{CanBePlaced, NumbersArePlaced, PlacesFit};
+ghost use Rattle.file_plan.specs.Placed.{CanBePlaced, GoOn, LiesBehind, NumbersArePlaced, PlacesFit};
 ghost use Rattle.file_plan.specs.Written.{AreNumbers};
 ghost use Rattle.file_plan.specs.Mapped.{IsMapAfter};
 
@@ -16,27 +16,58 @@ use block_map::{BlockMap, Place};
 use graph_change::NodeChange;
 use std::alloc::AllocError;
 
-// Puts the blocks of these numbers, which rise, to places: each to its own, wherever it lay before.
+// Puts the blocks of these numbers, which rise, to places: each to its own, wherever it lay before. Those that follow one another, in numbers and in places, go at once.
 fn place_blocks(map: &mut BlockMap, numbers: &[u64], places: &[Place]) -> Result<(), AllocError>
     requires fit { CanBePlaced numbers.now places.now }
     requires rising { (end : ℕ) × Rising 0 end numbers.now }
     ensures { OnOk result (NumbersArePlaced numbers.now places.now (length numbers.now) map.old map.new) }
 {
-    'each: for index in 0..numbers.len() {
-        place_block(map, numbers[index], places[index])?;
+    let mut done = 0;
+    'runs: while done < numbers.len() {
+        let count = run_from(numbers, places, done);
+        place_run(map, numbers[done], places[done], count)?;
+        done += count;
     }
     Ok(())
 }
 
-// Puts one block to a place.
-fn place_block(map: &mut BlockMap, number: u64, place: Place) -> Result<(), AllocError>
-    requires number { number + 1 < 2 ^ 32 }
-    requires place { place.block + 1 < 2 ^ 32 }
-    ensures { OnOk result (ArePut number 1 place.tier place.block map.old map.new) }
+// How many numbers from one on follow one another, and so do their places.
+fn run_from(numbers: &[u64], places: &[Place], first: usize) -> usize
+    requires fit { CanBePlaced numbers.now places.now }
+    requires inside { first < length numbers.now }
+    ensures some { 0 < result }
+    ensures within { first + result ≤ length numbers.now }
+    ensures run { GoOn numbers.now places.now first result }
+{
+    let mut count = 1;
+    'more: while first + count < numbers.len() && goes_on(numbers, places, first, count) {
+        count += 1;
+    }
+    count
+}
+
+// Whether a number and its place lie so many behind those of another.
+fn goes_on(numbers: &[u64], places: &[Place], first: usize, count: usize) -> bool
+    requires fit { CanBePlaced numbers.now places.now }
+    requires inside { first + count < length numbers.now }
+    ensures { IsTrue result → LiesBehind numbers.now places.now first count }
+{
+    let here = places[first];
+    let there = places[first + count];
+    numbers[first + count] == numbers[first] + count as u64
+        && there.tier == here.tier
+        && there.block as u64 == here.block as u64 + count as u64
+}
+
+// Puts so many blocks to places, each behind the one before.
+fn place_run(map: &mut BlockMap, number: u64, place: Place, count: usize) -> Result<(), AllocError>
+    requires number { number + count < 2 ^ 32 }
+    requires place { place.block + count < 2 ^ 32 }
+    ensures { OnOk result (ArePut number count place.tier place.block map.old map.new) }
 {
     let run = Run {
         first: number as u32,
-        count: 1,
+        count: count as u32,
     };
     map.put(run, place.tier, place.block)
 }
