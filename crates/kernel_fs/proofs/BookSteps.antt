@@ -1,0 +1,41 @@
+-- The book changes, and the media stay.
+use Rattle.std.proofs.Common.{◌≡◌, ℕ, ◌≤◌, List, true, refl, sym, ◌∙◌, subst}
+use Rattle.tier_device.specs.declared.media.Tier.{Tier}
+use Rattle.posix_calls.specs.Operations.{is_client}
+use Rattle.batch_journal.specs.View.{JournalView}
+use Rattle.shared_area.specs.Store.{store_of}
+use Rattle.world_facts.specs.World.{Account, at}
+use Rattle.world_facts.specs.Machine.{Machine, with_account}
+use Rattle.world_facts.proofs.Kernels.{each}
+use Rattle.kernel_book.specs.Book.{Accounts, IsBookOf}
+use Rattle.kernel_book.specs.Marks.{AreMarksOf, IsMarkOf}
+use Rattle.kernel_fs.specs.KernelView.{KernelView}
+use Rattle.kernel_fs.specs.Standing.{IsKernelOf, done_in}
+
+-- an account with the same mark changes no mark
+pub same_mark : (accounts : ℕ → Account) (c : ℕ) (a : Account) → a.mark ≡ (accounts c).mark → (d : ℕ) → (at accounts c a d).mark ≡ (accounts d).mark
+same_mark accounts c a own = each accounts c a (λ d (x : Account). x.mark ≡ (accounts d).mark) own (λ d other. refl)
+
+-- so do those of the media
+pub marks_stay : (done : ℕ → ℕ) (m n : Machine) → ((c : ℕ) → (n.kernel.accounts c).mark ≡ (m.kernel.accounts c).mark) → ((c : ℕ) → n.accepted c ≡ m.accepted c) → AreMarksOf done m → AreMarksOf done n
+marks_stay done m n marks accepted are c is_c = record {
+  counted = subst (λ k. done c ≤ k) (sym (marks c)) (are c is_c).counted;
+  between = λ e. (are c is_c).between (sym (accepted c) ∙ e ∙ marks c);
+}
+
+module _ {M : Type 0} (seen : M → Tier → List ℕ) (area : JournalView M) (book next : Accounts) (m n : Machine) (is : IsKernelOf seen (record { area = area; book = book }) m) where
+  pub booked : n.kernel.shared ≡ m.kernel.shared → n.kernel.capacity ≡ m.kernel.capacity → ((c : ℕ) → (n.kernel.accounts c).mark ≡ (m.kernel.accounts c).mark) → ((c : ℕ) → n.accepted c ≡ m.accepted c) → IsBookOf next n
+      → IsKernelOf seen (record { area = area; book = next }) n
+  booked shared capacity marks accepted next_is = record {
+    shared = shared ∙ is.shared;
+    capacity = capacity ∙ is.capacity;
+    book = next_is;
+    marks = (is.marks.0, is.marks.1, marks_stay (done_in is.marks.0) m n marks accepted is.marks.2);
+  }
+
+-- where the machine gets another account with the same mark
+module _ {M : Type 0} (seen : M → Tier → List ℕ) (area : JournalView M) (book next : Accounts) (old : KernelView M) (same : record { area = area; book = book } ≡ old) (c : ℕ) where
+  pub stepped : (m : Machine) (a : Account) → a.mark ≡ (m.kernel.accounts c).mark → (IsBookOf book m → IsBookOf next (with_account m c a)) → IsKernelOf seen old m → IsKernelOf seen (record { area = area; book = next }) (with_account m c a)
+  stepped m a mark step is =
+      let own : IsKernelOf seen (record { area = area; book = book }) m = subst (λ (v : KernelView M). IsKernelOf seen v m) (sym same) is in
+      booked seen area book next m (with_account m c a) own refl refl (same_mark m.kernel.accounts c a mark) (λ d. refl) (step own.book)

@@ -1,0 +1,6 @@
+pub mod SealedRecords
+pub mod BookSteps
+pub mod Digested
+pub mod FirstNodes
+pub mod MediaSteps
+pub mod Refilled

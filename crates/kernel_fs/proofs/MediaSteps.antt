@@ -1,0 +1,41 @@
+-- The media change, and the machine that the kernel stands for.
+use Rattle.std.proofs.Common.{◌≡◌, ◌≢◌, inl, inr, ℕ, zero, suc, ◌+◌, ◌≤◌, ◌==◌, List, [], ◌∷◌, take, Bool, true, false, cond, Option, Some, None, refl, ap, sym, ◌∙◌, subst, arith}
+use Rattle.tier_device.specs.declared.media.Tier.{Tier}
+use Rattle.file_graph.specs.Graph.{Graph}
+use Rattle.layout.specs.declared.marks.Marks.{Marks}
+use Rattle.layout.specs.Places.{Sizes}
+use Rattle.batch_journal.specs.View.{JournalView}
+use Rattle.shared_area.specs.Store.{Store, store_of, graph, marks}
+use Rattle.world_facts.specs.Machine.{Machine}
+use Rattle.kernel_book.specs.Book.{Accounts, IsBookOf}
+use Rattle.kernel_book.specs.Marks.{AreMarksOf}
+use Rattle.kernel_book.specs.Nodes.{AreNodes}
+use Rattle.kernel_book.specs.Steps.{opened}
+use Rattle.kernel_fs.specs.KernelView.{KernelView}
+use Rattle.kernel_fs.specs.Standing.{IsKernelOf, StandBeforeRegions}
+
+-- ---- opened
+
+pub opened_kernel : {M : Type 0} (seen : M → Tier → List ℕ) (area : JournalView M) (book : Accounts) (v : Marks) → marks (store_of (seen area.media)) ≡ Some v
+    → ((g : Graph) (capacity : ℕ) (m : ℕ → ℕ) → IsBookOf book (opened g capacity m)) → (m : ℕ → ℕ) → StandBeforeRegions (store_of (seen area.media)) → IsKernelOf seen (record { area = area; book = book }) (opened (graph area.geometry (store_of (seen area.media))) area.geometry.units m)
+opened_kernel seen area book v is empty m before = record {
+  shared = refl;
+  capacity = refl;
+  book = empty (graph area.geometry (store_of (seen area.media))) area.geometry.units m;
+  marks = (v, is, λ c is_c. (let first = before v is c is_c in record { counted = omega (arith, first); between = λ e. first }));
+}
+
+-- ---- a run is moved
+
+pub moved_kernel : {M : Type 0} (seen : M → Tier → List ℕ) (old new : JournalView M) (book : Accounts) (m : Machine) → new.geometry ≡ old.geometry → graph old.geometry (store_of (seen new.media)) ≡ graph old.geometry (store_of (seen old.media))
+    → marks (store_of (seen new.media)) ≡ marks (store_of (seen old.media)) → IsKernelOf seen (record { area = old; book = book }) m → IsKernelOf seen (record { area = new; book = book }) m
+moved_kernel seen old new book m same same_graph same_marks is = record {
+  shared = is.shared ∙ sym same_graph ∙ ap (λ (g : Sizes). graph g (store_of (seen new.media))) (sym same);
+  capacity = is.capacity ∙ ap (λ (g : Sizes). g.units) (sym same);
+  book = is.book;
+  marks = (is.marks.0, same_marks ∙ is.marks.1, is.marks.2);
+}
+
+pub moved_nodes : {M : Type 0} (seen : M → Tier → List ℕ) (old new : JournalView M) (nodes : ℕ → Bool) → new.geometry ≡ old.geometry → graph old.geometry (store_of (seen new.media)) ≡ graph old.geometry (store_of (seen old.media))
+    → AreNodes (graph old.geometry (store_of (seen old.media))) nodes → AreNodes (graph new.geometry (store_of (seen new.media))) nodes
+moved_nodes seen old new nodes same same_graph are = subst (λ (g : Graph). AreNodes g nodes) (sym same_graph ∙ ap (λ (g : Sizes). graph g (store_of (seen new.media))) (sym same)) are

@@ -1,0 +1,25 @@
+use Rattle.std.proofs.Common.{◌∙◌, sym, subst}
+use Rattle.shared_area.specs.Store.{store_of}
+use Rattle.shared_area.specs.RunMoving.{CanMove}
+use Rattle.shared_area.specs.Moving.{HasTooFew}
+use Rattle.kernel_fs.specs.KernelView.{KernelView}
+use Rattle.kernel_fs.specs.Standing.{IsKernelOf}
+use Rattle.kernel_book.specs.Inodes.{has}
+use Rattle.kernel_fs.proofs.MediaSteps.{moved_kernel, moved_nodes}
+use Rattle.kernel_fs.proofs.kernel.Kernel.migrate.Goals as goal
+
+pub returns-clause-step : goal.returns-clause-step
+returns-clause-step g c = λ m is.
+    let own = subst (λ (v : KernelView _). IsKernelOf g.M.Media.seen v m) (sym c.self.view_is) is in
+    moved_kernel g.M.Media.seen c.self.inside.area c.migrate.new.area c.self.inside.book m c.in-Ok.ensures.moves.geometry c.in-Ok.ensures.same_graph c.in-Ok.ensures.same_marks own
+
+pub returns-in-Err-clause-no_block : goal.returns-in-Err-clause-no_block
+returns-in-Err-clause-no_block g c = λ is.
+    let seen = g.M.Media.seen in
+    subst (λ (v : KernelView _). CanMove v.area.geometry (store_of (seen v.area.media)) c.args.inode c.args.first c.args.count c.args.to × HasTooFew v.area.geometry (store_of (seen v.area.media)) c.args.to c.args.count) c.self.view_is
+    (c.in-Err.ensures.no_block (cc is))
+
+pub invariant_of-self-2 : goal.invariant_of-self-2
+invariant_of-self-2 g c =
+    let going : _ = sym c.has_failed.ensures ∙ c.if-has_failed.false in
+    λ still. moved_nodes g.M.Media.seen c.self.inside.area c.migrate.new.area (has c.self.inside.nodes) c.in-Ok.ensures.moves.geometry c.in-Ok.ensures.same_graph (c.self.invariant going)

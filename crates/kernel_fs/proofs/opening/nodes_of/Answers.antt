@@ -1,0 +1,37 @@
+use Rattle.std.proofs.Common.{◌+◌, ◌∙◌, sym}
+use Rattle.layout.specs.Places.{Sizes}
+use Rattle.shared_area.specs.Store.{Store, store_of, graph}
+use Rattle.shared_area.specs.Looks.{looked}
+use Rattle.shared_area.proofs.Looked.{carried, carried_back, looks_on, looks_none}
+use Rattle.kernel_book.specs.Inodes.{has}
+use Rattle.kernel_fs.specs.Opening.{AreNodesBelow}
+use Rattle.kernel_fs.proofs.FirstNodes.{begins, ends}
+use Rattle.kernel_fs.proofs.opening.nodes_of.Goals as goal
+
+pub inodes-init : goal.inodes-init
+inodes-init g c =
+    let m = g.M.Media in
+    let old = c.args.area.now in
+    record {
+      looks = looks_none m.moment m.seen m.left m.faults old tt (sym c.has_failed.ensures ∙ c.if-has_failed.false);
+      below = begins old.geometry (store_of (m.seen old.media)) (has c.new-nodes.result) c.new-nodes.ensures;
+    }
+
+pub add_node-requires-clause-below : goal.add_node-requires-clause-below
+add_node-requires-clause-below g c =
+    let m = g.M.Media in
+    carried m.moment m.seen m.left m.faults (λ (x : Sizes) (s : Store). AreNodesBelow (graph x s) c.inodes.inode (has c.inodes.nodes)) c.args.area.now c.inodes.area looked c.inodes.invariant.looks c.inodes.invariant.below
+
+pub inodes-preserved : goal.inodes-preserved
+inodes-preserved g c =
+    let m = g.M.Media in
+    let old = c.args.area.now in
+    record {
+      looks = looks_on m.moment m.seen m.left m.faults old c.inodes.area c.add_node.new.area tt looked c.inodes.invariant.looks c.in-Ok.ensures.looks;
+      below = carried_back m.moment m.seen m.left m.faults (λ (x : Sizes) (s : Store). AreNodesBelow (graph x s) (c.inodes.inode + 1) (has c.add_node.new.nodes)) old c.inodes.area looked c.inodes.invariant.looks c.in-Ok.ensures.below;
+    }
+
+pub returns-clause-nodes : goal.returns-clause-nodes
+returns-clause-nodes g c =
+    let old = c.args.area.now in
+    ends old.geometry (store_of (g.M.Media.seen old.media)) c.inodes.inode (has c.inodes.nodes) c.inodes-test.false c.inodes.invariant.below

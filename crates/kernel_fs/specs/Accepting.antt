@@ -1,0 +1,29 @@
+-- Sealed regions: when the kernel accepts one, when it digests a chunk of it, and which region of its machine that is.
+use Rattle.std.specs.Prelude.{◌≡◌, ◌≤◌, ◌+◌, ℕ, Bool, true, length}
+use Rattle.file_graph.specs.Graph.{is_among}
+use Rattle.shared_area.specs.Store.{Store}
+use Rattle.digester.specs.Chunk.{is_next}
+use Rattle.digester.specs.SealedLog.{StandsAtMark, undone}
+use Rattle.digester.specs.declared.chunk.Chunk.{Chunk}
+use Rattle.digester.specs.declared.sealed_log.SealedLog.{SealedLog}
+use Rattle.kernel_book.specs.Book.{Accounts, waiting_of}
+use Rattle.kernel_book.specs.Marks.{IsWaiting}
+use Rattle.world_facts.specs.Machine.{Sealed}
+
+-- the number of a log's client, which counts from 1; the log has it from 0
+abbrev pub client_of : SealedLog → ℕ
+client_of x = x.client + 1
+
+-- The records of the log that are not digested are those that wait of its client: it was accepted.
+abbrev pub IsAccepted : Accounts → SealedLog → Type 0
+IsAccepted book x = waiting_of book (client_of x) ≡ length (undone x)
+
+-- A chunk of a log begins at the mark: with the first record that is not digested, where the log stands at its client's mark.
+abbrev pub BeginsAtMark : SealedLog → Chunk → Store → Type 0
+BeginsAtMark x chunk s = (is_next x chunk ≡ true) × StandsAtMark x s
+
+-- That is the machine's sealed region, where so many records of the client were ever digested: it has the log's records, and its client holds for writing what the log tells.
+pub record IsRegionOf (x : SealedLog) (mark : ℕ) (s : Sealed) : Type 0 where
+  pub records : s.records ≡ x.records.items
+  pub writes : (i : ℕ) → s.writes i ≡ true → is_among i x.held.items ≡ true
+  pub waits : IsWaiting s x.done (length (undone x)) mark

@@ -1,0 +1,9 @@
+-- The kernel, as its callers see it.
+use Rattle.batch_journal.specs.View.{JournalView}
+use Rattle.kernel_book.specs.Book.{Accounts}
+
+pub record KernelView (M : Type 0) : Type 0 where
+  -- the shared media, by whose blocks there are a graph and marks, and whether a device has failed
+  pub area : JournalView M
+  -- what each client was given, and how many of its records are waiting
+  pub book : Accounts

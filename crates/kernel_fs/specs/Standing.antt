@@ -1,0 +1,30 @@
+-- Which machine the kernel stands for.
+use Rattle.std.specs.Prelude.{◌≡◌, ◌≤◌, ◌+◌, ℕ, ◌-◌, true, List, Some}
+use Rattle.tier_device.specs.declared.media.Tier.{Tier}
+use Rattle.posix_calls.specs.Operations.{is_client}
+use Rattle.layout.specs.declared.marks.Marks.{Marks}
+use Rattle.shared_area.specs.Store.{Store, store_of, graph, marks}
+use Rattle.digester.specs.Marking.{mark_of}
+use Rattle.world_facts.specs.Machine.{Machine}
+use Rattle.kernel_book.specs.Book.{IsBookOf}
+use Rattle.kernel_book.specs.Marks.{AreMarksOf}
+use Rattle.kernel_fs.specs.KernelView.{KernelView}
+
+-- How many records of its generation a client's mark tells as digested. Marks have the clients from 0 on, the machine and the book from 1.
+abbrev pub done_in : Marks → ℕ → ℕ
+done_in v c = (mark_of v (c - 1)).done
+
+-- The marks of a store are those of a machine.
+abbrev pub HasMarksOf : Store → Machine → Type 0
+HasMarksOf s m = (v : Marks) × (marks s ≡ Some v) × AreMarksOf (done_in v) m
+
+-- A kernel stands for a machine: its media spell the machine's graph and its marks, its capacity is that of the media, and its book has the machine's accounts.
+pub record IsKernelOf {M : Type 0} (seen : M → Tier → List ℕ) (k : KernelView M) (m : Machine) : Type 0 where
+  pub shared : m.kernel.shared ≡ graph k.area.geometry (store_of (seen k.area.media))
+  pub capacity : m.kernel.capacity ≡ k.area.geometry.units
+  pub book : IsBookOf k.book m
+  pub marks : HasMarksOf (store_of (seen k.area.media)) m
+
+-- Each client's mark stands before a region: none of its records is digested.
+abbrev pub StandBeforeRegions : Store → Type 0
+StandBeforeRegions s = (v : Marks) → marks s ≡ Some v → (c : ℕ) → is_client c ≡ true → done_in v c ≡ 0

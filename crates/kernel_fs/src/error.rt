@@ -1,0 +1,26 @@
+use thiserror::Error;
+
+/// A device has failed: the kernel answers nothing else then, until its media are opened again.
+#[derive(Clone, Copy, Debug, PartialEq, Eq, Error)]
+#[error("a device has failed")]
+pub struct KernelFailed;
+
+/// Why the kernel did not do what it was asked.
+#[derive(Debug, Drop)]
+pub enum KernelError<E> {
+    /// A device has failed in an earlier call: the kernel answers nothing else then, until its media are opened again.
+    Failed,
+    /// It was refused for this; where it is a fault of a device, that device failed in this call.
+    Refused(E),
+}
+
+/// Why a sealed region was not accepted.
+#[derive(Clone, Copy, Debug, PartialEq, Eq, Error)]
+pub enum AcceptError {
+    /// It does not stand at its client's mark.
+    #[error("the region does not stand at its client's mark")]
+    NotAtMark,
+    /// Records of an earlier region of that client are not digested.
+    #[error("records of an earlier region are waiting")]
+    RecordsWait,
+}

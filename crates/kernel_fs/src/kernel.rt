@@ -1,0 +1,415 @@
+ghost use Rattle.std.specs.Prelude.{◌≡◌, ◌≢◌, ◌↔◌, ◌≤◌, ◌<◌, ◌+◌, ◌-◌, ◌*◌, ℕ, List, min, length, take, drop, true, false, None, Some, Err, OnOk, OnErr, IfOk, IfErr, IfSome, IsErrOf};
+ghost use Rattle.posix_calls.specs.Operations.{is_client};
+ghost use Rattle.posix_calls.specs.declared.limits.TheConstants.{UNIT_BYTES};
+ghost use Rattle.file_graph.specs.Units.{charge};
+ghost use Rattle.call_effects.specs.NodeView.{view_at};
+ghost use Rattle.shared_area.specs.Store.{store_of, graph};
+ghost use Rattle.shared_area.specs.Looks.{Looks, looked};
+ghost use Rattle.shared_area.specs.Map.{WantsMemory};
+ghost use Rattle.shared_area.specs.AreaError.TheVariants.{Memory};
+ghost use Rattle.shared_area.specs.Parts.{IsNoDamage, IsTierOf};
+ghost use Rattle.shared_area.specs.Reading.{bytes_of_inode, IsReadFrom};
+ghost use Rattle.shared_area.specs.RunMoving.{CanMove, IsMoved};
+ghost use Rattle.shared_area.specs.Found.{HasFileRun};
+ghost use Rattle.shared_area.specs.RelocateError.TheVariants as moves;
+ghost use Rattle.shared_area.specs.Moving.{HasTooFew, HasEnough, StaysOpen, MovesOrStays};
+ghost use Rattle.digester.specs.SealedLog.{IsSealed, StandsAtMark};
+ghost use Rattle.migrator.specs.Picking.{IsPicked, MayBeMoved};
+ghost use Rattle.world_facts.specs.Machine.{Machine, Sealed, accept as accepted, book_pin, unbook_pin, bury as buried};
+ghost use Rattle.kernel_book.specs.Book.{units_of, waiting_of, out_of, is_free};
+ghost use Rattle.kernel_book.specs.Free.{AreLowest, count_of};
+ghost use Rattle.kernel_book.specs.Inodes.{IsInode, has};
+ghost use Rattle.kernel_book.specs.Nodes.{nodes_in};
+ghost use Rattle.kernel_book.specs.Steps.{grant as granted, opened, take_back as taken_back};
+ghost use Rattle.kernel_book.specs.declared.error.RefillError.TheVariants.{NoUnits, NoInode};
+ghost use Rattle.kernel_fs.specs.Accepting.{client_of, IsAccepted};
+ghost use Rattle.kernel_fs.specs.Answering.{Answers, OnRefusal};
+ghost use Rattle.kernel_fs.specs.Standing.{IsKernelOf, StandBeforeRegions};
+ghost use Rattle.kernel_fs.specs.declared.error.AcceptError.TheVariants.{NotAtMark, RecordsWait};
+ghost use Rattle.kernel_fs.specs.declared.error.KernelError.TheVariants.{Failed, Refused};
+
+use crate::accepting::{client_of, undone_of};
+use crate::error::{AcceptError, KernelError, KernelFailed};
+use crate::opening::nodes_of;
+use digester::SealedLog;
+use kernel_book::{Book, InodeSet, RefillError};
+use migrator::{FileRun, migrate, pick};
+use posix_calls::UNIT_BYTES;
+use record_check::NodeSummary;
+use shared_area::{AreaError, RelocateError, Shared};
+use std::alloc::Global;
+use std::marker::Model;
+use tier_device::{Media, Tier};
+
+/// How the units stand.
+#[derive(Clone, Copy, Debug, PartialEq, Eq)]
+pub struct Figures {
+    /// What the shared graph costs.
+    pub charge: u64,
+    /// What the clients were given, spare or for records that are not digested.
+    pub out: u64,
+    /// How many there are.
+    pub capacity: u64,
+}
+
+/// The kernel: the shared media, and what each client was given of them. Whoever has it has one client's call after the other.
+///
+/// Contracts see the shared area and the accounts. Clients are counted from 1; only a sealed log has its client from 0.
+#[derive(Debug, Drop)]
+pub struct Kernel<M: Media> {
+    alloc: Global,
+    area: Shared<M>,
+    book: Book,
+    // the inodes of the shared graph
+    nodes: InodeSet,
+}
+
+impl<M: Media> Model for Kernel<M> {
+    ghost use Rattle.std.specs.Prelude.{◌≡◌, false, ℕ, List};
+    ghost use Rattle.tier_device.specs.declared.media.Tier.{Tier};
+    ghost use Rattle.shared_area.specs.Store.{store_of, graph};
+    ghost use Rattle.kernel_book.specs.Inodes.{has};
+    ghost use Rattle.kernel_book.specs.Nodes.{AreNodes};
+    ghost use Rattle.kernel_fs.specs.KernelView.{KernelView};
+
+    ghost Value = { KernelView M };
+
+    ghost view = { λ k. record { area = k.area; book = k.book } };
+
+    // until a device has failed
+    ghost invariant = { λ k. k.area.failed ≡ false → AreNodes (graph k.area.geometry (store_of (M.seen k.area.media))) (has k.nodes) };
+}
+
+// How many units there are in all.
+fn capacity_of<M: Media>(area: &Shared<M>) -> u64
+    ensures { result ≡ area.now.geometry.units }
+{
+    area.geometry().units() as u64
+}
+
+impl<M: Media> Kernel<M> {
+    /// The kernel over shared media that are opened: nothing is granted, pinned or accepted. It reads each inode once. Where each mark stands before a region, the kernel stands for the machine that was just
+    /// opened over the graph, whatever it has of the records that were digested before.
+    ///
+    /// The area is given back with a refusal: `DeviceFault` where a device has failed or fails, `Memory` where there was none for what is read.
+    pub fn open(alloc: Global, area: Shared<M>) -> Result<Self, (AreaError, Shared<M>)>
+        ensures opens { IfOk result (λ k. (marks : ℕ → ℕ) → StandBeforeRegions (store_of (M.seen k.area.media)) → IsKernelOf M.seen k (opened (graph k.area.geometry (store_of (M.seen k.area.media))) k.area.geometry.units marks)) }
+        ensures out { IfOk result (λ k. out_of k.book ≡ 0) }
+        ensures looks { IfOk result (λ k. Looks M.moment M.seen M.left M.faults area k.area looked) }
+        ensures only { IfErr result (λ e. IsNoDamage e.0) }
+        ensures refused { IfErr result (λ e. Looks {T = Unit {0}} M.moment M.seen M.left M.faults area e.1 (Err e.0)) }
+    {
+        let mut area = area;
+        match nodes_of(&mut area) {
+            Ok(nodes) => {
+                let _marks = area.marks();
+                Ok(Kernel {
+                    alloc,
+                    area,
+                    book: Book::new(),
+                    nodes,
+                })
+            }
+            Err(error) => Err((error, area)),
+        }
+    }
+
+    /// The shared area beneath.
+    pub fn into_area(self) -> Shared<M>
+        ensures { result ≡ self.area }
+    {
+        self.area
+    }
+
+    /// Whether a device has failed: then every call answers that, until the media are opened again.
+    pub fn has_failed(&self) -> bool
+        ensures { result ≡ self.now.area.failed }
+    {
+        self.area.has_failed()
+    }
+
+    // ---- what is there
+
+    /// What stands at an inode of the shared graph: a file with its size and how many names it has, a directory with its entries by name; `None` where nothing does.
+    pub fn fetch(&mut self, inode: u32) -> Result<Option<NodeSummary>, KernelError<AreaError>>
+        ensures node { IfOk result (λ x. x ≡ view_at (graph self.old.area.geometry (store_of (M.seen self.old.area.media))) inode) }
+        ensures only { IfErr result (λ e. OnRefusal e IsNoDamage) }
+        ensures memory { IfErr result (λ e. OnRefusal e (λ r. r ≡ Memory → WantsMemory self.old.area.geometry (store_of (M.seen self.old.area.media)) inode)) }
+        ensures book { self.new.book ≡ self.old.book }
+        ensures answers { Answers self.old.area.failed self.old self.new result (Looks M.moment M.seen M.left M.faults self.old.area self.new.area) }
+    {
+        if self.area.has_failed() {
+            return Err(KernelError::Failed);
+        }
+        match self.area.node(inode) {
+            Ok(found) => Ok(found),
+            Err(error) => Err(KernelError::Refused(error)),
+        }
+    }
+
+    /// Bytes of a file from a logical block on, into the front of the buffer, as many as the file and the buffer have; holes as zeros. It answers how many: none behind the end, or where there is no file.
+    /// After a refusal the front of the buffer may have been read.
+    pub fn blocks(
+        &mut self,
+        inode: u32,
+        first: u32,
+        out: &mut [u8],
+    ) -> Result<usize, KernelError<AreaError>>
+        ensures count { IfOk result (λ n. n ≡ min (length out.old) (length (bytes_of_inode (graph self.old.area.geometry (store_of (M.seen self.old.area.media))) inode) - UNIT_BYTES * first)) }
+        ensures bytes { IfOk result (λ n. IsReadFrom (bytes_of_inode (graph self.old.area.geometry (store_of (M.seen self.old.area.media))) inode) (UNIT_BYTES * first) n out.old out.new) }
+        ensures refused { OnErr result ((n : ℕ) × IsReadFrom (bytes_of_inode (graph self.old.area.geometry (store_of (M.seen self.old.area.media))) inode) (UNIT_BYTES * first) n out.old out.new) }
+        ensures only { IfErr result (λ e. OnRefusal e IsNoDamage) }
+        ensures memory { IfErr result (λ e. OnRefusal e (λ r. r ≡ Memory → WantsMemory self.old.area.geometry (store_of (M.seen self.old.area.media)) inode)) }
+        ensures book { self.new.book ≡ self.old.book }
+        ensures answers { Answers self.old.area.failed self.old self.new result (Looks M.moment M.seen M.left M.faults self.old.area self.new.area) }
+    {
+        if self.area.has_failed() {
+            return Err(KernelError::Failed);
+        }
+        match self
+            .area
+            .read_range(inode, UNIT_BYTES as u64 * first as u64, out)
+        {
+            Ok(count) => Ok(count),
+            Err(error) => Err(KernelError::Refused(error)),
+        }
+    }
+
+    /// The tier that maps a logical block of an inode; `None` where no tier does, or there is no such inode.
+    pub fn tier_of(
+        &mut self,
+        inode: u32,
+        block: u64,
+    ) -> Result<Option<Tier>, KernelError<AreaError>>
+        ensures tier { IfOk result (IsTierOf self.old.area.geometry (store_of (M.seen self.old.area.media)) inode block) }
+        ensures only { IfErr result (λ e. OnRefusal e IsNoDamage) }
+        ensures memory { IfErr result (λ e. OnRefusal e (λ r. r ≡ Memory → WantsMemory self.old.area.geometry (store_of (M.seen self.old.area.media)) inode)) }
+        ensures book { self.new.book ≡ self.old.book }
+        ensures answers { Answers self.old.area.failed self.old self.new result (Looks M.moment M.seen M.left M.faults self.old.area self.new.area) }
+    {
+        if self.area.has_failed() {
+            return Err(KernelError::Failed);
+        }
+        match self.area.tier_of(inode, block) {
+            Ok(tier) => Ok(tier),
+            Err(error) => Err(KernelError::Refused(error)),
+        }
+    }
+
+    /// What the shared graph costs, what the clients were given, and how many units there are. It makes no device call.
+    pub fn book(&self) -> Result<Figures, KernelFailed>
+        ensures charge { IfOk result (λ f. f.charge ≡ charge (graph self.now.area.geometry (store_of (M.seen self.now.area.media)))) }
+        ensures out { IfOk result (λ f. f.out ≡ out_of self.now.book) }
+        ensures capacity { IfOk result (λ f. f.capacity ≡ self.now.area.geometry.units) }
+        ensures going { OnOk result (self.now.area.failed ≡ false) }
+        ensures failed { OnErr result (self.now.area.failed ≡ true) }
+    {
+        if self.area.has_failed() {
+            return Err(KernelFailed);
+        }
+        Ok(Figures {
+            charge: self.area.charge(),
+            out: self.book.units_out(),
+            capacity: capacity_of(&self.area),
+        })
+    }
+
+    // ---- what is given
+
+    /// Grants a client units and the lowest inode numbers that are free: those from 2 on that are no node of the shared graph and in no account. It makes no device call.
+    ///
+    /// `NoUnits` exactly where what is charged, what is out and what is asked for pass the capacity; `NoInode` exactly where they don't, but fewer numbers are free than asked. After each refusal nothing has
+    /// changed.
+    pub fn refill(
+        &mut self,
+        client: u32,
+        units: u64,
+        inodes: u32,
+    ) -> Result<InodeSet, KernelError<RefillError>>
+        requires client { is_client client ≡ true }
+        ensures granted { IfOk result (λ numbers. AreLowest (is_free self.old.book (nodes_in (graph self.old.area.geometry (store_of (M.seen self.old.area.media))))) (has numbers) inodes) }
+        ensures step { IfOk result (λ numbers. (m : Machine) → IsKernelOf M.seen self.old m → IsKernelOf M.seen self.new (granted m client units (has numbers))) }
+        ensures out { OnOk result (out_of self.new.book ≡ out_of self.old.book + units) }
+        ensures law { OnOk result (charge (graph self.old.area.geometry (store_of (M.seen self.old.area.media))) + out_of self.new.book ≤ self.old.area.geometry.units) }
+        ensures no_units { IsErrOf result (Refused NoUnits) ↔ ((self.old.area.failed ≡ false) × (self.old.area.geometry.units < charge (graph self.old.area.geometry (store_of (M.seen self.old.area.media))) + out_of self.old.book + units)) }
+        ensures no_inode { IsErrOf result (Refused NoInode) ↔ ((self.old.area.failed ≡ false) × (charge (graph self.old.area.geometry (store_of (M.seen self.old.area.media))) + out_of self.old.book + units ≤ self.old.area.geometry.units)
+            × (count_of (is_free self.old.book (nodes_in (graph self.old.area.geometry (store_of (M.seen self.old.area.media))))) < inodes)) }
+        ensures failed { IsErrOf result Failed ↔ (self.old.area.failed ≡ true) }
+        ensures refused { OnErr result (self.new ≡ self.old) }
+        ensures area { self.new.area ≡ self.old.area }
+    {
+        if self.area.has_failed() {
+            return Err(KernelError::Failed);
+        }
+        let charge = self.area.charge();
+        let capacity = capacity_of(&self.area);
+        let numbers = match self
+            .book
+            .refill(client, units, inodes, charge, capacity, &self.nodes)
+        {
+            Ok(numbers) => numbers,
+            Err(error) => return Err(KernelError::Refused(error)),
+        };
+        Ok(numbers)
+    }
+
+    /// Takes units and numbers out of a client's account, which it gives back; what the account doesn't have stays out of it. It makes no device call.
+    pub fn give_back(
+        &mut self,
+        client: u32,
+        units: u64,
+        numbers: &InodeSet,
+    ) -> Result<(), KernelFailed>
+        requires client { is_client client ≡ true }
+        ensures step { OnOk result ((m : Machine) → IsKernelOf M.seen self.old m → IsKernelOf M.seen self.new (taken_back m client units (has numbers.now))) }
+        ensures out { OnOk result (out_of self.new.book + min units (units_of self.old.book client) ≡ out_of self.old.book) }
+        ensures going { OnOk result (self.old.area.failed ≡ false) }
+        ensures failed { OnErr result (self.old.area.failed ≡ true) }
+        ensures refused { OnErr result (self.new ≡ self.old) }
+        ensures area { self.new.area ≡ self.old.area }
+    {
+        if self.area.has_failed() {
+            return Err(KernelFailed);
+        }
+        self.book.take_back(client, units, numbers);
+        Ok(())
+    }
+
+    /// Pins an inode for a client. It makes no device call.
+    pub fn pin(&mut self, client: u32, inode: u32) -> Result<(), KernelFailed>
+        requires client { is_client client ≡ true }
+        requires inode { IsInode inode }
+        ensures step { OnOk result ((m : Machine) → IsKernelOf M.seen self.old m → IsKernelOf M.seen self.new (book_pin m client inode)) }
+        ensures out { out_of self.new.book ≡ out_of self.old.book }
+        ensures going { OnOk result (self.old.area.failed ≡ false) }
+        ensures failed { OnErr result (self.old.area.failed ≡ true) }
+        ensures refused { OnErr result (self.new ≡ self.old) }
+        ensures area { self.new.area ≡ self.old.area }
+    {
+        if self.area.has_failed() {
+            return Err(KernelFailed);
+        }
+        self.book.pin(client, inode);
+        Ok(())
+    }
+
+    /// Drops a client's pin of an inode; others' pins stay. It makes no device call.
+    pub fn unpin(&mut self, client: u32, inode: u32) -> Result<(), KernelFailed>
+        requires client { is_client client ≡ true }
+        ensures step { OnOk result ((m : Machine) → IsKernelOf M.seen self.old m → IsKernelOf M.seen self.new (unbook_pin m client inode)) }
+        ensures out { out_of self.new.book ≡ out_of self.old.book }
+        ensures going { OnOk result (self.old.area.failed ≡ false) }
+        ensures failed { OnErr result (self.old.area.failed ≡ true) }
+        ensures refused { OnErr result (self.new ≡ self.old) }
+        ensures area { self.new.area ≡ self.old.area }
+    {
+        if self.area.has_failed() {
+            return Err(KernelFailed);
+        }
+        self.book.unpin(client, inode);
+        Ok(())
+    }
+
+    /// Empties the account of a client that is gone: it has no units, no number and no pin any more. It makes no device call.
+    pub fn bury(&mut self, client: u32) -> Result<(), KernelFailed>
+        requires client { is_client client ≡ true }
+        ensures step { OnOk result ((m : Machine) → IsKernelOf M.seen self.old m → IsKernelOf M.seen self.new (buried m client)) }
+        ensures out { OnOk result (out_of self.new.book + units_of self.old.book client ≡ out_of self.old.book) }
+        ensures going { OnOk result (self.old.area.failed ≡ false) }
+        ensures failed { OnErr result (self.old.area.failed ≡ true) }
+        ensures refused { OnErr result (self.new ≡ self.old) }
+        ensures area { self.new.area ≡ self.old.area }
+    {
+        if self.area.has_failed() {
+            return Err(KernelFailed);
+        }
+        self.book.bury(client);
+        Ok(())
+    }
+
+    // ---- sealed regions
+
+    /// Accepts a region that a client sealed, before any of its records is digested. It makes no device call.
+    ///
+    /// `NotAtMark` exactly where it does not stand at its client's mark; `RecordsWait` exactly where it does, but records of an earlier region of that client are not digested. After each refusal nothing has
+    /// changed.
+    pub fn accept(&mut self, log: &SealedLog) -> Result<(), KernelError<AcceptError>>
+        requires sealed { IsSealed log.now }
+        ensures accepted { OnOk result (IsAccepted self.new.book log.now) }
+        ensures step { OnOk result ((m : Machine) (s : Sealed) → IsKernelOf M.seen self.old m → m.accepted (client_of log.now) ≡ s.past → s.records ≡ log.now.records.items → IsKernelOf M.seen self.new (accepted m (client_of log.now) s)) }
+        ensures out { out_of self.new.book ≡ out_of self.old.book }
+        ensures not_at_mark { IsErrOf result (Refused NotAtMark) ↔ ((self.old.area.failed ≡ false) × (StandsAtMark log.now (store_of (M.seen self.old.area.media)) → ⊥)) }
+        ensures records_wait { IsErrOf result (Refused RecordsWait) ↔ ((self.old.area.failed ≡ false) × StandsAtMark log.now (store_of (M.seen self.old.area.media)) × (waiting_of self.old.book (client_of log.now) ≢ 0)) }
+        ensures failed { IsErrOf result Failed ↔ (self.old.area.failed ≡ true) }
+        ensures refused { OnErr result (self.new ≡ self.old) }
+        ensures area { self.new.area ≡ self.old.area }
+    {
+        if self.area.has_failed() {
+            return Err(KernelError::Failed);
+        }
+        if !log.stands_at(&self.area.marks()) {
+            return Err(KernelError::Refused(AcceptError::NotAtMark));
+        }
+        let client = client_of(log);
+        if self.book.account(client).waiting != 0 {
+            return Err(KernelError::Refused(AcceptError::RecordsWait));
+        }
+        self.book.accept(client, undone_of(log));
+        Ok(())
+    }
+
+    // ---- where blocks lie
+
+    /// What is to be moved to a tier next: of the files that have a block in the tier next above it the one with the least touch number, of several the one with the least inode, with its first run there, of 256
+    /// blocks at most. `None` where no file has a block there, and for the fast tier. It changes nothing.
+    pub fn pick(&mut self, to: Tier) -> Result<Option<FileRun>, KernelError<AreaError>>
+        ensures picked { IfOk result (IsPicked self.old.area.geometry (store_of (M.seen self.old.area.media)) to) }
+        ensures may_be_moved { IfOk result (λ x. IfSome x (MayBeMoved self.old.area.geometry (store_of (M.seen self.old.area.media)) to)) }
+        ensures only { IfErr result (λ e. OnRefusal e IsNoDamage) }
+        ensures memory { IfErr result (λ e. OnRefusal e (λ r. r ≡ Memory → (i : ℕ) × WantsMemory self.old.area.geometry (store_of (M.seen self.old.area.media)) i)) }
+        ensures book { self.new.book ≡ self.old.book }
+        ensures answers { Answers self.old.area.failed self.old self.new result (Looks M.moment M.seen M.left M.faults self.old.area self.new.area) }
+    {
+        if self.area.has_failed() {
+            return Err(KernelError::Failed);
+        }
+        let found = match pick(&mut self.area, to) {
+            Ok(found) => found,
+            Err(error) => return Err(KernelError::Refused(error)),
+        };
+        Ok(found)
+    }
+
+    /// Moves a run of a file's logical blocks, `count` of them from block `first` on, to a tier that is slower than those in which they lie. Graph and marks stay: a stop at any moment leaves the run where it
+    /// lay, or all of it moved.
+    ///
+    /// The refusals, in this order: `NotMapped` exactly where there is no file at the inode, the run has no block or more than 256, or some block of it lies in no tier that is faster than `to`; `NoBlock` exactly
+    /// where fewer data blocks of `to` are free than the run has. After these nothing has changed, nor after `Memory`. `DeviceFault` where a device failed.
+    pub fn migrate(
+        &mut self,
+        inode: u32,
+        first: u64,
+        count: u32,
+        to: Tier,
+    ) -> Result<(), KernelError<RelocateError>>
+        ensures any_moment { self.old.area.failed ≡ false → StaysOpen self.old.area.geometry (store_of (M.seen self.old.area.media)) inode first count to (M.moment self.old.area.media) (M.moment self.new.area.media) (M.left self.old.area.media) (M.left self.new.area.media) }
+        ensures moved { OnOk result (IsMoved self.old.area.geometry (store_of (M.seen self.old.area.media)) (store_of (M.seen self.new.area.media)) inode first count to) }
+        ensures step { OnOk result ((m : Machine) → IsKernelOf M.seen self.old m → IsKernelOf M.seen self.new m) }
+        ensures not_mapped { IsErrOf result (Refused moves.NotMapped) → CanMove self.old.area.geometry (store_of (M.seen self.old.area.media)) inode first count to → ⊥ }
+        ensures no_block { IsErrOf result (Refused moves.NoBlock) → CanMove self.old.area.geometry (store_of (M.seen self.old.area.media)) inode first count to × HasTooFew self.old.area.geometry (store_of (M.seen self.old.area.media)) to count }
+        ensures can { OnOk result (CanMove self.old.area.geometry (store_of (M.seen self.old.area.media)) inode first count to × HasEnough self.old.area.geometry (store_of (M.seen self.old.area.media)) to count) }
+        ensures memory { IsErrOf result (Refused moves.Memory) → HasFileRun self.old.area.geometry (store_of (M.seen self.old.area.media)) inode first count }
+        ensures book { self.new.book ≡ self.old.book }
+        ensures answers { Answers self.old.area.failed self.old self.new result (MovesOrStays M.moment M.seen M.left M.faults self.old.area self.new.area) }
+        ensures at_most { M.moment self.new.area.media ≤ M.moment self.old.area.media + count + 13 }
+    {
+        if self.area.has_failed() {
+            return Err(KernelError::Failed);
+        }
+        match migrate(&mut self.area, inode, first, count, to) {
+            Ok(()) => {}
+            Err(error) => return Err(KernelError::Refused(error)),
+        }
+        Ok(())
+    }
+}

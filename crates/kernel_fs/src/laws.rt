@@ -1,0 +1,43 @@
+//! Where the machine's records meet those of the digester.
+
+ghost use Rattle.std.specs.Prelude.{◌≡◌, ◌<◌, ◌≤◌, ℕ, Bool, List, true, length, take, drop};
+ghost use Rattle.std.specs.List.{AllByRecursion};
+ghost use Rattle.file_graph.specs.Graph.{Graph, after_effects, is_among};
+ghost use Rattle.log_record.specs.Grammar.{IsRecord};
+ghost use Rattle.log_record.specs.declared.format.Record.{Record};
+ghost use Rattle.coalescer.specs.Records.{effects_in};
+ghost use Rattle.digest_plan.specs.Covered.{AreCovered, units_of};
+ghost use Rattle.digest_plan.specs.Plan.{IsFirstBad};
+ghost use Rattle.digester.specs.SealedLog.{IsSealed, undone};
+ghost use Rattle.digester.specs.declared.sealed_log.SealedLog.{SealedLog};
+ghost use Rattle.world_facts.specs.Limits.{AreWithin};
+ghost use Rattle.world_facts.specs.Logs.{after_records, units_in};
+ghost use Rattle.world_facts.specs.Standing.{IsLogged};
+ghost use Rattle.world_facts.specs.Machine.{Machine, Sealed, IsRunning, StandsSealed, CanDigestNext, undigested_sealed};
+ghost use Rattle.kernel_book.specs.Book.{Accounts, IsBookOf};
+ghost use Rattle.kernel_fs.specs.Accepting.{client_of, IsAccepted, IsRegionOf};
+
+/// What the effects of records make of a graph is what the records make of it, one after the other.
+pub fn effects_of_records_are_the_records()
+    ensures { (g : Graph) (rs : List Record) → after_effects g (effects_in rs) ≡ after_records g rs }
+{}
+
+/// The units of records are the same number for the digester and for the machine.
+pub fn units_of_records_are_one_number()
+    ensures { (rs : List Record) → units_of rs ≡ units_in rs }
+{}
+
+/// What the machine has of a sealed region is all that a digest asks of its records: they are covered by what their client holds, and are paid for. So where the machine runs, no record of a region that
+/// stands in it is bad.
+pub fn sealed_records_are_covered()
+    ensures covered { (held : List ℕ) (g : Graph) (writes : ℕ → Bool) (rs : List Record) → AreWithin g → AllByRecursion IsRecord rs → ((i : ℕ) → writes i ≡ true → is_among i held ≡ true) → IsLogged g writes rs → AreCovered held g rs }
+    ensures never { (x : SealedLog) (m : Machine) (s : Sealed) (n k : ℕ) → IsSealed x → IsRunning m → IsRegionOf x (m.kernel.accounts (client_of x)).mark s → StandsSealed m.kernel.shared (m.kernel.accounts (client_of x)) s
+        → IsFirstBad x.held.items m.kernel.capacity m.kernel.shared (take n (undone x)) k → ⊥ }
+{}
+
+/// What the machine has of an accepted region as not digested are the log's records that are not, and it may digest the next ones.
+pub fn accepted_records_may_be_digested()
+    ensures undone { (x : SealedLog) (m : Machine) (s : Sealed) → IsRegionOf x (m.kernel.accounts (client_of x)).mark s → undigested_sealed (m.kernel.accounts (client_of x)) s ≡ undone x }
+    ensures next { (x : SealedLog) (book : Accounts) (m : Machine) (s : Sealed) (n : ℕ) → IsSealed x → IsBookOf book m → IsAccepted book x → IsRegionOf x (m.kernel.accounts (client_of x)).mark s
+        → 0 < n → n ≤ length (undone x) → CanDigestNext m (client_of x) s (take n (undone x)) (drop n (undone x)) }
+{}
