@@ -23,7 +23,7 @@ use Rattle.change_plan.specs.Done.{IsCarriedOut, AllOrNothing}
 use Rattle.change_plan.specs.Settled.{IsSettled, StaysStill}
 use Rattle.change_plan.proofs.Course.{Rests}
 use Rattle.change_plan.proofs.Moments.{rest_loose}
-use Rattle.area_apply.specs.Applying.{IsAppliedStore, IsAppliedOrNot, Applies, Ends}
+use Rattle.area_apply.specs.Applying.{IsAppliedStore, IsAppliedOrNot, MakesFewCalls, Applies, Ends}
 use Rattle.area_apply.specs.Errors.{IsTold, IsForced}
 use Rattle.area_apply.specs.declared.error.ApplyError.{ApplyError}
 use Rattle.area_apply.specs.declared.error.ApplyError.TheVariants as errors
@@ -107,6 +107,10 @@ module _ {M : Type 0} (moment : M → ℕ) (seen : M → Tier → List ℕ) (lef
     abbrev AppliesTo : JournalView M → JournalView M → Type 0
     AppliesTo old new = Applies old.geometry (store_of (seen old.media)) cs v (moment old.media) (moment new.media) (left old.media) (left new.media)
 
+    -- how many calls it makes
+    abbrev MakesFew : JournalView M → JournalView M → Type 0
+    MakesFew old new = MakesFewCalls old.geometry (store_of (seen old.media)) cs (moment old.media) (moment new.media)
+
     abbrev EndsAt : JournalView M → JournalView M → PoolsView → Result (Unit {0}) ApplyError → Type 0
     EndsAt old new pools r = Ends moment seen left faults cs v old new pools r
 
@@ -127,10 +131,13 @@ module _ {M : Type 0} (moment : M → ℕ) (seen : M → Tier → List ℕ) (lef
       };
     }
 
+    none_still : (old new : JournalView M) → StillAt old new → MakesFew old new
+    none_still old new still = inl (omega (arith, still.clock))
+
     -- ---- refusals
 
-    ends_fault : (old new : JournalView M) (pools : PoolsView) → AppliesTo old new → (new.failed ≡ true) × Rose (faults old.media) (faults new.media) → new.geometry ≡ old.geometry → faults old.media ≤ faults new.media → faults new.media ≤ faults old.media + 1 → EndsAt old new pools (Err errors.DeviceFault)
-    ends_fault old new pools applies fault geometry more one = record {
+    ends_fault : (old new : JournalView M) (pools : PoolsView) → AppliesTo old new → (new.failed ≡ true) × Rose (faults old.media) (faults new.media) → new.geometry ≡ old.geometry → faults old.media ≤ faults new.media → faults new.media ≤ faults old.media + 1 → MakesFew old new → EndsAt old new pools (Err errors.DeviceFault)
+    ends_fault old new pools applies fault geometry more one few = record {
       any_moment = applies;
       applied = tt;
       settled = λ going. absurd (true≢false (sym fault.0 ∙ going));
@@ -140,6 +147,7 @@ module _ {M : Type 0} (moment : M → ℕ) (seen : M → Tier → List ℕ) (lef
       geometry = geometry;
       more_faults = more;
       one_fault = one;
+      at_most = few;
     }
 
     pub ends_refused : (old new : JournalView M) (pools : PoolsView) (e : ApplyError) → e ≢ errors.DeviceFault → Rests moment seen left old.geometry old.media → StillAt old new → new.geometry ≡ old.geometry → new.failed ≡ false → faults new.media ≡ faults old.media
@@ -154,6 +162,7 @@ module _ {M : Type 0} (moment : M → ℕ) (seen : M → Tier → List ℕ) (lef
       geometry = geometry;
       more_faults = omega (arith, quiet);
       one_fault = omega (arith, quiet);
+      at_most = none_still old new still;
     }
 
     failed_now : {A B C : Type 0} → A × (B ⊎ C) → (B → ⊥) → A × C
@@ -162,7 +171,7 @@ module _ {M : Type 0} (moment : M → ℕ) (seen : M → Tier → List ℕ) (lef
     -- what a reader was refused for
     pub ends_told : {T : Type 0} (old new : JournalView M) (pools : PoolsView) (e : AreaError) (f : ApplyError) → IsTold e f → Looks {T = T} moment seen left faults old new (Err e) → old.failed ≡ false → Rests moment seen left old.geometry old.media → SettledAt old pools → EndsAt old new pools (Err f)
     ends_told old new pools area.DeviceFault f is looks going rests settled = subst (λ (x : ApplyError). EndsAt old new pools (Err x)) (sym is) (
-        ends_fault old new pools (applies_still old new rests looks.unmoved) (failed_now (looks.fault refl) (λ was. true≢false (sym was ∙ going))) looks.geometry looks.more_faults looks.one_fault
+        ends_fault old new pools (applies_still old new rests looks.unmoved) (failed_now (looks.fault refl) (λ was. true≢false (sym was ∙ going))) looks.geometry looks.more_faults looks.one_fault (none_still old new looks.unmoved)
         )
     ends_told old new pools (area.Damaged w b) f is looks going rests settled = absurd is
     ends_told old new pools area.Memory f is looks going rests settled =
@@ -193,6 +202,13 @@ module _ {M : Type 0} (moment : M → ℕ) (seen : M → Tier → List ℕ) (lef
     still_on : (old mid new : JournalView M) → StillAt old mid → faults mid.media ≡ faults old.media → StaysStill moment seen left faults mid new → StaysStill moment seen left faults old new
     still_on old mid new still quiet stays = record { still = unmoved_on still stays.still; going = stays.going; quiet = stays.quiet ∙ quiet }
 
+    few_on : (old mid new : JournalView M) → StillAt old mid → mid.geometry ≡ old.geometry → MakesFew mid new → MakesFew old new
+    few_on old mid new still geometry few =
+        let same : store_of (seen mid.media) ≡ store_of (seen old.media) = ap store_of (tiers_same (seen old.media) (seen mid.media) still.reads) in
+        subst (λ (g : Sizes). MakesFewCalls g (store_of (seen old.media)) cs (moment old.media) (moment new.media)) geometry (
+        subst (λ (s : Store). MakesFewCalls mid.geometry s cs (moment old.media) (moment new.media)) same (subst (λ (n : ℕ). MakesFewCalls mid.geometry (store_of (seen mid.media)) cs n (moment new.media)) still.clock few)
+        )
+
     pub ends_on : (old mid new : JournalView M) (pools : PoolsView) (r : Result (Unit {0}) ApplyError) → StillAt old mid → mid.geometry ≡ old.geometry → faults mid.media ≡ faults old.media → EndsAt mid new pools r → EndsAt old new pools r
     ends_on old mid new pools (Ok u) still geometry quiet ends = record {
       any_moment = applies_on old mid new still geometry ends.any_moment;
@@ -204,6 +220,7 @@ module _ {M : Type 0} (moment : M → ℕ) (seen : M → Tier → List ℕ) (lef
       geometry = ends.geometry ∙ geometry;
       more_faults = (let more = ends.more_faults in omega (arith, more, quiet));
       one_fault = (let one = ends.one_fault in omega (arith, one, quiet));
+      at_most = few_on old mid new still geometry ends.at_most;
     }
     ends_on old mid new pools (Err e) still geometry quiet ends = record {
       any_moment = applies_on old mid new still geometry ends.any_moment;
@@ -215,12 +232,13 @@ module _ {M : Type 0} (moment : M → ℕ) (seen : M → Tier → List ℕ) (lef
       geometry = ends.geometry ∙ geometry;
       more_faults = (let more = ends.more_faults in omega (arith, more, quiet));
       one_fault = (let one = ends.one_fault in omega (arith, one, quiet));
+      at_most = few_on old mid new still geometry ends.at_most;
     }
 
     -- ---- a plan that is carried out
 
     module _ (old new : JournalView M) (plan : Rewrite) (done : (store : Store) → IsCarriedOut old.geometry (store_of (seen old.media)) plan store → IsAppliedStore old.geometry (store_of (seen old.media)) cs v store)
-        (all : AllOrNothing old.geometry (store_of (seen old.media)) plan (moment old.media) (moment new.media) (left old.media) (left new.media)) where
+        (all : AllOrNothing old.geometry (store_of (seen old.media)) plan (moment old.media) (moment new.media) (left old.media) (left new.media)) (few : MakesFew old new) where
       applies_all : AppliesTo old new
       applies_all = record {
         later = all.later;
@@ -242,10 +260,11 @@ module _ {M : Type 0} (moment : M → ℕ) (seen : M → Tier → List ℕ) (lef
         geometry = geometry;
         more_faults = (let q = quiet.1 in omega (arith, q));
         one_fault = (let q = quiet.1 in omega (arith, q));
+        at_most = few;
       }
 
       pub ends_undone : (pools : PoolsView) (e : AreaError) (f : ApplyError) → IsTold e f → (e ≡ area.DeviceFault → (new.failed ≡ true) × Rose (faults old.media) (faults new.media)) → (e ≡ area.Memory → Looks {T = Unit {0}} moment seen left faults old new (Err e)) → new.geometry ≡ old.geometry → faults old.media ≤ faults new.media
           → faults new.media ≤ faults old.media + 1 → old.failed ≡ false → Rests moment seen left old.geometry old.media → SettledAt old pools → EndsAt old new pools (Err f)
-      ends_undone pools area.DeviceFault f is fault memory geometry more one going rests settled = subst (λ (x : ApplyError). EndsAt old new pools (Err x)) (sym is) (ends_fault old new pools applies_all (fault refl) geometry more one)
+      ends_undone pools area.DeviceFault f is fault memory geometry more one going rests settled = subst (λ (x : ApplyError). EndsAt old new pools (Err x)) (sym is) (ends_fault old new pools applies_all (fault refl) geometry more one few)
       ends_undone pools (area.Damaged w b) f is fault memory geometry more one going rests settled = absurd is
       ends_undone pools area.Memory f is fault memory geometry more one going rests settled = ends_told old new pools area.Memory f is (memory refl) going rests settled

@@ -5,18 +5,22 @@ use Rattle.tier_device.specs.declared.media.Tier.{Tier}
 use Rattle.tier_device.specs.Media.{Left, Rose}
 use Rattle.file_graph.specs.Units.{charge}
 use Rattle.graph_change.specs.Bounds.{AreBounded}
-use Rattle.graph_change.specs.Change.{Changes, changed}
+use Rattle.graph_change.specs.Change.{Changes, change_at, changed}
 use Rattle.graph_change.specs.Tidy.{AreTidyChanges}
 use Rattle.layout.specs.declared.marks.Marks.{Marks}
 use Rattle.layout.specs.Marks.{fits_marks}
 use Rattle.layout.specs.Places.{Sizes}
 use Rattle.batch_journal.specs.View.{JournalView}
 use Rattle.batch_journal.specs.Volume.{IsVolume}
-use Rattle.area_image.specs.Store.{Store, store_of, slot, graph, marks}
+use Rattle.area_image.specs.Store.{Store, store_of, slot, place, graph, marks}
 use Rattle.area_image.specs.Reads.{Loose}
 use Rattle.area_image.specs.Spelled.{IsOpenable}
 use Rattle.change_plan.specs.PoolsValue.{PoolsView}
 use Rattle.change_plan.specs.Settled.{IsSettled, StaysStill}
+use Rattle.change_plan.specs.Taken.{Taken}
+use Rattle.change_plan.specs.Taking.{taken_data}
+use Rattle.change_plan.specs.Writing.{RunsAreNormal, calls_for}
+use Rattle.change_plan.specs.Laid.{LeavesFile, GetPlaces, LieInPlaces, KeepsPlaces}
 use Rattle.change_plan.specs.Next.{HasFewEntries}
 use Rattle.change_plan.specs.Part.{IsTouchedBy}
 use Rattle.change_plan.specs.Wanted.{images_for}
@@ -33,13 +37,38 @@ pub record CanApply (g : Sizes) (s : Store) (cs : Changes) (v : Marks) : Type 0 
   pub fits : fits_marks v ≡ true
 
 -- A store in which the change is made: it can be opened, and spells the graph after the change, and these marks; each slot that was written tells the digest that wrote it, and each
--- other slot is as it was.
+-- other slot is as it was. The blocks that the change writes lie in the first data blocks that were free; of each file that it leaves the other blocks lie where they lay, but for those
+-- that are cut off; and so do all blocks of other inodes.
 pub record IsAppliedStore (g : Sizes) (s : Store) (cs : Changes) (v : Marks) (new : Store) : Type 0 where
   pub opens : IsOpenable g new
   pub graph_after : graph g new ≡ changed cs (graph g s)
   pub new_marks : marks new ≡ Some v
   pub touched : (i : ℕ) → fin.contains_key cs i ≡ true → IsTouchedBy v.digests (slot g new i)
   pub others : (i : ℕ) → fin.contains_key cs i ≡ false → slot g new i ≡ slot g s i
+  pub written_places : LieInPlaces g s cs new
+  pub kept_places : (i : ℕ) → fin.contains_key cs i ≡ true → LeavesFile g s (change_at cs i) i → KeepsPlaces g (change_at cs i) s new i
+  pub other_places : (i : ℕ) → fin.contains_key cs i ≡ false → (t : Tier) (k : ℕ) → place g new i t k ≡ place g s i t k
+
+-- So many writes and fences put data into these places: one write for each run of them, where none touches the next, and one fence for each tier in which some lie.
+pub record AreCallsFor (g : Sizes) (places : List (Tier × ℕ)) (calls : ℕ) : Type 0 where
+  pub taken : Taken
+  pub apart : RunsAreNormal g taken
+  pub are : taken_data taken ≡ places
+  pub many : calls ≡ calls_for taken
+
+-- From one moment to another there are no more writes and fences than a change makes: those that put the blocks which it writes into their places, one for each image that its inodes
+-- may take, and 8 for the marks and the journal.
+pub record MakesCalls (g : Sizes) (s : Store) (cs : Changes) (before now : ℕ) : Type 0 where
+  pub blocks : List (ℕ × ℕ)
+  pub places : List (Tier × ℕ)
+  pub got : GetPlaces g s cs blocks places
+  pub calls : ℕ
+  pub for_data : AreCallsFor g places calls
+  pub few : now ≤ before + calls + images_for cs + 8
+
+-- There are no more than these, or none.
+abbrev pub MakesFewCalls : Sizes → Store → Changes → ℕ → ℕ → Type 0
+MakesFewCalls g s cs before now = (now ≤ before) ⊎ MakesCalls g s cs before now
 
 -- Contents from which a journal opens: a store that is as that one but for free blocks, or one in which the change is made.
 pub record IsAppliedOrNot (g : Sizes) (s : Store) (cs : Changes) (v : Marks) (content : Tier → List ℕ) : Type 0 where
@@ -65,3 +94,4 @@ pub record Ends {M : Type 0} (moment : M → ℕ) (seen : M → Tier → List �
   pub geometry : new.geometry ≡ old.geometry
   pub more_faults : faults old.media ≤ faults new.media
   pub one_fault : faults new.media ≤ faults old.media + 1
+  pub at_most : MakesFewCalls old.geometry (store_of (seen old.media)) cs (moment old.media) (moment new.media)

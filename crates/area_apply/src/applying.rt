@@ -13,9 +13,10 @@ ghost use Rattle.change_plan.specs.PoolsValue.{PoolsView, free_data, AreInOrder}
 ghost use Rattle.change_plan.specs.Taking.{WereTaken, CanUndo, SameFree, taken_data};
 ghost use Rattle.change_plan.specs.Planned.{pairs_of};
 ghost use Rattle.change_plan.specs.Settled.{IsSettled, StaysStill};
-ghost use Rattle.area_apply.specs.Applying.{CanApply, IsAppliedStore, Applies, Ends};
+ghost use Rattle.area_apply.specs.Applying.{CanApply, IsAppliedStore, Applies, Ends, MakesFewCalls};
 ghost use Rattle.area_apply.specs.Errors.{IsForced};
 ghost use Rattle.change_plan.specs.First.{PlansNothing};
+ghost use Rattle.change_plan.specs.Laid.{AreFirstFree};
 ghost use Rattle.change_plan.specs.Next.{HasFewEntries};
 ghost use Rattle.change_plan.specs.Wanted.{images_for, WantsBlocks, AreWritten};
 ghost use Rattle.area_apply.specs.declared.error.ApplyError.TheVariants.{DeviceFault, NoBlock};
@@ -65,6 +66,7 @@ fn plan_and_write<M: Media>(
     requires can { CanApply journal.old.geometry (store_of (M.seen journal.old.media)) (changes_of change.now) marks }
     requires taken { (before : PoolsView) × AreInOrder before × WereTaken before pools.old taken × IsSettled journal.old.geometry (M.seen journal.old.media) (M.left journal.old.media (M.moment journal.old.media)) before }
     requires undo { CanUndo pools.old taken }
+    requires first { AreFirstFree journal.old.geometry (store_of (M.seen journal.old.media)) (taken_data taken) }
     requires no_nodes { taken.nodes.items ≡ [] }
     requires nodes { 255 ≤ length pools.old.nodes.free }
     requires places { pairs_of places.now ≡ taken_data taken }
@@ -108,6 +110,7 @@ fn place_and_write<M: Media>(
     requires can { CanApply journal.old.geometry (store_of (M.seen journal.old.media)) (changes_of change.now) marks }
     requires taken { (before : PoolsView) × AreInOrder before × WereTaken before pools.old taken × IsSettled journal.old.geometry (M.seen journal.old.media) (M.left journal.old.media (M.moment journal.old.media)) before }
     requires undo { CanUndo pools.old taken }
+    requires first { AreFirstFree journal.old.geometry (store_of (M.seen journal.old.media)) (taken_data taken) }
     requires no_nodes { taken.nodes.items ≡ [] }
     requires nodes { 255 ≤ length pools.old.nodes.free }
     requires wants { WantsBlocks journal.old.geometry (store_of (M.seen journal.old.media)) (changes_of change.now) (length (taken_data taken)) }
@@ -180,8 +183,9 @@ fn count_and_write<M: Media>(
 }
 
 /// Changes the graph on the shared media, with new marks, in one batch: each block that the change writes goes into a data block of its own, the first that are free, fastest tier
-/// first, and is fenced; then one batch writes slots, lists of extents, blocks of directories and marks; then what the inodes used and use no more is free. So a stop at any
-/// moment leaves the graph and the marks from before, or the graph after the change and the new marks. Each inode that is written tells the number of digests that the marks tell.
+/// first, with one write for each run of them and then one fence for each tier that was written; then one batch writes slots, lists of extents, blocks of directories and marks;
+/// then what the inodes used and use no more is free. So a stop at any moment leaves the graph and the marks from before, or the graph after the change and the new marks. Each
+/// inode that is written tells the number of digests that the marks tell.
 ///
 /// `NoBlock` where fewer data blocks are free than the change writes; `Memory` where there was none, before the first write. After these two the media and the free blocks are as
 /// before. `DeviceFault` where a device fails in the call, or has failed before it, and nothing is touched then; the journal answers nothing else until it is opened again. The
@@ -218,6 +222,8 @@ pub fn apply<M: Media>(
     ensures geometry { journal.new.geometry ≡ journal.old.geometry }
     ensures faults { M.faults journal.old.media ≤ M.faults journal.new.media }
     ensures one_fault { M.faults journal.new.media ≤ M.faults journal.old.media + 1 }
+    // A write for each run of data blocks that is taken, a fence for each tier that is written, and the batch; what is read is not counted.
+    ensures at_most { MakesFewCalls journal.old.geometry (store_of (M.seen journal.old.media)) (changes_of change.now) (M.moment journal.old.media) (M.moment journal.new.media) }
 {
     if journal.has_failed() {
         return Err(ApplyError::DeviceFault);

@@ -6,18 +6,20 @@ ghost use Rattle.graph_change.specs.View.{changes_of};
 ghost use Rattle.area_image.specs.Store.{store_of};
 ghost use Rattle.area_image.specs.Spelled.{IsOpenable};
 ghost use Rattle.change_plan.specs.PoolsValue.{PoolsView, data_pool, AreInOrder};
-ghost use Rattle.change_plan.specs.Taking.{WereTaken, SameFree};
+ghost use Rattle.change_plan.specs.Taking.{WereTaken, SameFree, taken_data};
 ghost use Rattle.change_plan.specs.Plan.{lost_in};
 ghost use Rattle.change_plan.specs.Adding.{HasTaken};
 ghost use Rattle.area_apply.specs.Applying.{CanApply, Ends};
 ghost use Rattle.area_apply.specs.Errors.{IsForced};
 ghost use Rattle.change_plan.specs.First.{IsWhole};
+ghost use Rattle.change_plan.specs.Laid.{AreFirstFree};
 
 use crate::applied::carried_out_change_is_made;
 use crate::error::{ApplyError, told};
 use batch_journal::Journal;
 use change_plan::{
-    PartialPlan, Pools, Taken, carry_out, whole_change_can_be_carried_out, whole_plan,
+    PartialPlan, Pools, Taken, carry_out, whole_change_can_be_carried_out,
+    whole_change_lies_in_its_places, whole_plan,
 };
 use graph_change::GraphChange;
 use layout::Marks;
@@ -40,6 +42,7 @@ fn write_change<M: Media>(
     requires can { CanApply journal.old.geometry (store_of (M.seen journal.old.media)) (changes_of change.now) marks }
     requires whole { IsWhole journal.old.geometry (store_of (M.seen journal.old.media)) (changes_of change.now) marks.digests plan taken (Some marks) }
     requires took { HasTaken journal.old.geometry (store_of (M.seen journal.old.media)) pools.old taken }
+    requires first { AreFirstFree journal.old.geometry (store_of (M.seen journal.old.media)) (taken_data taken) }
     requires nodes_room { length plan.lost.nodes.items ≤ pools.old.nodes.room }
     requires room { (t : Tier) → length (lost_in plan.lost t) ≤ (data_pool pools.old t).room }
     ensures ends { Ends M.moment M.seen M.left M.faults (changes_of change.now) marks journal.old journal.new pools.new result }
@@ -49,6 +52,7 @@ fn write_change<M: Media>(
     journal.left_now();
     let _units = journal.geometry().units();
     whole_change_can_be_carried_out();
+    whole_change_lies_in_its_places();
     carried_out_change_is_made();
     match carry_out(alloc, journal, pools, whole_plan(plan, taken, Some(marks))) {
         Ok(()) => Ok(()),
@@ -72,6 +76,7 @@ pub fn reserve_and_write<M: Media>(
     requires can { CanApply journal.old.geometry (store_of (M.seen journal.old.media)) (changes_of change.now) marks }
     requires whole { IsWhole journal.old.geometry (store_of (M.seen journal.old.media)) (changes_of change.now) marks.digests plan taken (Some marks) }
     requires took { HasTaken journal.old.geometry (store_of (M.seen journal.old.media)) pools.old taken }
+    requires first { AreFirstFree journal.old.geometry (store_of (M.seen journal.old.media)) (taken_data taken) }
     ensures ends { Ends M.moment M.seen M.left M.faults (changes_of change.now) marks journal.old journal.new pools.new result }
     ensures same { (before : PoolsView) → AreInOrder before → WereTaken before pools.old taken → OnErr result (SameFree before pools.new) }
     ensures only { IfErr result IsForced }

@@ -27,6 +27,7 @@ use Rattle.change_plan.specs.Part.{Share, IsIn, IsPut, IsPart, IsTouchedBy, IsWr
 use Rattle.change_plan.specs.Parts.{ArePut, AreParts, LoseBoth, HasFree, ShareNone, with_at, both}
 use Rattle.change_plan.proofs.Pieces.{at_one, at_other, changed_old, changed_last, last_or_old, changed_either, rise_more, below_changed, in_left, in_right, in_either, holds_left, holds_right, blocks_left, blocks_right, blocks_either, lost_parts}
 use Rattle.change_plan.proofs.Found.{use_or_none}
+use Rattle.change_plan.proofs.Laid.{more_laid}
 
 abbrev a_use : ℕ → Tier → Option ℕ → Use
 a_use i t k = record { inode = i; tier = t; logical = k }
@@ -265,5 +266,6 @@ module _ (g : Sizes) (s : Store) (cs : Changes) (touch i : ℕ) (x : ℕ → Slo
     size = all_size;
     given_up = hold_lost;
     touched = each (λ j y n. IsTouchedBy touch y) parts.touched part.touched;
+    laid = more_laid g s cs i slots last refl m its_runs share.«data» its.«data» earlier parts.laid part.laid;
     written = written;
   }

@@ -1,5 +1,5 @@
 -- Before the first inode nothing is planned.
-use Rattle.std.proofs.Common.{◌≡◌, ◌≤◌, ◌<◌, inl, inr, ℕ, List, [], refl, sym, subst}
+use Rattle.std.proofs.Common.{◌≡◌, ◌≤◌, ◌<◌, inl, inr, ℕ, List, [], true, refl, sym, subst}
 use Rattle.std.specs.Prelude.{◌↔◌}
 use Rattle.std.specs.List.{Contains}
 use Rattle.std.proofs.lemmas.Bool.{false≢true}
@@ -17,6 +17,7 @@ use Rattle.area_commit.specs.declared.plan.Lost.{Lost}
 use Rattle.area_commit.specs.Plan.{LieApart, IsLost, HoldLost, lost_in, is_changed}
 use Rattle.change_plan.specs.Part.{Share, IsIn}
 use Rattle.change_plan.specs.Parts.{AreParts}
+use Rattle.change_plan.proofs.Laid.{none_laid}
 
 -- a share without blocks
 abbrev nothing_taken : Share
@@ -58,5 +59,6 @@ before_the_first g s cs touch x m lost nodes fast block slow = record {
   size = refl;
   given_up = holds_nothing g s x m lost nodes fast block slow;
   touched = λ i is. absurd (false≢true is);
+  laid = none_laid g s cs (λ i. is_changed [] i ≡ true) m (λ i is. false≢true is);
   written = λ after put i is. absurd (false≢true is);
 }

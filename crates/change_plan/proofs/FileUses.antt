@@ -39,6 +39,7 @@ use Rattle.file_plan.proofs.After.{keeps_or_takes, after_within}
 use Rattle.file_plan.proofs.Stores.{from_kept, file_is_fit, as_changed}
 use Rattle.file_plan.proofs.Listed.{inside as spare_inside, all_listed, root_uses, all_used}
 use Rattle.file_plan.proofs.Vacant.{roots_differ}
+use Rattle.change_plan.specs.Laid.{IsLaid, nth_data}
 use Rattle.change_plan.specs.Part.{Share, IsIn, IsPut}
 use Rattle.change_plan.specs.File.{slot_from, IsPlannedFile}
 use Rattle.change_plan.proofs.Blocked.{contains_at, place_at, root_block, block_root, place_block, block_place, same_block, node_is, node_within, data_within}
@@ -254,6 +255,19 @@ module _ (g : Sizes) (s : Store) (c : Change) (touch i : ℕ) (x : Slot) (m : Ti
     | inl is ↦ is
     | inr other ↦ before k (subst IsSome (p.images.others k (λ t list same. false≢true (sym other ∙ subst (λ n. is_node g n ≡ true) same (root_node t (some_root t list))))) some)
   ]
+
+  -- ---- where what is written lies
+
+  stored_at : (n : ℕ) → n < length p.places → nth_data share.«data» n ≡ pair_of (nth_place p.places n)
+  stored_at n lt = ap (λ (d : List (Tier × ℕ)). nth_data d n) p.stored ∙ get_or-map pair_of p.places n (record { tier = tiers.Fast; block = 0 }) (tiers.Fast, 0) lt
+
+  pub is_laid : IsLaid g s c i m share.«data»
+  is_laid = record {
+    numbers = p.numbers;
+    written = inl (p.changes.kind_is, p.numbers_are);
+    many = ap length p.stored ∙ length-map p.places pair_of ∙ p.many;
+    there = λ n lt. subst (λ (b : Tier × ℕ). lies_at m b.0 (nth_number p.numbers n) ≡ Some b.1) (sym (stored_at n (inside n lt))) (p.map.there n lt);
+  }
 
   -- ---- the store
 

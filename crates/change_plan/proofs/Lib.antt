@@ -1,5 +1,6 @@
 pub mod Pieces
 pub mod Found
+pub mod Laid
 pub mod Before
 pub mod Added
 pub mod Summed
@@ -28,6 +29,7 @@ pub mod NextPlaces
 pub mod NextOthers
 pub mod Walked
 mod WrittenBlocks
+mod Lying
 -- Passed on to the crates above, which so need not list those below.
 pub use Rattle.area_commit.proofs.Chosen
 pub use Rattle.area_commit.proofs.Course

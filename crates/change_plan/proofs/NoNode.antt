@@ -6,6 +6,7 @@ use Rattle.std.proofs.lemmas.Bool.{false≢true}
 use Rattle.std.proofs.lemmas.Option.{none-some}
 use Rattle.tier_device.specs.declared.media.Tier.{Tier}
 use Rattle.tier_device.specs.declared.media.Tier.TheVariants as tiers
+use Rattle.file_graph.specs.declared.effect.Kind.TheVariants as kind
 use Rattle.graph_change.specs.Change.{Change}
 use Rattle.layout.specs.declared.slot.Slot.TheVariants as slots
 use Rattle.layout.specs.Places.{Sizes}
@@ -18,6 +19,7 @@ use Rattle.area_commit.specs.declared.plan.Lost.{Lost}
 use Rattle.change_plan.specs.Part.{IsPart, IsIn}
 use Rattle.change_plan.specs.Adding.{GivesAll, no_runs}
 use Rattle.change_plan.specs.Directory.{of_nodes}
+use Rattle.change_plan.proofs.Laid.{lays_none}
 
 pub no_number : (p : ℕ) → Contains [] p → ⊥
 no_number p (n, below, is) = omega (arith, below)
@@ -79,6 +81,7 @@ gone_part g s c touch i images lost none all = record {
   size = refl;
   given_up = all;
   touched = inl refl;
+  laid = lays_none g s c i no_runs (λ file. none-some kind.File (sym none ∙ file));
   written = λ after put. inr (inr (record { none = none; slot_is = refl; runs = no_runs_in }));
 }
   where

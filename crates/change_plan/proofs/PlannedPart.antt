@@ -6,6 +6,8 @@ use Rattle.std.proofs.lemmas.Bool.{eq-eqb, eqb-true, and_parts, ltb-true}
 use Rattle.std.proofs.lemmas.Option.{none-some}
 use Rattle.tier_device.specs.declared.media.Tier.{Tier}
 use Rattle.tier_device.specs.declared.media.Tier.TheVariants.{Fast}
+use Rattle.file_graph.specs.declared.effect.Kind.{Kind}
+use Rattle.file_graph.specs.declared.effect.Kind.TheVariants as kind
 use Rattle.graph_change.specs.Change.{Change}
 use Rattle.graph_change.specs.Net.{Base, Kept, Made, Gone}
 use Rattle.layout.specs.declared.slot.Slot.TheVariants as slots
@@ -32,6 +34,7 @@ use Rattle.directory_plan.specs.declared.plan.DirectoryPlan.{DirectoryPlan}
 use Rattle.change_plan.specs.Part.{IsPart, IsIn, IsPut, is_one}
 use Rattle.change_plan.specs.Adding.{GivesAll, no_runs}
 use Rattle.change_plan.specs.Directory.{of_nodes, WereFreeNodes, LosesNodes, LosesFor}
+use Rattle.change_plan.proofs.Laid.{lays_none}
 use Rattle.change_plan.proofs.NoNode.{no_number, no_pair, no_block}
 
 -- what the rest of a change starts from is there
@@ -42,6 +45,13 @@ from_used Gone o b is = absurd (none-some b is)
 
 not_last : (g : Sizes) (p : ℕ) → is_node g p ≡ true → p < node_end g
 not_last g p is = ltb-true p (node_end g) (and_parts (nat_le 292 p) (nat_lt p (node_end g)) is).1
+
+-- a directory is no file
+pub no_file : {o : Option Kind} → o ≡ Some kind.Directory → o ≡ Some kind.File → ⊥
+no_file is file = differ (sym is ∙ file)
+  where
+    differ : Some kind.Directory ≡ Some kind.File → ⊥
+    differ e = cc
 
 abbrev pub use_at : ℕ → Tier → Option ℕ → Use
 use_at i t k = record { inode = i; tier = t; logical = k }
@@ -163,5 +173,6 @@ module _ (g : Sizes) (s : Store) (c : Change) (i touch : ℕ) (start : StartedDi
     size = refl;
     given_up = holds c.base refl lose;
     touched = inr (ap touch_of p.planned.slot_is);
+    laid = lays_none g s c i m (λ file. no_file p.starts.kind_is file);
     written = λ after put. inr (inl (start.entries, x.entries, told.written after (stand after put)));
   }

@@ -60,7 +60,7 @@ pub record Walked (g : Sizes) (s : Store) (cs : Changes) (touch : ℕ) (places :
   pub more : ℕ
   pub wanted : WantInTurn g s rest more
   pub enough : used + more ≡ length places
-  pub images : length plan.nodes + length plan.slots.items + images_in rest ≤ 255
+  pub images : length plan.nodes + length plan.slots.items + images_in rest ≤ images_for cs
   pub nodes : images_in rest ≤ length left.nodes.free
 
 -- where what is left of a map in memory is the same
@@ -101,12 +101,12 @@ module _ (g : Sizes) (s : Store) (cs : Changes) (touch : ℕ) (places : List Pla
     more = length places;
     wanted = wanted;
     enough = omega arith;
-    images = (let no_slots = ap length nothing.slots in let no_nodes = ap length nothing.nodes in omega (arith, images, no_slots, no_nodes));
+    images = (let no_slots = ap length nothing.slots in let no_nodes = ap length nothing.nodes in omega (arith, no_slots, no_nodes));
     nodes = omega (arith, images, nodes);
   }
 
-  pub all_walked : (left : PoolsView) (taken : Taken) (plan : PartialPlan) (used : ℕ) → Walked g s cs touch places left taken plan used [] → (marks : Option Marks) → IfSome marks (λ v. fits_marks v ≡ true) → IsWhole g s cs touch plan taken marks
-  all_walked left taken plan used walked marks fits =
+  pub all_walked : (left : PoolsView) (taken : Taken) (plan : PartialPlan) (used : ℕ) → images_for cs ≤ 255 → Walked g s cs touch places left taken plan used [] → (marks : Option Marks) → IfSome marks (λ v. fits_marks v ≡ true) → IsWhole g s cs touch plan taken marks
+  all_walked left taken plan used most walked marks fits =
       let keys : inodes_of plan.slots.items ≡ fin.keys cs = sym (append-nil (inodes_of plan.slots.items)) ∙ walked.keys in
       record {
         inodes = λ i. fin.contains_key-keys cs i ∙ (ap (λ (ks : List ℕ). list_any (eq_by_cmp nat_cmp i) ks) (sym keys) ∙ among i plan.slots.items);
@@ -117,7 +117,8 @@ module _ (g : Sizes) (s : Store) (cs : Changes) (touch : ℕ) (places : List Pla
         used = used;
         many = (let none = walked.wanted in omega (arith, none, walked.enough));
         first = walked.first;
-        few = omega (arith, walked.images);
+        images = omega (arith, walked.images);
+        few = omega (arith, walked.images, most);
         fits = fits;
       }
 

@@ -1,3 +1,4 @@
+pub mod Laid
 pub mod Part
 pub mod Parts
 pub mod Adding
@@ -21,6 +22,7 @@ pub use Rattle.area_commit.specs.Room
 pub use Rattle.area_commit.specs.Settled
 pub use Rattle.area_commit.specs.Taken
 pub use Rattle.area_commit.specs.Taking
+pub use Rattle.area_commit.specs.Writing
 pub use Rattle.area_commit.specs.declared.plan.Lost
 pub use Rattle.area_commit.specs.declared.plan.Rewrite
 pub use Rattle.file_plan.specs.Planned

@@ -19,6 +19,7 @@ use Rattle.area_commit.specs.Batches.{AreNodes}
 use Rattle.area_commit.specs.Writing.{HoldData}
 use Rattle.area_commit.specs.declared.plan.Lost.{Lost}
 use Rattle.area_commit.specs.Plan.{HoldLost}
+use Rattle.change_plan.specs.Laid.{IsLaid}
 
 -- ---- its share of what was taken
 
@@ -61,7 +62,8 @@ abbrev pub is_one : ℕ → ℕ → Bool
 is_one i j = j == i
 
 -- The plan of inode i: its slot and runs keep the limits; each block that it has a use for then, it had for the same use, or it is of its share; each block of the share has one
--- use, and an image if it is of the node pool; images are put for its own blocks alone; what it gives up is what it loses; and where all that stands, it is written for its change.
+-- use, and an image if it is of the node pool; images are put for its own blocks alone; what it gives up is what it loses; the blocks that its change writes are to lie
+-- in the data blocks of the share, one each; and where all that stands, it is written for its change.
 pub record IsPart (g : Sizes) (s : Store) (c : Change) (touch : ℕ) (i : ℕ) (x : Slot) (m : TierRuns) (share : Share) (bytes : List ℕ) (old new : List (ℕ × List ℕ)) (lost : Lost) : Type 0 where
   pub fit : IsFit g x m
   pub listed : (t : Tier) → IsListed (with_images new (s tiers.Fast)) i (root_of x t) (runs_in m t)
@@ -74,4 +76,5 @@ pub record IsPart (g : Sizes) (s : Store) (c : Change) (touch : ℕ) (i : ℕ) (
   pub size : length bytes ≡ 4096 * length share.«data»
   pub given_up : HoldLost g (is_one i) s (λ _. x) (λ _. m) lost
   pub touched : IsTouchedBy touch x
+  pub laid : IsLaid g s c i m share.«data»
   pub written : (after : Store) → IsPut g s share bytes new i x m after → IsWrittenFor g c s after i x m

@@ -23,6 +23,7 @@ use Rattle.area_commit.specs.Taking.{taken_data}
 use Rattle.area_commit.specs.Writing.{HoldData}
 use Rattle.area_commit.specs.declared.plan.Lost.{Lost}
 use Rattle.area_commit.specs.Plan.{HoldLost, is_changed}
+use Rattle.change_plan.specs.Laid.{AreLaid}
 use Rattle.change_plan.specs.Part.{Share, IsIn, IsWrittenFor, IsTouchedBy}
 
 -- In a store stands what is planned of some inodes.
@@ -46,6 +47,7 @@ pub record AreParts (g : Sizes) (s : Store) (cs : Changes) (touch : ℕ) (x : �
   pub size : length bytes ≡ 4096 * length share.«data»
   pub given_up : HoldLost g (is_changed slots) s x m lost
   pub touched : (i : ℕ) → is_changed slots i ≡ true → IsTouchedBy touch (x i)
+  pub laid : AreLaid g s cs (λ i. is_changed slots i ≡ true) m share.«data»
   pub written : (after : Store) → ArePut g s (is_changed slots) x m share bytes images after → (i : ℕ) → is_changed slots i ≡ true → IsWrittenFor g (change_at cs i) s after i (x i) (m i)
 
 -- ---- one more

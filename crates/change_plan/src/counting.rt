@@ -1,7 +1,8 @@
 // How many data blocks a change wants.
-ghost use Rattle.std.specs.Prelude.{◌≡◌, ◌⊎◌, ℕ, List, Some, true, false, length, IfOk, IfErr};
+ghost use Rattle.std.specs.Prelude.{◌≡◌, ◌⊎◌, ℕ, List, Some, true, false, length, IfOk, IfErr, OnErr};
+ghost use Rattle.std.specs.FinMap as fin;
 ghost use Rattle.graph_change.specs.Bounds.{AreBounded};
-ghost use Rattle.graph_change.specs.Change.{Changes};
+ghost use Rattle.graph_change.specs.Change.{Changes, change_at};
 ghost use Rattle.graph_change.specs.Tidy.{AreTidyChanges};
 ghost use Rattle.graph_change.specs.View.{change_of, changes_of};
 ghost use Rattle.layout.specs.Places.{Sizes, is_inode};
@@ -9,6 +10,7 @@ ghost use Rattle.area_image.specs.Store.{Store, store_of, slot_read};
 ghost use Rattle.area_image.specs.Spelled.{IsSpelled};
 ghost use Rattle.area_image.specs.Looks.{Looks};
 ghost use Rattle.area_image.specs.declared.error.AreaError.TheVariants.{DeviceFault, Memory};
+ghost use Rattle.change_plan.specs.Laid.{LeavesFile};
 ghost use Rattle.change_plan.specs.Next.{WantsData};
 ghost use Rattle.change_plan.specs.Wanted.{WantsBlocks, AreWritten};
 
@@ -24,7 +26,8 @@ use tier_device::Media;
 
 // How many data blocks the change of an inode wants that has this slot.
 fn blocks_for(alloc: Global, slot: &Slot, change: &NodeChange) -> Result<usize, AllocError>
-    ensures { (g : Sizes) (s : Store) (i : ℕ) → slot_read g s i ≡ Some slot.now → IfOk result (WantsData g s (change_of change.now) i) }
+    ensures wanted { (g : Sizes) (s : Store) (i : ℕ) → slot_read g s i ≡ Some slot.now → IfOk result (WantsData g s (change_of change.now) i) }
+    ensures memory { (g : Sizes) (s : Store) (i : ℕ) → slot_read g s i ≡ Some slot.now → OnErr result (LeavesFile g s (change_of change.now) i) }
 {
     match kind_from(change.base, slot) {
         Some(Kind::File) => {
@@ -47,6 +50,7 @@ fn count_in<M: Media>(
     requires number { is_inode inode ≡ true }
     ensures wanted { IfOk result (WantsData journal.old.geometry (store_of (M.seen journal.old.media)) (change_of change.now) inode) }
     ensures only { IfErr result (λ e. (e ≡ DeviceFault) ⊎ (e ≡ Memory)) }
+    ensures memory { IfErr result (λ e. e ≡ Memory → LeavesFile journal.old.geometry (store_of (M.seen journal.old.media)) (change_of change.now) inode) }
     ensures looks { Looks M.moment M.seen M.left M.faults journal.old journal.new result }
 {
     match read_slot(journal, inode) {
@@ -59,7 +63,7 @@ fn count_in<M: Media>(
 }
 
 /// How many data blocks a change wants: one for each block of a file that it writes. The slot of each inode in it is read, in one device call each. `Memory` where there was none for the
-/// numbers of a file's blocks.
+/// numbers of a file's blocks, and only where the change leaves a file.
 pub fn count_blocks<M: Media>(
     alloc: Global,
     journal: &mut Journal<M>,
@@ -71,6 +75,7 @@ pub fn count_blocks<M: Media>(
     requires tidy { AreTidyChanges (changes_of change.now) }
     ensures wanted { IfOk result (WantsBlocks journal.old.geometry (store_of (M.seen journal.old.media)) (changes_of change.now)) }
     ensures only { IfErr result (λ e. (e ≡ DeviceFault) ⊎ (e ≡ Memory)) }
+    ensures memory { IfErr result (λ e. e ≡ Memory → (i : ℕ) × (fin.contains_key (changes_of change.now) i ≡ true) × LeavesFile journal.old.geometry (store_of (M.seen journal.old.media)) (change_at (changes_of change.now) i) i) }
     ensures looks { Looks M.moment M.seen M.left M.faults journal.old journal.new result }
 {
     let mut count = 0;

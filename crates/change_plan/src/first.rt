@@ -1,7 +1,8 @@
 //! What holds of the plans of the first inodes of a change, over what was taken so far.
 
-ghost use Rattle.std.specs.Prelude.{◌≡◌, ◌≤◌, ◌<◌, ◌+◌, ℕ, List, [], Option, true, drop, length};
+ghost use Rattle.std.specs.Prelude.{◌≡◌, ◌≤◌, ◌<◌, ◌+◌, ℕ, List, [], Option, true, false, drop, length};
 ghost use Rattle.std.specs.List.{Contains};
+ghost use Rattle.std.specs.FinMap as fin;
 ghost use Rattle.tier_device.specs.declared.media.Tier.{Tier};
 ghost use Rattle.graph_change.specs.Change.{Changes, change_at, changed};
 ghost use Rattle.graph_change.specs.Tidy.{AreTidyChanges};
@@ -10,7 +11,7 @@ ghost use Rattle.layout.specs.declared.slot.Slot.{Slot};
 ghost use Rattle.layout.specs.Places.{Sizes, IsAllowed, is_inode};
 ghost use Rattle.block_map.specs.Map.{TierRuns};
 ghost use Rattle.block_map.specs.declared.map.Place.{Place};
-ghost use Rattle.area_image.specs.Store.{Store, graph, slot};
+ghost use Rattle.area_image.specs.Store.{Store, graph, slot, place};
 ghost use Rattle.area_image.specs.Spelled.{IsSpelled};
 ghost use Rattle.area_commit.specs.ChangedSlot.{ChangedSlot};
 ghost use Rattle.area_commit.specs.PoolsValue.{PoolsView, data_pool};
@@ -20,13 +21,17 @@ ghost use Rattle.file_plan.specs.Planned.{pairs_of};
 ghost use Rattle.area_commit.specs.Plan.{IsPlan, is_changed, lost_in};
 ghost use Rattle.area_commit.specs.Done.{IsCarriedOut};
 ghost use Rattle.area_commit.specs.Room.{AreReadyFor};
+ghost use Rattle.change_plan.specs.Laid.{LeavesFile, AreFirstFree, GetPlaces, LieInPlaces, KeepsPlaces};
 ghost use Rattle.change_plan.specs.Part.{IsTouchedBy};
 ghost use Rattle.change_plan.specs.Parts.{AreParts, share_of};
 ghost use Rattle.change_plan.specs.Adding.{HasTaken, AddsPart};
 ghost use Rattle.change_plan.specs.First.{PlansNothing, PlansFirst, IsWhole, whole_of};
 ghost use Rattle.change_plan.specs.declared.partial.PartialPlan.{PartialPlan};
 
-use crate::laws::{carried_out_change_is_the_graph_after, parts_are_planned};
+use crate::laws::{
+    carried_out_blocks_lie_in_their_places, carried_out_change_is_the_graph_after,
+    parts_are_planned,
+};
 use crate::partial::PartialPlan;
 use area_commit::{Rewrite, Taken, taken_blocks_were_free};
 use layout::Marks;
@@ -76,4 +81,21 @@ pub fn whole_change_can_be_carried_out()
     added_part_stands_with_the_first();
     parts_are_planned();
     carried_out_change_is_the_graph_after();
+}
+
+/// So it is with where blocks lie: those that the change writes in the data blocks that were taken, which are the first free ones where they were taken so; each other one of a file
+/// that the change leaves where it lay, unless it is cut off; and all of the other inodes where they lay.
+pub fn whole_change_lies_in_its_places()
+    ensures got { (g : Sizes) (s : Store) (cs : Changes) (touch : ℕ) (plan : PartialPlan) (taken : Taken) (marks : Option Marks) → IsWhole g s cs touch plan taken marks → AreFirstFree g s (taken_data taken) → (blocks : List (ℕ × ℕ)) × GetPlaces g s cs blocks (taken_data taken) }
+    ensures written { (g : Sizes) (s : Store) (cs : Changes) (touch : ℕ) (plan : PartialPlan) (taken : Taken) (marks : Option Marks) (new : Store)
+        → IsAllowed g → IsSpelled g s → IsWhole g s cs touch plan taken marks → IsCarriedOut g s (whole_of plan taken marks) new → AreFirstFree g s (taken_data taken) → LieInPlaces g s cs new }
+    ensures kept { (g : Sizes) (s : Store) (cs : Changes) (touch i : ℕ) (plan : PartialPlan) (taken : Taken) (marks : Option Marks) (new : Store)
+        → IsAllowed g → IsSpelled g s → IsWhole g s cs touch plan taken marks → IsCarriedOut g s (whole_of plan taken marks) new → fin.contains_key cs i ≡ true → LeavesFile g s (change_at cs i) i → KeepsPlaces g (change_at cs i) s new i }
+    ensures others { (g : Sizes) (s : Store) (cs : Changes) (touch i : ℕ) (plan : PartialPlan) (taken : Taken) (marks : Option Marks) (new : Store)
+        → IsAllowed g → IsSpelled g s → AreTidyChanges cs → IsWhole g s cs touch plan taken marks → IsCarriedOut g s (whole_of plan taken marks) new → fin.contains_key cs i ≡ false → (t : Tier) (k : ℕ) → place g new i t k ≡ place g s i t k }
+{
+    taken_blocks_were_free();
+    added_part_stands_with_the_first();
+    parts_are_planned();
+    carried_out_blocks_lie_in_their_places();
 }

@@ -1,22 +1,26 @@
 //! What holds of the plans of some inodes, and of all.
 
-ghost use Rattle.std.specs.Prelude.{◌≡◌, ◌≤◌, ◌<◌, ◌+◌, ◌++◌, ◌∷◌, ℕ, List, [], Option, IfSome, true, length, min};
+ghost use Rattle.std.specs.Prelude.{◌≡◌, ◌≤◌, ◌<◌, ◌+◌, ◌++◌, ◌∷◌, ℕ, List, [], Option, IfSome, true, false, length, min};
 ghost use Rattle.std.specs.List.{Contains};
 ghost use Rattle.std.specs.FinMap as fin;
 ghost use Rattle.posix_calls.specs.declared.limits.TheConstants.{MAX_INODE};
+ghost use Rattle.tier_device.specs.declared.media.Tier.{Tier};
 ghost use Rattle.graph_change.specs.Change.{Change, Changes, change_at, changed};
 ghost use Rattle.graph_change.specs.Tidy.{AreTidyChanges};
 ghost use Rattle.layout.specs.declared.slot.Slot.{Slot};
 ghost use Rattle.layout.specs.Marks.{fits_marks};
 ghost use Rattle.layout.specs.Places.{Sizes, IsAllowed, is_inode};
 ghost use Rattle.block_map.specs.Map.{TierRuns};
-ghost use Rattle.area_image.specs.Store.{Store, graph, slot};
+ghost use Rattle.area_image.specs.Store.{Store, graph, slot, place};
+ghost use Rattle.area_image.specs.Rewrites.{Rewrites};
 ghost use Rattle.area_image.specs.Spelled.{IsSpelled};
 ghost use Rattle.area_commit.specs.ChangedSlot.{ChangedSlot};
 ghost use Rattle.area_commit.specs.declared.plan.Lost.{Lost};
 ghost use Rattle.area_commit.specs.declared.plan.Rewrite.{Rewrite};
 ghost use Rattle.area_commit.specs.Plan.{WereFree, IsPlanned, is_rewritten};
+ghost use Rattle.area_commit.specs.Taking.{taken_data};
 ghost use Rattle.area_commit.specs.Done.{IsCarriedOut};
+ghost use Rattle.change_plan.specs.Laid.{LeavesFile, AreFirstFree, GetPlaces, LieInPlaces, KeepsPlaces};
 ghost use Rattle.change_plan.specs.Part.{Share, IsPart, IsTouchedBy};
 ghost use Rattle.change_plan.specs.Parts.{AreParts, LoseBoth, HasFree, ShareNone, both, share_of, with_at};
 
@@ -25,6 +29,7 @@ use area_commit::{
     written_directory_is_rewritten, written_file_is_rewritten, written_free_slot_is_inode_after,
     written_inode_is_read,
 };
+use area_image::rewritten_inodes_are_spelled;
 
 /// Before the first inode nothing is planned.
 pub fn no_parts()
@@ -53,6 +58,8 @@ pub fn carried_out_change_is_the_graph_after()
         → IsAllowed g → IsSpelled g s → AreTidyChanges cs → ((i : ℕ) → fin.contains_key cs i ≡ is_rewritten plan i) → AreParts g s cs touch x m plan.slots.items (share_of plan.taken) plan.bytes.items plan.nodes plan.lost → IsPlanned g s x m plan → IsCarriedOut g s plan new → graph g new ≡ changed cs (graph g s) }
     ensures touched { (g : Sizes) (s : Store) (cs : Changes) (touch i : ℕ) (x : ℕ → Slot) (m : ℕ → TierRuns) (plan : Rewrite) (new : Store)
         → IsAllowed g → IsSpelled g s → AreTidyChanges cs → AreParts g s cs touch x m plan.slots.items (share_of plan.taken) plan.bytes.items plan.nodes plan.lost → IsPlanned g s x m plan → IsCarriedOut g s plan new → is_rewritten plan i ≡ true → IsTouchedBy touch (slot g new i) }
+    ensures rewrites { (g : Sizes) (s : Store) (cs : Changes) (touch : ℕ) (x : ℕ → Slot) (m : ℕ → TierRuns) (plan : Rewrite) (new : Store)
+        → IsAllowed g → IsSpelled g s → AreTidyChanges cs → AreParts g s cs touch x m plan.slots.items (share_of plan.taken) plan.bytes.items plan.nodes plan.lost → IsPlanned g s x m plan → IsCarriedOut g s plan new → Rewrites g (is_rewritten plan) s new }
 {
     written_file_is_rewritten();
     written_directory_is_rewritten();
@@ -60,4 +67,25 @@ pub fn carried_out_change_is_the_graph_after()
     written_inode_is_read();
     carried_out_inodes_are_written_anew();
     changed_store_spells_the_graph_after();
+}
+
+/// Where it is carried out, the blocks that the change writes lie in the data blocks that were taken, which are the first free ones where they were taken so; each other block of a file
+/// that the change leaves lies where it lay, unless it is cut off; and so do all blocks of the other inodes.
+pub fn carried_out_blocks_lie_in_their_places()
+    ensures got { (g : Sizes) (s : Store) (cs : Changes) (touch : ℕ) (x : ℕ → Slot) (m : ℕ → TierRuns) (plan : Rewrite)
+        → ((i : ℕ) → fin.contains_key cs i ≡ is_rewritten plan i) → AreParts g s cs touch x m plan.slots.items (share_of plan.taken) plan.bytes.items plan.nodes plan.lost → AreFirstFree g s (taken_data plan.taken) → (blocks : List (ℕ × ℕ)) × GetPlaces g s cs blocks (taken_data plan.taken) }
+    ensures written { (g : Sizes) (s : Store) (cs : Changes) (touch : ℕ) (x : ℕ → Slot) (m : ℕ → TierRuns) (plan : Rewrite) (new : Store)
+        → IsAllowed g → IsSpelled g s → ((i : ℕ) → fin.contains_key cs i ≡ is_rewritten plan i) → AreParts g s cs touch x m plan.slots.items (share_of plan.taken) plan.bytes.items plan.nodes plan.lost → IsPlanned g s x m plan → IsCarriedOut g s plan new
+        → AreFirstFree g s (taken_data plan.taken) → LieInPlaces g s cs new }
+    ensures kept { (g : Sizes) (s : Store) (cs : Changes) (touch i : ℕ) (x : ℕ → Slot) (m : ℕ → TierRuns) (plan : Rewrite) (new : Store)
+        → IsAllowed g → IsSpelled g s → AreParts g s cs touch x m plan.slots.items (share_of plan.taken) plan.bytes.items plan.nodes plan.lost → IsPlanned g s x m plan → IsCarriedOut g s plan new
+        → is_rewritten plan i ≡ true → LeavesFile g s (change_at cs i) i → KeepsPlaces g (change_at cs i) s new i }
+    ensures others { (g : Sizes) (s : Store) (cs : Changes) (touch i : ℕ) (x : ℕ → Slot) (m : ℕ → TierRuns) (plan : Rewrite) (new : Store)
+        → IsAllowed g → IsSpelled g s → AreTidyChanges cs → AreParts g s cs touch x m plan.slots.items (share_of plan.taken) plan.bytes.items plan.nodes plan.lost → IsPlanned g s x m plan → IsCarriedOut g s plan new
+        → is_rewritten plan i ≡ false → (t : Tier) (k : ℕ) → place g new i t k ≡ place g s i t k }
+{
+    written_inode_is_read();
+    carried_out_inodes_are_written_anew();
+    carried_out_change_is_the_graph_after();
+    rewritten_inodes_are_spelled();
 }

@@ -26,11 +26,17 @@ pub use directories::{plan_over_spares, start_directory};
 pub use directory_part::plan_directory_part;
 pub use file_part::plan_file_part;
 pub use files::{next_nodes_were_free, placed_file_is_planned, planned_file_is_a_part};
-pub use first::{added_part_stands_with_the_first, whole_change_can_be_carried_out, whole_plan};
+pub use first::{
+    added_part_stands_with_the_first, whole_change_can_be_carried_out,
+    whole_change_lies_in_its_places, whole_plan,
+};
 pub use gone::{give_all, plan_gone_part};
 pub use inode_part::{plan_inode, plan_next};
 pub use kinds::kind_from;
-pub use laws::{carried_out_change_is_the_graph_after, no_parts, one_more_part, parts_are_planned};
+pub use laws::{
+    carried_out_blocks_lie_in_their_places, carried_out_change_is_the_graph_after, no_parts,
+    one_more_part, parts_are_planned,
+};
 pub use part_laws::{free_blocks_are_spare, gone_inode_is_a_part, planned_directory_is_a_part};
 pub use partial::PartialPlan;
 pub use placing::{PlacedFile, RootedFile, place_file, root_file};

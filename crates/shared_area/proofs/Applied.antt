@@ -21,7 +21,7 @@ use Rattle.area_image.specs.Looks.{Looks}
 use Rattle.area_image.proofs.Frames.{loose_graph, loose_marks}
 use Rattle.area_apply.specs.PoolsValue.{PoolsView, free_data, on_tier, AreInOrder, HasRanges, AreFree}
 use Rattle.area_apply.specs.Settled.{IsSettled, StaysStill}
-use Rattle.area_apply.specs.Applying.{IsAppliedStore, Applies, Ends}
+use Rattle.area_apply.specs.Applying.{IsAppliedStore, MakesFewCalls, Applies, Ends}
 use Rattle.area_apply.specs.Costs.{units_in}
 use Rattle.area_apply.specs.declared.error.ApplyError.{ApplyError}
 use Rattle.area_apply.specs.declared.error.ApplyError.TheVariants.{DeviceFault}
@@ -101,6 +101,9 @@ module _ {M : Type 0} (moment : M → ℕ) (seen : M → Tier → List ℕ) (lef
       any_moment = λ m content lo hi l. (let clock = still.clock in let within : m ≤ moment mid.media = omega (arith, hi, clock) in applies.any_moment m content lo within (λ t. still.past m t (content t) within (l t)));
     }
 
+    few_then : (old mid new : JournalView M) → MakesFewCalls old.geometry (store_of (seen old.media)) cs (moment old.media) (moment mid.media) → StillAt mid new → MakesFewCalls old.geometry (store_of (seen old.media)) cs (moment old.media) (moment new.media)
+    few_then old mid new few still = subst (λ (n : ℕ). MakesFewCalls old.geometry (store_of (seen old.media)) cs (moment old.media) n) (sym still.clock) few
+
     store_still : (mid new : JournalView M) → StillAt mid new → store_of (seen new.media) ≡ store_of (seen mid.media)
     store_still mid new still = ap store_of (tiers_same (seen mid.media) (seen new.media) still.reads)
 
@@ -115,6 +118,7 @@ module _ {M : Type 0} (moment : M → ℕ) (seen : M → Tier → List ℕ) (lef
       geometry = looks.geometry ∙ ends.geometry;
       more_faults = (let a = ends.more_faults in let b = looks.more_faults in omega (arith, a, b));
       one_fault = (let a = ends.quiet.1 in let b = looks.quiet in omega (arith, a, b));
+      at_most = few_then old mid new ends.at_most looks.unmoved;
     }
       where
         ok_fault : (u : Unit {0}) → IsErrOf {T = Unit {0}} {E = ApplyError} (Ok u) DeviceFault → ⊥
@@ -124,8 +128,8 @@ module _ {M : Type 0} (moment : M → ℕ) (seen : M → Tier → List ℕ) (lef
     pub ends_of : (old new : JournalView M) (pools : PoolsView) (r : Result (Unit {0}) ApplyError) → old.failed ≡ false → (old.failed ≡ false → AppliesTo old new) → OnOk r (IsAppliedStore old.geometry (store_of (seen old.media)) cs v (store_of (seen new.media)))
         → (new.failed ≡ false → IsSettled new.geometry (seen new.media) (left new.media (moment new.media)) pools) → IfErr r (λ e. e ≢ DeviceFault → StaysStill moment seen left faults old new)
         → (IsErrOf r DeviceFault → (new.failed ≡ true) × ((old.failed ≡ true) ⊎ Rose (faults old.media) (faults new.media))) → OnOk r ((new.failed ≡ false) × (faults new.media ≡ faults old.media))
-        → new.geometry ≡ old.geometry → faults old.media ≤ faults new.media → faults new.media ≤ faults old.media + 1 → EndsAt old new pools r
-    ends_of old new pools r going applies applied settled unmoved fault quiet geometry more one = record {
+        → new.geometry ≡ old.geometry → faults old.media ≤ faults new.media → faults new.media ≤ faults old.media + 1 → MakesFewCalls old.geometry (store_of (seen old.media)) cs (moment old.media) (moment new.media) → EndsAt old new pools r
+    ends_of old new pools r going applies applied settled unmoved fault quiet geometry more one few = record {
       any_moment = applies going;
       applied = applied;
       settled = settled;
@@ -135,6 +139,7 @@ module _ {M : Type 0} (moment : M → ℕ) (seen : M → Tier → List ℕ) (lef
       geometry = geometry;
       more_faults = more;
       one_fault = one;
+      at_most = few;
     }
 
     -- where a device fails in them, the change is made all the same, and the area has failed
@@ -151,6 +156,7 @@ module _ {M : Type 0} (moment : M → ℕ) (seen : M → Tier → List ℕ) (lef
           geometry = looks.geometry ∙ ends.geometry;
           more_faults = (let a = ends.more_faults in let b = looks.more_faults in omega (arith, a, b));
           one_fault = (let a = ends.quiet.1 in let b = looks.one_fault in omega (arith, a, b));
+          at_most = few_then old mid new ends.at_most looks.unmoved;
         }
 
     -- ---- what is in memory

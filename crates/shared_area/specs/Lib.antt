@@ -9,6 +9,7 @@ pub mod Asking
 pub mod Applying
 -- Passed on to the crates above, which so need not list those below.
 pub use Rattle.area_apply.specs.Applying as ChangeApplying
+pub use Rattle.area_apply.specs.Laid
 pub use Rattle.area_apply.specs.Next
 pub use Rattle.area_apply.specs.Part
 pub use Rattle.area_apply.specs.Wanted

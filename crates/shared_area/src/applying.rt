@@ -11,7 +11,7 @@ ghost use Rattle.layout.specs.Marks.{fits_marks};
 ghost use Rattle.area_image.specs.Store.{store_of, graph};
 ghost use Rattle.area_apply.specs.PoolsValue.{free_data};
 ghost use Rattle.area_apply.specs.Settled.{IsSettled};
-ghost use Rattle.area_apply.specs.Applying.{CanApply, IsAppliedStore, Ends};
+ghost use Rattle.area_apply.specs.Applying.{CanApply, IsAppliedStore, Ends, MakesFewCalls};
 ghost use Rattle.area_apply.specs.Costs.{inodes_of, units_in};
 ghost use Rattle.area_apply.specs.Next.{HasFewEntries};
 ghost use Rattle.area_apply.specs.Wanted.{images_for, AreWritten};
@@ -111,6 +111,7 @@ pub fn make_change<M: Media>(
     ensures no_block { IsErrOf result NoBlock → (bs : List (ℕ × ℕ)) × AreWritten journal.old.geometry (store_of (M.seen journal.old.media)) (changes_of change.now) bs × HasTooFewData journal.old.geometry (store_of (M.seen journal.old.media)) (length bs) }
     ensures never { ((bs : List (ℕ × ℕ)) → AreWritten journal.old.geometry (store_of (M.seen journal.old.media)) (changes_of change.now) bs → length bs ≤ SPARE_BLOCKS) → IsErrOf result NoBlock → ⊥ }
     ensures applies { AppliesOrStays M.moment M.seen M.left M.faults journal.old journal.new result }
+    ensures at_most { MakesFewCalls journal.old.geometry (store_of (M.seen journal.old.media)) (changes_of change.now) (M.moment journal.old.media) (M.moment journal.new.media) }
 {
     if journal.has_failed() {
         return Err(ApplyError::DeviceFault);

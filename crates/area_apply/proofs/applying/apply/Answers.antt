@@ -1,4 +1,4 @@
-use Rattle.std.proofs.Common.{◌∙◌, ◌<◌, ℕ, length, inl, inr, refl, sym, subst}
+use Rattle.std.proofs.Common.{◌∙◌, ◌<◌, ℕ, length, inl, inr, refl, sym, subst, arith}
 use Rattle.std.proofs.lemmas.Bool.{true≢false}
 use Rattle.graph_change.specs.View.{changes_of}
 use Rattle.area_image.specs.Store.{store_of}
@@ -30,6 +30,9 @@ returns-then-has_failed-clause-fault g c is = (sym c.has_failed.ensures ∙ c.if
 
 pub returns-then-has_failed-clause-stays_failed : goal.returns-then-has_failed-clause-stays_failed
 returns-then-has_failed-clause-stays_failed g c was = (refl, refl, refl)
+
+pub returns-then-has_failed-clause-at_most : goal.returns-then-has_failed-clause-at_most
+returns-then-has_failed-clause-at_most g c = inl (omega arith)
 
 -- ---- where none has
 
@@ -71,3 +74,6 @@ returns-clause-unmoved g c = c.count_and_write.ensures.ends.unmoved
 
 pub returns-clause-quiet : goal.returns-clause-quiet
 returns-clause-quiet g c = c.count_and_write.ensures.ends.quiet
+
+pub returns-clause-at_most : goal.returns-clause-at_most
+returns-clause-at_most g c = c.count_and_write.ensures.ends.at_most

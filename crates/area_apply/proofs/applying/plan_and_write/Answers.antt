@@ -1,11 +1,15 @@
-use Rattle.std.proofs.Common.{Some, subst}
+use Rattle.std.proofs.Common.{ℕ, List, Some, sym, subst}
+use Rattle.tier_device.specs.declared.media.Tier.{Tier}
 use Rattle.layout.specs.Places.{IsAllowed}
 use Rattle.graph_change.specs.View.{changes_of}
 use Rattle.area_image.proofs.Looked.{carried}
 use Rattle.change_plan.specs.PoolsValue.{PoolsView}
 use Rattle.change_plan.proofs.Course.{Rests}
 use Rattle.change_plan.proofs.Returned.{same_free}
+use Rattle.area_image.specs.Store.{store_of}
 use Rattle.change_plan.specs.Adding.{HasTaken}
+use Rattle.change_plan.specs.Laid.{AreFirstFree}
+use Rattle.change_plan.specs.Taking.{taken_data}
 use Rattle.area_apply.specs.Applying.{CanApply}
 use Rattle.change_plan.specs.First.{IsWhole}
 use Rattle.area_apply.proofs.Ending.{told_forced, no_damage_told, settled_still, ends_told, ends_on}
@@ -58,6 +62,13 @@ pub reserve_and_write-requires-clause-took : goal.reserve_and_write-requires-cla
 reserve_and_write-requires-clause-took g c =
     let m = g.M.Media in
     carried m.moment m.seen m.left m.faults (λ h s. HasTaken h s c.plan_changes.new.pools c.plan_changes.new.taken) c.args.journal.now c.plan_changes.new.journal _ c.in-Ok.ensures.looks c.in-Ok.ensures.kept
+
+pub reserve_and_write-requires-clause-first : goal.reserve_and_write-requires-clause-first
+reserve_and_write-requires-clause-first g c =
+    let m = g.M.Media in
+    let same = c.plan_changes.ensures.took.same in
+    carried m.moment m.seen m.left m.faults (λ h s. AreFirstFree h s (taken_data c.plan_changes.new.taken)) c.args.journal.now c.plan_changes.new.journal _ c.in-Ok.ensures.looks
+    (subst (λ (ps : List (Tier × ℕ)). AreFirstFree c.args.journal.now.geometry (store_of (m.seen c.args.journal.now.media)) ps) (sym same) c.requires.first)
 
 pub undo-requires : goal.undo-requires
 undo-requires g c = c.plan_changes.ensures.took.undo

@@ -1,4 +1,5 @@
 use Rattle.std.proofs.Common.{◌≡◌, ◌∙◌, ℕ, length, refl, sym, ap, subst, arith}
+use Rattle.std.specs.Prelude.{take}
 use Rattle.std.proofs.lemmas.List.{length-take-le}
 use Rattle.layout.specs.Places.{IsAllowed}
 use Rattle.graph_change.specs.View.{changes_of}
@@ -59,6 +60,14 @@ place_and_write-requires-clause-wants g c =
     let there = enough_free c.in-Ok.taken (length pools.nodes.free) n (length (free_data pools)) c.in-Ok.ensures.few in
     let long : length (taken_data c.in-Ok.taken) ≡ n = (let data_long = ap length c.in-Ok.ensures.data in let short = length-take-le n (free_data pools) there in omega (arith, data_long, short)) in
     subst (λ (k : ℕ). WantsBlocks old.geometry (store_of (g.M.Media.seen old.media)) (changes_of c.args.change.now) k) (sym long) c.requires.wants
+
+pub place_and_write-requires-clause-first : goal.place_and_write-requires-clause-first
+place_and_write-requires-clause-first g c =
+    let pools = c.args.pools.now in
+    let n = c.args.count in
+    let there = enough_free c.in-Ok.taken (length pools.nodes.free) n (length (free_data pools)) c.in-Ok.ensures.few in
+    let long : length (taken_data c.in-Ok.taken) ≡ n = (let data_long = ap length c.in-Ok.ensures.data in let short = length-take-le n (free_data pools) there in omega (arith, data_long, short)) in
+    record { pools = pools; order = c.free-free.ensures.ordered; ranges = c.requires.settled.ranges; free = c.requires.settled.free; first = c.in-Ok.ensures.data ∙ ap (λ (k : ℕ). take k (free_data pools)) (sym long) }
 
 pub returns-in-Ok-clause-same : goal.returns-in-Ok-clause-same
 returns-in-Ok-clause-same g c = c.place_and_write.ensures.same c.args.pools.now c.free-free.ensures.ordered c.in-Ok.ensures.fronts

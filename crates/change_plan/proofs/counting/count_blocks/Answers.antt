@@ -1,4 +1,4 @@
-use Rattle.std.proofs.Common.{◌∙◌, ℕ, List, Err, sym, subst, arith}
+use Rattle.std.proofs.Common.{◌∙◌, ℕ, List, Err, refl, sym, subst, arith}
 use Rattle.graph_change.specs.Change.{Change, Changes}
 use Rattle.graph_change.specs.View.{change_of, changes_of}
 use Rattle.graph_change.specs.declared.node_change.NodeChange.{NodeChange}
@@ -6,8 +6,10 @@ use Rattle.area_image.specs.Looks.{looked}
 use Rattle.area_image.specs.Spelled.{IsSpelled}
 use Rattle.area_image.specs.Store.{Store, store_of}
 use Rattle.area_image.proofs.Looked.{carried, carried_back, looks_on, looks_none, looks_answer}
+use Rattle.area_commit.proofs.Members.{cons_here}
+use Rattle.change_plan.specs.Laid.{LeavesFile}
 use Rattle.change_plan.specs.Next.{WantsData}
-use Rattle.change_plan.proofs.Climbs.{seen_as, entries_seen}
+use Rattle.change_plan.proofs.Climbs.{seen_as, entries_seen, change_here, has_here}
 use Rattle.change_plan.proofs.Wants.{Counted, none_counted, one_counted, all_counted, next_number}
 use Rattle.change_plan.proofs.counting.count_blocks.Goals as goal
 
@@ -68,6 +70,18 @@ pub returns-in-Err-clause-looks : goal.returns-in-Err-clause-looks
 returns-in-Err-clause-looks g c =
     let m = g.M.Media in
     looks_on m.moment m.seen m.left m.faults c.args.journal.now c.nodes.journal c.count_in.new.journal tt (Err c.in-Err.error) c.nodes.invariant.looks c.in-Err.ensures.looks
+
+pub returns-in-Err-clause-memory : goal.returns-in-Err-clause-memory
+returns-in-Err-clause-memory g c is =
+    let m = g.M.Media in
+    let old = c.args.journal.now in
+    let s : Store = store_of (m.seen old.media) in
+    let cs : Changes = changes_of c.args.change.now in
+    let e : ℕ × Change = (c.in-Some.inode.now, change_of c.in-Some.node.now) in
+    let rest : List (ℕ × Change) = seen_as change_of c.next.new.self in
+    let counted = subst (λ (es : List (ℕ × NodeChange)). Counted old.geometry s cs c.nodes.count (seen_as change_of es)) c.in-Some.ensures.steps c.nodes.invariant.counted in
+    let at = counted.inside e (cons_here e rest e refl) in
+    (e.0, has_here cs e at, subst (λ (d : Change). LeavesFile old.geometry s d e.0) (sym (change_here cs e at)) (carried_back m.moment m.seen m.left m.faults (λ h t. LeavesFile h t e.1 e.0) old c.nodes.journal looked c.nodes.invariant.looks (c.in-Err.ensures.memory is)))
 
 pub returns-clause-looks : goal.returns-clause-looks
 returns-clause-looks g c =

@@ -1,5 +1,5 @@
 use Rattle.std.proofs.Common.{inl, inr}
-use Rattle.change_plan.proofs.FileUses.{is_fit, listed, uses, once, all, imaged, images, nodes, size, written}
+use Rattle.change_plan.proofs.FileUses.{is_fit, listed, uses, once, all, imaged, images, nodes, is_laid, size, written}
 use Rattle.change_plan.proofs.FileLost.{hold_lost}
 use Rattle.change_plan.proofs.files.planned_file_is_a_part.Goals as goal
 
@@ -16,5 +16,6 @@ returns c g s change touch i x m share bytes old new lost p = record {
   size = size g s change touch i x m share bytes old new lost p;
   given_up = hold_lost g s change touch i x m share bytes old new lost p;
   touched = inr p.touch_is;
+  laid = is_laid g s change touch i x m share bytes old new lost p;
   written = λ after put. inl (written g s change touch i x m share bytes old new lost p after put);
 }

@@ -32,6 +32,7 @@ returns c =
     let after : (g : Sizes) (s : Store) (cs : Changes) (touch : ℕ) (x : ℕ → Slot) (m : ℕ → TierRuns) (plan : Rewrite) (new : Store) → IsAllowed g → IsSpelled g s → AreTidyChanges cs → AreParts g s cs touch x m plan.slots.items (share_of plan.taken) plan.bytes.items plan.nodes plan.lost → IsPlanned g s x m plan → IsCarriedOut g s plan new → (i : ℕ) → is_rewritten plan i ≡ true → IsInodeAfter i (net_of (change_at cs i)) (inode g s i) (inode g new i) =
     λ g s cs touch x m plan new allowed spelled tidy parts planned done i its. by g s cs x m plan new allowed spelled tidy (anew g s x m plan new spelled planned done) i its (written_for g s cs touch x m plan parts planned new done i its) in
     record {
+      rewrites = λ g s cs touch x m plan new allowed spelled tidy parts planned done. c.changed_store_spells_the_graph_after.ensures.rewrites g cs (is_rewritten plan) x m s new allowed spelled (anew g s x m plan new spelled planned done) (after g s cs touch x m plan new allowed spelled tidy parts planned done);
       spelled = λ g s cs touch x m plan new allowed spelled tidy parts planned done. c.changed_store_spells_the_graph_after.ensures.spelled g cs (is_rewritten plan) x m s new allowed spelled (anew g s x m plan new spelled planned done) (after g s cs touch x m plan new allowed spelled tidy parts planned done);
       graph = λ g s cs touch x m plan new allowed spelled tidy inodes parts planned done. c.changed_store_spells_the_graph_after.ensures.graph_after g cs (is_rewritten plan) x m s new allowed spelled (anew g s x m plan new spelled planned done) inodes (after g s cs touch x m plan new allowed spelled tidy parts planned done);
       touched = λ g s cs touch i x m plan new allowed spelled tidy parts planned done its. (let a = anew g s x m plan new spelled planned done in subst (λ (y : Slot). IsTouchedBy touch y) (sym (ap (λ (o : Option Slot). unwrap_or o slots.Free) (c.written_inode_is_read.ensures.slot_is g new i (x i) (m i) allowed (a.inodes i its) (a.fit i its) (a.written i its)))) (parts.touched i its));

@@ -129,4 +129,4 @@ returns-clause-whole g c =
     let old = c.args.journal.now in
     let s : Store = store_of (g.M.Media.seen old.media) in
     let cs : Changes = changes_of c.args.change.now in
-    all_walked old.geometry s cs c.args.touch c.args.places.now c.nodes.pools c.nodes.taken c.nodes.plan c.nodes.used (turned c.nodes.inode-iterator [] c.in-None.ensures.steps.0 c.nodes.invariant.walked)
+    all_walked old.geometry s cs c.args.touch c.args.places.now c.nodes.pools c.nodes.taken c.nodes.plan c.nodes.used c.requires.images (turned c.nodes.inode-iterator [] c.in-None.ensures.steps.0 c.nodes.invariant.walked)

@@ -1,4 +1,4 @@
-use Rattle.std.proofs.Common.{◌∙◌, ℕ, length, inr, sym, subst, arith}
+use Rattle.std.proofs.Common.{◌∙◌, ℕ, length, inl, inr, sym, subst, arith}
 use Rattle.std.specs.Prelude.{Ok, Err}
 use Rattle.std.proofs.lemmas.Bool.{true≢false}
 use Rattle.graph_change.specs.View.{changes_of}
@@ -27,6 +27,9 @@ pub returns-then-has_failed-clause-applies : goal.returns-then-has_failed-clause
 returns-then-has_failed-clause-applies g c =
     let m = g.M.Media in
     failed_stays m.moment m.seen m.left m.faults g.met.M.Media.sized c.args.journal.now (sym c.has_failed.ensures ∙ c.if-has_failed.true)
+
+pub returns-then-has_failed-clause-at_most : goal.returns-then-has_failed-clause-at_most
+returns-then-has_failed-clause-at_most g c = inl (omega arith)
 
 -- ---- where none has
 
@@ -100,3 +103,9 @@ pub returns-in-Err-clause-applies : goal.returns-in-Err-clause-applies
 returns-in-Err-clause-applies g c =
     let m = g.M.Media in
     applies_or_stays m.moment m.seen m.left m.faults g.met.M.Media.sized (changes_of c.args.change.now) c.args.marks c.args.journal.now c.change_and_count.new.journal c.change_and_count.new.pools (Err c.in-Err.error) (sym c.has_failed.ensures ∙ c.if-has_failed.false) c.in-Err.ensures.ends
+
+pub returns-in-Ok-clause-at_most : goal.returns-in-Ok-clause-at_most
+returns-in-Ok-clause-at_most g c = c.in-Ok.ensures.ends.at_most
+
+pub returns-in-Err-clause-at_most : goal.returns-in-Err-clause-at_most
+returns-in-Err-clause-at_most g c = c.in-Err.ensures.ends.at_most

@@ -6,7 +6,7 @@ use Rattle.graph_change.specs.Change.{changed}
 use Rattle.graph_change.specs.View.{changes_of}
 use Rattle.batch_journal.specs.View.{JournalView}
 use Rattle.area_image.specs.Store.{store_of, graph}
-use Rattle.area_apply.specs.Applying.{IsAppliedStore}
+use Rattle.area_apply.specs.Applying.{IsAppliedStore, MakesFewCalls}
 use Rattle.area_apply.specs.Next.{HasFewEntries}
 use Rattle.area_apply.specs.Wanted.{AreWritten}
 use Rattle.area_apply.specs.declared.error.ApplyError.TheVariants.{NoBlock}
@@ -56,3 +56,8 @@ pub returns-clause-applies : goal.returns-clause-applies
 returns-clause-applies g c =
     let m = g.M.Media in
     subst (λ (v : JournalView _). AppliesOrStays m.moment m.seen m.left m.faults v c.make_change.new.journal c.make_change.result) c.self.view_is c.make_change.ensures.applies
+
+pub returns-clause-at_most : goal.returns-clause-at_most
+returns-clause-at_most g c =
+    let m = g.M.Media in
+    subst (λ (v : JournalView _). MakesFewCalls v.geometry (store_of (m.seen v.media)) (changes_of c.args.change.now) (m.moment v.media) (m.moment c.make_change.new.journal.media)) c.self.view_is c.make_change.ensures.at_most
