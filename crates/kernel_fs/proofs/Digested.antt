@@ -1,4 +1,4 @@
--- A sealed region is accepted.
+-- A sealed region is accepted, and a chunk of it digested: graph, marks and accounts go together.
 use Rattle.std.proofs.Common.{◌≡◌, ◌≢◌, inl, inr, ℕ, ◌+◌, ◌-◌, ◌<◌, ◌≤◌, ◌==◌, List, [], length, take, drop, Bool, true, cond, Option, Some, refl, ap, sym, ◌∙◌, subst, arith}
 use Rattle.std.proofs.lemmas.Bool.Decides.{eqb_tells}
 use Rattle.std.proofs.lemmas.List.{length-drop, length-take-le, get_or-set_other}
@@ -10,18 +10,21 @@ use Rattle.layout.specs.declared.marks.Marks.{Marks}
 use Rattle.log_record.specs.declared.format.Record.{Record}
 use Rattle.batch_journal.specs.View.{JournalView}
 use Rattle.shared_area.specs.Store.{Store, store_of, graph, marks}
+use Rattle.digester.specs.Digesting.{IsDigested}
 use Rattle.digester.specs.Marking.{mark_of, mark_after, marks_after}
 use Rattle.update_log.specs.Counting.{next_generation}
 use Rattle.digester.specs.SealedLog.{IsSealed, StandsAt, StandsAtMark, done_to, undone, mark_then}
 use Rattle.digester.specs.declared.sealed_log.SealedLog.{SealedLog}
-use Rattle.world_facts.specs.Machine.{Machine, Sealed, accept}
+use Rattle.world_facts.specs.Logs.{after_records}
+use Rattle.world_facts.specs.Machine.{Machine, Sealed, accept, digest}
 use Rattle.world_facts.proofs.Owners.{client_is, is_low}
 use Rattle.kernel_book.specs.Book.{Accounts, IsBookOf, waiting_of}
-use Rattle.kernel_book.specs.Marks.{AreMarksOf}
-use Rattle.kernel_book.proofs.MarksGo.{accepted_marks}
+use Rattle.kernel_book.specs.Marks.{AreMarksAfter, AreMarksOf}
+use Rattle.kernel_book.proofs.MarksGo.{accepted_marks, digested_marks}
 use Rattle.kernel_fs.specs.Accepting.{client_of, IsAccepted}
 use Rattle.kernel_fs.specs.KernelView.{KernelView}
 use Rattle.kernel_fs.specs.Standing.{IsKernelOf, done_in}
+use Rattle.kernel_fs.proofs.SealedRecords.{effects_are}
 
 some_is : (o : Option Marks) (v w : Marks) → o ≡ Some v → o ≡ Some w → v ≡ w
 some_is o v w one two = cc
@@ -89,3 +92,67 @@ module _ (x : SealedLog) (sealed : IsSealed x) where
                   (λ empty. let long : length x.records.items ≡ 0 = ap length (sym records ∙ empty) in omega (arith, long, some)),
             );
           }
+
+-- ---- a digested chunk
+
+module _ (x : SealedLog) (sealed : IsSealed x) {M : Type 0} (seen : M → Tier → List ℕ) (old new : JournalView M) (book next : Accounts) (m : Machine) (n : ℕ)
+    (is : IsKernelOf seen (record { area = old; book = book }) m) (accepted : IsAccepted book x)
+    (done : IsDigested old.geometry (store_of (seen old.media)) x n (store_of (seen new.media))) (at : StandsAtMark (done_to (x.done + n) x) (store_of (seen new.media))) (same : new.geometry ≡ old.geometry) where
+  abbrev rs : List Record
+  rs = take n (undone x)
+
+  many : length rs ≡ n
+  many = length-take-le n (undone x) done.run.within
+
+  undone_long : length (undone x) ≡ length x.records.items - x.done
+  undone_long = length-drop x.done x.records.items
+
+  before_is : done.before ≡ is.marks.0
+  before_is = some_is (marks (store_of (seen old.media))) done.before is.marks.0 done.old_marks is.marks.1
+
+  moved : AreMarksAfter (done_in is.marks.0) (done_in at.0) (client_of x) (length (undone x)) rs
+  moved = record {
+    others = λ d is_d off.
+        let low : 1 ≤ d = is_low d is_d in
+        ap (λ (v : Marks). done_in v d) (some_is (marks (store_of (seen new.media))) at.0 (marks_after done.before x.client (mark_then x n)) at.1 done.new_marks)
+        ∙ ap (λ (k : Mark). k.done) (get_or-set_other done.before.clients x.client (d - 1) (mark_then x n) (record { generation = 0; done = 0 }) (λ e. off (omega (arith, e, low))))
+        ∙ ap (λ (v : Marks). done_in v d) before_is;
+    some = λ part.
+        let long = undone_long in
+        let count = many in
+        let few = sealed.some in
+        ap (λ (k : Mark). k.done) (at_own x sealed at.0 ∙ at.2)
+        ∙ part_done x.generation (x.done + n) (length x.records.items) (λ e. part (omega (arith, e, long, count, few)))
+        ∙ ap (λ (k : ℕ). x.done + k) (sym count)
+        ∙ ap (λ (k : ℕ). k + length rs) (sym (done_is x sealed done.before done.stood) ∙ ap (λ (v : Marks). done_in v (client_of x)) before_is);
+    all = λ all.
+        let long = undone_long in
+        let count = many in
+        let few = sealed.some in
+        ap (λ (k : Mark). k.done) (at_own x sealed at.0 ∙ at.2)
+        ∙ all_done x.generation (x.done + n) (length x.records.items) (omega (arith, all, long, count, few));
+  }
+
+  pub digested_kernel : IsBookOf next (digest m (client_of x) rs) → IsKernelOf seen (record { area = new; book = next }) (digest m (client_of x) rs)
+  digested_kernel next_is =
+      let waits = (is.book (client_of x) (its_client x sealed)).waiting in
+      let all : m.accepted (client_of x) ≡ (m.kernel.accounts (client_of x)).mark + length (undone x) = waits ∙ ap (λ (k : ℕ). (m.kernel.accounts (client_of x)).mark + k) accepted in
+      let count = many in
+      let within = done.run.within in
+      record {
+        shared =
+            ap (λ (g : Graph). after_records g rs) is.shared
+            ∙ sym (effects_are rs (graph old.geometry (store_of (seen old.media))))
+            ∙ sym done.graph_after
+            ∙ ap (λ g. graph g (store_of (seen new.media))) (sym same);
+        capacity = is.capacity ∙ ap (λ g. g.units) (sym same);
+        book = next_is;
+        marks = (at.0, at.1, digested_marks (done_in is.marks.0) (done_in at.0) m (client_of x) (length (undone x)) rs is.marks.2 (its_client x sealed) all (omega (arith, count, within)) moved);
+      }
+
+-- the records that were digested, as they are lent
+pub lent : (x y : SealedLog) (n : ℕ) (rs : List Record) → y ≡ done_to (x.done + n) x → rs ≡ y.records.items → take (y.done - x.done) (drop x.done rs) ≡ take n (undone x)
+lent x y n rs same all =
+    let done : y.done ≡ x.done + n = ap (λ (z : SealedLog). z.done) same in
+    let many : y.done - x.done ≡ n = omega (arith, done) in
+    ap (λ (k : ℕ). take k (drop x.done rs)) many ∙ ap (λ (r : List Record). take n (drop x.done r)) (all ∙ ap (λ (z : SealedLog). z.records.items) same)

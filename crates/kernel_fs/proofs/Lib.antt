@@ -4,3 +4,5 @@ pub mod Digested
 pub mod FirstNodes
 pub mod MediaSteps
 pub mod Refilled
+pub mod ChunkSteps
+pub mod DigestAnswers

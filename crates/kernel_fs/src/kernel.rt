@@ -13,25 +13,30 @@ ghost use Rattle.shared_area.specs.RunMoving.{CanMove, IsMoved};
 ghost use Rattle.shared_area.specs.Found.{HasFileRun};
 ghost use Rattle.shared_area.specs.RelocateError.TheVariants as moves;
 ghost use Rattle.shared_area.specs.Moving.{HasTooFew, HasEnough, StaysOpen, MovesOrStays};
-ghost use Rattle.digester.specs.SealedLog.{IsSealed, StandsAtMark};
+ghost use Rattle.digester.specs.Chunk.{IsChunkOf};
+ghost use Rattle.digester.specs.Digesting.{IsDigested, IsToldBad, StaysOrDigests, DigestsOrStays};
+ghost use Rattle.digester.specs.SealedLog.{IsSealed, IsDoneBy, StandsAtMark, undone};
+ghost use Rattle.digester.specs.declared.error.DigestError.TheVariants.{BadLog};
 ghost use Rattle.migrator.specs.Picking.{IsPicked, MayBeMoved};
-ghost use Rattle.world_facts.specs.Machine.{Machine, Sealed, accept as accepted, book_pin, unbook_pin, bury as buried};
+ghost use Rattle.world_facts.specs.Logs.{units_in};
+ghost use Rattle.world_facts.specs.Machine.{Machine, Sealed, IsRunning, StandsSealed, accept as accepted, digest as digested, book_pin, unbook_pin, bury as buried};
 ghost use Rattle.kernel_book.specs.Book.{units_of, waiting_of, out_of, is_free};
 ghost use Rattle.kernel_book.specs.Free.{AreLowest, count_of};
 ghost use Rattle.kernel_book.specs.Inodes.{IsInode, has};
 ghost use Rattle.kernel_book.specs.Nodes.{nodes_in};
 ghost use Rattle.kernel_book.specs.Steps.{grant as granted, opened, take_back as taken_back};
 ghost use Rattle.kernel_book.specs.declared.error.RefillError.TheVariants.{NoUnits, NoInode};
-ghost use Rattle.kernel_fs.specs.Accepting.{client_of, IsAccepted};
+ghost use Rattle.kernel_fs.specs.Accepting.{client_of, IsAccepted, BeginsAtMark, IsRegionOf};
 ghost use Rattle.kernel_fs.specs.Answering.{Answers, OnRefusal};
 ghost use Rattle.kernel_fs.specs.Standing.{IsKernelOf, StandBeforeRegions};
 ghost use Rattle.kernel_fs.specs.declared.error.AcceptError.TheVariants.{NotAtMark, RecordsWait};
 ghost use Rattle.kernel_fs.specs.declared.error.KernelError.TheVariants.{Failed, Refused};
 
 use crate::accepting::{client_of, undone_of};
+use crate::digesting::{begins_at_mark, digest_and_follow};
 use crate::error::{AcceptError, KernelError, KernelFailed};
 use crate::opening::nodes_of;
-use digester::SealedLog;
+use digester::{Chunk, DigestError, SealedLog};
 use kernel_book::{Book, InodeSet, RefillError};
 use migrator::{FileRun, migrate, pick};
 use posix_calls::UNIT_BYTES;
@@ -356,6 +361,60 @@ impl<M: Media> Kernel<M> {
         }
         self.book.accept(client, undone_of(log));
         Ok(())
+    }
+
+    /// Digests a chunk of an accepted region: its records are tested one after the other over the shared area, and what they come to reaches the area in one batch, together with the client's mark; then
+    /// their units and the numbers of the nodes that they make leave the client's account. So graph, mark and account move together. At each moment a stop leaves graph and mark both as before, or both after.
+    ///
+    /// It answers false exactly where the chunk does not begin at the mark; then nothing has changed, and the next chunk is to be prepared again. `BadLog` names the first bad record of the chunk, by its place
+    /// in the region; there is none in a region that stands in a machine which runs. It never wants for blocks. `Memory` where there was none. After these nothing has changed. `DeviceFault` where a device failed.
+    pub fn digest(
+        &mut self,
+        log: &mut SealedLog,
+        chunk: &Chunk,
+    ) -> Result<bool, KernelError<DigestError>>
+        requires sealed { IsSealed log.old }
+        requires chunk { IsChunkOf log.old chunk.now }
+        requires accepted { IsAccepted self.old.book log.old }
+
+        ensures any_moment { self.old.area.failed ≡ false → BeginsAtMark log.old chunk.now (store_of (M.seen self.old.area.media)) → StaysOrDigests self.old.area.geometry (store_of (M.seen self.old.area.media)) log.old chunk.now.count (M.moment self.old.area.media) (M.moment self.new.area.media) (M.left self.old.area.media) (M.left self.new.area.media) }
+
+        // What is answered, and what has changed then.
+        ensures next { IfOk result (λ b. (b ≡ true) ↔ BeginsAtMark log.old chunk.now (store_of (M.seen self.old.area.media))) }
+        ensures not_next { IfOk result (λ b. b ≡ false → (self.new ≡ self.old) × (log.new ≡ log.old)) }
+        ensures digested { IfOk result (λ b. b ≡ true → IsDigested self.old.area.geometry (store_of (M.seen self.old.area.media)) log.old chunk.now.count (store_of (M.seen self.new.area.media))) }
+        ensures done { IfOk result (λ b. b ≡ true → IsDoneBy log.old chunk.now.count log.new) }
+        ensures at_mark { IfOk result (λ b. b ≡ true → StandsAtMark log.new (store_of (M.seen self.new.area.media))) }
+        ensures accepted { OnOk result (IsAccepted self.new.book log.new) }
+        ensures step { IfOk result (λ b. b ≡ true → (m : Machine) → IsKernelOf M.seen self.old m → IsKernelOf M.seen self.new (digested m (client_of log.old) (take chunk.now.count (undone log.old)))) }
+        // What the records raise of the charge they have in units.
+        ensures law { OnOk result (units_in (undone log.old) ≤ units_of self.old.book (client_of log.old) → charge (graph self.old.area.geometry (store_of (M.seen self.old.area.media))) + out_of self.old.book ≤ self.old.area.geometry.units
+            → charge (graph self.new.area.geometry (store_of (M.seen self.new.area.media))) + out_of self.new.book ≤ self.new.area.geometry.units) }
+
+        ensures bad { IfErr result (λ e. OnRefusal e (IsToldBad self.old.area.geometry (store_of (M.seen self.old.area.media)) log.old chunk.now.count)) }
+        ensures never_bad { (m : Machine) (s : Sealed) (place : ℕ) → IsKernelOf M.seen self.old m → IsRunning m → IsRegionOf log.old (m.kernel.accounts (client_of log.old)).mark s → StandsSealed m.kernel.shared (m.kernel.accounts (client_of log.old)) s
+            → IsErrOf result (Refused (BadLog place)) → ⊥ }
+        ensures refused { OnErr result ((self.new.book ≡ self.old.book) × (log.new ≡ log.old)) }
+        ensures answers { Answers self.old.area.failed self.old self.new result (DigestsOrStays M.moment M.seen M.left M.faults self.old.area self.new.area) }
+    {
+        if self.area.has_failed() {
+            return Err(KernelError::Failed);
+        }
+        if !begins_at_mark(&self.area, log, chunk) {
+            return Ok(false);
+        }
+        match digest_and_follow(
+            self.alloc,
+            &mut self.area,
+            &mut self.book,
+            &mut self.nodes,
+            log,
+            chunk,
+        ) {
+            Ok(()) => {}
+            Err(error) => return Err(KernelError::Refused(error)),
+        }
+        Ok(true)
     }
 
     // ---- where blocks lie

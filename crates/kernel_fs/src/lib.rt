@@ -8,6 +8,7 @@
 #![tactic(auto)]
 
 mod accepting;
+mod digesting;
 mod error;
 mod kernel;
 mod laws;

@@ -1,0 +1,44 @@
+-- What a digest answers, by what was answered to it.
+use Rattle.std.proofs.Common.{◌≡◌, ◌≢◌, ◌≤◌, ◌+◌, ℕ, List, Bool, true, false, refl, sym, ap, ◌∙◌, subst, arith}
+use Rattle.std.specs.Prelude.{Result, Ok, Err}
+use Rattle.std.proofs.lemmas.Bool.{true≢false}
+use Rattle.tier_device.specs.declared.media.Tier.{Tier}
+use Rattle.batch_journal.specs.View.{JournalView}
+use Rattle.digester.specs.Digesting.{DigestsOrStays}
+use Rattle.digester.specs.declared.error.DigestError.{DigestError}
+use Rattle.digester.specs.declared.error.DigestError.TheVariants as errors
+use Rattle.kernel_book.specs.Book.{Accounts}
+use Rattle.kernel_fs.specs.Answering.{Answers, told}
+use Rattle.kernel_fs.specs.KernelView.{KernelView}
+
+err_is : {T : Type 0} (e f : DigestError) → ◌≡◌ {A = Result T DigestError} (Err e) (Err f) → e ≡ f
+err_is e f is = cc
+
+module _ {M : Type 0} (moment : M → ℕ) (seen : M → Tier → List ℕ) (left : M → ℕ → Tier → List ℕ → Type 0) (faults : M → ℕ) where
+  -- another answer of a call that has answered
+  pub another : {T U : Type 0} (old new : JournalView M) (x : T) (y : U) → DigestsOrStays moment seen left faults old new (Ok x) → DigestsOrStays moment seen left faults old new (Ok y)
+  another old new x y d = record { unmoved = tt; geometry = d.geometry; more_faults = d.more_faults; one_fault = d.one_fault; quiet = d.quiet; going = d.going; quiet_refused = tt; stays_failed = λ was. absurd (true≢false (sym was ∙ d.going.0)); fault = λ is. absurd (cc is) }
+
+  -- the same refusal of another call
+  pub refused : {T U : Type 0} (old new : JournalView M) (e : DigestError) → DigestsOrStays {T = T} moment seen left faults old new (Err e) → DigestsOrStays {T = U} moment seen left faults old new (Err e)
+  refused {T = T} {U = U} old new e d = record {
+    unmoved = d.unmoved;
+    geometry = d.geometry;
+    more_faults = d.more_faults;
+    one_fault = d.one_fault;
+    quiet = tt;
+    going = tt;
+    quiet_refused = d.quiet_refused;
+    stays_failed = λ was. (let s = d.stays_failed was in (ap Err (err_is {T = T} e errors.DeviceFault s.0), s.1));
+    fault = λ is. d.fault (ap Err (err_is {T = U} e errors.DeviceFault is));
+  }
+
+  -- no call at all
+  pub none : {U : Type 0} (area : JournalView M) (y : U) → area.failed ≡ false → DigestsOrStays moment seen left faults area area (Ok y)
+  none area y going = record { unmoved = tt; geometry = refl; more_faults = omega arith; one_fault = omega arith; quiet = refl; going = (going, going); quiet_refused = tt; stays_failed = λ was. absurd (true≢false (sym was ∙ going)); fault = λ is. absurd (cc is) }
+
+  pub answered : (area next : JournalView M) (book new : Accounts) (old : KernelView M) → record { area = area; book = book } ≡ old → (r : Result Bool DigestError) → area.failed ≡ false → DigestsOrStays moment seen left faults area next r
+      → Answers old.area.failed old (record { area = next; book = new }) (told r) (DigestsOrStays moment seen left faults old.area next)
+  answered area next book new old same r going is =
+      subst (λ (v : KernelView M). Answers v.area.failed v (record { area = next; book = new }) (told r) (DigestsOrStays moment seen left faults v.area next)) same
+      (record { failed = λ was. absurd (true≢false (sym was ∙ going)); going = λ _. (r, refl, is) })

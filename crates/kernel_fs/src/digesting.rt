@@ -1,0 +1,86 @@
+//! A chunk reaches the shared area, and what is kept in memory follows it.
+
+ghost use Rattle.std.specs.Prelude.{◌≡◌, ◌≤◌, ◌<◌, ◌+◌, ◌↔◌, ℕ, length, take, true, false, IsTrue, IfErr, OnOk, OnErr};
+ghost use Rattle.std.specs.List.{AllByRecursion};
+ghost use Rattle.posix_calls.specs.Operations.{is_client};
+ghost use Rattle.file_graph.specs.Graph.{Graph};
+ghost use Rattle.layout.specs.declared.marks.TheConstants.{CLIENTS};
+ghost use Rattle.log_record.specs.Grammar.{IsRecord};
+ghost use Rattle.shared_area.specs.Store.{store_of};
+ghost use Rattle.digester.specs.Chunk.{IsChunkOf, is_next};
+ghost use Rattle.digester.specs.Digesting.{IsDigested, IsToldBad, StaysOrDigests, DigestsOrStays};
+ghost use Rattle.digester.specs.SealedLog.{IsSealed, IsDoneBy, StandsAtMark, undone};
+ghost use Rattle.world_facts.specs.Logs.{after_records, units_in};
+ghost use Rattle.world_facts.specs.Machine.{Machine, digest as digested};
+ghost use Rattle.kernel_book.specs.Book.{units_of, waiting_of, out_of, IsBookOf};
+ghost use Rattle.kernel_book.specs.Inodes.{has};
+ghost use Rattle.kernel_book.specs.Nodes.{AreNodes};
+ghost use Rattle.kernel_fs.specs.Accepting.{client_of, BeginsAtMark, IsAccepted};
+
+use crate::accepting::client_of;
+use digester::{Chunk, DigestError, SealedLog, digest_chunk};
+use kernel_book::{Book, InodeSet};
+use log_record::Record;
+use shared_area::Shared;
+use std::alloc::Global;
+use tier_device::Media;
+
+/// Whether a chunk of a log begins at the mark of the log's client.
+pub fn begins_at_mark<M: Media>(area: &Shared<M>, log: &SealedLog, chunk: &Chunk) -> bool
+    requires sealed { IsSealed log.now }
+    requires going { area.now.failed ≡ false }
+    ensures { IsTrue result ↔ BeginsAtMark log.now chunk.now (store_of (M.seen area.now.media)) }
+{
+    chunk.is_next(log) && log.stands_at(&area.marks())
+}
+
+/// The book and the set of nodes follow records that were digested.
+pub fn follow(book: &mut Book, nodes: &mut InodeSet, client: u32, records: &[Record])
+    requires client { is_client client ≡ true }
+    requires waiting { length records.now ≤ waiting_of book.old client }
+    requires spelled { AllByRecursion IsRecord records.now }
+    ensures step { (m : Machine) → IsBookOf book.old m → IsBookOf book.new (digested m client records.now) }
+    ensures nodes { (g : Graph) → AreNodes g (has nodes.old) → AreNodes (after_records g records.now) (has nodes.new) }
+    ensures waiting { waiting_of book.new client + length records.now ≡ waiting_of book.old client }
+    ensures law { (before after capacity : ℕ) → units_in records.now ≤ units_of book.old client → after ≤ before + units_in records.now → before + out_of book.old ≤ capacity → after + out_of book.new ≤ capacity }
+{
+    book.digest(client, records);
+    nodes.follow(records);
+}
+
+/// Digests a chunk that begins at the mark, and what is kept in memory follows it.
+pub fn digest_and_follow<M: Media>(
+    alloc: Global,
+    area: &mut Shared<M>,
+    book: &mut Book,
+    nodes: &mut InodeSet,
+    log: &mut SealedLog,
+    chunk: &Chunk,
+) -> Result<(), DigestError>
+    requires sealed { IsSealed log.old }
+    requires chunk { IsChunkOf log.old chunk.now }
+    requires next { is_next log.old chunk.now ≡ true }
+    requires at_mark { area.old.failed ≡ false → StandsAtMark log.old (store_of (M.seen area.old.media)) }
+    requires accepted { IsAccepted book.old log.old }
+    ensures any_moment { area.old.failed ≡ false → StaysOrDigests area.old.geometry (store_of (M.seen area.old.media)) log.old chunk.now.count (M.moment area.old.media) (M.moment area.new.media) (M.left area.old.media) (M.left area.new.media) }
+    ensures digested { OnOk result (IsDigested area.old.geometry (store_of (M.seen area.old.media)) log.old chunk.now.count (store_of (M.seen area.new.media))) }
+    ensures done { OnOk result (IsDoneBy log.old chunk.now.count log.new) }
+    ensures at_mark { OnOk result (StandsAtMark log.new (store_of (M.seen area.new.media))) }
+    ensures book { OnOk result ((m : Machine) → IsBookOf book.old m → IsBookOf book.new (digested m (client_of log.old) (take chunk.now.count (undone log.old)))) }
+    ensures nodes { OnOk result ((g : Graph) → AreNodes g (has nodes.old) → AreNodes (after_records g (take chunk.now.count (undone log.old))) (has nodes.new)) }
+    ensures accepted { OnOk result (IsAccepted book.new log.new) }
+    ensures law { OnOk result ((before after capacity : ℕ) → units_in (take chunk.now.count (undone log.old)) ≤ units_of book.old (client_of log.old) → after ≤ before + units_in (take chunk.now.count (undone log.old)) → before + out_of book.old ≤ capacity → after + out_of book.new ≤ capacity) }
+    ensures bad { IfErr result (IsToldBad area.old.geometry (store_of (M.seen area.old.media)) log.old chunk.now.count) }
+    ensures refused { OnErr result ((book.new ≡ book.old) × (nodes.new ≡ nodes.old) × (log.new ≡ log.old)) }
+    ensures digests { DigestsOrStays M.moment M.seen M.left M.faults area.old area.new result }
+{
+    let first = log.done as usize;
+    match digest_chunk(alloc, area, log, chunk) {
+        Ok(()) => {
+            let end = log.done as usize;
+            follow(book, nodes, client_of(log), &log.records[first..end]);
+            Ok(())
+        }
+        Err(error) => Err(error),
+    }
+}
