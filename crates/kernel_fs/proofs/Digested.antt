@@ -21,7 +21,7 @@ use Rattle.world_facts.proofs.Owners.{client_is, is_low}
 use Rattle.kernel_book.specs.Book.{Accounts, IsBookOf, waiting_of}
 use Rattle.kernel_book.specs.Marks.{AreMarksAfter, AreMarksOf}
 use Rattle.kernel_book.proofs.MarksGo.{accepted_marks, digested_marks}
-use Rattle.kernel_fs.specs.Accepting.{client_of, IsAccepted}
+use Rattle.kernel_fs.specs.Accepting.{client_of, HasAsManyWaiting}
 use Rattle.kernel_fs.specs.KernelView.{KernelView}
 use Rattle.kernel_fs.specs.Standing.{IsKernelOf, done_in}
 use Rattle.kernel_fs.proofs.SealedRecords.{effects_are}
@@ -96,7 +96,7 @@ module _ (x : SealedLog) (sealed : IsSealed x) where
 -- ---- a digested chunk
 
 module _ (x : SealedLog) (sealed : IsSealed x) {M : Type 0} (seen : M → Tier → List ℕ) (old new : JournalView M) (book next : Accounts) (m : Machine) (n : ℕ)
-    (is : IsKernelOf seen (record { area = old; book = book }) m) (accepted : IsAccepted book x)
+    (is : IsKernelOf seen (record { area = old; book = book }) m) (accepted : HasAsManyWaiting book x)
     (done : IsDigested old.geometry (store_of (seen old.media)) x n (store_of (seen new.media))) (at : StandsAtMark (done_to (x.done + n) x) (store_of (seen new.media))) (same : new.geometry ≡ old.geometry) where
   abbrev rs : List Record
   rs = take n (undone x)

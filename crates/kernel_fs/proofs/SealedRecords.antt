@@ -29,7 +29,7 @@ use Rattle.world_facts.proofs.Owners.{client_is}
 use Rattle.world_facts.proofs.Records.{in_first, in_rest}
 use Rattle.kernel_book.specs.Book.{Accounts, IsBookOf}
 use Rattle.kernel_book.proofs.MarksGo.{undigested}
-use Rattle.kernel_fs.specs.Accepting.{client_of, IsAccepted, IsRegionOf}
+use Rattle.kernel_fs.specs.Accepting.{client_of, HasAsManyWaiting, IsRegionOf}
 
 pub effects_are : (rs : List Record) (g : Graph) → after_effects g (effects_in rs) ≡ after_records g rs
 effects_are [] g = refl
@@ -98,7 +98,7 @@ module _ (x : SealedLog) (m : Machine) (s : Sealed) (region : IsRegionOf x (m.ke
         (covered x.held.items s.writes (undone x) m.kernel.shared runs.booked.limits (all_behind IsRecord x.done x.records.items sealed.spelled) region.writes logged)
         (λ i e. refl) (omega (arith, units, out, fits, same)) bad
 
-    pub next : (book : Accounts) (n : ℕ) → IsBookOf book m → IsAccepted book x → 0 < n → n ≤ length (undone x) → CanDigestNext m (client_of x) s (take n (undone x)) (drop n (undone x))
+    pub next : (book : Accounts) (n : ℕ) → IsBookOf book m → HasAsManyWaiting book x → 0 < n → n ≤ length (undone x) → CanDigestNext m (client_of x) s (take n (undone x)) (drop n (undone x))
     next book n is accepted some few =
         let many : length (take n (undone x)) ≡ n = length-take-le n (undone x) few in
         let all : m.accepted (client_of x) ≡ own.mark + length (undone x) = (is (client_of x) its_client).waiting ∙ ap (λ k. own.mark + k) accepted in

@@ -14,9 +14,9 @@ use Rattle.world_facts.specs.Machine.{Sealed}
 abbrev pub client_of : SealedLog → ℕ
 client_of x = x.client + 1
 
--- The records of the log that are not digested are those that wait of its client: it was accepted.
-abbrev pub IsAccepted : Accounts → SealedLog → Type 0
-IsAccepted book x = waiting_of book (client_of x) ≡ length (undone x)
+-- As many records of the log's client are waiting as the log has undigested: so it is of the one that was accepted, from there on until its last record is digested.
+abbrev pub HasAsManyWaiting : Accounts → SealedLog → Type 0
+HasAsManyWaiting book x = waiting_of book (client_of x) ≡ length (undone x)
 
 -- A chunk of a log begins at the mark: with the first record that is not digested, where the log stands at its client's mark.
 abbrev pub BeginsAtMark : SealedLog → Chunk → Store → Type 0

@@ -15,7 +15,7 @@ ghost use Rattle.world_facts.specs.Machine.{Machine, digest as digested};
 ghost use Rattle.kernel_book.specs.Book.{units_of, waiting_of, out_of, IsBookOf};
 ghost use Rattle.kernel_book.specs.Inodes.{has};
 ghost use Rattle.kernel_book.specs.Nodes.{AreNodes};
-ghost use Rattle.kernel_fs.specs.Accepting.{client_of, BeginsAtMark, IsAccepted};
+ghost use Rattle.kernel_fs.specs.Accepting.{client_of, BeginsAtMark, HasAsManyWaiting};
 
 use crate::accepting::client_of;
 use digester::{Chunk, DigestError, SealedLog, digest_chunk};
@@ -61,14 +61,14 @@ pub fn digest_and_follow<M: Media>(
     requires chunk { IsChunkOf log.old chunk.now }
     requires next { is_next log.old chunk.now ≡ true }
     requires at_mark { area.old.failed ≡ false → StandsAtMark log.old (store_of (M.seen area.old.media)) }
-    requires accepted { IsAccepted book.old log.old }
+    requires accepted { HasAsManyWaiting book.old log.old }
     ensures any_moment { area.old.failed ≡ false → StaysOrDigests area.old.geometry (store_of (M.seen area.old.media)) log.old chunk.now.count (M.moment area.old.media) (M.moment area.new.media) (M.left area.old.media) (M.left area.new.media) }
     ensures digested { OnOk result (IsDigested area.old.geometry (store_of (M.seen area.old.media)) log.old chunk.now.count (store_of (M.seen area.new.media))) }
     ensures done { OnOk result (IsDoneBy log.old chunk.now.count log.new) }
     ensures at_mark { OnOk result (StandsAtMark log.new (store_of (M.seen area.new.media))) }
     ensures book { OnOk result ((m : Machine) → IsBookOf book.old m → IsBookOf book.new (digested m (client_of log.old) (take chunk.now.count (undone log.old)))) }
     ensures nodes { OnOk result ((g : Graph) → AreNodes g (has nodes.old) → AreNodes (after_records g (take chunk.now.count (undone log.old))) (has nodes.new)) }
-    ensures accepted { OnOk result (IsAccepted book.new log.new) }
+    ensures accepted { OnOk result (HasAsManyWaiting book.new log.new) }
     ensures law { OnOk result ((before after capacity : ℕ) → units_in (take chunk.now.count (undone log.old)) ≤ units_of book.old (client_of log.old) → after ≤ before + units_in (take chunk.now.count (undone log.old)) → before + out_of book.old ≤ capacity → after + out_of book.new ≤ capacity) }
     ensures bad { IfErr result (IsToldBad area.old.geometry (store_of (M.seen area.old.media)) log.old chunk.now.count) }
     ensures refused { OnErr result ((book.new ≡ book.old) × (nodes.new ≡ nodes.old) × (log.new ≡ log.old)) }

@@ -20,7 +20,7 @@ pub enum AcceptError {
     /// It does not stand at its client's mark.
     #[error("the region does not stand at its client's mark")]
     NotAtMark,
-    /// Records of an earlier region of that client are not digested.
-    #[error("records of an earlier region are waiting")]
-    RecordsWait,
+    /// Records of that client are waiting: they are this region's own, for one that stands at the mark was accepted before it.
+    #[error("the region is accepted already")]
+    AlreadyAccepted,
 }

@@ -26,10 +26,10 @@ ghost use Rattle.kernel_book.specs.Inodes.{IsInode, has};
 ghost use Rattle.kernel_book.specs.Nodes.{nodes_in};
 ghost use Rattle.kernel_book.specs.Steps.{grant as granted, opened, take_back as taken_back};
 ghost use Rattle.kernel_book.specs.declared.error.RefillError.TheVariants.{NoUnits, NoInode};
-ghost use Rattle.kernel_fs.specs.Accepting.{client_of, IsAccepted, BeginsAtMark, IsRegionOf};
+ghost use Rattle.kernel_fs.specs.Accepting.{client_of, HasAsManyWaiting, BeginsAtMark, IsRegionOf};
 ghost use Rattle.kernel_fs.specs.Answering.{Answers, OnRefusal};
 ghost use Rattle.kernel_fs.specs.Standing.{IsKernelOf, StandBeforeRegions};
-ghost use Rattle.kernel_fs.specs.declared.error.AcceptError.TheVariants.{NotAtMark, RecordsWait};
+ghost use Rattle.kernel_fs.specs.declared.error.AcceptError.TheVariants.{NotAtMark, AlreadyAccepted};
 ghost use Rattle.kernel_fs.specs.declared.error.KernelError.TheVariants.{Failed, Refused};
 
 use crate::accepting::{client_of, undone_of};
@@ -336,15 +336,15 @@ impl<M: Media> Kernel<M> {
 
     /// Accepts a region that a client sealed, before any of its records is digested. It makes no device call.
     ///
-    /// `NotAtMark` exactly where it does not stand at its client's mark; `RecordsWait` exactly where it does, but records of an earlier region of that client are not digested. After each refusal nothing has
-    /// changed.
+    /// `NotAtMark` exactly where it does not stand at its client's mark; `AlreadyAccepted` exactly where it does, but records of that client are waiting, which were accepted from that same region. After each refusal
+    /// nothing has changed.
     pub fn accept(&mut self, log: &SealedLog) -> Result<(), KernelError<AcceptError>>
         requires sealed { IsSealed log.now }
-        ensures accepted { OnOk result (IsAccepted self.new.book log.now) }
+        ensures accepted { OnOk result (HasAsManyWaiting self.new.book log.now) }
         ensures step { OnOk result ((m : Machine) (s : Sealed) → IsKernelOf M.seen self.old m → m.accepted (client_of log.now) ≡ s.past → s.records ≡ log.now.records.items → IsKernelOf M.seen self.new (accepted m (client_of log.now) s)) }
         ensures out { out_of self.new.book ≡ out_of self.old.book }
         ensures not_at_mark { IsErrOf result (Refused NotAtMark) ↔ ((self.old.area.failed ≡ false) × (StandsAtMark log.now (store_of (M.seen self.old.area.media)) → ⊥)) }
-        ensures records_wait { IsErrOf result (Refused RecordsWait) ↔ ((self.old.area.failed ≡ false) × StandsAtMark log.now (store_of (M.seen self.old.area.media)) × (waiting_of self.old.book (client_of log.now) ≢ 0)) }
+        ensures already_accepted { IsErrOf result (Refused AlreadyAccepted) ↔ ((self.old.area.failed ≡ false) × StandsAtMark log.now (store_of (M.seen self.old.area.media)) × (waiting_of self.old.book (client_of log.now) ≢ 0)) }
         ensures failed { IsErrOf result Failed ↔ (self.old.area.failed ≡ true) }
         ensures refused { OnErr result (self.new ≡ self.old) }
         ensures area { self.new.area ≡ self.old.area }
@@ -357,7 +357,7 @@ impl<M: Media> Kernel<M> {
         }
         let client = client_of(log);
         if self.book.account(client).waiting != 0 {
-            return Err(KernelError::Refused(AcceptError::RecordsWait));
+            return Err(KernelError::Refused(AcceptError::AlreadyAccepted));
         }
         self.book.accept(client, undone_of(log));
         Ok(())
@@ -375,7 +375,7 @@ impl<M: Media> Kernel<M> {
     ) -> Result<bool, KernelError<DigestError>>
         requires sealed { IsSealed log.old }
         requires chunk { IsChunkOf log.old chunk.now }
-        requires accepted { IsAccepted self.old.book log.old }
+        requires accepted { HasAsManyWaiting self.old.book log.old }
 
         ensures any_moment { self.old.area.failed ≡ false → BeginsAtMark log.old chunk.now (store_of (M.seen self.old.area.media)) → StaysOrDigests self.old.area.geometry (store_of (M.seen self.old.area.media)) log.old chunk.now.count (M.moment self.old.area.media) (M.moment self.new.area.media) (M.left self.old.area.media) (M.left self.new.area.media) }
 
@@ -385,12 +385,14 @@ impl<M: Media> Kernel<M> {
         ensures digested { IfOk result (λ b. b ≡ true → IsDigested self.old.area.geometry (store_of (M.seen self.old.area.media)) log.old chunk.now.count (store_of (M.seen self.new.area.media))) }
         ensures done { IfOk result (λ b. b ≡ true → IsDoneBy log.old chunk.now.count log.new) }
         ensures at_mark { IfOk result (λ b. b ≡ true → StandsAtMark log.new (store_of (M.seen self.new.area.media))) }
-        ensures accepted { OnOk result (IsAccepted self.new.book log.new) }
+        ensures accepted { OnOk result (HasAsManyWaiting self.new.book log.new) }
         ensures step { IfOk result (λ b. b ≡ true → (m : Machine) → IsKernelOf M.seen self.old m → IsKernelOf M.seen self.new (digested m (client_of log.old) (take chunk.now.count (undone log.old)))) }
         // What the records raise of the charge they have in units.
         ensures law { OnOk result (units_in (undone log.old) ≤ units_of self.old.book (client_of log.old) → charge (graph self.old.area.geometry (store_of (M.seen self.old.area.media))) + out_of self.old.book ≤ self.old.area.geometry.units
             → charge (graph self.new.area.geometry (store_of (M.seen self.new.area.media))) + out_of self.new.book ≤ self.new.area.geometry.units) }
 
+        // a chunk that does not begin at the mark is told as such, and as nothing else
+        ensures only_next { IfErr result (λ e. OnRefusal e (λ _. BeginsAtMark log.old chunk.now (store_of (M.seen self.old.area.media)))) }
         ensures bad { IfErr result (λ e. OnRefusal e (IsToldBad self.old.area.geometry (store_of (M.seen self.old.area.media)) log.old chunk.now.count)) }
         ensures never_bad { (m : Machine) (s : Sealed) (place : ℕ) → IsKernelOf M.seen self.old m → IsRunning m → IsRegionOf log.old (m.kernel.accounts (client_of log.old)).mark s → StandsSealed m.kernel.shared (m.kernel.accounts (client_of log.old)) s
             → IsErrOf result (Refused (BadLog place)) → ⊥ }

@@ -15,7 +15,7 @@ ghost use Rattle.world_facts.specs.Logs.{after_records, units_in};
 ghost use Rattle.world_facts.specs.Standing.{IsLogged};
 ghost use Rattle.world_facts.specs.Machine.{Machine, Sealed, IsRunning, StandsSealed, CanDigestNext, undigested_sealed};
 ghost use Rattle.kernel_book.specs.Book.{Accounts, IsBookOf};
-ghost use Rattle.kernel_fs.specs.Accepting.{client_of, IsAccepted, IsRegionOf};
+ghost use Rattle.kernel_fs.specs.Accepting.{client_of, HasAsManyWaiting, IsRegionOf};
 
 /// What the effects of records make of a graph is what the records make of it, one after the other.
 pub fn effects_of_records_are_the_records()
@@ -38,6 +38,6 @@ pub fn sealed_records_are_covered()
 /// What the machine has of an accepted region as not digested are the log's records that are not, and it may digest the next ones.
 pub fn accepted_records_may_be_digested()
     ensures undone { (x : SealedLog) (m : Machine) (s : Sealed) → IsRegionOf x (m.kernel.accounts (client_of x)).mark s → undigested_sealed (m.kernel.accounts (client_of x)) s ≡ undone x }
-    ensures next { (x : SealedLog) (book : Accounts) (m : Machine) (s : Sealed) (n : ℕ) → IsSealed x → IsBookOf book m → IsAccepted book x → IsRegionOf x (m.kernel.accounts (client_of x)).mark s
+    ensures next { (x : SealedLog) (book : Accounts) (m : Machine) (s : Sealed) (n : ℕ) → IsSealed x → IsBookOf book m → HasAsManyWaiting book x → IsRegionOf x (m.kernel.accounts (client_of x)).mark s
         → 0 < n → n ≤ length (undone x) → CanDigestNext m (client_of x) s (take n (undone x)) (drop n (undone x)) }
 {}

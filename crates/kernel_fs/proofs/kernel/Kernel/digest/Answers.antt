@@ -7,7 +7,7 @@ use Rattle.layout.specs.Places.{Sizes}
 use Rattle.kernel_book.specs.Book.{units_of, out_of}
 use Rattle.world_facts.specs.Logs.{units_in}
 use Rattle.kernel_book.specs.Inodes.{has}
-use Rattle.kernel_fs.specs.Accepting.{client_of, IsAccepted}
+use Rattle.kernel_fs.specs.Accepting.{client_of, HasAsManyWaiting}
 use Rattle.kernel_fs.specs.KernelView.{KernelView}
 use Rattle.kernel_fs.specs.Standing.{IsKernelOf}
 use Rattle.kernel_fs.proofs.Digested.{digested_kernel}
@@ -33,7 +33,7 @@ returns-clause-step g c = λ yes m is.
     let n = c.args.chunk.now.count in
     let new = c.digest_and_follow.new in
     let own = subst (λ (v : KernelView _). IsKernelOf seen v m) (sym c.self.view_is) is in
-    let accepted = subst (λ (v : KernelView _). IsAccepted v.book x) (sym c.self.view_is) c.requires.accepted in
+    let accepted = subst (λ (v : KernelView _). HasAsManyWaiting v.book x) (sym c.self.view_is) c.requires.accepted in
     let at = subst (λ (z : SealedLog). StandsAtMark z (store_of (seen new.area.media))) c.in-Ok.ensures.done c.in-Ok.ensures.at_mark in
     digested_kernel x c.requires.sealed seen c.self.inside.area new.area c.self.inside.book new.book m n own accepted c.in-Ok.ensures.digested at c.in-Ok.ensures.digests.geometry (c.in-Ok.ensures.book m own.book)
 
