@@ -37,8 +37,8 @@ module _ {M : Type 0} (moment : M → ℕ) (seen : M → Tier → List ℕ) (lef
   pub none : {U : Type 0} (area : JournalView M) (y : U) → area.failed ≡ false → DigestsOrStays moment seen left faults area area (Ok y)
   none area y going = record { unmoved = tt; geometry = refl; more_faults = omega arith; one_fault = omega arith; quiet = refl; going = (going, going); quiet_refused = tt; stays_failed = λ was. absurd (true≢false (sym was ∙ going)); fault = λ is. absurd (cc is) }
 
-  pub answered : (area next : JournalView M) (book new : Accounts) (old : KernelView M) → record { area = area; book = book } ≡ old → (r : Result Bool DigestError) → area.failed ≡ false → DigestsOrStays moment seen left faults area next r
+  pub answered : {T : Type 0} (area next : JournalView M) (book new : Accounts) (old : KernelView M) → record { area = area; book = book } ≡ old → (r : Result T DigestError) → area.failed ≡ false → DigestsOrStays moment seen left faults area next r
       → Answers old.area.failed old (record { area = next; book = new }) (told r) (DigestsOrStays moment seen left faults old.area next)
-  answered area next book new old same r going is =
+  answered {T = T} area next book new old same r going is =
       subst (λ (v : KernelView M). Answers v.area.failed v (record { area = next; book = new }) (told r) (DigestsOrStays moment seen left faults v.area next)) same
       (record { failed = λ was. absurd (true≢false (sym was ∙ going)); going = λ _. (r, refl, is) })

@@ -1,11 +1,12 @@
 //! What the kernel reads of a sealed log.
 
-ghost use Rattle.std.specs.Prelude.{◌≡◌, ◌<◌, length};
+ghost use Rattle.std.specs.Prelude.{◌≡◌, ◌<◌, ◌↔◌, IsTrue, length};
 ghost use Rattle.layout.specs.declared.marks.TheConstants.{CLIENTS};
 ghost use Rattle.digester.specs.SealedLog.{IsSealed, undone};
-ghost use Rattle.kernel_fs.specs.Accepting.{client_of};
+ghost use Rattle.kernel_fs.specs.Accepting.{client_of, HasAsManyWaiting};
 
 use digester::SealedLog;
+use kernel_book::Book;
 
 /// The number of a log's client, which counts from 1; the log has it from 0.
 pub fn client_of(log: &SealedLog) -> u32
@@ -21,4 +22,12 @@ pub fn undone_of(log: &SealedLog) -> u32
     ensures { result ≡ length (undone log.now) }
 {
     log.records.len() as u32 - log.done
+}
+
+/// Whether as many records of the log's client are waiting as the log has undigested.
+pub fn has_as_many_waiting(book: &Book, log: &SealedLog) -> bool
+    requires sealed { IsSealed log.now }
+    ensures { IsTrue result ↔ HasAsManyWaiting book.now log.now }
+{
+    book.account(client_of(log)).waiting == undone_of(log)
 }

@@ -25,6 +25,17 @@ use shared_area::Shared;
 use std::alloc::Global;
 use tier_device::Media;
 
+/// What becomes of a chunk that the kernel is to digest.
+#[derive(Clone, Copy, Debug, PartialEq, Eq)]
+pub enum Digestion {
+    /// It is digested.
+    Digested,
+    /// It does not begin at the mark of its log's client: records were digested since it was prepared, or the log is another generation's. It is to be prepared again.
+    NotNext,
+    /// It begins at the mark, but not as many records of its client are waiting as its log has undigested: the region was not accepted since the media were opened, or its client was buried.
+    NotAccepted,
+}
+
 /// Whether a chunk of a log begins at the mark of the log's client.
 pub fn begins_at_mark<M: Media>(area: &Shared<M>, log: &SealedLog, chunk: &Chunk) -> bool
     requires sealed { IsSealed log.now }

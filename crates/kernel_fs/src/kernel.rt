@@ -29,11 +29,12 @@ ghost use Rattle.kernel_book.specs.declared.error.RefillError.TheVariants.{NoUni
 ghost use Rattle.kernel_fs.specs.Accepting.{client_of, HasAsManyWaiting, BeginsAtMark, IsRegionOf};
 ghost use Rattle.kernel_fs.specs.Answering.{Answers, OnRefusal};
 ghost use Rattle.kernel_fs.specs.Standing.{IsKernelOf, StandBeforeRegions};
+ghost use Rattle.kernel_fs.specs.declared.digesting.Digestion.TheVariants.{Digested, NotNext, NotAccepted};
 ghost use Rattle.kernel_fs.specs.declared.error.AcceptError.TheVariants.{NotAtMark, AlreadyAccepted};
 ghost use Rattle.kernel_fs.specs.declared.error.KernelError.TheVariants.{Failed, Refused};
 
-use crate::accepting::{client_of, undone_of};
-use crate::digesting::{begins_at_mark, digest_and_follow};
+use crate::accepting::{client_of, has_as_many_waiting, undone_of};
+use crate::digesting::{Digestion, begins_at_mark, digest_and_follow};
 use crate::error::{AcceptError, KernelError, KernelFailed};
 use crate::opening::nodes_of;
 use digester::{Chunk, DigestError, SealedLog};
@@ -366,33 +367,37 @@ impl<M: Media> Kernel<M> {
     /// Digests a chunk of an accepted region: its records are tested one after the other over the shared area, and what they come to reaches the area in one batch, together with the client's mark; then
     /// their units and the numbers of the nodes that they make leave the client's account. So graph, mark and account move together. At each moment a stop leaves graph and mark both as before, or both after.
     ///
-    /// It answers false exactly where the chunk does not begin at the mark; then nothing has changed, and the next chunk is to be prepared again. `BadLog` names the first bad record of the chunk, by its place
+    /// It answers `NotNext` exactly where the chunk does not begin at the mark: the next chunk is to be prepared again. `NotAccepted` exactly where it does, but not as many records of its client are waiting as its
+    /// log has undigested. Nothing has changed then, and no device was asked.
+    ///
+    /// The refusals are of chunks that begin at the mark and are accepted. `BadLog` names the first bad record of the chunk, by its place
     /// in the region; there is none in a region that stands in a machine which runs. It never wants for blocks. `Memory` where there was none. After these nothing has changed. `DeviceFault` where a device failed.
     pub fn digest(
         &mut self,
         log: &mut SealedLog,
         chunk: &Chunk,
-    ) -> Result<bool, KernelError<DigestError>>
+    ) -> Result<Digestion, KernelError<DigestError>>
         requires sealed { IsSealed log.old }
         requires chunk { IsChunkOf log.old chunk.now }
-        requires accepted { HasAsManyWaiting self.old.book log.old }
 
-        ensures any_moment { self.old.area.failed ≡ false → BeginsAtMark log.old chunk.now (store_of (M.seen self.old.area.media)) → StaysOrDigests self.old.area.geometry (store_of (M.seen self.old.area.media)) log.old chunk.now.count (M.moment self.old.area.media) (M.moment self.new.area.media) (M.left self.old.area.media) (M.left self.new.area.media) }
+        ensures any_moment { self.old.area.failed ≡ false → BeginsAtMark log.old chunk.now (store_of (M.seen self.old.area.media)) → HasAsManyWaiting self.old.book log.old → StaysOrDigests self.old.area.geometry (store_of (M.seen self.old.area.media)) log.old chunk.now.count (M.moment self.old.area.media) (M.moment self.new.area.media) (M.left self.old.area.media) (M.left self.new.area.media) }
 
         // What is answered, and what has changed then.
-        ensures next { IfOk result (λ b. (b ≡ true) ↔ BeginsAtMark log.old chunk.now (store_of (M.seen self.old.area.media))) }
-        ensures not_next { IfOk result (λ b. b ≡ false → (self.new ≡ self.old) × (log.new ≡ log.old)) }
-        ensures digested { IfOk result (λ b. b ≡ true → IsDigested self.old.area.geometry (store_of (M.seen self.old.area.media)) log.old chunk.now.count (store_of (M.seen self.new.area.media))) }
-        ensures done { IfOk result (λ b. b ≡ true → IsDoneBy log.old chunk.now.count log.new) }
-        ensures at_mark { IfOk result (λ b. b ≡ true → StandsAtMark log.new (store_of (M.seen self.new.area.media))) }
-        ensures accepted { OnOk result (HasAsManyWaiting self.new.book log.new) }
-        ensures step { IfOk result (λ b. b ≡ true → (m : Machine) → IsKernelOf M.seen self.old m → IsKernelOf M.seen self.new (digested m (client_of log.old) (take chunk.now.count (undone log.old)))) }
+        ensures next { IfOk result (λ a. (a ≡ Digested) ↔ (BeginsAtMark log.old chunk.now (store_of (M.seen self.old.area.media)) × HasAsManyWaiting self.old.book log.old)) }
+        ensures not_next { IfOk result (λ a. (a ≡ NotNext) ↔ (BeginsAtMark log.old chunk.now (store_of (M.seen self.old.area.media)) → ⊥)) }
+        ensures not_accepted { IfOk result (λ a. (a ≡ NotAccepted) ↔ (BeginsAtMark log.old chunk.now (store_of (M.seen self.old.area.media)) × (HasAsManyWaiting self.old.book log.old → ⊥))) }
+        ensures not_digested { IfOk result (λ a. a ≢ Digested → (self.new ≡ self.old) × (log.new ≡ log.old)) }
+        ensures digested { IfOk result (λ a. a ≡ Digested → IsDigested self.old.area.geometry (store_of (M.seen self.old.area.media)) log.old chunk.now.count (store_of (M.seen self.new.area.media))) }
+        ensures done { IfOk result (λ a. a ≡ Digested → IsDoneBy log.old chunk.now.count log.new) }
+        ensures at_mark { IfOk result (λ a. a ≡ Digested → StandsAtMark log.new (store_of (M.seen self.new.area.media))) }
+        ensures accepted { IfOk result (λ a. a ≡ Digested → HasAsManyWaiting self.new.book log.new) }
+        ensures step { IfOk result (λ a. a ≡ Digested → (m : Machine) → IsKernelOf M.seen self.old m → IsKernelOf M.seen self.new (digested m (client_of log.old) (take chunk.now.count (undone log.old)))) }
         // What the records raise of the charge they have in units.
         ensures law { OnOk result (units_in (undone log.old) ≤ units_of self.old.book (client_of log.old) → charge (graph self.old.area.geometry (store_of (M.seen self.old.area.media))) + out_of self.old.book ≤ self.old.area.geometry.units
             → charge (graph self.new.area.geometry (store_of (M.seen self.new.area.media))) + out_of self.new.book ≤ self.new.area.geometry.units) }
 
-        // a chunk that does not begin at the mark is told as such, and as nothing else
-        ensures only_next { IfErr result (λ e. OnRefusal e (λ _. BeginsAtMark log.old chunk.now (store_of (M.seen self.old.area.media)))) }
+        // a chunk that does not begin at the mark, or is not accepted, is told as such, and as nothing else
+        ensures only_next { IfErr result (λ e. OnRefusal e (λ _. BeginsAtMark log.old chunk.now (store_of (M.seen self.old.area.media)) × HasAsManyWaiting self.old.book log.old)) }
         ensures bad { IfErr result (λ e. OnRefusal e (IsToldBad self.old.area.geometry (store_of (M.seen self.old.area.media)) log.old chunk.now.count)) }
         ensures never_bad { (m : Machine) (s : Sealed) (place : ℕ) → IsKernelOf M.seen self.old m → IsRunning m → IsRegionOf log.old (m.kernel.accounts (client_of log.old)).mark s → StandsSealed m.kernel.shared (m.kernel.accounts (client_of log.old)) s
             → IsErrOf result (Refused (BadLog place)) → ⊥ }
@@ -403,7 +408,10 @@ impl<M: Media> Kernel<M> {
             return Err(KernelError::Failed);
         }
         if !begins_at_mark(&self.area, log, chunk) {
-            return Ok(false);
+            return Ok(Digestion::NotNext);
+        }
+        if !has_as_many_waiting(&self.book, log) {
+            return Ok(Digestion::NotAccepted);
         }
         match digest_and_follow(
             self.alloc,
@@ -416,7 +424,7 @@ impl<M: Media> Kernel<M> {
             Ok(()) => {}
             Err(error) => return Err(KernelError::Refused(error)),
         }
-        Ok(true)
+        Ok(Digestion::Digested)
     }
 
     // ---- where blocks lie

@@ -14,6 +14,7 @@ mod kernel;
 mod laws;
 mod opening;
 
+pub use digesting::Digestion;
 pub use error::{AcceptError, KernelError, KernelFailed};
 pub use kernel::{Figures, Kernel};
 pub use laws::{

@@ -16,6 +16,7 @@ use Rattle.std.specs.Prelude.{Ok, Err}
 use Rattle.std.proofs.lemmas.Bool.{false≢true}
 use Rattle.digester.specs.Digesting.{DigestsOrStays}
 use Rattle.kernel_fs.specs.Accepting.{BeginsAtMark}
+use Rattle.kernel_fs.specs.declared.digesting.Digestion.TheVariants.{Digested, NotNext, NotAccepted}
 use Rattle.kernel_fs.specs.Answering.{Answers, told}
 use Rattle.kernel_fs.proofs.DigestAnswers.{another, answered, none, refused}
 use Rattle.kernel_fs.proofs.kernel.Kernel.digest.Goals as goal
@@ -33,7 +34,7 @@ returns-clause-step g c = λ yes m is.
     let n = c.args.chunk.now.count in
     let new = c.digest_and_follow.new in
     let own = subst (λ (v : KernelView _). IsKernelOf seen v m) (sym c.self.view_is) is in
-    let accepted = subst (λ (v : KernelView _). HasAsManyWaiting v.book x) (sym c.self.view_is) c.requires.accepted in
+    let accepted = c.has_as_many_waiting.ensures.0 c.if-not-has_as_many_waiting.false in
     let at = subst (λ (z : SealedLog). StandsAtMark z (store_of (seen new.area.media))) c.in-Ok.ensures.done c.in-Ok.ensures.at_mark in
     digested_kernel x c.requires.sealed seen c.self.inside.area new.area c.self.inside.book new.book m n own accepted c.in-Ok.ensures.digested at c.in-Ok.ensures.digests.geometry (c.in-Ok.ensures.book m own.book)
 
@@ -55,7 +56,7 @@ returns-in-Err-clause-never_bad g c = λ m s place is runs region stands told.
     never_told g.M.Media.seen c.self.inside.area c.self.inside.book c.args.log.now m s c.args.chunk.now.count place c.in-Err.error c.requires.sealed own runs region stands (cc told) c.in-Err.ensures.bad
 
 pub returns-then-not-begins_at_mark-clause-any_moment : goal.returns-then-not-begins_at_mark-clause-any_moment
-returns-then-not-begins_at_mark-clause-any_moment g c = λ going begins.
+returns-then-not-begins_at_mark-clause-any_moment g c = λ going begins _.
     absurd (false≢true (sym c.if-not-begins_at_mark.true ∙ c.begins_at_mark.ensures.1 (subst (λ (v : KernelView _). BeginsAtMark c.args.log.now c.args.chunk.now (store_of (g.M.Media.seen v.area.media))) (sym c.self.view_is) begins)))
 
 pub returns-then-not-begins_at_mark-clause-answers : goal.returns-then-not-begins_at_mark-clause-answers
@@ -64,8 +65,21 @@ returns-then-not-begins_at_mark-clause-answers g c =
     let going : _ = sym c.has_failed.ensures ∙ c.if-has_failed.false in
     let area = c.self.inside.area in
     let book = c.self.inside.book in
-    subst (λ (v : KernelView _). Answers v.area.failed v v (told (Ok false)) (DigestsOrStays m.moment m.seen m.left m.faults v.area v.area)) c.self.view_is
-    (answered m.moment m.seen m.left m.faults area area book book (record { area = area; book = book }) refl (Ok false) going (none m.moment m.seen m.left m.faults area false going))
+    subst (λ (v : KernelView _). Answers v.area.failed v v (told (Ok NotNext)) (DigestsOrStays m.moment m.seen m.left m.faults v.area v.area)) c.self.view_is
+    (answered m.moment m.seen m.left m.faults area area book book (record { area = area; book = book }) refl (Ok NotNext) going (none m.moment m.seen m.left m.faults area NotNext going))
+
+pub returns-then-not-has_as_many_waiting-clause-any_moment : goal.returns-then-not-has_as_many_waiting-clause-any_moment
+returns-then-not-has_as_many_waiting-clause-any_moment g c = λ going begins many.
+    absurd (false≢true (sym c.if-not-has_as_many_waiting.true ∙ c.has_as_many_waiting.ensures.1 (subst (λ (v : KernelView _). HasAsManyWaiting v.book c.args.log.now) (sym c.self.view_is) many)))
+
+pub returns-then-not-has_as_many_waiting-clause-answers : goal.returns-then-not-has_as_many_waiting-clause-answers
+returns-then-not-has_as_many_waiting-clause-answers g c =
+    let m = g.M.Media in
+    let going : _ = sym c.has_failed.ensures ∙ c.if-has_failed.false in
+    let area = c.self.inside.area in
+    let book = c.self.inside.book in
+    subst (λ (v : KernelView _). Answers v.area.failed v v (told (Ok NotAccepted)) (DigestsOrStays m.moment m.seen m.left m.faults v.area v.area)) c.self.view_is
+    (answered m.moment m.seen m.left m.faults area area book book (record { area = area; book = book }) refl (Ok NotAccepted) going (none m.moment m.seen m.left m.faults area NotAccepted going))
 
 pub returns-in-Err-clause-answers : goal.returns-in-Err-clause-answers
 returns-in-Err-clause-answers g c =
@@ -78,5 +92,5 @@ pub returns-clause-answers : goal.returns-clause-answers
 returns-clause-answers g c =
     let m = g.M.Media in
     let going : _ = sym c.has_failed.ensures ∙ c.if-has_failed.false in
-    answered m.moment m.seen m.left m.faults c.self.inside.area c.digest_and_follow.new.area c.self.inside.book c.digest_and_follow.new.book c.args.self.now c.self.view_is (Ok true) going
-    (another m.moment m.seen m.left m.faults c.self.inside.area c.digest_and_follow.new.area tt true c.in-Ok.ensures.digests)
+    answered m.moment m.seen m.left m.faults c.self.inside.area c.digest_and_follow.new.area c.self.inside.book c.digest_and_follow.new.book c.args.self.now c.self.view_is (Ok Digested) going
+    (another m.moment m.seen m.left m.faults c.self.inside.area c.digest_and_follow.new.area tt Digested c.in-Ok.ensures.digests)
