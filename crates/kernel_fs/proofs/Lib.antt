@@ -2,6 +2,7 @@ pub mod SealedRecords
 pub mod BookSteps
 pub mod Digested
 pub mod FirstNodes
+pub mod MarkThere
 pub mod MediaSteps
 pub mod Refilled
 pub mod ChunkSteps

@@ -5,6 +5,7 @@ use Rattle.file_graph.specs.Graph.{Graph}
 use Rattle.layout.specs.declared.marks.Marks.{Marks}
 use Rattle.layout.specs.Places.{Sizes}
 use Rattle.batch_journal.specs.View.{JournalView}
+use Rattle.batch_journal.proofs.Courses.{tiers_same}
 use Rattle.shared_area.specs.Store.{Store, store_of, graph, marks}
 use Rattle.world_facts.specs.Machine.{Machine}
 use Rattle.kernel_book.specs.Book.{Accounts, IsBookOf}
@@ -39,3 +40,11 @@ moved_kernel seen old new book m same same_graph same_marks is = record {
 pub moved_nodes : {M : Type 0} (seen : M → Tier → List ℕ) (old new : JournalView M) (nodes : ℕ → Bool) → new.geometry ≡ old.geometry → graph old.geometry (store_of (seen new.media)) ≡ graph old.geometry (store_of (seen old.media))
     → AreNodes (graph old.geometry (store_of (seen old.media))) nodes → AreNodes (graph new.geometry (store_of (seen new.media))) nodes
 moved_nodes seen old new nodes same same_graph are = subst (λ (g : Graph). AreNodes g nodes) (sym same_graph ∙ ap (λ (g : Sizes). graph g (store_of (seen new.media))) (sym same)) are
+
+-- ---- nothing is moved
+
+pub unmoved_kernel : {M : Type 0} (seen : M → Tier → List ℕ) (old new : KernelView M) (m : Machine) → new.book ≡ old.book → new.area.geometry ≡ old.area.geometry → ((t : Tier) → seen new.area.media t ≡ seen old.area.media t) → IsKernelOf seen old m → IsKernelOf seen new m
+unmoved_kernel {M = M} seen old new m book geometry reads is =
+    let same : store_of (seen new.area.media) ≡ store_of (seen old.area.media) = ap store_of (tiers_same (seen old.area.media) (seen new.area.media) reads) in
+    let moved : IsKernelOf seen (record { area = new.area; book = old.book }) m = moved_kernel seen old.area new.area old.book m geometry (ap (graph old.area.geometry) same) (ap marks same) is in
+    subst (λ (b : Accounts). IsKernelOf seen (record { area = new.area; book = b }) m) (sym book) moved

@@ -4,4 +4,22 @@ pub mod Standing
 pub mod Accepting
 pub mod Opening
 -- Passed on to the crates above, which so need not list those below.
+pub use Rattle.digester.specs.Chunk
+pub use Rattle.digester.specs.Digesting
+pub use Rattle.digester.specs.SealedLog
+pub use Rattle.kernel_book.specs.Book
+pub use Rattle.kernel_book.specs.Free
+pub use Rattle.kernel_book.specs.Inodes
+pub use Rattle.kernel_book.specs.Nodes
+pub use Rattle.kernel_book.specs.Steps
+pub use Rattle.kernel_book.specs.declared.error.RefillError
+pub use Rattle.migrator.specs.Picking
+pub use Rattle.shared_area.specs.AreaError
+pub use Rattle.shared_area.specs.Found
+pub use Rattle.shared_area.specs.Looks
+pub use Rattle.shared_area.specs.Moving
+pub use Rattle.shared_area.specs.Parts
+pub use Rattle.shared_area.specs.Reading
+pub use Rattle.shared_area.specs.RelocateError
+pub use Rattle.shared_area.specs.RunMoving
 pub use Rattle.shared_area.specs.Store

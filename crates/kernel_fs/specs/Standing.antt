@@ -2,6 +2,7 @@
 use Rattle.std.specs.Prelude.{◌≡◌, ◌≤◌, ◌+◌, ℕ, ◌-◌, true, List, Some}
 use Rattle.tier_device.specs.declared.media.Tier.{Tier}
 use Rattle.posix_calls.specs.Operations.{is_client}
+use Rattle.layout.specs.declared.marks.Mark.{Mark}
 use Rattle.layout.specs.declared.marks.Marks.{Marks}
 use Rattle.shared_area.specs.Store.{Store, store_of, graph, marks}
 use Rattle.digester.specs.Marking.{mark_of}
@@ -13,6 +14,10 @@ use Rattle.kernel_fs.specs.KernelView.{KernelView}
 -- How many records of its generation a client's mark tells as digested. Marks have the clients from 0 on, the machine and the book from 1.
 abbrev pub done_in : Marks → ℕ → ℕ
 done_in v c = (mark_of v (c - 1)).done
+
+-- It is the mark of a client that a store spells.
+abbrev pub IsMarkIn : Store → ℕ → Mark → Type 0
+IsMarkIn s c k = (v : Marks) × (marks s ≡ Some v) × (k ≡ mark_of v (c - 1))
 
 -- The marks of a store are those of a machine.
 abbrev pub HasMarksOf : Store → Machine → Type 0

@@ -1,3 +1,4 @@
+use std::fmt::Display;
 use thiserror::Error;
 
 /// A device has failed: the kernel answers nothing else then, until its media are opened again.
@@ -6,11 +7,14 @@ use thiserror::Error;
 pub struct KernelFailed;
 
 /// Why the kernel did not do what it was asked.
-#[derive(Debug, Drop)]
+#[derive(Debug, Drop, Error)]
+#[error_bound(E: Display)]
 pub enum KernelError<E> {
     /// A device has failed in an earlier call: the kernel answers nothing else then, until its media are opened again.
+    #[error("a device has failed")]
     Failed,
     /// It was refused for this; where it is a fault of a device, that device failed in this call.
+    #[error("{0}")]
     Refused(E),
 }
 

@@ -28,7 +28,7 @@ ghost use Rattle.kernel_book.specs.Steps.{grant as granted, opened, take_back as
 ghost use Rattle.kernel_book.specs.declared.error.RefillError.TheVariants.{NoUnits, NoInode};
 ghost use Rattle.kernel_fs.specs.Accepting.{client_of, HasAsManyWaiting, BeginsAtMark, IsRegionOf};
 ghost use Rattle.kernel_fs.specs.Answering.{Answers, OnRefusal};
-ghost use Rattle.kernel_fs.specs.Standing.{IsKernelOf, StandBeforeRegions};
+ghost use Rattle.kernel_fs.specs.Standing.{IsKernelOf, IsMarkIn, StandBeforeRegions};
 ghost use Rattle.kernel_fs.specs.declared.digesting.Digestion.TheVariants.{Digested, NotNext, NotAccepted};
 ghost use Rattle.kernel_fs.specs.declared.error.AcceptError.TheVariants.{NotAtMark, AlreadyAccepted};
 ghost use Rattle.kernel_fs.specs.declared.error.KernelError.TheVariants.{Failed, Refused};
@@ -36,12 +36,11 @@ ghost use Rattle.kernel_fs.specs.declared.error.KernelError.TheVariants.{Failed,
 use crate::accepting::{client_of, has_as_many_waiting, undone_of};
 use crate::digesting::{Digestion, begins_at_mark, digest_and_follow};
 use crate::error::{AcceptError, KernelError, KernelFailed};
+use crate::fetching::{Fetched, FetchedBytes, fetch_bytes, fetch_node};
 use crate::opening::nodes_of;
 use digester::{Chunk, DigestError, SealedLog};
 use kernel_book::{Book, InodeSet, RefillError};
 use migrator::{FileRun, migrate, pick};
-use posix_calls::UNIT_BYTES;
-use record_check::NodeSummary;
 use shared_area::{AreaError, RelocateError, Shared};
 use std::alloc::Global;
 use std::marker::Model;
@@ -120,14 +119,14 @@ impl<M: Media> Kernel<M> {
         }
     }
 
-    /// The shared area beneath.
+    /// The shared area beneath. It makes no device call.
     pub fn into_area(self) -> Shared<M>
         ensures { result ≡ self.area }
     {
         self.area
     }
 
-    /// Whether a device has failed: then every call answers that, until the media are opened again.
+    /// Whether a device has failed: then every call answers that, until the media are opened again. It makes no device call.
     pub fn has_failed(&self) -> bool
         ensures { result ≡ self.now.area.failed }
     {
@@ -136,9 +135,14 @@ impl<M: Media> Kernel<M> {
 
     // ---- what is there
 
-    /// What stands at an inode of the shared graph: a file with its size and how many names it has, a directory with its entries by name; `None` where nothing does.
-    pub fn fetch(&mut self, inode: u32) -> Result<Option<NodeSummary>, KernelError<AreaError>>
-        ensures node { IfOk result (λ x. x ≡ view_at (graph self.old.area.geometry (store_of (M.seen self.old.area.media))) inode) }
+    /// What stands at an inode of the shared graph: a file with its size and how many names it has, a directory with its entries by name; `None` where nothing does. Beside it the mark of the client that asks:
+    /// what it has logged behind the mark is not in the graph.
+    ///
+    /// It makes four device calls at most, all of them reads, and one more for each block of a directory. `DeviceFault` where a device failed, `Memory` where there was none for an extent block or for an entry.
+    pub fn fetch(&mut self, client: u32, inode: u32) -> Result<Fetched, KernelError<AreaError>>
+        requires client { is_client client ≡ true }
+        ensures mark { IfOk result (λ x. IsMarkIn (store_of (M.seen self.old.area.media)) client x.mark) }
+        ensures node { IfOk result (λ x. x.node ≡ view_at (graph self.old.area.geometry (store_of (M.seen self.old.area.media))) inode) }
         ensures only { IfErr result (λ e. OnRefusal e IsNoDamage) }
         ensures memory { IfErr result (λ e. OnRefusal e (λ r. r ≡ Memory → WantsMemory self.old.area.geometry (store_of (M.seen self.old.area.media)) inode)) }
         ensures book { self.new.book ≡ self.old.book }
@@ -147,22 +151,28 @@ impl<M: Media> Kernel<M> {
         if self.area.has_failed() {
             return Err(KernelError::Failed);
         }
-        match self.area.node(inode) {
+        match fetch_node(&mut self.area, client, inode) {
             Ok(found) => Ok(found),
             Err(error) => Err(KernelError::Refused(error)),
         }
     }
 
-    /// Bytes of a file from a logical block on, into the front of the buffer, as many as the file and the buffer have; holes as zeros. It answers how many: none behind the end, or where there is no file.
+    /// Bytes of a file from a logical block on, of 4,096 bytes each, into the front of the buffer, as many as the file and the buffer have; holes as zeros. It answers how many bytes: none behind the end, or where
+    /// there is no file. Beside it the mark of the client that asks.
+    ///
+    /// Its device calls are reads. `DeviceFault` where a device failed, `Memory` where there was none for an extent block.
     /// After a refusal the front of the buffer may have been read.
     pub fn blocks(
         &mut self,
+        client: u32,
         inode: u32,
         first: u32,
         out: &mut [u8],
-    ) -> Result<usize, KernelError<AreaError>>
-        ensures count { IfOk result (λ n. n ≡ min (length out.old) (length (bytes_of_inode (graph self.old.area.geometry (store_of (M.seen self.old.area.media))) inode) - UNIT_BYTES * first)) }
-        ensures bytes { IfOk result (λ n. IsReadFrom (bytes_of_inode (graph self.old.area.geometry (store_of (M.seen self.old.area.media))) inode) (UNIT_BYTES * first) n out.old out.new) }
+    ) -> Result<FetchedBytes, KernelError<AreaError>>
+        requires client { is_client client ≡ true }
+        ensures mark { IfOk result (λ x. IsMarkIn (store_of (M.seen self.old.area.media)) client x.mark) }
+        ensures count { IfOk result (λ x. x.count ≡ min (length out.old) (length (bytes_of_inode (graph self.old.area.geometry (store_of (M.seen self.old.area.media))) inode) - UNIT_BYTES * first)) }
+        ensures bytes { IfOk result (λ x. IsReadFrom (bytes_of_inode (graph self.old.area.geometry (store_of (M.seen self.old.area.media))) inode) (UNIT_BYTES * first) x.count out.old out.new) }
         ensures refused { OnErr result ((n : ℕ) × IsReadFrom (bytes_of_inode (graph self.old.area.geometry (store_of (M.seen self.old.area.media))) inode) (UNIT_BYTES * first) n out.old out.new) }
         ensures only { IfErr result (λ e. OnRefusal e IsNoDamage) }
         ensures memory { IfErr result (λ e. OnRefusal e (λ r. r ≡ Memory → WantsMemory self.old.area.geometry (store_of (M.seen self.old.area.media)) inode)) }
@@ -172,16 +182,15 @@ impl<M: Media> Kernel<M> {
         if self.area.has_failed() {
             return Err(KernelError::Failed);
         }
-        match self
-            .area
-            .read_range(inode, UNIT_BYTES as u64 * first as u64, out)
-        {
-            Ok(count) => Ok(count),
+        match fetch_bytes(&mut self.area, client, inode, first, out) {
+            Ok(found) => Ok(found),
             Err(error) => Err(KernelError::Refused(error)),
         }
     }
 
     /// The tier that maps a logical block of an inode; `None` where no tier does, or there is no such inode.
+    ///
+    /// Its device calls are reads. `DeviceFault` where a device failed, `Memory` where there was none for an extent block.
     pub fn tier_of(
         &mut self,
         inode: u32,
@@ -431,6 +440,8 @@ impl<M: Media> Kernel<M> {
 
     /// What is to be moved to a tier next: of the files that have a block in the tier next above it the one with the least touch number, of several the one with the least inode, with its first run there, of 256
     /// blocks at most. `None` where no file has a block there, and for the fast tier. It changes nothing.
+    ///
+    /// It reads the slot and the extents of each inode. `DeviceFault` where a device failed, `Memory` where there was none for an extent block.
     pub fn pick(&mut self, to: Tier) -> Result<Option<FileRun>, KernelError<AreaError>>
         ensures picked { IfOk result (IsPicked self.old.area.geometry (store_of (M.seen self.old.area.media)) to) }
         ensures may_be_moved { IfOk result (λ x. IfSome x (MayBeMoved self.old.area.geometry (store_of (M.seen self.old.area.media)) to)) }
@@ -454,6 +465,8 @@ impl<M: Media> Kernel<M> {
     ///
     /// The refusals, in this order: `NotMapped` exactly where there is no file at the inode, the run has no block or more than 256, or some block of it lies in no tier that is faster than `to`; `NoBlock` exactly
     /// where fewer data blocks of `to` are free than the run has. After these nothing has changed, nor after `Memory`. `DeviceFault` where a device failed.
+    ///
+    /// Of writes and fences there are at most one for each block of the run and 13 more.
     pub fn migrate(
         &mut self,
         inode: u32,

@@ -5,6 +5,7 @@ ghost use Rattle.std.specs.List.{AllByRecursion};
 ghost use Rattle.file_graph.specs.Graph.{Graph, after_effects, is_among};
 ghost use Rattle.log_record.specs.Grammar.{IsRecord};
 ghost use Rattle.log_record.specs.declared.format.Record.{Record};
+ghost use Rattle.batch_journal.specs.Course.{Unmoved};
 ghost use Rattle.coalescer.specs.Records.{effects_in};
 ghost use Rattle.digest_plan.specs.Covered.{AreCovered, units_of};
 ghost use Rattle.digest_plan.specs.Plan.{IsFirstBad};
@@ -16,6 +17,10 @@ ghost use Rattle.world_facts.specs.Standing.{IsLogged};
 ghost use Rattle.world_facts.specs.Machine.{Machine, Sealed, IsRunning, StandsSealed, CanDigestNext, undigested_sealed};
 ghost use Rattle.kernel_book.specs.Book.{Accounts, IsBookOf};
 ghost use Rattle.kernel_fs.specs.Accepting.{client_of, HasAsManyWaiting, IsRegionOf};
+ghost use Rattle.kernel_fs.specs.KernelView.{KernelView};
+ghost use Rattle.kernel_fs.specs.Standing.{IsKernelOf};
+
+use tier_device::Media;
 
 /// What the effects of records make of a graph is what the records make of it, one after the other.
 pub fn effects_of_records_are_the_records()
@@ -40,4 +45,12 @@ pub fn accepted_records_may_be_digested()
     ensures undone { (x : SealedLog) (m : Machine) (s : Sealed) → IsRegionOf x (m.kernel.accounts (client_of x)).mark s → undigested_sealed (m.kernel.accounts (client_of x)) s ≡ undone x }
     ensures next { (x : SealedLog) (book : Accounts) (m : Machine) (s : Sealed) (n : ℕ) → IsSealed x → IsBookOf book m → HasAsManyWaiting book x → IsRegionOf x (m.kernel.accounts (client_of x)).mark s
         → 0 < n → n ≤ length (undone x) → CanDigestNext m (client_of x) s (take n (undone x)) (drop n (undone x)) }
+{}
+
+/// What leaves the book and moves nothing on the media keeps the machine that the kernel stands for: so do `fetch`, `blocks`, `tier_of` and `pick`, whatever they answer, and the refusals of the other calls but
+/// a fault of a device.
+pub fn unmoved_kernel_stands_for_its_machine<M: Media>()
+    ensures { (old new : KernelView M) (m : Machine) → new.book ≡ old.book → new.area.geometry ≡ old.area.geometry
+        → Unmoved (M.moment old.area.media) (M.moment new.area.media) (M.seen old.area.media) (M.seen new.area.media) (M.left old.area.media) (M.left new.area.media)
+        → IsKernelOf M.seen old m → IsKernelOf M.seen new m }
 {}

@@ -10,14 +10,23 @@
 mod accepting;
 mod digesting;
 mod error;
+mod fetching;
 mod kernel;
 mod laws;
 mod opening;
 
+pub use digester::{Chunk, DigestError, SealedLog, prepare};
 pub use digesting::Digestion;
 pub use error::{AcceptError, KernelError, KernelFailed};
+pub use fetching::{Fetched, FetchedBytes};
 pub use kernel::{Figures, Kernel};
+pub use kernel_book::{InodeSet, RefillError};
 pub use laws::{
     accepted_records_may_be_digested, effects_of_records_are_the_records,
     sealed_records_are_covered, units_of_records_are_one_number,
+    unmoved_kernel_stands_for_its_machine,
 };
+pub use layout::Mark;
+pub use migrator::FileRun;
+pub use record_check::NodeSummary;
+pub use shared_area::{AreaError, RelocateError, Shared};

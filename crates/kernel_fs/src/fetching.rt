@@ -1,0 +1,102 @@
+//! What a client fetches of the shared graph, with the mark up to which its records were digested then.
+
+ghost use Rattle.std.specs.Prelude.{◌≡◌, ◌-◌, ◌*◌, ℕ, min, length, true, false, OnErr, IfOk, IfErr};
+ghost use Rattle.posix_calls.specs.Operations.{is_client};
+ghost use Rattle.posix_calls.specs.declared.limits.TheConstants.{UNIT_BYTES};
+ghost use Rattle.call_effects.specs.NodeView.{view_at};
+ghost use Rattle.shared_area.specs.Store.{store_of, graph};
+ghost use Rattle.shared_area.specs.Looks.{Looks};
+ghost use Rattle.shared_area.specs.Map.{WantsMemory};
+ghost use Rattle.shared_area.specs.AreaError.TheVariants.{Memory};
+ghost use Rattle.shared_area.specs.Parts.{IsNoDamage};
+ghost use Rattle.shared_area.specs.Reading.{bytes_of_inode, IsReadFrom};
+ghost use Rattle.digester.specs.Marking.{mark_of};
+ghost use Rattle.kernel_fs.specs.Standing.{IsMarkIn};
+
+use layout::{Mark, Marks};
+use posix_calls::UNIT_BYTES;
+use record_check::NodeSummary;
+use shared_area::{AreaError, Shared};
+use tier_device::Media;
+
+/// What stands at an inode of the shared graph, as a client fetches it.
+#[derive(Drop)]
+pub struct Fetched {
+    /// A file with its size and how many names it has, or a directory with its entries by name; `None` where nothing stands.
+    pub node: Option<NodeSummary>,
+    /// The client's mark when it was read: what the client logged behind it is not in the node.
+    pub mark: Mark,
+}
+
+/// How many bytes of a file a client fetched.
+#[derive(Clone, Copy, Debug, PartialEq, Eq)]
+pub struct FetchedBytes {
+    /// The bytes at the front of the buffer that were read.
+    pub count: usize,
+    /// The client's mark when they were read: what the client logged behind it is not in the bytes.
+    pub mark: Mark,
+}
+
+// The mark of a client, which counts from 1; marks have it from 0.
+#[tactic(auto, using(crate::proofs::MarkThere::mark_there))]
+fn mark_of_client(marks: &Marks, client: u32) -> Mark
+    requires { is_client client ≡ true }
+    ensures { result ≡ mark_of marks.now (client - 1) }
+{
+    marks.clients[(client - 1) as usize]
+}
+
+/// How far a client's records are digested.
+pub fn mark_in<M: Media>(area: &Shared<M>, client: u32) -> Mark
+    requires client { is_client client ≡ true }
+    requires going { area.now.failed ≡ false }
+    ensures { IsMarkIn (store_of (M.seen area.now.media)) client result }
+{
+    mark_of_client(&area.marks(), client)
+}
+
+/// What stands at an inode, with the mark of a client.
+pub fn fetch_node<M: Media>(
+    area: &mut Shared<M>,
+    client: u32,
+    inode: u32,
+) -> Result<Fetched, AreaError>
+    requires client { is_client client ≡ true }
+    requires going { area.old.failed ≡ false }
+    ensures mark { IfOk result (λ x. IsMarkIn (store_of (M.seen area.old.media)) client x.mark) }
+    ensures node { IfOk result (λ x. x.node ≡ view_at (graph area.old.geometry (store_of (M.seen area.old.media))) inode) }
+    ensures only { IfErr result IsNoDamage }
+    ensures memory { IfErr result (λ r. r ≡ Memory → WantsMemory area.old.geometry (store_of (M.seen area.old.media)) inode) }
+    ensures looks { Looks M.moment M.seen M.left M.faults area.old area.new result }
+{
+    let mark = mark_in(area, client);
+    match area.node(inode) {
+        Ok(node) => Ok(Fetched { node, mark }),
+        Err(error) => Err(error),
+    }
+}
+
+/// Bytes of a file from a logical block on, with the mark of a client.
+pub fn fetch_bytes<M: Media>(
+    area: &mut Shared<M>,
+    client: u32,
+    inode: u32,
+    first: u32,
+    out: &mut [u8],
+) -> Result<FetchedBytes, AreaError>
+    requires client { is_client client ≡ true }
+    requires going { area.old.failed ≡ false }
+    ensures mark { IfOk result (λ x. IsMarkIn (store_of (M.seen area.old.media)) client x.mark) }
+    ensures count { IfOk result (λ x. x.count ≡ min (length out.old) (length (bytes_of_inode (graph area.old.geometry (store_of (M.seen area.old.media))) inode) - UNIT_BYTES * first)) }
+    ensures bytes { IfOk result (λ x. IsReadFrom (bytes_of_inode (graph area.old.geometry (store_of (M.seen area.old.media))) inode) (UNIT_BYTES * first) x.count out.old out.new) }
+    ensures refused { OnErr result ((n : ℕ) × IsReadFrom (bytes_of_inode (graph area.old.geometry (store_of (M.seen area.old.media))) inode) (UNIT_BYTES * first) n out.old out.new) }
+    ensures only { IfErr result IsNoDamage }
+    ensures memory { IfErr result (λ r. r ≡ Memory → WantsMemory area.old.geometry (store_of (M.seen area.old.media)) inode) }
+    ensures looks { Looks M.moment M.seen M.left M.faults area.old area.new result }
+{
+    let mark = mark_in(area, client);
+    match area.read_range(inode, UNIT_BYTES as u64 * first as u64, out) {
+        Ok(count) => Ok(FetchedBytes { count, mark }),
+        Err(error) => Err(error),
+    }
+}
