@@ -1,12 +1,13 @@
 -- What holds of a log, and what counts of what is left of it.
-use Rattle.std.proofs.Common.{◌≡◌, inl, inr, ℕ, ◌%◌, ◌^◌, ◌<◌, ◌≤◌, Bool, true, false, List, [], refl, sym, ◌∙◌, ap, subst, arith}
-use Rattle.std.specs.Prelude.{Option, Some, None, Result, is_err, is_some, if◌then◌else◌}
+use Rattle.std.proofs.Common.{◌≡◌, ◌⊎◌, inl, inr, ℕ, ◌%◌, ◌^◌, ◌<◌, ◌≤◌, Bool, true, false, List, [], refl, sym, ◌∙◌, ap, subst, arith}
+use Rattle.std.specs.Prelude.{Option, Some, None, Result, is_err, is_some, IfSome, if◌then◌else◌}
 use Rattle.std.proofs.lemmas.Bool.{cases_Bool, true≢false, false≢true}
 use Rattle.tier_device.specs.declared.media.Tier.{Tier}
 use Rattle.tier_device.specs.declared.media.Tier.TheVariants.{Fast}
 use Rattle.tier_device.specs.Media.{LeftSince}
 use Rattle.log_record.specs.declared.format.Record.{Record}
 use Rattle.update_log.specs.Counting.{next_generation, records_under}
+use Rattle.update_log.specs.Stage.{IsAppending}
 use Rattle.update_log.specs.View.{RegionView, WithOrWithout, header_of, records_of}
 use Rattle.update_log.specs.Wipe.{IsWiping}
 use Rattle.client_log.specs.Calls.{IsOnlyRead}
@@ -14,6 +15,8 @@ use Rattle.client_log.specs.Steps.{WipesCurrent, WipesOther, is_last}
 use Rattle.client_log.specs.Counts.{AreLeft, AreWithOrWithout, CountOf}
 use Rattle.client_log.specs.Regions.{IsSound, IsStale, IsWiped, IsWritten, is_pending}
 use Rattle.client_log.specs.View.{LogView, written}
+use Rattle.update_log.specs.declared.stage.Stage.{Stage}
+use Rattle.update_log.specs.declared.stage.Stage.TheVariants as stages
 use Rattle.update_log.specs.declared.stage.WipeProgress.{WipeProgress}
 use Rattle.client_log.specs.declared.error.LogError.{LogError}
 use Rattle.client_log.proofs.Counted.{count_of, with_counts}
@@ -27,6 +30,28 @@ IsSoundLog seen moment left v = IsSound seen moment left v.generation v.current 
 pub some_of : {A : Type 0} (o : Option A) → is_some o ≡ true → (x : A) × (o ≡ Some x)
 some_of None e = absurd (false≢true e)
 some_of (Some x) e = (x, refl)
+
+if_some : {A : Type 0} (o : Option A) (P : A → Type 0) → ((x : A) → o ≡ Some x → P x) → IfSome o P
+if_some None P each = tt
+if_some (Some x) P each = each x refl
+
+-- where none is begun, a region that may be written rests
+rests_idle : (s : Stage) → is_pending s ≡ false → (s ≡ stages.Resting) ⊎ IsAppending s → s ≡ stages.Resting
+rests_idle s idle (inl rests) = rests
+rests_idle s idle (inr going) = absurd (true≢false (sym (pending_of s going) ∙ idle))
+  where
+    pending_of : (t : Stage) → IsAppending t → is_pending t ≡ true
+    pending_of stages.Resting a = absurd a
+    pending_of stages.Foreign a = absurd a
+    pending_of stages.Begun a = refl
+    pending_of stages.Written a = refl
+    pending_of stages.Kept a = refl
+    pending_of stages.Opened a = refl
+    pending_of stages.Failed a = refl
+    pending_of stages.Closing a = absurd a
+    pending_of stages.Closed a = absurd a
+    pending_of stages.Naming a = absurd a
+    pending_of stages.WipeFailed a = absurd a
 
 chosen : (ready : Bool) (rs : List Record) (begun : Option Record) (all : List Record) → (ready ≡ true → AreWithOrWithout rs begun all) → (ready ≡ false → AreWithOrWithout [] begun all) → AreWithOrWithout (if ready then rs else []) begun all
 chosen true rs begun all wiped stale = wiped refl
@@ -71,6 +96,23 @@ module _ {M : Type 0} (seen : M → Tier → List ℕ) (moment : M → ℕ) (lef
   pub sound_current : (g : ℕ) (current new : RegionView M) (ready now : Bool) (other : Option (RegionView M)) (clean failed : Bool) → IsSound seen moment left g current ready other clean failed
       → (now ≡ true → IsWritten seen failed g new) → (now ≡ false → IsStale seen moment left failed g new) → IsSound seen moment left g new now other clean failed
   sound_current g current new ready now other clean failed s fresh stale = record { small = s.small; written = fresh; stale = stale; wiped = s.wiped; back = s.back; none = s.none; away = s.away }
+
+  -- ---- which regions are wiped
+
+  -- the current one, where no record is in it or begun
+  pub now_wiped : (v : LogView M) → IsSoundLog seen moment left v → v.failed ≡ false → v.ready ≡ true → v.current.begun ≡ None → written seen v ≡ [] → IsWiped seen v.generation v.current
+  now_wiped v s sound ready idle none =
+      let w = s.written ready in
+      record {
+        rests = rests_idle v.current.stage (sym w.pending ∙ ap is_some idle) (w.going sound);
+        nothing = idle;
+        empty = subst (λ (b : Bool). (if b then records_of seen v.current else []) ≡ []) ready none;
+        names = w.names;
+      }
+
+  -- and the other one
+  pub beside_wiped : (v : LogView M) → IsSoundLog seen moment left v → v.clean ≡ true → IfSome v.other (IsWiped seen (next_generation v.generation))
+  beside_wiped v s clean = if_some v.other (IsWiped seen (next_generation v.generation)) (λ r is. s.wiped r is clean)
 
   -- ---- what counts
 

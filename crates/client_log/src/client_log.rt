@@ -340,8 +340,13 @@ impl<M: Media> ClientLog<M> {
         }
     }
 
-    /// What a stop may leave now, between two calls: of what the two regions hold then, just the log's records count, with the begun one or without.
+    /// What a stop may leave now, between two calls: of what the two regions hold then, just the log's records count, with the begun one or without. And which
+    /// regions are wiped as `open` asks.
     pub fn left_now(&self)
+        // A log of which no device has failed, with no record and none begun, has its current region wiped to the generation; a wiped other one is wiped to the next.
+        ensures current_wiped { self.now.failed ≡ false → self.now.ready ≡ true → self.now.current.begun ≡ None → written M.seen self.now ≡ [] → IsWiped M.seen self.now.generation self.now.current }
+        ensures other_wiped { self.now.clean ≡ true → IfSome self.now.other (IsWiped M.seen (next_generation self.now.generation)) }
+
         ensures counts { (regions : ℕ → List ℕ) → AreLeft M.moment M.left self.now self.now regions → CountOf self.now.generation (is_some self.now.other) (written M.seen self.now) self.now.current.begun regions }
     {
         self.current.left_now();
