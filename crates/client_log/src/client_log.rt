@@ -70,6 +70,7 @@ impl<M: Media> ClientLog<M> {
         ensures not_wiped { IfErr result (λ e. e.0 ≡ NotWiped → AreWiped M.seen generation regions → ⊥) }
         ensures only { IfErr result (λ e. (e.0 ≡ NotWiped) ⊎ (e.0 ≡ DeviceFault)) }
         ensures fault { IfErr result (λ e. e.0 ≡ DeviceFault → Rose (M.faults regions.0.media) (M.faults e.1.0.media) ⊎ Rose (M.faults regions.1.media) (M.faults e.1.1.media)) }
+        ensures quiet { IfErr result (λ e. e.0 ≡ NotWiped → (M.faults e.1.0.media ≡ M.faults regions.0.media) × (M.faults e.1.1.media ≡ M.faults regions.1.media)) }
         ensures even_back { IfErr result (λ e. IsOnlyRead M.seen M.moment M.left M.faults regions.0 e.1.0) }
         ensures odd_back { IfErr result (λ e. IsOnlyRead M.seen M.moment M.left M.faults regions.1 e.1.1) }
     {
@@ -108,9 +109,11 @@ impl<M: Media> ClientLog<M> {
     pub fn begin(&mut self, entry: &Record) -> Result<(), LogError>
         requires idle { self.old.current.begun ≡ None }
         requires fits { IsRecord entry.now }
+        ensures may { OnOk result ((self.old.failed ≡ false) × (self.old.ready ≡ true)) }
         ensures begun { OnOk result (turn_of M.seen self.new ≡ record_begun (turn_of M.seen self.old) entry.now) }
         ensures stage { OnOk result (self.new.current.stage ≡ stages.Begun) }
         ensures media { self.new.current.media ≡ self.old.current.media }
+        ensures end { self.new.current.end ≡ self.old.current.end }
         ensures rest { self.new ≡ record self.old { current = self.new.current } }
         ensures failed { IsErrOf result DeviceFault ↔ (self.old.failed ≡ true) }
         ensures not_wiped { IsErrOf result NotWiped ↔ ((self.old.failed ≡ false) × (self.old.ready ≡ false)) }
@@ -343,6 +346,9 @@ impl<M: Media> ClientLog<M> {
     /// What a stop may leave now, between two calls: of what the two regions hold then, just the log's records count, with the begun one or without. And which
     /// regions are wiped as `open` asks.
     pub fn left_now(&self)
+        // The next record's gate stands behind the records of the current region.
+        ensures end { self.now.current.end ≡ end_behind (records_of M.seen self.now.current) }
+
         // A log of which no device has failed, with no record and none begun, has its current region wiped to the generation; a wiped other one is wiped to the next.
         ensures current_wiped { self.now.failed ≡ false → self.now.ready ≡ true → self.now.current.begun ≡ None → written M.seen self.now ≡ [] → IsWiped M.seen self.now.generation self.now.current }
         ensures other_wiped { self.now.clean ≡ true → IfSome self.now.other (IsWiped M.seen (next_generation self.now.generation)) }
@@ -380,11 +386,16 @@ impl<M: Media> ClientLog<M> {
         self.failed
     }
 
-    /// The regions that are here: the one that is written, and the other.
-    pub fn into_regions(self) -> (Region<M>, Option<Region<M>>)
-        ensures { (result.0 ≡ self.current) × (result.1 ≡ self.other) }
+    /// The regions that are here, that of even generations and that of odd ones, as `open` takes them: the current one stands where its generation tells, and the
+    /// other one beside it, where it is not away.
+    pub fn into_regions(self) -> (Option<Region<M>>, Option<Region<M>>)
+        ensures by_parity { result ≡ in_turn self.generation (Some self.current, self.other) }
     {
-        (self.current, self.other)
+        if self.generation % 2 == 0 {
+            (Some(self.current), self.other)
+        } else {
+            (self.other, Some(self.current))
+        }
     }
 }
 

@@ -22,6 +22,15 @@ returns-in-Ok-true-clause-opened g c =
       other_quiet = subst (λ (t : RegionView _ × RegionView _). m.faults c.are_wiped.new.other.media ≡ m.faults t.1.media) is c.in-Ok-true.ensures.quiet.1;
     }
 
+pub returns-in-Ok-false-clause-quiet : goal.returns-in-Ok-false-clause-quiet
+returns-in-Ok-false-clause-quiet g c =
+    let m = g.M.Media in
+    let both = c.in-Ok-false.ensures.quiet in
+    λ e. (
+      back_even (λ (o n : RegionView _). m.faults n.media ≡ m.faults o.media) c.args.generation c.args.regions (c.are_wiped.new.current, c.are_wiped.new.other) c.in_turn-current.result c.in_turn.result c.in_turn-current.ensures c.in_turn.ensures both.0 both.1,
+      back_odd (λ (o n : RegionView _). m.faults n.media ≡ m.faults o.media) c.args.generation c.args.regions (c.are_wiped.new.current, c.are_wiped.new.other) c.in_turn-current.result c.in_turn.result c.in_turn-current.ensures c.in_turn.ensures both.0 both.1
+    )
+
 pub returns-in-Err-clause-fault : goal.returns-in-Err-clause-fault
 returns-in-Err-clause-fault g c failed =
     let m = g.M.Media in
