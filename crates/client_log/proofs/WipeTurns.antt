@@ -11,7 +11,7 @@ use Rattle.client_log.specs.declared.error.LogError.{LogError}
 use Rattle.client_log.specs.declared.error.LogError.TheVariants.{DeviceFault}
 use Rattle.client_log.specs.Calls.{IsWipeCall}
 use Rattle.client_log.specs.Steps.{WipesCurrent, WipesOther, is_last, told}
-use Rattle.client_log.specs.Turns.{turn_of, place_of, is_wiped, sealed, other_wiped}
+use Rattle.client_log.specs.Turns.{Back, turn_of, place_of, is_wiped, sealed, other_wiped}
 use Rattle.client_log.specs.View.{LogView}
 
 -- ---- the answer
@@ -55,6 +55,18 @@ told_only a r is only = subst (λ (x : Result (Option WipeProgress) LogError). I
     of : (a : Answer) → IfErr a (λ e. e ≡ DeviceFault) → IfErr (told a) (λ e. e ≡ DeviceFault)
     of (Ok p) only = tt
     of (Err e) only = only
+
+-- a device call is never answered as if there was none
+pub never_none : (a : Answer) (r : Result (Option WipeProgress) LogError) → r ≡ told a → r ≡ Ok None → ⊥
+never_none a r is none = of a (sym is ∙ none)
+  where
+    of : (a : Answer) → told a ≡ Ok None → ⊥
+    of (Ok p) e = cc
+    of (Err x) e = cc
+
+pub if_ok : (r : Result (Option WipeProgress) LogError) (P : Option WipeProgress → Type 0) → ((p : Option WipeProgress) → P p) → IfOk r P
+if_ok (Ok p) P each = each p
+if_ok (Err e) P each = tt
 
 -- where nothing was to be wiped
 pub no_answer : (r : Result (Option WipeProgress) LogError) (P Q : Type 0) → r ≡ Ok None → P → IfOk r (λ p. p ≡ Some Wiped → Q) × IfOk r (λ p. p ≢ Some Wiped → P)
@@ -116,6 +128,20 @@ module _ {M : Type 0} (seen : M → Tier → List ℕ) (moment : M → ℕ) (lef
       | inr some ↦ inl (some.0, some.1, e, other e some.0 some.1)
     ]
   ]
+
+  -- there was nothing to be wiped, where no call was made
+  pub none_where : (old new : LogView M) (result : Result (Option WipeProgress) LogError) → (old.clean ≡ false → (r : RegionView M) → old.other ≡ Some r → WipesOther seen moment left faults r old new result)
+      → result ≡ Ok None → (old.clean ≡ true) ⊎ (old.other ≡ None)
+  none_where old new result other none = elim (cases_Bool old.clean) [
+    | inl e ↦ inl e
+    | inr e ↦ elim (cases_Option old.other) [
+      | inl gone ↦ inr gone
+      | inr some ↦ let w = other e some.0 some.1 in absurd (never_none w.answer result w.is_told none)
+    ]
+  ]
+
+  pub back_of : (old : LogView M) (r : RegionView M) → old.other ≡ Some r → old.clean ≡ false → (turn_of seen old).other ≡ Back
+  back_of old r there clean i = place_of (there i) (clean i)
 
   -- ---- a hand-over
 

@@ -43,5 +43,6 @@ pub record IsWipeCall {M : Type 0} (seen : M → Tier → List ℕ) (moment : M 
   pub none : records_of seen new ≡ []
   pub nothing : new.begun ≡ None
   pub only : IfErr result (λ e. e ≡ DeviceFault)
+  pub failed : OnErr result (new.stage ≡ stages.WipeFailed)
   pub wiped : OnOk result (new.stage ≡ stages.Resting → IsWiped seen g new)
   pub moved : IsMovedOnce moment left faults old new result

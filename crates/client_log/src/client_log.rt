@@ -16,7 +16,7 @@ ghost use Rattle.client_log.specs.Calls.{IsOnlyRead, IsMovedOnce};
 ghost use Rattle.client_log.specs.Counts.{AreLeft, CountOf};
 ghost use Rattle.client_log.specs.Regions.{AreWiped, CountsNothing, IsWiped, in_turn};
 ghost use Rattle.client_log.specs.Steps.{IsOpened, HasRoom, CanBeSealed, sealed_view, WipesCurrent, WipesOther};
-ghost use Rattle.client_log.specs.Turns.{turn_of, record_begun, record_appended, CanSeal, sealed, Away, taken_back, current_wiped, other_wiped};
+ghost use Rattle.client_log.specs.Turns.{turn_of, record_begun, record_appended, CanSeal, sealed, Away, Back, taken_back, current_wiped, other_wiped};
 ghost use Rattle.client_log.specs.View.{written};
 
 use crate::error::LogError;
@@ -151,6 +151,7 @@ impl<M: Media> ClientLog<M> {
         ensures going { IfOk result (λ p. p ≡ appends.Going → turn_of M.seen self.new ≡ turn_of M.seen self.old) }
         ensures unanswered { OnErr result (turn_of M.seen self.new ≡ turn_of M.seen self.old) }
 
+        ensures stage_failed { self.old.failed ≡ false → OnErr result (self.new.current.stage ≡ stages.Failed) }
         ensures moved { self.old.failed ≡ false → IsMovedOnce M.moment M.left M.faults self.old.current self.new.current result }
         ensures rest { self.new ≡ record self.old { current = self.new.current; failed = self.new.failed } }
         ensures sound { OnOk result ((self.old.failed ≡ false) × (self.new.failed ≡ false)) }
@@ -250,9 +251,11 @@ impl<M: Media> ClientLog<M> {
 
         ensures current { self.old.failed ≡ false → self.old.ready ≡ false → WipesCurrent M.seen M.moment M.left M.faults self.old self.new result }
         ensures other { self.old.failed ≡ false → self.old.ready ≡ true → self.old.clean ≡ false → (r : RegionView M) → self.old.other ≡ Some r → WipesOther M.seen M.moment M.left M.faults r self.old self.new result }
+        ensures idle { (result ≡ Ok None) ↔ ((self.old.failed ≡ false) × (self.old.ready ≡ true) × ((self.old.clean ≡ true) ⊎ (self.old.other ≡ None))) }
         ensures nothing { self.old.failed ≡ false → self.old.ready ≡ true → ((self.old.clean ≡ true) ⊎ (self.old.other ≡ None)) → (result ≡ Ok None) × (self.new ≡ self.old) }
 
-        // The last call is the machine's step, and before it nothing changes there.
+        // The last call is the machine's step, and before it nothing changes there. It is the other region's only where that is back.
+        ensures may_other { IfOk result (λ p. p ≢ None → self.old.ready ≡ true → (turn_of M.seen self.old).other ≡ Back) }
         ensures current_wiped { IfOk result (λ p. p ≡ Some wipes.Wiped → self.old.ready ≡ false → turn_of M.seen self.new ≡ current_wiped (turn_of M.seen self.old)) }
         ensures other_wiped { IfOk result (λ p. p ≡ Some wipes.Wiped → self.old.ready ≡ true → turn_of M.seen self.new ≡ other_wiped (turn_of M.seen self.old)) }
         ensures going { IfOk result (λ p. p ≢ Some wipes.Wiped → turn_of M.seen self.new ≡ turn_of M.seen self.old) }

@@ -27,6 +27,7 @@ returns-in-Ok-clause-call g c =
       none = w.none;
       nothing = w.nothing_begun;
       only = tt;
+      failed = tt;
       wiped = λ rests. record { rests = rests; nothing = w.nothing_begun; empty = w.none; names = ends_named new.stage c.args.generation (generation (header_of m.seen new)) rests after };
       moved = record { one_call = ok.one_call; at_most = w.at_most; past = w.past; fault = tt; sound = ok.sound; faults_rise = w.faults.0; one_fault = w.faults.1 };
     }
@@ -46,6 +47,7 @@ returns-in-Err-clause-call g c =
       none = w.none;
       nothing = w.nothing_begun;
       only = refl;
+      failed = c.in-Err.ensures.failed;
       wiped = tt;
       moved = record { one_call = tt; at_most = w.at_most; past = w.past; fault = c.in-Err.ensures.fault; sound = tt; faults_rise = w.faults.0; one_fault = w.faults.1 };
     }

@@ -1,5 +1,6 @@
-use Rattle.std.proofs.Common.{◌≡◌, inl, inr, ℕ, List, true, false, sym, ◌∙◌, ap, subst}
-use Rattle.std.specs.Prelude.{Option, Result, is_some, IfErr, OnErr, OnOk}
+use Rattle.std.proofs.Common.{◌≡◌, ◌≢◌, inl, inr, ℕ, List, true, false, refl, sym, ◌∙◌, ap, subst}
+use Rattle.std.proofs.lemmas.Bool.{true≢false}
+use Rattle.std.specs.Prelude.{None, Option, Result, is_some, IfErr, IfOk, OnErr, OnOk}
 use Rattle.tier_device.specs.declared.media.Tier.TheVariants.{Fast}
 use Rattle.update_log.specs.View.{WithOrWithout, header_of, records_of}
 use Rattle.update_log.specs.Wipe.{IsWiping}
@@ -7,10 +8,10 @@ use Rattle.update_log.specs.declared.stage.WipeProgress.{WipeProgress}
 use Rattle.client_log.specs.declared.error.LogError.{LogError}
 use Rattle.client_log.specs.declared.error.LogError.TheVariants.{DeviceFault}
 use Rattle.client_log.specs.Counts.{AreLeft, CountOf}
-use Rattle.client_log.specs.Turns.{turn_of, other_wiped}
+use Rattle.client_log.specs.Turns.{Back, turn_of, other_wiped}
 use Rattle.client_log.specs.View.{LogView, written}
 use Rattle.client_log.proofs.Sound.{IsSoundLog, current_counts, now_counts, other_counts}
-use Rattle.client_log.proofs.WipeTurns.{current_same, either_way, no_answer, other_last, other_same, told_err, told_going, told_last, told_ok, told_only}
+use Rattle.client_log.proofs.WipeTurns.{back_of, current_same, either_way, if_ok, never_none, no_answer, none_where, other_last, other_same, told_err, told_going, told_last, told_ok, told_only}
 use Rattle.client_log.proofs.client_log.ClientLog.wipe_step.Goals as goal
 
 -- ---- a device has failed
@@ -21,6 +22,12 @@ returns-then-self-clause-any_moment g c =
     let s = c.self.inside in
     subst (λ (v : LogView _). (regions : ℕ → List ℕ) → AreLeft m.moment m.left v v regions → CountOf v.generation (is_some v.other) (written m.seen v) v.current.begun regions) c.self.view_is
     (now_counts m.seen m.moment m.left (record { generation = s.generation; current = s.current; ready = s.ready; other = s.other; clean = s.clean; failed = s.failed }) c.self.invariant c.left_now.ensures.either)
+
+pub returns-then-self-clause-idle : goal.returns-then-self-clause-idle
+returns-then-self-clause-idle g c =
+    let old = c.args.self.now in
+    let failed : old.failed ≡ true = subst (λ (v : LogView _). v.failed ≡ true) c.self.view_is c.if-self.true in
+    ((λ e. cc), (λ all. absurd (true≢false (sym failed ∙ all.0))))
 
 -- ---- the region that is written
 
@@ -59,7 +66,42 @@ returns-then-not-self-clause-only g c =
     let w = c.wipe_current.ensures.current in
     told_only w.answer c.wipe_current.result w.is_told w.call.only
 
+pub returns-then-not-self-clause-idle : goal.returns-then-not-self-clause-idle
+returns-then-not-self-clause-idle g c =
+    let old = c.args.self.now in
+    let w = c.wipe_current.ensures.current in
+    let ready : old.ready ≡ false = subst (λ (v : LogView _). v.ready ≡ false) c.self.view_is c.if-not-self.true in
+    ((λ none. absurd (never_none w.answer c.wipe_current.result w.is_told none)), (λ all. absurd (true≢false (sym all.1 ∙ ready))))
+
+pub returns-then-not-self-clause-may_other : goal.returns-then-not-self-clause-may_other
+returns-then-not-self-clause-may_other g c =
+    let m = g.M.Media in
+    let old = c.args.self.now in
+    let ready : old.ready ≡ false = subst (λ (v : LogView _). v.ready ≡ false) c.self.view_is c.if-not-self.true in
+    if_ok c.wipe_current.result (λ p. p ≢ None → old.ready ≡ true → (turn_of m.seen old).other ≡ Back) (λ p made is. absurd (true≢false (sym is ∙ ready)))
+
 -- ---- the other one, or none
+
+pub returns-clause-idle : goal.returns-clause-idle
+returns-clause-idle g c =
+    let m = g.M.Media in
+    let old = c.args.self.now in
+    let going : old.failed ≡ false = subst (λ (v : LogView _). v.failed ≡ false) c.self.view_is c.if-self.false in
+    let ready : old.ready ≡ true = subst (λ (v : LogView _). v.ready ≡ true) c.self.view_is c.if-not-self.false in
+    (
+      (λ none. (going, ready, none_where m.seen m.moment m.left m.faults old c.wipe_other.new.self c.wipe_other.result c.wipe_other.ensures.other none)),
+      (λ all. (c.wipe_other.ensures.nothing all.2).0)
+    )
+
+pub returns-clause-may_other : goal.returns-clause-may_other
+returns-clause-may_other g c =
+    let m = g.M.Media in
+    let old = c.args.self.now in
+    let new = c.wipe_other.new.self in
+    elim (either_way m.seen m.moment m.left m.faults old new c.wipe_other.result c.wipe_other.ensures.other c.wipe_other.ensures.nothing) [
+      | inl x ↦ if_ok c.wipe_other.result (λ p. p ≢ None → old.ready ≡ true → (turn_of m.seen old).other ≡ Back) (λ p made is. back_of m.seen m.moment m.left m.faults old x.0 x.1 x.2)
+      | inr y ↦ subst (λ (r : Result (Option WipeProgress) LogError). IfOk r (λ p. p ≢ None → old.ready ≡ true → (turn_of m.seen old).other ≡ Back)) (sym y.0) (λ made. absurd (made refl))
+    ]
 
 pub returns-clause-any_moment : goal.returns-clause-any_moment
 returns-clause-any_moment g c =
