@@ -19,7 +19,7 @@ pub record AreLeft {M : Type 0} (moment : M → ℕ) (left : M → ℕ → Tier 
   pub current : LeftSince (left new.current.media) (moment new.current.media) (moment old.current.media) Fast (regions (old.generation % 2))
   pub other : (o n : RegionView M) → old.other ≡ Some o → new.other ≡ Some n → LeftSince (left n.media) (moment n.media) (moment o.media) Fast (regions (next_generation old.generation % 2))
 
--- Of the contents of two regions these records count, in the generation g that is written, with the begun one or without. `here` tells that the other region is not away.
+-- Of the contents of two regions these records count, in the current generation g, with the begun one or without. `here` tells that the other region is not away.
 pub record CountOf (g : ℕ) (here : Bool) (rs : List Record) (begun : Option Record) (regions : ℕ → List ℕ) : Type 0 where
   -- under a mark that has passed each generation before g; a region that is away names the one before
   pub passed : (here ≡ false → next_generation (generation (regions (next_generation g % 2))) ≡ g) → AreWithOrWithout rs begun (counted g 0 regions)

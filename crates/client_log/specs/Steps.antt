@@ -27,7 +27,7 @@ pub record IsOpened {M : Type 0} (seen : M → Tier → List ℕ) (moment : M �
   pub quiet : faults v.current.media ≡ faults (in_turn g regions).0.media
   pub other_quiet : faults beside.media ≡ faults (in_turn g regions).1.media
 
--- The region that is written is wiped to its generation, and a record and a gate behind it fit into what is left of it.
+-- The current region is wiped to its generation, and a record and a gate behind it fit into what is left of it.
 pub record HasRoom {M : Type 0} (seen : M → Tier → List ℕ) (v : LogView M) (r : Record) : Type 0 where
   pub is_ready : v.ready ≡ true
   pub fits : end_behind (records_of seen v.current) + 5 + length (spelling r) + 1 ≤ REGION_SIZE
@@ -54,7 +54,7 @@ is_last (Ok Going) = false
 is_last (Ok Wiped) = true
 is_last (Err e) = false
 
--- A device call of the wipe of the region that is written, to its generation.
+-- A device call of the wipe of the current region, to its generation.
 pub record WipesCurrent {M : Type 0} (seen : M → Tier → List ℕ) (moment : M → ℕ) (left : M → ℕ → Tier → List ℕ → Type 0) (faults : M → ℕ) (old new : LogView M) (result : Result (Option WipeProgress) LogError) : Type 0 where
   pub answer : Result WipeProgress LogError
   pub is_told : result ≡ told answer

@@ -5,17 +5,17 @@ use Rattle.log_record.specs.declared.format.Record.{Record}
 use Rattle.update_log.specs.View.{RegionView}
 use Rattle.client_log.specs.View.{LogView, written}
 
--- where the region is that is not written: wiped, away, or back and not wiped yet
+-- where the other region is: wiped, away, or back and not wiped yet
 pub data Place : Type 0 where
   Wiped : Place
   Away : Place
   Back : Place
 
 pub record Turn : Type 0 where
-  -- the records of the region that is written
+  -- the records of the current region
   pub current : List Record
   pub other : Place
-  -- whether the region that is written is wiped to its generation
+  -- whether the current region is wiped to its generation
   pub ready : Bool
   -- a record that is begun
   pub begun : Option Record
@@ -34,7 +34,7 @@ abbrev pub is_wiped : Place → Bool
 is_wiped Wiped = true
 is_wiped _ = false
 
--- the region that is written is handed over, and the other one is written from now on
+-- the current region is handed over, and the other one is current from now on
 pub record CanSeal (t : Turn) : Type 0 where
   pub idle : t.begun ≡ None
   pub some : t.current ≢ []
@@ -51,7 +51,7 @@ taken_back t = record t { other = Back }
 abbrev pub other_wiped : Turn → Turn
 other_wiped t = record t { other = Wiped }
 
--- the one that is written is wiped
+-- the current one is wiped
 abbrev pub current_wiped : Turn → Turn
 current_wiped t = record t { current = []; ready = true }
 

@@ -5,7 +5,7 @@ use Rattle.log_record.specs.declared.format.Record.{Record}
 use Rattle.update_log.specs.View.{RegionView, records_of}
 
 pub record LogView (M : Type 0) : Type 0 where
-  -- the generation that is written, and its region
+  -- the current generation, and its region
   pub generation : ℕ
   pub current : RegionView M
   -- whether that is wiped to its generation, as it has to be before a record
@@ -22,6 +22,6 @@ pub record HandedView (M : Type 0) : Type 0 where
   pub generation : ℕ
   pub region : RegionView M
 
--- the records of the generation that is written: a region that is not wiped to it has none
+-- the records of the current generation: a region that is not wiped to it has none
 abbrev pub written : {M : Type 0} → (M → Tier → List ℕ) → LogView M → List Record
 written seen v = if v.ready then records_of seen v.current else []

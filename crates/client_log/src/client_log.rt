@@ -29,10 +29,10 @@ use std::mem;
 use tier_device::Media;
 use update_log::{Progress, Region, RegionError, Stage, WipeProgress};
 
-/// A client's log: the region that is written, and the other one, which is here or was handed over.
+/// A client's log: its current region, and the other one, which is here or was handed over.
 ///
-/// Contracts see both regions, the generation that is written, whether each region that is here is wiped to its generation, and whether a device has failed. A
-/// log of which a device has failed makes no device call any more, answers `DeviceFault` in place of each, and hands nothing over.
+/// Contracts see both regions, the current generation, whether each region that is here is wiped to its generation, and whether a device has failed. A log of
+/// which a device has failed makes no device call any more, answers `DeviceFault` in place of each, and hands nothing over. Generations are counted modulo 2^64.
 #[derive(Debug, Drop)]
 pub struct ClientLog<M: Media> {
     alloc: Global,
@@ -59,7 +59,8 @@ impl<M: Media> ClientLog<M> {
     /// The log of two regions, that of even generations and that of odd ones, as a format or a recovery leaves them: the region of a generation is wiped
     /// to it, and the other to the next one. It reads their headers.
     ///
-    /// `NotWiped` exactly where they are not; the regions are handed back as they were.
+    /// `DeviceFault` where a header can't be read, and then nothing is said of whether they are wiped; `NotWiped` where all that was read could be, and they are
+    /// not. The regions are handed back as they were, also where a read failed.
     pub fn open(
         alloc: Global,
         regions: (Region<M>, Region<M>),
@@ -90,7 +91,7 @@ impl<M: Media> ClientLog<M> {
         }
     }
 
-    /// Whether the region that is written is wiped to its generation and has room for a record.
+    /// Whether the current region is wiped to its generation and has room for a record. It tells nothing of whether a device has failed.
     pub fn room(&self, entry: &Record) -> bool
         requires { IsRecord entry.now }
         ensures { IsTrue result ↔ HasRoom M.seen self.now entry.now }
@@ -102,10 +103,10 @@ impl<M: Media> ClientLog<M> {
         }
     }
 
-    /// Begins to append a record. It makes no device call and takes no memory.
+    /// Begins to append a record, where none is begun. It makes no device call and takes no memory.
     ///
-    /// Refused, with nothing changed, are a log of which a device has failed, then one whose region is not wiped to its generation, then a record that does
-    /// not fit.
+    /// Refused, with nothing changed, are a log of which a device has failed (`DeviceFault`), then one whose current region is not wiped to its generation
+    /// (`NotWiped`), then a record that leaves no place for the gate behind it (`RegionFull`).
     pub fn begin(&mut self, entry: &Record) -> Result<(), LogError>
         requires idle { self.old.current.begun ≡ None }
         requires fits { IsRecord entry.now }
@@ -133,9 +134,11 @@ impl<M: Media> ClientLog<M> {
         }
     }
 
-    /// Makes one device call of the append that was begun, as `Region::step` does; the fourth that succeeds ends the append. It takes no memory.
+    /// Makes one device call of the append that was begun, as `Region::step` does, where a record is begun; the fourth that succeeds ends the append. It takes no
+    /// memory.
     ///
-    /// Where the device fails, the log has failed, and the record stays begun: it may stand in the region or not.
+    /// Where the device fails, the log has failed, and the record stays begun: it may stand in the region or not. A log that has failed before, be it in the other
+    /// region or in a read, makes no call and answers `DeviceFault` with nothing changed: there too the record stays begun.
     pub fn step(&mut self) -> Result<Progress, LogError>
         requires { IsSome self.old.current.begun }
 
@@ -174,7 +177,7 @@ impl<M: Media> ClientLog<M> {
         }
     }
 
-    /// Hands over the region that is written, and goes on in the other one with the next generation. That one may still have to be wiped. It makes no device call
+    /// Hands over the current region, and goes on in the other one with the next generation. That one may still have to be wiped. It makes no device call
     /// and takes no memory.
     ///
     /// `None`, with nothing changed, exactly where there is no record, a record is begun, the other region is away, or a device has failed.
@@ -205,7 +208,7 @@ impl<M: Media> ClientLog<M> {
         }
     }
 
-    // Whether the region that is written may be handed over.
+    // Whether the current region may be handed over.
     fn can_be_sealed(&self) -> bool
         ensures exact { IsTrue result ↔ CanBeSealed M.seen self.now }
     {
@@ -216,10 +219,10 @@ impl<M: Media> ClientLog<M> {
             && !is_empty(&self.current)
     }
 
-    /// Takes a region back that was handed over, to be wiped. Whoever calls sees to it that all its records are digested. It makes no device call and takes no
-    /// memory.
+    /// Takes a region back that was handed over, to be wiped, also into a log of which a device has failed. Whoever calls sees to it that this log handed it over and
+    /// that all its records are digested: `wipe_step` asks for nothing more. It makes no device call and takes no memory.
     ///
-    /// Refused, with nothing changed and the region given back, exactly where no region is away or the generation is not the one before that which is written.
+    /// Refused, with nothing changed and the region given back, exactly where no region is away or its generation is not the one before the current one.
     pub fn take_back(&mut self, back: HandedOver<M>) -> Result<(), HandedOver<M>>
         ensures taken { OnOk result (self.new ≡ record self.old { other = Some back.region; clean = false }) }
         ensures exact { IsOk result ↔ ((self.old.other ≡ None) × (next_generation back.generation ≡ self.old.generation)) }
@@ -241,10 +244,10 @@ impl<M: Media> ClientLog<M> {
         Ok(())
     }
 
-    /// Makes one device call of a wipe: of the region that is written, to its generation, where it is not wiped yet; else of the other one, to the next generation,
-    /// where it is here and not wiped. It takes no memory. `None`, with nothing changed, where nothing is to be wiped.
+    /// Makes one device call of a wipe: of the current region, to its generation, where it is not wiped yet; else of the other one, to the next generation, where it
+    /// is here and not wiped. It takes no memory. `None`, with nothing changed, exactly where no device has failed and nothing is to be wiped.
     ///
-    /// Where the device fails, the log has failed.
+    /// Where the device fails, the log has failed. A log that has failed before makes no call and answers `DeviceFault` with nothing changed.
     pub fn wipe_step(&mut self) -> Result<Option<WipeProgress>, LogError>
         // At each moment of the call just those records count that counted before it.
         ensures any_moment { (regions : ℕ → List ℕ) → AreLeft M.moment M.left self.old self.new regions → CountOf self.old.generation (is_some self.old.other) (written M.seen self.old) self.old.current.begun regions }
@@ -317,7 +320,11 @@ impl<M: Media> ClientLog<M> {
         }
     }
 
-    /// The records of the generation that is written, in their order. It reads them from the medium. Where the device fails, the log has failed.
+    /// The records of the current generation, in their order. It reads them from the medium; where the current region is not wiped to its generation there are
+    /// none, and nothing is read.
+    ///
+    /// `DeviceFault` where the device fails, and then the log has failed, or where it had failed before, with nothing read; `Memory` for want of memory, with the
+    /// log as it was but for a read. No record and no header is changed by any of it.
     pub fn records(&mut self) -> Result<Vec<Record>, LogError>
         ensures found { IfOk result (λ found. found.items ≡ written M.seen self.old) }
         ensures same { self.new ≡ record self.old { current = self.new.current; failed = self.new.failed } }
@@ -361,7 +368,7 @@ impl<M: Media> ClientLog<M> {
         self.current.left_now();
     }
 
-    /// The generation that is written.
+    /// The current generation.
     pub fn generation(&self) -> u64
         ensures { result ≡ self.now.generation }
     {

@@ -52,6 +52,8 @@ impl<M: Media> HandedOver<M> {
     }
 
     /// Its records, in their order. It reads them from the medium, and changes nothing.
+    ///
+    /// `DeviceFault` where the device fails, `Memory` for want of memory; it may be asked again after either.
     pub fn records(&mut self) -> Result<Vec<Record>, LogError>
         ensures found { IfOk result (λ found. found.items ≡ records_of M.seen self.old.region) }
         ensures generation { self.new.generation ≡ self.old.generation }

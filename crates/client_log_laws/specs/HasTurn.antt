@@ -17,7 +17,7 @@ abbrev pub change_in : Option Begun → Option Record
 change_in None = None
 change_in (Some b) = Some b.change
 
--- In the world a client has what its log has: the records of the region that is written, where the other one is, whether the first is wiped, and the record that is begun.
+-- In the world a client has what its log has: the records of the current region, where the other one is, whether the first is wiped, and the record that is begun.
 pub record HasTurn (t : Turn) (p : Client) : Type 0 where
   pub current : p.current ≡ t.current
   pub other : p.other ≡ region_at t.other

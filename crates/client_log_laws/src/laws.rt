@@ -20,7 +20,7 @@ pub fn taken_back_region_is_a_step()
     ensures goes_on { (w : World) (c : ℕ) (t : log.Turn) → HasTurn t (w.clients c) → HasTurn (log.taken_back t) ((world.taken_back w c).clients c) }
 {}
 
-/// A region that is back may be wiped in the world, and so may the one that is written where it is not wiped; both go on alike.
+/// A region that is back may be wiped in the world, and so may the current one where it is not wiped; both go on alike.
 pub fn wiped_region_is_a_step()
     ensures may_other { (w : World) (c : ℕ) (t : log.Turn) → is_client c ≡ true → HasTurn t (w.clients c) → t.other ≡ log.Back → world.CanWipeOther w c }
     ensures other { (w : World) (c : ℕ) (t : log.Turn) → HasTurn t (w.clients c) → HasTurn (log.other_wiped t) ((world.other_wiped w c).clients c) }

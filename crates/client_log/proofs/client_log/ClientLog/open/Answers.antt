@@ -28,7 +28,7 @@ returns-in-Ok-false-clause-quiet g c =
     let both = c.in-Ok-false.ensures.quiet in
     λ e. (
       back_even (λ (o n : RegionView _). m.faults n.media ≡ m.faults o.media) c.args.generation c.args.regions (c.are_wiped.new.current, c.are_wiped.new.other) c.in_turn-current.result c.in_turn.result c.in_turn-current.ensures c.in_turn.ensures both.0 both.1,
-      back_odd (λ (o n : RegionView _). m.faults n.media ≡ m.faults o.media) c.args.generation c.args.regions (c.are_wiped.new.current, c.are_wiped.new.other) c.in_turn-current.result c.in_turn.result c.in_turn-current.ensures c.in_turn.ensures both.0 both.1
+      back_odd (λ (o n : RegionView _). m.faults n.media ≡ m.faults o.media) c.args.generation c.args.regions (c.are_wiped.new.current, c.are_wiped.new.other) c.in_turn-current.result c.in_turn.result c.in_turn-current.ensures c.in_turn.ensures both.0 both.1,
     )
 
 pub returns-in-Err-clause-fault : goal.returns-in-Err-clause-fault

@@ -87,10 +87,9 @@ returns-clause-idle g c =
     let m = g.M.Media in
     let old = c.args.self.now in
     let going : old.failed ≡ false = subst (λ (v : LogView _). v.failed ≡ false) c.self.view_is c.if-self.false in
-    let ready : old.ready ≡ true = subst (λ (v : LogView _). v.ready ≡ true) c.self.view_is c.if-not-self.false in
-    (
+    let ready : old.ready ≡ true = subst (λ (v : LogView _). v.ready ≡ true) c.self.view_is c.if-not-self.false in (
       (λ none. (going, ready, none_where m.seen m.moment m.left m.faults old c.wipe_other.new.self c.wipe_other.result c.wipe_other.ensures.other none)),
-      (λ all. (c.wipe_other.ensures.nothing all.2).0)
+      (λ all. (c.wipe_other.ensures.nothing all.2).0),
     )
 
 pub returns-clause-may_other : goal.returns-clause-may_other
