@@ -5,6 +5,7 @@ mod options;
 mod script;
 
 use anyhow::{Context, Result, bail};
+use area_bench::{time_changes, time_digests, time_openings};
 use layer_bench::{Desk, Failure, Over, time_appends, time_batches, time_calls, time_leases};
 use options::Asked;
 use std::env;
@@ -75,8 +76,21 @@ fn measure_rest(desk: &mut Desk<'_>, asked: &Asked<'_>) -> Result<(), Failure> {
     if asked.script {
         script::run(desk)?;
     }
+    measure_area(desk, asked)?;
     if asked.is_nothing() {
         desk.tell_usage(options::USAGE);
     }
     desk.end()
+}
+
+// What reaches the shared area, and how it is opened.
+fn measure_area(desk: &mut Desk<'_>, asked: &Asked<'_>) -> Result<(), Failure> {
+    if asked.apply {
+        time_changes(desk)?;
+        time_openings(desk)?;
+    }
+    if asked.digest {
+        time_digests(desk)?;
+    }
+    Ok(())
 }

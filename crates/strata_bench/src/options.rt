@@ -10,7 +10,7 @@ const ABOUT: &str = "Times the layers of Strata beside plain work on the same by
 
 /// What is told where nothing is asked for.
 pub const USAGE: &str =
-    "strata_bench [--append BYTES] [--calls] [--media mem|ram|file [PATH]] [--times COUNT] [--batch IMAGES] [--leases] [--script]";
+    "strata_bench [--append BYTES] [--calls] [--media mem|ram|file [PATH]] [--times COUNT] [--batch IMAGES] [--leases] [--script] [--apply] [--digest]";
 
 /// What is timed, and over which medium.
 #[derive(Clone, Copy)]
@@ -20,6 +20,8 @@ pub struct Asked<'a> {
     pub batch: Option<u64>,
     pub leases: bool,
     pub script: bool,
+    pub apply: bool,
+    pub digest: bool,
     pub times: u64,
     media: &'a str,
     path: Option<&'a str>,
@@ -37,7 +39,11 @@ impl<'a> Asked<'a> {
     }
 
     pub fn is_nothing(&self) -> bool {
-        self.append.is_none() && self.batch.is_none() && !self.calls && !self.leases && !self.script
+        self.append.is_none() && self.batch.is_none() && !self.has_flag()
+    }
+
+    fn has_flag(&self) -> bool {
+        self.calls || self.leases || self.script || self.apply || self.digest
     }
 }
 
@@ -57,6 +63,8 @@ fn from_matches<'a>(matches: &ArgMatches<'a>) -> Asked<'a> {
         batch: matches.get_one::<u64>("batch"),
         leases: matches.get_flag("leases"),
         script: matches.get_flag("script"),
+        apply: matches.get_flag("apply"),
+        digest: matches.get_flag("digest"),
         times: matches.get_one::<u64>("times").unwrap_or(APPENDS),
         media: matches.get_str("media").unwrap_or("mem"),
         path: matches.get_str("path"),
@@ -93,7 +101,7 @@ enum Form {
     Number(&'static str, i64, i64),
 }
 
-const WORDS: [Word; 8] = [
+const WORDS: [Word; 10] = [
     Word {
         name: "append",
         form: Form::Number("BYTES", 1, 65_537),
@@ -133,6 +141,16 @@ const WORDS: [Word; 8] = [
         name: "script",
         form: Form::Flag,
         help: "Time the calls of a file tree in memory, over a thousand files",
+    },
+    Word {
+        name: "apply",
+        form: Form::Flag,
+        help: "Time changes of the shared area, its opening, and reads of it",
+    },
+    Word {
+        name: "digest",
+        form: Form::Flag,
+        help: "Time records that are coalesced and digested into the shared area",
     },
 ];
 
