@@ -1,3 +1,4 @@
+mod Within
 mod OnlyRead
 mod Wipes
 mod Counted

@@ -1,10 +1,12 @@
 -- A region that was only read is as it was.
 use Rattle.std.specs.Prelude.{is_some}
-use Rattle.std.proofs.Common.{◌≡◌, ◌⊎◌, ℕ, Bool, List, take, refl, sym, ◌∙◌, ap, subst, arith}
+use Rattle.std.proofs.Common.{◌≡◌, ◌⊎◌, ◌<◌, ℕ, Bool, List, take, refl, sym, ◌∙◌, ap, subst, arith}
 use Rattle.tier_device.specs.declared.media.Tier.{Tier}
 use Rattle.tier_device.specs.declared.media.Tier.TheVariants.{Fast}
 use Rattle.tier_device.specs.Media.{Keeps}
-use Rattle.update_log.specs.Frames.{before_gate, header, spelled}
+use Rattle.log_record.specs.declared.format.Record.{Record}
+use Rattle.update_log.specs.declared.format.TheConstants.{REGION_SIZE}
+use Rattle.update_log.specs.Frames.{before_gate, end_behind, header, spelled}
 use Rattle.update_log.specs.Stage.{IsAppending}
 use Rattle.update_log.specs.View.{RegionView, header_of, records_of}
 use Rattle.update_log.specs.Wipe.{CanWipe, IsWiping}
@@ -12,6 +14,7 @@ use Rattle.update_log.specs.Wiping.{generation}
 use Rattle.update_log.specs.declared.stage.Stage.{Stage}
 use Rattle.update_log.specs.declared.stage.Stage.TheVariants as stages
 use Rattle.client_log.specs.Calls.{IsOnlyRead}
+use Rattle.client_log.proofs.Within.{within_same}
 use Rattle.client_log.specs.Regions.{CountsNothing, IsSealed, IsStale, IsWiped, IsWritten, NamesBy, is_pending}
 
 module _ {M : Type 0} (seen : M → Tier → List ℕ) (moment : M → ℕ) (left : M → ℕ → Tier → List ℕ → Type 0) (faults : M → ℕ) where
@@ -49,6 +52,7 @@ module _ {M : Type 0} (seen : M → Tier → List ℕ) (moment : M → ℕ) (lef
       nothing = read.same_begun ∙ s.nothing;
       names = ap generation header_read ∙ s.names;
       some = λ e. s.some (sym records_read ∙ e);
+      within = subst (λ (l : List Record). end_behind l < REGION_SIZE) (sym records_read) s.within;
     }
 
     pub written_read : (failed : Bool) (g : ℕ) → IsWritten seen failed g old → IsWritten seen failed g new
@@ -57,6 +61,7 @@ module _ {M : Type 0} (seen : M → Tier → List ℕ) (moment : M → ℕ) (lef
       settled = subst (λ (s : Stage). IsWiping s → ⊥) (sym read.same_stage) w.settled;
       going = λ e. subst (λ (s : Stage). (s ≡ stages.Resting) ⊎ IsAppending s) (sym read.same_stage) (w.going e);
       pending = ap is_some read.same_begun ∙ w.pending ∙ ap is_pending (sym read.same_stage);
+      within = within_same seen old new records_read read.same_begun w.within;
     }
 
     pub stale_read : (failed : Bool) (g : ℕ) → IsStale seen moment left failed g old → IsStale seen moment left failed g new

@@ -7,6 +7,8 @@ use Rattle.tier_device.specs.declared.media.Tier.TheVariants.{Fast}
 use Rattle.tier_device.specs.Media.{LeftSince}
 use Rattle.log_record.specs.declared.format.Record.{Record}
 use Rattle.update_log.specs.Counting.{next_generation, records_under}
+use Rattle.update_log.specs.Frames.{end_behind, with_record}
+use Rattle.update_log.specs.declared.format.TheConstants.{REGION_SIZE}
 use Rattle.update_log.specs.Stage.{IsAppending}
 use Rattle.update_log.specs.View.{RegionView, WithOrWithout, header_of, records_of}
 use Rattle.update_log.specs.Wipe.{IsWiping}
@@ -65,10 +67,13 @@ module _ {M : Type 0} (seen : M → Tier → List ℕ) (moment : M → ℕ) (lef
     settled = λ wiping. subst IsWiping w.rests wiping;
     going = λ e. inl w.rests;
     pending = ap is_some w.nothing ∙ sym (ap is_pending w.rests);
+    within =
+        subst (λ (b : Option Record). end_behind (with_record (records_of seen v) b) < REGION_SIZE) (sym w.nothing)
+        (subst (λ (l : List Record). end_behind l < REGION_SIZE) (sym w.empty) (omega arith));
   }
 
   written_failed : (failed : Bool) (g : ℕ) (v : RegionView M) → IsWritten seen failed g v → IsWritten seen true g v
-  written_failed failed g v w = record { names = w.names; settled = w.settled; going = λ e. absurd (true≢false e); pending = w.pending }
+  written_failed failed g v w = record { names = w.names; settled = w.settled; going = λ e. absurd (true≢false e); pending = w.pending; within = w.within }
 
   stale_failed : (failed : Bool) (g : ℕ) (v : RegionView M) → IsStale seen moment left failed g v → IsStale seen moment left true g v
   stale_failed failed g v s = record { nothing = s.nothing; going = λ e. absurd (true≢false e); names = s.names; none = s.none }

@@ -3,10 +3,12 @@ use Rattle.std.specs.Prelude.{◌≡◌, ◌≢◌, ◌⊎◌, ◌<◌, ◌^◌,
 use Rattle.tier_device.specs.declared.media.Tier.{Tier}
 use Rattle.tier_device.specs.declared.media.Tier.TheVariants.{Fast}
 use Rattle.update_log.specs.Counting.{next_generation, records_under}
+use Rattle.update_log.specs.Frames.{end_behind, with_record}
 use Rattle.update_log.specs.Stage.{IsAppending}
 use Rattle.update_log.specs.View.{RegionView, header_of, records_of}
 use Rattle.update_log.specs.Wipe.{CanWipe, IsWiping}
 use Rattle.update_log.specs.Wiping.{generation}
+use Rattle.update_log.specs.declared.format.TheConstants.{REGION_SIZE}
 use Rattle.update_log.specs.declared.stage.Stage.{Stage}
 use Rattle.update_log.specs.declared.stage.Stage.TheVariants as stages
 
@@ -41,6 +43,8 @@ pub record IsWritten {M : Type 0} (seen : M → Tier → List ℕ) (failed : Boo
   pub settled : IsWiping v.stage → ⊥
   pub going : failed ≡ false → (v.stage ≡ stages.Resting) ⊎ IsAppending v.stage
   pub pending : is_some v.begun ≡ is_pending v.stage
+  -- also behind the begun record a gate stands in the region
+  pub within : end_behind (with_record (records_of seen v) v.begun) < REGION_SIZE
 
 -- What a header names while its region is wiped to a generation: another one until the first gate is closed, and the generation once that is written.
 abbrev pub NamesBy : Stage → ℕ → ℕ → Type 0
@@ -69,6 +73,7 @@ pub record IsSealed {M : Type 0} (seen : M → Tier → List ℕ) (g : ℕ) (v :
   pub nothing : v.begun ≡ None
   pub names : generation (header_of seen v) ≡ g
   pub some : records_of seen v ≢ []
+  pub within : end_behind (records_of seen v) < REGION_SIZE
 
 -- What holds of a client's log: each region that is here is wiped to its generation, or is to be.
 pub record IsSound {M : Type 0} (seen : M → Tier → List ℕ) (moment : M → ℕ) (left : M → ℕ → Tier → List ℕ → Type 0) (g : ℕ) (current : RegionView M) (ready : Bool) (other : Option (RegionView M)) (clean failed : Bool) : Type 0 where

@@ -1,4 +1,4 @@
-ghost use Rattle.std.specs.Prelude.{◌≡◌, ◌≢◌, ◌⊎◌, [], None, ℕ, List, IfErr, IfOk, IsErrOf, OnErr, OnOk};
+ghost use Rattle.std.specs.Prelude.{◌≡◌, ◌≢◌, ◌⊎◌, ◌<◌, ◌^◌, [], length, None, ℕ, List, IfErr, IfOk, IsErrOf, OnErr, OnOk};
 ghost use Rattle.tier_device.specs.declared.media.Tier.TheVariants.{Fast};
 ghost use Rattle.tier_device.specs.Media.{Rose};
 ghost use Rattle.update_log.specs.Frames.{records};
@@ -72,6 +72,7 @@ impl<M: Media> HandedOver<M> {
     /// What holds of it: it is at rest with some records, which every stop leaves, and its header names its generation.
     pub fn left_now(&self)
         ensures sealed { IsSealed M.seen self.now.generation self.now.region }
+        ensures few { length (records_of M.seen self.now.region) < 2 ^ 32 }
         ensures rests { (c : List ℕ) → M.left self.now.region.media (M.moment self.now.region.media) Fast c → c ≡ M.seen self.now.region.media Fast }
         ensures records { (c : List ℕ) → M.left self.now.region.media (M.moment self.now.region.media) Fast c → records c ≡ records_of M.seen self.now.region }
         ensures names { (c : List ℕ) → M.left self.now.region.media (M.moment self.now.region.media) Fast c → generation c ≡ self.now.generation }

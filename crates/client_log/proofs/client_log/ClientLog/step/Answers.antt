@@ -25,7 +25,7 @@ invariant_of-self-in-Err g c =
     sound_current m.seen m.moment m.left s.generation s.current new s.ready s.ready s.other s.clean true
     (sound_failed m.seen m.moment m.left s.generation s.current s.ready s.other s.clean s.failed c.self.invariant)
     (λ e. step_failed m.seen m.moment m.left s.generation s.current new (subst (λ (f : Bool). IsWritten m.seen f s.generation s.current) c.if-self.false (c.self.invariant.written e)) c.in-Err.ensures.failed c.step-stepped.ensures.same_header some
-    (λ more. (c.step-stepped.ensures.going more).1))
+    c.step-stepped.ensures.going)
     (λ e. absurd (true≢false (sym ready ∙ e)))
 
 pub returns-in-Ok-clause-any_moment : goal.returns-in-Ok-clause-any_moment

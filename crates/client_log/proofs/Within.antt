@@ -1,0 +1,34 @@
+-- The records of a region stand within it.
+use Rattle.std.proofs.Common.{◌≡◌, ◌<◌, ◌≤◌, ◌+◌, ◌^◌, ℕ, List, sym, subst, arith}
+use Rattle.std.specs.Prelude.{zero, suc, [], ◌∷◌, ◌++◌, Option, length}
+use Rattle.tier_device.specs.declared.media.Tier.{Tier}
+use Rattle.log_record.specs.declared.format.Record.{Record}
+use Rattle.log_record.specs.Grammar.{spelling}
+use Rattle.update_log.specs.Frames.{end_behind, taken, with_record}
+use Rattle.update_log.specs.View.{RegionView, records_of}
+use Rattle.update_log.specs.declared.format.TheConstants.{REGION_SIZE}
+
+each_takes : (rs : List Record) → length rs ≤ taken rs
+each_takes [] = omega arith
+each_takes (r ∷ rs) = omega (arith, each_takes rs)
+
+pub few_within : (rs : List Record) → end_behind rs < REGION_SIZE → length rs < 2 ^ 32
+few_within rs within = omega (arith, within, each_takes rs)
+
+taken_more : (rs : List Record) (r : Record) → taken (rs ++ r ∷ []) ≡ taken rs + (5 + length (spelling r))
+taken_more [] r = omega arith
+taken_more (x ∷ rs) r = omega (arith, taken_more rs r)
+
+not_more : (a b : ℕ) → (b < a → ⊥) → a ≤ b
+not_more zero b less = omega arith
+not_more (suc a) zero less = absurd (less (omega arith))
+not_more (suc a) (suc b) less = omega (arith, not_more a b (λ l. less (omega (arith, l))))
+
+-- a record that fits
+pub one_more_within : (rs : List Record) (r : Record) → (REGION_SIZE < end_behind rs + 5 + length (spelling r) + 1 → ⊥) → end_behind (rs ++ r ∷ []) < REGION_SIZE
+one_more_within rs r fits = omega (arith, taken_more rs r, not_more (end_behind rs + 5 + length (spelling r) + 1) REGION_SIZE fits)
+
+-- with the same records, and the same one begun, a region has the same room
+pub within_same : {M : Type 0} (seen : M → Tier → List ℕ) (old new : RegionView M) → records_of seen new ≡ records_of seen old → new.begun ≡ old.begun → end_behind (with_record (records_of seen old) old.begun) < REGION_SIZE → end_behind (with_record (records_of seen new) new.begun) < REGION_SIZE
+within_same seen old new same begun within =
+    subst (λ (b : Option Record). end_behind (with_record (records_of seen new) b) < REGION_SIZE) (sym begun) (subst (λ (l : List Record). end_behind (with_record l old.begun) < REGION_SIZE) (sym same) within)
