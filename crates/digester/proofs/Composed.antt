@@ -43,7 +43,7 @@ use Rattle.digester.specs.declared.chunk.Chunk.{Chunk}
 use Rattle.digester.specs.declared.sealed_log.SealedLog.{SealedLog}
 use Rattle.digester.specs.declared.error.DigestError.{DigestError}
 use Rattle.digester.specs.declared.error.DigestError.TheVariants as errors
-use Rattle.digester.proofs.Runs.{all_dropped, all_taken, good_run, touched_in}
+use Rattle.digester.proofs.Runs.{all_dropped, all_taken, good_run}
 
 -- ---- the records of a chunk
 
@@ -91,14 +91,11 @@ module _ (x : SealedLog) (c : Chunk) (sealed : IsSealed x) (is : IsChunkOf x c) 
         record {
           run = its_run.run;
           good = good;
-          opens = applied.opens;
           graph_after = applied.graph_after ∙ ap (λ (d : Changes). changed d (graph g s)) run.change ∙ coalesced_law (effects_in rs) (graph g s);
           before = v;
           old_marks = was;
           stood = stood;
-          new_marks = applied.new_marks;
-          touched = λ i its. applied.touched i (touched_in x.held.items g.units (graph g s) rs (changes_of c.change) run i ∙ its);
-          others = λ i its. applied.others i (touched_in x.held.items g.units (graph g s) rs (changes_of c.change) run i ∙ its);
+          applied = subst (λ (d : Changes). IsAppliedStore g s d (marks_after v x.client (mark_then x c.count)) new) run.change applied;
         }
 
     -- a bad one is told by its place in the region

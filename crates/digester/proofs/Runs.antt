@@ -5,7 +5,7 @@ use Rattle.std.specs.Prelude.{option_map}
 use Rattle.std.specs.FinMap as fin
 use Rattle.std.proofs.lemmas.List.{length-take-le, length-drop, take_all}
 use Rattle.file_graph.specs.declared.effect.Kind.TheVariants as kind
-use Rattle.file_graph.specs.Graph.{Graph, Node, Body, FileBody, DirBody, is_among, touches}
+use Rattle.file_graph.specs.Graph.{Graph, Node, Body, FileBody, DirBody}
 use Rattle.file_graph.specs.Units.{charge}
 use Rattle.graph_change.specs.Bounds.{AreBounded}
 use Rattle.graph_change.specs.Change.{Change, Changes, change_at, changed, writes_block}
@@ -25,7 +25,7 @@ use Rattle.coalescer.specs.Records.{effects_in}
 use Rattle.coalescer.specs.Within.{AreBlocksIn, images_of}
 use Rattle.record_check.specs.Good.{KeepsLimits}
 use Rattle.digest_plan.specs.Plan.{AreGood, IsNextRun}
-use Rattle.digest_plan.proofs.Applied.{good_bounded, good_limits, good_charge, fit_images, fit_blocks, changes_touched}
+use Rattle.digest_plan.proofs.Applied.{good_bounded, good_limits, good_charge, fit_images, fit_blocks}
 use Rattle.digester.specs.Digesting.{IsGoodRun}
 
 -- the next run of records, where they are good, is such a run
@@ -89,6 +89,3 @@ module _ (held : List ℕ) (capacity : ℕ) (g : Graph) (rs : List Record) (cs :
 
   pub few_written : (x : Sizes) (s : Store) (bs : List (ℕ × ℕ)) → AreWritten x s cs bs → length bs ≤ SPARE_BLOCKS
   few_written x s bs are = fit_blocks (effects_in rs) bs is.fits (subst (λ (c : Changes). AreBlocksIn c bs) is.change (are.once, are_written x s cs bs are.each))
-
-  pub touched_in : (i : ℕ) → fin.contains_key cs i ≡ is_among i (touches (effects_in rs))
-  touched_in i = subst (λ (c : Changes). fin.contains_key c i ≡ is_among i (touches (effects_in rs))) (sym is.change) (changes_touched (effects_in rs) i)

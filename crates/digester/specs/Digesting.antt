@@ -2,7 +2,7 @@
 use Rattle.std.specs.Prelude.{◌≡◌, ◌≢◌, ◌⊎◌, ◌≤◌, ◌<◌, ◌+◌, ℕ, List, true, false, length, take, Some, Result, Err, OnOk, IfErr, IsErrOf}
 use Rattle.tier_device.specs.declared.media.Tier.{Tier}
 use Rattle.tier_device.specs.Media.{Left, Rose}
-use Rattle.file_graph.specs.Graph.{Graph, after_effects, is_among, touches}
+use Rattle.file_graph.specs.Graph.{Graph, after_effects}
 use Rattle.graph_change.specs.Change.{Changes, coalesced}
 use Rattle.log_record.specs.declared.format.Record.{Record}
 use Rattle.layout.specs.declared.marks.Marks.{Marks}
@@ -10,13 +10,12 @@ use Rattle.layout.specs.Places.{Sizes}
 use Rattle.batch_journal.specs.Course.{Unmoved}
 use Rattle.batch_journal.specs.View.{JournalView}
 use Rattle.batch_journal.specs.Volume.{IsVolume}
-use Rattle.shared_area.specs.Store.{Store, store_of, slot, graph, marks}
+use Rattle.shared_area.specs.Store.{Store, store_of, graph, marks}
 use Rattle.shared_area.specs.Reads.{Loose}
-use Rattle.shared_area.specs.Spelled.{IsOpenable}
-use Rattle.shared_area.specs.Part.{IsTouchedBy}
 use Rattle.coalescer.specs.Records.{effects_in}
 use Rattle.coalescer.specs.Weight.{fits_chunk, IsLongestRun}
 use Rattle.digest_plan.specs.Plan.{AreGood, IsFirstBad}
+use Rattle.shared_area.specs.ChangeApplying.{IsAppliedStore}
 use Rattle.shared_area.specs.Ready.{OpensAs}
 use Rattle.digester.specs.Marking.{marks_after}
 use Rattle.digester.specs.SealedLog.{StandsAt, undone, mark_then}
@@ -31,19 +30,17 @@ pub record IsGoodRun (held : List ℕ) (capacity : ℕ) (g : Graph) (rs : List R
   pub fits : fits_chunk (effects_in rs) ≡ true
   pub change : cs ≡ coalesced (effects_in rs)
 
--- The next n records of a sealed log are digested in the new store: they are the longest run that a batch takes, and each was good over the graph as those before it left it. The graph is as
--- they leave it; the mark of their client, at which the log stood, has moved behind them, those of the others stay, and there is one digest more. What they touched tells its number, and every other slot is as it was.
+-- The next n records of a sealed log are digested in the new store: they are the longest run that a batch takes, and each was good over the graph as those before it left it. What they come
+-- to is made in it, with the mark of their client, at which the log stood, moved behind them, the marks of the others as they were, and one digest more.
 pub record IsDigested (g : Sizes) (s : Store) (x : SealedLog) (n : ℕ) (new : Store) : Type 0 where
   pub run : IsLongestRun (undone x) n
   pub good : AreGood x.held.items g.units (graph g s) (take n (undone x))
-  pub opens : IsOpenable g new
-  pub graph_after : graph g new ≡ after_effects (graph g s) (effects_in (take n (undone x)))
   pub before : Marks
   pub old_marks : marks s ≡ Some before
   pub stood : StandsAt x before
-  pub new_marks : marks new ≡ Some (marks_after before x.client (mark_then x n))
-  pub touched : (i : ℕ) → is_among i (touches (effects_in (take n (undone x)))) ≡ true → IsTouchedBy (marks_after before x.client (mark_then x n)).digests (slot g new i)
-  pub others : (i : ℕ) → is_among i (touches (effects_in (take n (undone x)))) ≡ false → slot g new i ≡ slot g s i
+  pub applied : IsAppliedStore g s (coalesced (effects_in (take n (undone x)))) (marks_after before x.client (mark_then x n)) new
+  -- so the graph is as they leave it
+  pub graph_after : graph g new ≡ after_effects (graph g s) (effects_in (take n (undone x)))
 
 -- Contents from which the area opens: with the graph and the marks of that store, and all that is in use unmoved; or with the next n records digested, and the mark behind them.
 pub record OpensDigestedOrNot (g : Sizes) (s : Store) (x : SealedLog) (n : ℕ) (content : Tier → List ℕ) : Type 0 where

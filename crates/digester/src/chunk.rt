@@ -1,9 +1,8 @@
 //! The next records of a sealed log, as they are prepared to be digested at once.
 
-ghost use Rattle.std.specs.Prelude.{◌≡◌, ◌<◌, true, IfErr, IfOk, length};
-ghost use Rattle.coalescer.specs.Records.{effects_in};
+ghost use Rattle.std.specs.Prelude.{◌≡◌, true, IfErr, IfOk};
 ghost use Rattle.digester.specs.Chunk.{IsChunkOf, is_next};
-ghost use Rattle.digester.specs.SealedLog.{IsSealed, undone};
+ghost use Rattle.digester.specs.SealedLog.{IsSealed};
 ghost use Rattle.digester.specs.declared.error.DigestError.TheVariants.{Memory};
 
 use crate::error::DigestError;
@@ -38,13 +37,12 @@ impl Chunk {
 
 /// Prepares the next chunk of a sealed log that has a record left: the longest run of its next records that one batch takes, one at least, and
 /// what it comes to. It needs neither the shared area nor a lock: whoever digests the chunk asks then whether it is still the next one, and
-/// tests its records. An error is want of memory, which is asked for only where a record has an effect.
+/// tests its records. An error is want of memory.
 pub fn prepare(alloc: Global, log: &SealedLog) -> Result<Chunk, DigestError>
     requires sealed { IsSealed log.now }
     ensures exact { IfOk result (IsChunkOf log.now) }
     ensures next { IfOk result (λ chunk. is_next log.now chunk ≡ true) }
     ensures only { IfErr result (λ e. e ≡ Memory) }
-    ensures memory { IfErr result (λ _. 0 < length (effects_in (undone log.now))) }
 {
     match next_run(alloc, &log.records[log.done as usize..]) {
         Ok(run) => Ok(Chunk {

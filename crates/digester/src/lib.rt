@@ -8,6 +8,7 @@
 mod chunk;
 mod digesting;
 mod error;
+mod laws;
 mod marking;
 mod sealed_log;
 mod testing;
@@ -15,5 +16,8 @@ mod testing;
 pub use chunk::{Chunk, prepare};
 pub use digesting::digest_chunk;
 pub use error::DigestError;
+pub use laws::{
+    chunk_stays_a_chunk, digest_touches_what_its_records_touch, others_digest_leaves_a_log_standing,
+};
 pub use marking::{mark_after, marks_after, moved_mark_leaves_the_rest};
 pub use sealed_log::SealedLog;

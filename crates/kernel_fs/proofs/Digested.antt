@@ -114,7 +114,7 @@ module _ (x : SealedLog) (sealed : IsSealed x) {M : Type 0} (seen : M → Tier �
   moved = record {
     others = λ d is_d off.
         let low : 1 ≤ d = is_low d is_d in
-        ap (λ (v : Marks). done_in v d) (some_is (marks (store_of (seen new.media))) at.0 (marks_after done.before x.client (mark_then x n)) at.1 done.new_marks)
+        ap (λ (v : Marks). done_in v d) (some_is (marks (store_of (seen new.media))) at.0 (marks_after done.before x.client (mark_then x n)) at.1 done.applied.new_marks)
         ∙ ap (λ (k : Mark). k.done) (get_or-set_other done.before.clients x.client (d - 1) (mark_then x n) (record { generation = 0; done = 0 }) (λ e. off (omega (arith, e, low))))
         ∙ ap (λ (v : Marks). done_in v d) before_is;
     some = λ part.
