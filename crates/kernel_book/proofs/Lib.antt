@@ -6,3 +6,5 @@ pub mod Rows
 pub mod Leading
 pub mod Members
 pub mod MarksGo
+pub mod Runs
+pub mod SetGrants

@@ -1,5 +1,5 @@
 -- The members of a set.
-use Rattle.std.proofs.Common.{◌≡◌, ◌≢◌, inl, inr, ℕ, zero, suc, ◌+◌, ◌≤◌, ◌==◌, ◌||◌, List, [], ◌∷◌, length, Bool, true, false, cond, refl, ap, sym, ◌∙◌, arith}
+use Rattle.std.proofs.Common.{◌≡◌, inl, inr, ℕ, zero, suc, ◌+◌, ◌≤◌, ◌==◌, ◌||◌, List, ◌∷◌, length, Bool, true, false, cond, refl, ap, sym, ◌∙◌, arith}
 use Rattle.std.proofs.lemmas.Bool.{false≢true}
 use Rattle.std.proofs.lemmas.Bool.Decides.{eqb_tells}
 use Rattle.posix_calls.specs.Tree.{sum_up_to}
@@ -21,7 +21,7 @@ put_long true n k rest is = omega (arith, is)
 put_long false n k rest is = omega (arith, is)
 
 -- what is greater than all of them is not among them, and 0 is not
-beyond : (p : ℕ → Bool) (n i : ℕ) → (1 ≤ i → i ≤ n → ⊥) → is_among i (passing p n) ≡ false
+pub beyond : (p : ℕ → Bool) (n i : ℕ) → (1 ≤ i → i ≤ n → ⊥) → is_among i (passing p n) ≡ false
 unfolding passing
 beyond p zero i out = refl
 beyond p (suc n) i out = elim (eqb_tells (suc n) i) [

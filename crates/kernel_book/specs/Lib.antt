@@ -4,4 +4,5 @@ pub mod Free
 pub mod Inodes
 pub mod Marks
 pub mod Nodes
+pub mod Run
 pub mod Steps

@@ -1,7 +1,8 @@
 -- The kernel's machine as it is opened, and its steps that are made of several: units and numbers at once.
-use Rattle.std.specs.Prelude.{◌≡◌, ℕ, ◌+◌, ◌-◌, List, [], ◌∷◌, Bool, ◌&&◌, ◌||◌, not}
+use Rattle.std.specs.Prelude.{ℕ, ◌+◌, ◌-◌, List, [], ◌∷◌, Bool, ◌&&◌, ◌||◌, not}
 use Rattle.file_graph.specs.Graph.{Graph}
 use Rattle.world_facts.specs.Machine.{Machine, with_account, book_number, unbook_number}
+use Rattle.world_facts.specs.World.{World, moved}
 use Rattle.world_facts.specs.Opening.{idle_account}
 
 -- a machine that was just opened over a graph, where so many records of each client were ever digested: all that were accepted
@@ -25,3 +26,17 @@ book_numbers m c (i ∷ is) = book_number (book_numbers m c is) c i
 abbrev pub unbook_numbers : Machine → ℕ → List ℕ → Machine
 unbook_numbers m c [] = m
 unbook_numbers m c (i ∷ is) = unbook_number (unbook_numbers m c is) c i
+
+-- ---- in the world
+
+-- units and a set of numbers are granted at once: the book has them, and the client
+abbrev pub set_granted : World → ℕ → ℕ → (ℕ → Bool) → World
+set_granted w c units numbers = moved w c w.kernel.shared
+    (record (w.kernel.accounts c) { units = (w.kernel.accounts c).units + units; numbers = λ i. (w.kernel.accounts c).numbers i || numbers i })
+    (record (w.clients c) { spare = (w.clients c).spare + units; knows = record (w.clients c).knows { granted = λ i. (w.clients c).knows.granted i || numbers i } })
+
+-- they are in the book, and on their way to the client
+abbrev pub set_booked : World → ℕ → ℕ → (ℕ → Bool) → World
+set_booked w c units numbers = moved w c w.kernel.shared
+    (record (w.kernel.accounts c) { units = (w.kernel.accounts c).units + units; numbers = λ i. (w.kernel.accounts c).numbers i || numbers i })
+    (w.clients c)

@@ -29,6 +29,7 @@ pub use book::Book;
 pub use error::RefillError;
 pub use inode_set::InodeSet;
 pub use laws::{
-    book_has_what_its_machine_has, granted_and_taken_back_one_by_one, grants_keep_the_book,
-    marks_go_with_the_machine, members_are_those_of_the_set, opened_machine_runs,
+    book_has_what_its_machine_has, granted_and_taken_back_one_by_one, granted_set_keeps_the_whole,
+    grants_keep_the_book, marks_go_with_the_machine, members_are_those_of_the_set,
+    opened_machine_runs, runs_keep_what_holds,
 };
