@@ -48,6 +48,7 @@ pub record OperationGoes (p : Part) (h : Holdings) (operation : Operation) (o : 
   pub new : ℕ
   pub number : HasNumber h operation new
   pub leased : (i : ℕ) → is_among i (subjects_of new operation) ≡ true → h.writes i ≡ true
+  pub known : (i : ℕ) → is_among i (subjects_of new operation) ≡ true → (is_some (p.node i) || is_new new operation i) ≡ true
   pub units : ℕ
   pub grows : run_part p (units_asked operation) ≡ Known (Ok units)
   pub enough : units ≤ h.spare
@@ -82,15 +83,17 @@ either false b e = inr e
 among_first : (i j : ℕ) (js : List ℕ) → is_among i (j ∷ js) ≡ true → (j ≡ i) ⊎ (is_among i js ≡ true)
 among_first i j js e = elim (either (j == i) (is_among i js) e) [ inl same ↦ inl (eqb-true j i same) | inr later ↦ inr later ]
 
-held_goes : (p : Part) (h : Holdings) (new : ℕ) (operation : Operation) (i : ℕ) (u : Unit {0}) → held p h new operation i ≡ Goes u → h.writes i ≡ true
-held_goes p h new operation i u e = let a = goes_where (unless (h.writes i) (Lease i Write)) (λ _. unless (is_some (p.node i) || is_new new operation i) (View i)) u e in unless_goes (h.writes i) (Lease i Write) a.0 a.1
+held_goes : (p : Part) (h : Holdings) (new : ℕ) (operation : Operation) (i : ℕ) (u : Unit {0}) → held p h new operation i ≡ Goes u → (h.writes i ≡ true) × ((is_some (p.node i) || is_new new operation i) ≡ true)
+held_goes p h new operation i u e =
+    let a = goes_where (unless (h.writes i) (Lease i Write)) (λ _. unless (is_some (p.node i) || is_new new operation i) (View i)) u e in
+    (unless_goes (h.writes i) (Lease i Write) a.0 a.1, unless_goes (is_some (p.node i) || is_new new operation i) (View i) u a.2)
 
-written_goes : (p : Part) (h : Holdings) (new : ℕ) (operation : Operation) (is : List ℕ) (u : Unit {0}) → written p h new operation is ≡ Goes u → (i : ℕ) → is_among i is ≡ true → h.writes i ≡ true
+written_goes : (p : Part) (h : Holdings) (new : ℕ) (operation : Operation) (is : List ℕ) (u : Unit {0}) → written p h new operation is ≡ Goes u → (i : ℕ) → is_among i is ≡ true → (h.writes i ≡ true) × ((is_some (p.node i) || is_new new operation i) ≡ true)
 written_goes p h new operation [] u e i at = absurd (true≢false (sym at))
 written_goes p h new operation (j ∷ js) u e i at =
     let a = goes_where (held p h new operation j) (λ _. written p h new operation js) u e in
     elim (among_first i j js at) [
-      | inl same ↦ subst (λ n. h.writes n ≡ true) same (held_goes p h new operation j a.0 a.1)
+      | inl same ↦ subst (λ n. (h.writes n ≡ true) × ((is_some (p.node n) || is_new new operation n) ≡ true)) same (held_goes p h new operation j a.0 a.1)
       | inr later ↦ written_goes p h new operation js u a.2 i later
     ]
 
@@ -108,7 +111,8 @@ operation_goes p h operation o e =
     record {
       new = a.0;
       number = number_goes h.numbers (makes operation) a.0 a.1;
-      leased = written_goes p h a.0 operation (subjects_of a.0 operation) b.0 b.1;
+      leased = λ i at. (written_goes p h a.0 operation (subjects_of a.0 operation) b.0 b.1 i at).0;
+      known = λ i at. (written_goes p h a.0 operation (subjects_of a.0 operation) b.0 b.1 i at).1;
       units = c.0;
       grows = looked_goes p h (units_asked operation) c.0 c.1;
       enough = leb-true c.0 h.spare (unless_goes (nat_le c.0 h.spare) (Units (c.0 - h.spare)) d.0 d.1);

@@ -1,7 +1,7 @@
 -- What a call comes to is one step of the file tree.
-use Rattle.std.proofs.Common.{◌≡◌, ◌⊎◌, inl, inr, ℕ, ◌≤◌, List, [], length, refl, Some, None, Option, Ok, Err, Bool, true, false, ap, sym, ◌∙◌, subst}
-use Rattle.std.specs.Prelude.{◌&&◌, nat_le}
-use Rattle.std.proofs.lemmas.Bool.{and_parts, leb-true}
+use Rattle.std.proofs.Common.{◌≡◌, ◌⊎◌, inl, inr, ℕ, ◌≤◌, ◌==◌, ◌||◌, List, [], length, refl, Some, None, Option, Ok, Err, Bool, true, false, cond, ap, sym, ◌∙◌, subst}
+use Rattle.std.specs.Prelude.{◌&&◌, nat_le, is_some, IsSome, option_map}
+use Rattle.std.proofs.lemmas.Bool.{and_parts, eqb-true, leb-true}
 use Rattle.posix_calls.specs.declared.call.Call.{Call}
 use Rattle.posix_calls.specs.declared.call.Reply.{Reply}
 use Rattle.posix_calls.specs.declared.operation.Operation.{Operation}
@@ -9,7 +9,7 @@ use Rattle.posix_calls.specs.declared.operation.Operation.TheVariants.{Tell, New
 use Rattle.posix_calls.specs.Tree.{Own, Descriptors, with_own}
 use Rattle.posix_calls.specs.Query.{Gives, Known, run_part}
 use Rattle.posix_calls.specs.Decide.{decide}
-use Rattle.posix_calls.specs.Operations.{reply_of, own_after, Step}
+use Rattle.posix_calls.specs.Operations.{makes, reply_of, own_after, Step}
 use Rattle.posix_calls.proofs.Steps.{with_same}
 use Rattle.file_graph.specs.Graph.{Graph, is_among, touches, after_effects}
 use Rattle.file_graph.specs.Units.{growth}
@@ -19,6 +19,7 @@ use Rattle.log_record.specs.declared.format.Record.{Record}
 use Rattle.call_effects.specs.Changed.{changes}
 use Rattle.call_effects.specs.Effects.{recounted, effects_by}
 use Rattle.call_effects.specs.Known.{Knowledge, Agrees, IsPlanned, part_of}
+use Rattle.call_effects.specs.NodeView.{NodeView, view_seen}
 use Rattle.call_effects.specs.Records.{names_if, effects_asked}
 use Rattle.call_effects.specs.Wholes.{IsSound, state_of}
 use Rattle.call_effects.proofs.KnownAsking.{bind_known, result_is}
@@ -52,6 +53,12 @@ own_is new own (AddName at i) = refl
 own_is new own (DropName at i) = refl
 own_is new own (Move from to i is_dir replaced) = refl
 
+-- what is seen of a copy, or is the node that is made
+known_or_made : {X Y : Type 0} (f : X → Y) (o : Option X) (m : Bool) (i new : ℕ) → (is_some (option_map f o) || (m && i == new)) ≡ true → IsSome o ⊎ (cond m (Some new) None ≡ Some i)
+known_or_made f (Some x) m i new e = inl refl
+known_or_made f None true i new e = inr (ap (λ n. Some n) (sym (eqb-true i new e)))
+known_or_made f None false i new e = absurd (cc)
+
 module _ (k : Knowledge) (h : Holdings) (of : IsOf k h) (call : Call) where
   -- ---- a call that is logged
 
@@ -71,6 +78,11 @@ module _ (k : Knowledge) (h : Holdings) (of : IsOf k h) (call : Call) where
       leased : (i : ℕ) → is_among i (touches log.change.effects) ≡ true → h.writes i ≡ true
       leased i there = at.leased i (subjects_touched effects_are.0 at.new i operation ∙ ap (λ (es : List Effect). is_among i (touches es)) effects_are.1 ∙ there)
 
+      known_there : (i : ℕ) → is_among i (touches log.change.effects) ≡ true → IsSome (k.copies i) ⊎ (made_by at.new operation ≡ Some i)
+      known_there i there =
+          known_or_made (λ (copy : Option NodeView). option_map view_seen copy) (k.copies i) (makes operation) i at.new
+          (at.known i (subjects_touched effects_are.0 at.new i operation ∙ ap (λ (es : List Effect). is_among i (touches es)) effects_are.1 ∙ there))
+
       ready : IsReady k h call log.change (reply_of operation) (made_by at.new operation) (change_of at.new operation)
       ready =
           let fits = and_parts (is_record log.change) (nat_le (length (spelling log.change)) log.most) log.fits in
@@ -81,6 +93,7 @@ module _ (k : Knowledge) (h : Holdings) (of : IsOf k h) (call : Call) where
             counted = at.grows ∙ ap (λ n. Known (Ok n)) (sym log.same);
             enough = subst (λ n. n ≤ h.spare) (sym log.same) at.enough;
             leased = leased;
+            known = known_there;
             pinned = at.pinned;
             spelled = record_from log.change fits.0;
             most = log.most;

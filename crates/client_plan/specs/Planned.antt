@@ -1,10 +1,11 @@
 -- What a call comes to, by what a client knows and has.
-use Rattle.std.specs.Prelude.{ℕ, Bool, true, false, Option, Some, None, if◌then◌else◌}
+use Rattle.std.specs.Prelude.{ℕ, ◌<◌, Bool, true, false, Option, Some, None, IsSome, if◌then◌else◌}
 use Rattle.posix_calls.specs.Tree.{Own, set_own}
 use Rattle.posix_calls.specs.Query.{Part, run_part}
 use Rattle.posix_calls.specs.Decide.{decide}
 use Rattle.posix_calls.specs.Operations.{makes, opens, reply_of}
 use Rattle.posix_calls.specs.declared.call.Call.{Call}
+use Rattle.posix_calls.specs.declared.limits.TheConstants.{MAX_DESCRIPTORS}
 use Rattle.posix_calls.specs.declared.operation.Operation.{Operation}
 use Rattle.posix_calls.specs.declared.operation.Operation.TheVariants.{NewFile, OpenFile, CloseFile}
 use Rattle.log_record.specs.declared.format.Record.{Record}
@@ -26,6 +27,10 @@ change_of new (NewFile at number reads writes) = Some (record { number = number;
 change_of new (OpenFile i empties number reads writes) = Some (record { number = number; what = Some (record { inode = i; reads = reads; writes = writes }) })
 change_of new (CloseFile i number) = Some (record { number = number; what = None })
 change_of new _ = None
+
+-- what is opened has the number of a descriptor
+abbrev pub OpensInRange : DescriptorChange → Type 0
+OpensInRange change = IsSome change.what → change.number < MAX_DESCRIPTORS
 
 -- the descriptors after a change
 abbrev pub own_changed : Own → Option DescriptorChange → Own
@@ -88,3 +93,9 @@ abbrev pub record_in : Outcome → Option Record
 record_in (Reply reply change) = None
 record_in (Need need) = None
 record_in (Log made_record reply made change) = Some made_record
+
+-- the change of a descriptor in an outcome, if there is one
+abbrev pub change_in : Outcome → Option DescriptorChange
+change_in (Reply reply change) = change
+change_in (Need need) = None
+change_in (Log made_record reply made change) = change

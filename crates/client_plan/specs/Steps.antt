@@ -1,5 +1,5 @@
 -- How what a client has stands to what it knows, and a call that is logged.
-use Rattle.std.specs.Prelude.{◌≡◌, ℕ, ◌≤◌, length, true, Option, Some, Ok}
+use Rattle.std.specs.Prelude.{◌≡◌, ◌⊎◌, ℕ, ◌≤◌, length, true, Option, Some, IsSome, Ok}
 use Rattle.posix_calls.specs.Query.{Known, run_part}
 use Rattle.posix_calls.specs.Operations.{opens, reply_of}
 use Rattle.posix_calls.specs.declared.call.Call.{Call}
@@ -21,7 +21,7 @@ pub record IsOf (k : Knowledge) (h : Holdings) : Type 0 where
   pub numbers : (i : ℕ) → is_among i h.numbers ≡ true → k.granted i ≡ true
 
 -- all that a call has to have as its record is begun: by what the client knows it comes to this record, of which each inode is held for
--- writing; its units are there, what it opens is pinned, and the region has room for it
+-- writing and known, but for the node that is made; its units are there, what it opens is pinned, and the region has room for it
 pub record IsReady (k : Knowledge) (h : Holdings) (call : Call) (change : Record) (reply : Reply) (made : Option ℕ) (descriptor : Option DescriptorChange) : Type 0 where
   pub operation : Operation
   pub new : ℕ
@@ -29,6 +29,7 @@ pub record IsReady (k : Knowledge) (h : Holdings) (call : Call) (change : Record
   pub counted : run_part (part_of k) (units_asked operation) ≡ Known (Ok change.units)
   pub enough : change.units ≤ h.spare
   pub leased : (i : ℕ) → is_among i (touches change.effects) ≡ true → h.writes i ≡ true
+  pub known : (i : ℕ) → is_among i (touches change.effects) ≡ true → IsSome (k.copies i) ⊎ (made ≡ Some i)
   pub pinned : (what : ℕ × Descriptor) → opens new operation ≡ Some what → is_among what.1.inode h.pins ≡ true
   pub spelled : IsRecord change
   pub most : ℕ

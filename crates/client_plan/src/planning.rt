@@ -1,4 +1,5 @@
 ghost use Rattle.std.specs.Prelude.{◌≡◌, ◌≢◌, ◌&&◌, nat_le, length, Some, Ok, Err, IfOk, IfErr, IfSome, true};
+ghost use Rattle.std.specs.Option.{ForSome};
 ghost use Rattle.posix_calls.specs.Operations.{IsInRange, opens};
 ghost use Rattle.posix_calls.specs.Own.{own_of};
 ghost use Rattle.posix_calls.specs.Query.{Known, run_part};
@@ -14,7 +15,7 @@ ghost use Rattle.client_plan.specs.Course.{Comes, Goes};
 ghost use Rattle.client_plan.specs.declared.stop.Stop.TheVariants.{Refused, Lacks, Memory};
 ghost use Rattle.client_plan.specs.Holdings.{first_unused};
 ghost use Rattle.client_plan.specs.Lacking.{root_alone, not_refused, given_back, unpinned, first_look, looked, numbered, held, written, paid, pinned, is_record, stop_at};
-ghost use Rattle.client_plan.specs.Planned.{change_of, course, planned, recorded, logged, outcome, record_in};
+ghost use Rattle.client_plan.specs.Planned.{OpensInRange, change_in, change_of, course, planned, recorded, logged, outcome, record_in};
 ghost use Rattle.client_plan.specs.Memory.{wants_memory};
 
 use crate::need::{Mode, Need};
@@ -33,7 +34,7 @@ use std::alloc::{AllocError, Global};
 ///
 /// Errors are answered as early as they are decided: those that the call's own words and the client's descriptors decide before any need, the
 /// others as soon as what is known decides them. Nothing is changed, and whoever asks carries the outcome out. A record has a spelling of no
-/// more bytes than there is room for. Memory is taken for the names and bytes of a call and for its record; where it is taken `AllocError` may
+/// more bytes than there is room for, and what is opened has the number of a descriptor. Memory is taken for the names and bytes of a call and for its record; where it is taken `AllocError` may
 /// stand in place of any outcome.
 pub fn plan_call<T: TreeAnswers, S: Supplies>(
     alloc: Global,
@@ -44,6 +45,7 @@ pub fn plan_call<T: TreeAnswers, S: Supplies>(
     requires { (T.part tree.now).is_dir ROOT ≡ Some (Some true) }
     ensures exact { IfOk result (λ o. o ≡ outcome (T.part tree.now) (S.holdings has.now) call.now) }
     ensures spelled { IfOk result (λ o. IfSome (record_in o) IsRecord) }
+    ensures number { IfOk result (λ o. ForSome (change_in o) OpensInRange) }
     ensures memory { IfErr result (λ _. wants_memory (T.part tree.now) (S.holdings has.now).own call.now ≡ true) }
 {
     match course(alloc, tree, has, call) {
@@ -66,6 +68,7 @@ fn course<T: TreeAnswers, S: Supplies>(
     requires { (T.part tree.now).is_dir ROOT ≡ Some (Some true) }
     ensures comes { Comes (course (T.part tree.now) (S.holdings has.now) call.now) result }
     ensures spelled { IfOk result (λ o. IfSome (record_in o) IsRecord) }
+    ensures number { IfOk result (λ o. ForSome (change_in o) OpensInRange) }
     ensures memory { result ≡ Err Memory → wants_memory (T.part tree.now) (S.holdings has.now).own call.now ≡ true }
 {
     unpin(alloc, has, call)?;
@@ -166,6 +169,7 @@ fn plan<T: TreeAnswers, S: Supplies>(
     requires { IsInRange operation }
     ensures comes { Comes (planned (T.part tree.now) (S.holdings has.now) operation) result }
     ensures spelled { IfOk result (λ o. IfSome (record_in o) IsRecord) }
+    ensures number { IfOk result (λ o. ForSome (change_in o) OpensInRange) }
     ensures memory { result ≡ Err Memory → changes operation ≡ true }
 {
     let new = number_for(has.numbers(), operation.makes_node())?;
@@ -297,7 +301,8 @@ fn writes_record(operation: &Operation) -> bool
 }
 
 fn change_of(operation: &Operation, new: u32) -> Option<DescriptorChange>
-    ensures { result ≡ change_of new operation.now }
+    ensures is { result ≡ change_of new operation.now }
+    ensures number { IsInRange operation.now → ForSome result OpensInRange }
 {
     match operation {
         Operation::CloseFile { descriptor, .. } => Some(DescriptorChange {
@@ -327,6 +332,7 @@ fn log<T: TreeAnswers, S: Supplies>(
     requires changes { changes operation ≡ true }
     ensures comes { Comes (logged (T.part tree.now) (S.holdings has.now) new operation units) result }
     ensures spelled { IfOk result (λ o. IfSome (record_in o) IsRecord) }
+    ensures number { IfOk result (λ o. ForSome (change_in o) OpensInRange) }
 {
     let Some(most) = has.room() else {
         return Err(Stop::Lacks { need: Need::Room });
