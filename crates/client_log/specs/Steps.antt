@@ -1,5 +1,5 @@
 -- What the calls of a client's log make of it.
-use Rattle.std.specs.Prelude.{◌≡◌, ◌≢◌, ◌≤◌, ◌+◌, ℕ, Bool, true, false, List, [], length, Option, Some, None, is_some, Result, Ok, Err, is_err}
+use Rattle.std.specs.Prelude.{◌≡◌, ◌≢◌, ◌≤◌, ◌+◌, ◌-◌, ◌&&◌, nat_le, if◌then◌else◌, ℕ, Bool, true, false, List, [], length, Option, Some, None, is_some, Result, Ok, Err, is_err}
 use Rattle.tier_device.specs.declared.media.Tier.{Tier}
 use Rattle.log_record.specs.declared.format.Record.{Record}
 use Rattle.log_record.specs.Grammar.{spelling}
@@ -31,6 +31,10 @@ pub record IsOpened {M : Type 0} (seen : M → Tier → List ℕ) (moment : M �
 pub record HasRoom {M : Type 0} (seen : M → Tier → List ℕ) (v : LogView M) (r : Record) : Type 0 where
   pub is_ready : v.ready ≡ true
   pub fits : end_behind (records_of seen v.current) + 5 + length (spelling r) + 1 ≤ REGION_SIZE
+
+-- how many bytes the next record may have at most, with its gate, its length and the gate behind it; none where the current region is not wiped to its generation
+abbrev pub most_of : {M : Type 0} → (M → Tier → List ℕ) → LogView M → Option ℕ
+most_of seen v = if v.ready && nat_le (end_behind (records_of seen v.current) + 6) REGION_SIZE then Some (REGION_SIZE - (end_behind (records_of seen v.current) + 6)) else None
 
 -- There is a record, none is begun, the other region is here, and no device has failed.
 pub record CanBeSealed {M : Type 0} (seen : M → Tier → List ℕ) (v : LogView M) : Type 0 where

@@ -15,7 +15,7 @@ ghost use Rattle.client_log.specs.declared.error.LogError.TheVariants.{DeviceFau
 ghost use Rattle.client_log.specs.Calls.{IsOnlyRead, IsMovedOnce};
 ghost use Rattle.client_log.specs.Counts.{AreLeft, CountOf};
 ghost use Rattle.client_log.specs.Regions.{AreWiped, CountsNothing, IsWiped, in_turn};
-ghost use Rattle.client_log.specs.Steps.{IsOpened, HasRoom, CanBeSealed, sealed_view, WipesCurrent, WipesOther};
+ghost use Rattle.client_log.specs.Steps.{IsOpened, HasRoom, most_of, CanBeSealed, sealed_view, WipesCurrent, WipesOther};
 ghost use Rattle.client_log.specs.Turns.{turn_of, record_begun, record_appended, CanSeal, sealed, Away, Back, taken_back, current_wiped, other_wiped};
 ghost use Rattle.client_log.specs.View.{written};
 
@@ -101,6 +101,18 @@ impl<M: Media> ClientLog<M> {
             Some(most) => self.ready && entry.spelled_len() <= most,
             None => false,
         }
+    }
+
+    /// How many bytes the spelling of the next record may have at most; `None` where the current region is not wiped to its generation, or no record fits behind those
+    /// that it has. It tells nothing of whether a device has failed.
+    pub fn most(&self) -> Option<usize>
+        ensures { result ≡ most_of M.seen self.now }
+    {
+        self.current.left_now();
+        if !self.ready {
+            return None;
+        }
+        self.current.room()
     }
 
     /// Begins to append a record, where none is begun. It makes no device call and takes no memory.
