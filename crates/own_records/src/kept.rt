@@ -1,0 +1,135 @@
+ghost use Rattle.std.specs.Prelude.{◌≡◌, [], ◌∷◌, ◌++◌, ◌≤◌, true, false, IfOk, OnErr, OnOk, option_map, take, drop, length};
+ghost use Rattle.std.specs.Option.{ForSome};
+ghost use Rattle.posix_calls.specs.declared.limits.TheConstants.{UNIT_BYTES};
+ghost use Rattle.log_record.specs.Grammar.{IsRecord};
+ghost use Rattle.own_records.specs.After.{block_laid, enter_at, node_laid};
+ghost use Rattle.own_records.specs.Kept.{beyond};
+
+use crate::blocks::block_after;
+use crate::nodes::node_after;
+use log_record::Record;
+use record_check::NodeSummary;
+use std::alloc::{AllocError, Global};
+use std::marker::Model;
+use std::mem;
+
+/// The records of a client that may not be digested yet, kept in memory: those of the region that it handed over and can't read meanwhile, and those of the region that it writes.
+#[derive(Drop)]
+pub struct OwnRecords {
+    alloc: Global,
+    away: Vec<Record>,
+    current: Vec<Record>,
+}
+
+impl Model for OwnRecords {
+    ghost use Rattle.std.specs.Prelude.{nat_lt, length, vec_capacity};
+    ghost use Rattle.std.specs.List.{AllByRecursion};
+    ghost use Rattle.log_record.specs.Grammar.{IsRecord};
+    ghost use Rattle.own_records.specs.Kept.{Kept};
+
+    ghost Value = { Kept };
+
+    ghost view = { λ o. record { away = o.away.items; current = o.current.items; has_room = nat_lt (length o.current.items) (vec_capacity o.current) } };
+
+    ghost invariant = { λ o. AllByRecursion IsRecord o.away.items × AllByRecursion IsRecord o.current.items };
+}
+
+impl OwnRecords {
+    /// No records.
+    pub fn new(alloc: Global) -> Self
+        ensures away { result.away ≡ [] }
+        ensures current { result.current ≡ [] }
+    {
+        OwnRecords {
+            alloc,
+            away: Vec::new(alloc),
+            current: Vec::new(alloc),
+        }
+    }
+
+    /// Takes the memory for one record more of the region that is written, before it is begun. No memory is asked for where there is room already.
+    pub fn make_room(&mut self) -> Result<(), AllocError>
+        ensures room { OnOk result (self.new.has_room ≡ true) }
+        ensures rest { self.new ≡ record self.old { has_room = self.new.has_room } }
+        ensures refused { OnErr result (self.old.has_room ≡ false) }
+    {
+        self.current.reserve(1)
+    }
+
+    /// A record is in the client's log. It takes no memory.
+    pub fn push(&mut self, entry: Record)
+        requires room { self.old.has_room ≡ true }
+        requires spelled { IsRecord entry }
+        ensures pushed { self.new.current ≡ self.old.current ++ entry ∷ [] }
+        ensures rest { self.new.away ≡ self.old.away }
+    {
+        match self.current.push(entry) {
+            Ok(()) => {}
+            Err(_) => unreachable!(),
+        }
+    }
+
+    /// The region that is written is handed over, and the client goes on in the other one, of which all records are digested. It takes no memory.
+    pub fn seal(&mut self)
+        ensures away { self.new.away ≡ self.old.current }
+        ensures current { self.new.current ≡ [] }
+    {
+        mem::swap(&mut self.away, &mut self.current);
+        self.current.clear();
+    }
+
+    /// The region that was handed over is back, and all its records are digested. It takes no memory.
+    pub fn take_back(&mut self)
+        ensures { self.new ≡ record self.old { away = [] } }
+    {
+        self.away.clear();
+    }
+
+    /// What stands at an inode after the records behind a mark, given what stood there at the mark: whether that is in the generation of the region that is written, or in the one before, and how many
+    /// records of that one are digested. Memory is asked for to enter a name, and for nothing else.
+    pub fn node_after(
+        &self,
+        is_current: bool,
+        done: usize,
+        inode: u32,
+        node: Option<NodeSummary>,
+    ) -> Result<Option<NodeSummary>, AllocError>
+        ensures laid { IfOk result (λ after. after ≡ node_laid (beyond self.now is_current done) inode node) }
+        ensures memory { OnErr result (enter_at inode (beyond self.now is_current done) ≡ true) }
+    {
+        if is_current {
+            return node_after(self.alloc, rest(&self.current, done), inode, node);
+        }
+        let before = node_after(self.alloc, rest(&self.away, done), inode, node)?;
+        node_after(self.alloc, &self.current, inode, before)
+    }
+
+    /// A block of a file after the records behind a mark, in place, as `block_after` has it. It takes no memory.
+    pub fn block_after(
+        &self,
+        is_current: bool,
+        done: usize,
+        inode: u32,
+        block: u32,
+        buffer: &mut [u8],
+        len: Option<usize>,
+    ) -> Option<usize>
+        requires whole { length buffer.old ≡ UNIT_BYTES }
+        requires within { ForSome len (λ n. n ≤ UNIT_BYTES) }
+        ensures laid { option_map (λ n. take n buffer.new) result ≡ block_laid (beyond self.now is_current done) inode block (option_map (λ n. take n buffer.old) len) }
+        ensures within { ForSome result (λ n. n ≤ UNIT_BYTES) }
+    {
+        if is_current {
+            return block_after(rest(&self.current, done), inode, block, buffer, len);
+        }
+        let before = block_after(rest(&self.away, done), inode, block, buffer, len);
+        block_after(&self.current, inode, block, buffer, before)
+    }
+}
+
+// The records behind so many.
+fn rest(records: &[Record], done: usize) -> &[Record]
+    ensures { result.now ≡ drop done records.now }
+{
+    &records[done.min(records.len())..]
+}
