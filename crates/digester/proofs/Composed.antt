@@ -23,7 +23,7 @@ use Rattle.shared_area.specs.Looks.{Looks}
 use Rattle.shared_area.proofs.Looked.{carried_back}
 use Rattle.shared_area.specs.AreaError.{AreaError}
 use Rattle.shared_area.specs.AreaError.TheVariants as area
-use Rattle.shared_area.specs.ChangeApplying.{IsAppliedStore}
+use Rattle.shared_area.specs.ChangeApplying.{IsAppliedStore, MakesFewCalls}
 use Rattle.shared_area.specs.ApplyError.{ApplyError}
 use Rattle.shared_area.specs.ApplyError.TheVariants as apply
 use Rattle.log_record.specs.Grammar.{IsRecord}
@@ -300,3 +300,8 @@ module _ {M : Type 0} (moment : M → ℕ) (seen : M → Tier → List ℕ) (lef
     fault = λ is. (let f = applies.fault (ap Err (apply_fault e r told (err_is {T = T} (Err r) r errors.DeviceFault refl is))) in
         (f.0, elim (f.1) [ inl was ↦ absurd (true≢false (sym was ∙ looks.going.1)) | inr rose ↦ inr (subst (λ (k : ℕ). Rose k (faults new.media)) looks.quiet rose) ]));
   }
+
+  -- the change makes few calls, behind what was only read
+  pub few_behind : {P : Type 0} (old mid : JournalView M) (p : P) (cs : Changes) (now : ℕ) → Looks moment seen left faults old mid (Ok p) → MakesFewCalls mid.geometry (store_of (seen mid.media)) cs (moment mid.media) now → MakesFewCalls old.geometry (store_of (seen old.media)) cs (moment old.media) now
+  few_behind old mid p cs now looks few = subst (λ (k : ℕ). MakesFewCalls old.geometry (store_of (seen old.media)) cs k now) looks.unmoved.clock
+      (carried_back moment seen left faults (λ h t. MakesFewCalls h t cs (moment mid.media) now) old mid (Ok p) looks few)

@@ -1,4 +1,4 @@
-mod Composed
+pub mod Composed
 mod Moved
 mod Runs
 mod Stands

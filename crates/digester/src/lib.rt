@@ -19,5 +19,8 @@ pub use error::DigestError;
 pub use laws::{
     chunk_stays_a_chunk, digest_touches_what_its_records_touch, others_digest_leaves_a_log_standing,
 };
-pub use marking::{mark_after, marks_after, moved_mark_leaves_the_rest};
+pub use marking::{
+    mark_after, mark_of, marks_after, marks_can_be_written, moved_mark_leaves_the_rest,
+};
 pub use sealed_log::SealedLog;
+pub use testing::capacity_of;

@@ -55,6 +55,14 @@ fn marks_fit(marks: &[Mark])
     }
 }
 
+/// The numbers of marks have the widths of their fields: so marks can be written as they are.
+pub fn marks_can_be_written(marks: Marks)
+    ensures { fits_marks marks ≡ true }
+{
+    let clients = marks.clients;
+    marks_fit(&clients);
+}
+
 /// The marks after a digest that moves the mark of one client: those of the others stay, and there is one digest more. At its greatest
 /// value their number stays.
 pub fn marks_after(marks: Marks, client: usize, mark: Mark) -> Marks

@@ -43,8 +43,8 @@ pub fn test_run<M: Media>(
     test_over(alloc, area, used, capacity, held, records)
 }
 
-// How many units there are in all.
-fn capacity_of<M: Media>(area: &Shared<M>) -> u64
+/// How many units there are in all.
+pub fn capacity_of<M: Media>(area: &Shared<M>) -> u64
     ensures { result ≡ area.now.geometry.units }
 {
     area.geometry().units() as u64
