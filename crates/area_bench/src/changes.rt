@@ -1,15 +1,14 @@
 // Changes of an area, beside copies of what they write.
 use crate::copies::Copies;
-use crate::logs::digest_all;
 use crate::planning::change;
-use crate::records::Records;
 use crate::volume::empty;
-use layer_bench::{Desk, Failure, keep_room};
+use file_graph::Kind::File;
+use layer_bench::{Desk, Failure, add, keep_room};
 use layout::BLOCK;
-use log_record::Record;
 use long_media::RamMedia;
-use posix_calls::MAX_TRANSFER;
-use shared_area::Shared;
+use posix_calls::{MAX_TRANSFER, ROOT};
+use small_worlds::Shared;
+use small_worlds::Step::{self, Bytes, Enter, Leave, Make, Size};
 use std::alloc::{AllocError, Global};
 
 /// How often each change is made, and taken back.
@@ -22,31 +21,25 @@ const ROOM: usize = 30_000_000;
 const NEW_BLOCKS: usize = 500;
 
 /// How many entries are changed at once.
-const ENTRIES: u32 = 40;
+const ENTRIES: usize = 40;
 
 /// The blocks that they are written with: one of inodes, the one that lists the root's blocks, one of entries, and the marks.
 const ENTRY_BLOCKS: usize = 4;
 
-// A change, and the one that takes it back.
-#[derive(Drop)]
-struct Turn {
-    there: Vec<Record>,
-    back: Vec<Record>,
-}
-
-// The least time of a change, beside that of a copy of so many blocks.
+// The least time of a change, beside that of a copy of so many blocks. Each time another change takes it back.
 fn best_of(
     desk: &mut Desk<'_>,
-    area: &mut Shared<RamMedia>,
-    turn: &Turn,
+    there: &[Step<'_>],
+    back: &[Step<'_>],
     blocks: usize,
 ) -> Result<(u128, u128), Failure> {
+    let mut area = with_two_files(desk)?;
     let mut copies = Copies::new(desk.alloc(), blocks)?;
     let mut best = u128::MAX;
     for _ in 0..TURNS {
-        best = best.min(change(desk, area, &turn.there)?);
+        best = best.min(change(desk, &mut area, there)?);
         copies.time(desk);
-        let _back = change(desk, area, &turn.back)?;
+        let _back = change(desk, &mut area, back)?;
     }
     Ok((best, copies.least()?))
 }
@@ -60,78 +53,61 @@ fn tell(desk: &mut Desk<'_>, what: &str, size: usize, unit: &str, times: (u128, 
 // Two files without names, inodes 2 and 3.
 fn with_two_files(desk: &mut Desk<'_>) -> Result<Shared<RamMedia>, Failure> {
     let mut area = empty(desk.alloc())?;
-    let files = two_files(desk.alloc())?;
-    let _times = digest_all(desk, &mut area, files)?;
+    let _time = change(desk, &mut area, &[Make(2, File), Make(3, File)])?;
     Ok(area)
 }
 
-fn two_files(alloc: Global) -> Result<Vec<Record>, AllocError> {
-    let mut records = Records::new(alloc);
-    records.make(2)?;
-    records.make(3)?;
-    records.finish()
-}
-
 // Each file gets half of the blocks.
-fn blocks(alloc: Global) -> Result<Turn, AllocError> {
-    Ok(Turn {
-        there: writes(alloc)?,
-        back: cuts(alloc)?,
-    })
-}
-
-fn writes(alloc: Global) -> Result<Vec<Record>, AllocError> {
-    let mut records = Records::new(alloc);
+fn writes(alloc: Global) -> Result<Vec<Step<'static>>, AllocError> {
+    let mut steps = Vec::new(alloc);
     for inode in 2..4 {
-        write_file(&mut records, inode, NEW_BLOCKS / 2 * BLOCK)?;
+        write_file(&mut steps, inode, NEW_BLOCKS / 2 * BLOCK)?;
     }
-    records.finish()
+    Ok(steps)
 }
 
 // Writes so many bytes from the start of a file on.
-fn write_file(records: &mut Records, inode: u32, size: usize) -> Result<(), AllocError> {
+fn write_file(steps: &mut Vec<Step<'static>>, inode: u32, size: usize) -> Result<(), AllocError> {
     for part in 0..size.div_ceil(MAX_TRANSFER) {
         let at = part.saturating_mul(MAX_TRANSFER);
         let count = size.saturating_sub(at).min(MAX_TRANSFER);
-        records.bytes(inode, at as u64, count)?;
+        add(steps, Bytes(inode, at as u64, b'a', count))?;
     }
     Ok(())
 }
 
-fn cuts(alloc: Global) -> Result<Vec<Record>, AllocError> {
-    let mut records = Records::new(alloc);
-    records.size(2, 0)?;
-    records.size(3, 0)?;
-    records.finish()
-}
-
 fn time_blocks(desk: &mut Desk<'_>) -> Result<(), Failure> {
-    let mut area = with_two_files(desk)?;
-    let turn = blocks(desk.alloc())?;
-    let times = best_of(desk, &mut area, &turn, NEW_BLOCKS)?;
+    let there = writes(desk.alloc())?;
+    let times = best_of(desk, &there, &[Size(2, 0), Size(3, 0)], NEW_BLOCKS)?;
     tell(desk, "change", NEW_BLOCKS, "blocks of new data", times);
     Ok(())
 }
 
-// Names of one file.
-fn entries(alloc: Global) -> Result<Turn, AllocError> {
-    let mut there = Records::new(alloc);
-    let mut back = Records::new(alloc);
+// Names of two letters.
+fn names() -> [[u8; 2]; ENTRIES] {
+    let mut names = [[b'a'; 2]; ENTRIES];
     for number in 0..ENTRIES {
-        there.enter(number, 2)?;
-        back.leave(number)?;
+        names[number] = [b'a' + (number % 26) as u8, b'a' + (number / 26) as u8];
     }
-    Ok(Turn {
-        there: there.finish()?,
-        back: back.finish()?,
-    })
+    names
+}
+
+// What one file gets these names by, and what it loses them by.
+fn entries(alloc: Global, names: &[[u8; 2]]) -> Result<(Vec<Step<'_>>, Vec<Step<'_>>), AllocError> {
+    let mut there = Vec::new(alloc);
+    let mut back = Vec::new(alloc);
+    for name in names {
+        add(&mut there, Enter(ROOT, name, 2, File))?;
+        add(&mut back, Leave(ROOT, name))?;
+    }
+    Ok((there, back))
 }
 
 fn time_entries(desk: &mut Desk<'_>) -> Result<(), Failure> {
-    let mut area = with_two_files(desk)?;
-    let turn = entries(desk.alloc())?;
-    let times = best_of(desk, &mut area, &turn, ENTRY_BLOCKS)?;
-    tell(desk, "change", ENTRIES as usize, "entries", times);
+    let names = names();
+    let (there, back) = entries(desk.alloc(), &names)?;
+    let times = best_of(desk, &there, &back, ENTRY_BLOCKS)?;
+    tell(desk, "change", ENTRIES, "entries", times);
     Ok(())
 }
 

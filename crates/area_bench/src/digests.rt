@@ -1,14 +1,15 @@
 // Records that are digested, beside copies of the blocks that are left of them.
 use crate::copies::Copies;
 use crate::logs::{Times, digest_all};
-use crate::records::Records;
+use crate::records::{block, record};
 use crate::volume::empty;
 use coalescer::coalesce;
-use layer_bench::{Desk, Failure, keep_room};
-use layout::BLOCK;
+use file_graph::Kind::File;
+use layer_bench::{Desk, Failure, add, keep_room};
 use log_record::Record;
 use long_media::RamMedia;
-use shared_area::Shared;
+use small_worlds::Shared;
+use small_worlds::Step::{self, Make, Size};
 use std::alloc::{AllocError, Global};
 use tier_device::{Media, Tier};
 
@@ -21,47 +22,25 @@ const ROOM: usize = 30_000_000;
 /// The blocks that are written in one file.
 const IN_FILE: u64 = 250;
 
-/// The files that are written, from inode 2 on.
-const FILES: u32 = 4;
+/// The files that are written are made, without names and bytes, and what was written is cut off again.
+const MAKING: &[Step<'static>] = &[Make(2, File), Make(3, File), Make(4, File), Make(5, File)];
+
+const CUTTING: &[Step<'static>] = &[Size(2, 0), Size(3, 0), Size(4, 0), Size(5, 0)];
 
 // So many records, each of which writes a block, one after the other: as many as there are, and then again.
 fn writes(alloc: Global, count: u64, blocks: u64) -> Result<Vec<Record>, AllocError> {
-    let mut records = Records::new(alloc);
+    let mut records = Vec::new(alloc);
     for number in 0..count {
-        write(&mut records, number.checked_rem(blocks).unwrap_or(0))?;
+        let next = number.checked_rem(blocks).unwrap_or(0);
+        add(&mut records, block(alloc, file_of(next), next % IN_FILE)?)?;
     }
-    records.finish()
+    Ok(records)
 }
 
-// A record that writes a block of this number among those of all files.
-fn write(records: &mut Records, block: u64) -> Result<(), AllocError> {
-    let at = (block % IN_FILE).saturating_mul(BLOCK as u64);
-    records.bytes(file_of(block), at, BLOCK)?;
-    records.end()
-}
-
-// The file in which the block lies.
+// The file in which the block of this number among those of all files lies.
 fn file_of(block: u64) -> u32 {
     let file = block / IN_FILE;
     if file < 4 { file as u32 + 2 } else { 2 }
-}
-
-// The files, without names and bytes.
-fn files(alloc: Global) -> Result<Vec<Record>, AllocError> {
-    let mut records = Records::new(alloc);
-    for file in 0..FILES {
-        records.make(file.saturating_add(2))?;
-    }
-    records.finish()
-}
-
-// All that was written is cut off again.
-fn cuts(alloc: Global) -> Result<Vec<Record>, AllocError> {
-    let mut records = Records::new(alloc);
-    for file in 0..FILES {
-        records.size(file.saturating_add(2), 0)?;
-    }
-    records.finish()
 }
 
 // How many data blocks are free.
@@ -106,7 +85,7 @@ fn one_turn(
     let before = free(area);
     let times = digest_all(desk, area, records)?;
     let taken = before.saturating_sub(free(area));
-    let back = cuts(desk.alloc())?;
+    let back = record(desk.alloc(), CUTTING)?;
     let _times = digest_all(desk, area, back)?;
     Ok(best.least(times, taken))
 }
@@ -114,7 +93,7 @@ fn one_turn(
 // Beside the least time of a copy of the blocks.
 fn best_of(desk: &mut Desk<'_>, count: u64, blocks: u64) -> Result<(Taken, u128), Failure> {
     let mut area = empty(desk.alloc())?;
-    let made = files(desk.alloc())?;
+    let made = record(desk.alloc(), MAKING)?;
     let _times = digest_all(desk, &mut area, made)?;
     let mut copies = Copies::new(desk.alloc(), blocks as usize)?;
     let mut best = MOST;

@@ -1,9 +1,6 @@
 // Logs that are digested.
 ghost use Rattle.std.specs.Prelude.{◌≡◌, false, IsTrue};
-ghost use Rattle.std.specs.List.{AllByRecursion};
-ghost use Rattle.std.specs.List.Sorted.{IsNonDecreasing};
-ghost use Rattle.log_record.specs.Grammar.{IsRecord};
-ghost use Rattle.shared_area.specs.Store.{store_of};
+ghost use Rattle.digester.specs.Store.{store_of};
 ghost use Rattle.digester.specs.SealedLog.{IsSealed, StandsAtMark};
 
 use digester::{SealedLog, digest_chunk, prepare};
@@ -11,7 +8,7 @@ use layer_bench::{Desk, Failure, add};
 use layout::CLIENTS;
 use log_record::Record;
 use posix_calls::MAX_INODE;
-use shared_area::Shared;
+use small_worlds::{Shared, are_rising, are_spelled};
 use std::alloc::{AllocError, Global};
 use tier_device::Media;
 
@@ -22,32 +19,13 @@ pub struct Times {
     pub digest: u128,
 }
 
-/// All inodes, rising.
-pub fn all_inodes(alloc: Global) -> Result<Vec<u32>, AllocError> {
+// All inodes, rising.
+fn all_inodes(alloc: Global) -> Result<Vec<u32>, AllocError> {
     let mut all = Vec::new(alloc);
     for inode in 1..MAX_INODE + 1 {
         add(&mut all, inode)?;
     }
     Ok(all)
-}
-
-/// Whether inodes are listed rising.
-pub fn are_rising(inodes: &[u32]) -> bool
-    ensures { IsTrue result → IsNonDecreasing inodes.now }
-{
-    inodes.is_sorted()
-}
-
-/// Whether a log can hold the records.
-pub fn are_spelled(records: &[Record]) -> bool
-    ensures { IsTrue result → AllByRecursion IsRecord records.now }
-{
-    for next in records {
-        if !next.has_spelling() {
-            return false;
-        }
-    }
-    true
 }
 
 // The log of the first client, from its mark on.

@@ -1,13 +1,13 @@
 // How long it takes to open shared media, and to read them.
 use crate::copies::Copies;
 use crate::logs::digest_all;
-use crate::records::Records;
+use crate::records::{block, file};
 use crate::volume::{empty, opened, size_of};
-use layer_bench::{Desk, Failure, bytes_of, keep_room};
+use layer_bench::{Desk, Failure, add, bytes_of, keep_room};
 use layout::BLOCK;
 use log_record::Record;
 use long_media::RamMedia;
-use shared_area::Shared;
+use small_worlds::Shared;
 use std::alloc::{AllocError, Global};
 use tier_device::{Media, Tier};
 
@@ -22,25 +22,14 @@ const ROOM: usize = 30_000_000;
 
 // Files of so many bytes, with a name each, the first of which has so many blocks in all.
 fn files(alloc: Global, count: u32, bytes: usize, long: u64) -> Result<Vec<Record>, AllocError> {
-    let mut records = Records::new(alloc);
+    let mut records = Vec::new(alloc);
     for number in 0..count {
-        add_file(&mut records, number, bytes)?;
+        add(&mut records, file(alloc, number, bytes)?)?;
     }
-    for block in 1..long {
-        records.bytes(2, block.saturating_mul(BLOCK as u64), BLOCK)?;
+    for next in 1..long {
+        add(&mut records, block(alloc, 2, next)?)?;
     }
-    records.finish()
-}
-
-fn add_file(records: &mut Records, number: u32, bytes: usize) -> Result<(), AllocError> {
-    let inode = number.saturating_add(2);
-    records.make(inode)?;
-    records.enter(number, inode)?;
-    records.names(inode, 1)?;
-    if 0 < bytes {
-        return records.bytes(inode, 0, bytes);
-    }
-    Ok(())
+    Ok(records)
 }
 
 fn filled(

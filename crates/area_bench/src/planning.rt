@@ -1,68 +1,14 @@
 // Changes that an area takes.
-ghost use Rattle.std.specs.Prelude.{◌≡◌, false, true, IfOk};
-ghost use Rattle.std.specs.List.{AllByRecursion};
-ghost use Rattle.std.specs.List.Sorted.{IsNonDecreasing};
 ghost use Rattle.graph_change.specs.View.{changes_of};
-ghost use Rattle.log_record.specs.Grammar.{IsRecord};
-ghost use Rattle.shared_area.specs.Store.{store_of, graph};
-ghost use Rattle.digest_plan.specs.Plan.{AreGood};
-ghost use Rattle.area_bench.specs.Taking.{Takes};
+ghost use Rattle.digester.specs.Store.{store_of};
+ghost use Rattle.small_worlds.specs.Taking.{Takes};
 
-use crate::logs::{all_inodes, are_rising, are_spelled};
 use crate::volume::told;
-use digest_plan::{Found, NextRun, PlanError, next_run, test_records};
 use digester::marks_after;
 use graph_change::GraphChange;
 use layer_bench::{Desk, Failure};
-use log_record::Record;
-use shared_area::{AreaError, Shared};
-use std::alloc::Global;
+use small_worlds::{Shared, Step, planned};
 use tier_device::Media;
-
-// Whether each of some records is good over the area's graph, within its units.
-fn are_good<M: Media>(
-    alloc: Global,
-    area: &mut Shared<M>,
-    held: &[u32],
-    records: &[Record],
-) -> Result<bool, AreaError>
-    requires going { area.old.failed ≡ false }
-    requires spelled { AllByRecursion IsRecord records.now }
-    requires rising { IsNonDecreasing held.now }
-    ensures { IfOk result (λ good. good ≡ true → AreGood held.now area.new.geometry.units (graph area.new.geometry (store_of (M.seen area.new.media))) records.now) }
-{
-    let used = area.charge();
-    let units = area.geometry().units() as u64;
-    match test_records(alloc, area, used, units, held, records) {
-        Ok(Found::AllGood { .. }) => Ok(true),
-        Ok(Found::FirstBad { .. }) => Ok(false),
-        Err(PlanError::Nodes(error)) => Err(error),
-        Err(PlanError::Memory) => Err(AreaError::Memory),
-    }
-}
-
-// What some records come to, where the area takes it in one batch.
-fn planned<M: Media>(
-    alloc: Global,
-    area: &mut Shared<M>,
-    held: &[u32],
-    records: &[Record],
-) -> Result<GraphChange, Failure>
-    requires going { area.old.failed ≡ false }
-    requires spelled { AllByRecursion IsRecord records.now }
-    requires rising { IsNonDecreasing held.now }
-    ensures { IfOk result (λ change. Takes area.new.geometry (store_of (M.seen area.new.media)) (changes_of change)) }
-{
-    let NextRun { count, change } = next_run(alloc, records)?;
-    if records.is_empty() || count != records.len() {
-        return Err(Failure::new("a change is no batch"));
-    }
-    match are_good(alloc, area, held, records) {
-        Ok(true) => Ok(change),
-        Ok(false) => Err(Failure::new("a change is not good")),
-        Err(error) => Err(told(error)),
-    }
-}
 
 // Makes a change, and tells the nanoseconds that it takes.
 fn make<M: Media>(
@@ -81,16 +27,15 @@ fn make<M: Media>(
     }
 }
 
-/// Makes the change that some records come to, and tells the nanoseconds that the area takes for it; what they come to is planned before.
+/// Makes the change of some steps, and tells the nanoseconds that the area takes for it; what they come to is planned before.
 pub fn change<M: Media>(
     desk: &mut Desk<'_>,
     area: &mut Shared<M>,
-    records: &[Record],
+    steps: &[Step<'_>],
 ) -> Result<u128, Failure> {
-    let held = all_inodes(desk.alloc())?;
-    if area.has_failed() || !are_spelled(records) || !are_rising(&held) {
-        return Err(Failure::new("a change has no records"));
+    match planned(desk.alloc(), area, steps) {
+        Ok(Some(change)) => make(desk, area, &change),
+        Ok(None) => Err(Failure::new("a change is not good")),
+        Err(error) => Err(told(error)),
     }
-    let change = planned(desk.alloc(), area, &held, records)?;
-    make(desk, area, &change)
 }

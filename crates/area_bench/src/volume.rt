@@ -7,7 +7,7 @@ ghost use Rattle.long_media.specs.Ram.{IsRamAtRest};
 use layer_bench::{Desk, Failure, bytes_of};
 use layout::{BLOCK, CLIENTS, Geometry, MARKS_BLOCK, Mark, Marks, SLOT_SIZE, Slot, Super};
 use long_media::RamMedia;
-use shared_area::{AreaError, Shared};
+use small_worlds::{AreaError, Shared};
 use std::alloc::{AllocError, Global};
 use tier_device::{Media, Tier};
 
