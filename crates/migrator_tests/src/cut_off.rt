@@ -4,29 +4,30 @@ ghost use Rattle.tier_device.specs.declared.media.Tier.{Tier};
 ghost use Rattle.tier_device.specs.Media.{AtRest};
 ghost use Rattle.tier_device.specs.Memory.{IsAtRest};
 
-use crate::telling::{Held, Tiers, held, migrate_run, tiers};
+use crate::telling::{Free, Held, Tiers, free, held, migrate_run, tiers};
 use migrator::{RelocateError, pick};
 use small_worlds::{AreaError, Change, Left, Shared, World, is_whole, opened};
 use std::alloc::{AllocError, Global};
 use std::test::Fail;
 use tier_device::{Fill, Media, MemMedia, Tier};
 
-// What is picked goes to this tier. What the files hold, and where their blocks lie before and behind.
+// What is picked goes to this tier. What the files hold, and where their blocks lie and how many are free, before and behind.
 #[derive(Drop)]
 struct Course {
     to: Tier,
     held: Held,
-    before: Tiers,
-    after: Tiers,
+    before: (Tiers, Free),
+    after: (Tiers, Free),
 }
 
 // What is told of a medium.
-fn told<M: Media + Drop>(alloc: Global, media: M) -> Result<(Held, Tiers), AreaError>
+fn told<M: Media + Drop>(alloc: Global, media: M) -> Result<(Held, (Tiers, Free)), AreaError>
     requires { (t : Tier) → AtRest (M.seen media) (M.left media (M.moment media)) t }
 {
     let mut area = opened(alloc, media)?;
     let held = held(alloc, &mut area)?;
-    Ok((held, tiers(&mut area)?))
+    let tiers = tiers(&mut area)?;
+    Ok((held, (tiers, free(&area))))
 }
 
 // Moves what is picked, and tells whether it is moved, or a device has failed and nothing else is answered then.
@@ -60,13 +61,13 @@ impl Change for Course {
     }
 
     fn left(&self, alloc: Global, rest: MemMedia) -> Result<Left, AreaError> {
-        let (held, tiers) = told(alloc, rest)?;
+        let (held, lies) = told(alloc, rest)?;
         if held != self.held {
             return Ok(Left::Wrong);
         }
-        if tiers == self.after {
+        if lies == self.after {
             Ok(Left::After)
-        } else if tiers == self.before {
+        } else if lies == self.before {
             Ok(Left::Before)
         } else {
             Ok(Left::Wrong)
@@ -74,22 +75,30 @@ impl Change for Course {
     }
 }
 
-// To the block tier go two blocks of the coldest file, to the slow tier the one that it has on the block tier.
-fn course_to(alloc: Global, to: Tier) -> Result<Course, AreaError> {
-    let media = World::with_cold_files(alloc)?.into_media(alloc)?;
-    let (held, before) = told(alloc, media)?;
+// How many blocks are free before.
+const FREE: Free = [1, 518, 2, 3_097];
+
+// Where the blocks lie and how many are free behind: to the block tier go two blocks of the coldest file, to the slow tier the one that it has on the block tier, whose list of runs goes too.
+fn behind(to: Tier, before: Tiers) -> (Tiers, Free) {
     let mut after = before;
     if to == Tier::Block {
         after[1] = Some(to);
         after[2] = Some(to);
+        (after, [3, 516, 2, 3_097])
     } else {
         after[3] = Some(to);
+        (after, [1, 519, 1, 3_097])
     }
+}
+
+fn course_to(alloc: Global, to: Tier) -> Result<Course, AreaError> {
+    let media = World::with_cold_files(alloc)?.into_media(alloc)?;
+    let (held, (tiers, _)) = told(alloc, media)?;
     Ok(Course {
         to,
         held,
-        before,
-        after,
+        before: (tiers, FREE),
+        after: behind(to, tiers),
     })
 }
 

@@ -1,4 +1,4 @@
-// What is told of the three files of a small world: what they hold, and where their blocks lie.
+// What is told of the three files of a small world: what they hold, where their blocks lie, and how many blocks are free.
 use layout::BLOCK;
 use migrator::{FileRun, RelocateError, migrate};
 use small_worlds::{AreaError, Shared};
@@ -10,6 +10,9 @@ pub type Held = (Vec<u8>, [u64; 7]);
 
 /// Where the five blocks of the file at inode 3 lie, and then the first ones of the two others.
 pub type Tiers = [Option<Tier>; 7];
+
+/// The free blocks of the fast, the block and the slow tier, and of the node pool.
+pub type Free = [u32; 4];
 
 // The bytes and the size of each file.
 fn read<M: Media>(
@@ -47,6 +50,16 @@ pub fn tiers<M: Media>(area: &mut Shared<M>) -> Result<Tiers, AreaError> {
     found[5] = area.tier_of(2, 0)?;
     found[6] = area.tier_of(4, 0)?;
     Ok(found)
+}
+
+/// How many blocks are free.
+pub fn free<M: Media>(area: &Shared<M>) -> Free {
+    [
+        area.free(Tier::Fast),
+        area.free(Tier::Block),
+        area.free(Tier::Slow),
+        area.free_nodes(),
+    ]
 }
 
 /// Moves a run of a file.
