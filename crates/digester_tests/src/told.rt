@@ -5,15 +5,13 @@ ghost use Rattle.digester.specs.SealedLog.{IsSealed, StandsAtMark};
 
 use crate::logs::may_be_digested;
 use digester::{DigestError, SealedLog, digest_chunk, prepare};
+use layout::Mark;
 use record_check::NodeCounts;
 use small_worlds::{AreaError, Shared};
-use std::alloc::Global;
-use tier_device::Media;
+use std::alloc::{AllocError, Global};
+use tier_device::{Media, Tier};
 
-/// The generation and the count of the third client's mark, the number of digests, what the graph costs, the entries of the root, and the names of another inode with its entries
-/// or bytes, both 0 where nothing stands.
-pub type Told = [u64; 7];
-
+// The names of a node, and its entries or bytes.
 fn numbers_of(counts: NodeCounts) -> [u64; 2] {
     match counts {
         NodeCounts::Directory { names, entries } => [names as u64, entries],
@@ -28,22 +26,83 @@ fn numbers_at<M: Media>(area: &mut Shared<M>, inode: u32) -> Result<[u64; 2], Ar
     }
 }
 
-/// What is told, with that other inode.
-pub fn told<M: Media>(area: &mut Shared<M>, other: u32) -> Result<Told, AreaError> {
-    let marks = area.marks();
-    let mark = marks.clients[2];
-    let charge = area.charge();
+fn is_node<M: Media>(area: &mut Shared<M>, inode: u32) -> Result<bool, AreaError> {
+    Ok(area.node(inode)?.is_some())
+}
+
+// How many nodes stand at the first 128 inodes.
+fn nodes_in<M: Media>(area: &mut Shared<M>) -> Result<u64, AreaError> {
+    let mut nodes = 0u64;
+    for inode in 1u32..129 {
+        if is_node(area, inode)? {
+            nodes = nodes.saturating_add(1);
+        }
+    }
+    Ok(nodes)
+}
+
+/// The mark of the third client.
+pub fn mark_in<M: Media>(area: &Shared<M>) -> Mark {
+    area.marks().clients[2]
+}
+
+// How many nodes there are, the entries of the root, and the names of another inode with its entries or bytes.
+fn nodes_and_numbers<M: Media>(area: &mut Shared<M>, other: u32) -> Result<[u64; 4], AreaError> {
+    let nodes = nodes_in(area)?;
     let root = numbers_at(area, 1)?;
     let its = numbers_at(area, other)?;
-    Ok([
+    Ok([nodes, root[1], its[0], its[1]])
+}
+
+// The mark of the third client, the number of digests, and what the graph costs; then the free blocks of each tier and of the node pool.
+fn marks_and_free<M: Media>(area: &Shared<M>) -> [u64; 8] {
+    let mark = mark_in(area);
+    [
         mark.generation,
         mark.done as u64,
-        marks.digests,
-        charge,
-        root[1],
-        its[0],
-        its[1],
-    ])
+        area.marks().digests,
+        area.charge(),
+        area.free(Tier::Fast) as u64,
+        area.free(Tier::Block) as u64,
+        area.free(Tier::Slow) as u64,
+        area.free_nodes() as u64,
+    ]
+}
+
+fn line(alloc: Global, a: [u64; 8], b: [u64; 4]) -> Result<String, AllocError> {
+    Ok(format!(in alloc;
+        "mark {} {}, digests {}, charge {}, nodes {}, root {}, other {} {}, free {} {} {}, pool {}",
+        a[0], a[1], a[2], a[3], b[0], b[1], b[2], b[3], a[4], a[5], a[6], a[7]
+    )?)
+}
+
+fn is_line(alloc: Global, a: [u64; 8], b: [u64; 4], wanted: &str) -> Result<bool, AllocError> {
+    let line = line(alloc, a, b)?;
+    Ok(line.as_str() == wanted)
+}
+
+/// Whether this is told of an area, with that other inode.
+pub fn is_told<M: Media>(
+    alloc: Global,
+    area: &mut Shared<M>,
+    other: u32,
+    wanted: &str,
+) -> Result<bool, AreaError> {
+    let numbers = nodes_and_numbers(area, other)?;
+    Ok(is_line(alloc, marks_and_free(area), numbers, wanted)?)
+}
+
+/// Whether 16 bytes of a file from a byte on, or those up to its end, are these.
+pub fn reads<M: Media>(
+    area: &mut Shared<M>,
+    inode: u32,
+    at: u64,
+    text: &str,
+) -> Result<bool, AreaError> {
+    let mut out = [9u8; 16];
+    let count = area.read_range(inode, at, &mut out)?;
+    let bytes = out.get(..count).unwrap_or(&[]);
+    Ok(bytes == text.as_bytes())
 }
 
 // Whether a log stands at its client's mark.
@@ -54,7 +113,7 @@ fn stands<M: Media>(area: &Shared<M>, log: &SealedLog) -> bool
     log.stands_at(&area.marks())
 }
 
-/// What is answered to a digest of the next chunk; none where no record of the log is left, or it does not stand at the mark.
+/// What is answered to a digest of the next chunk; none where no record of the log is left, one has no spelling, or it does not stand at the mark.
 pub fn digested<M: Media>(
     alloc: Global,
     area: &mut Shared<M>,
@@ -67,5 +126,14 @@ pub fn digested<M: Media>(
         Ok(chunk) if chunk.is_next(log) => Some(digest_chunk(alloc, area, log, &chunk)),
         Ok(_) => None,
         Err(error) => Some(Err(error)),
+    }
+}
+
+/// Digests the next 40 chunks, as far as there are so many and they are good.
+pub fn digest_all<M: Media>(alloc: Global, area: &mut Shared<M>, log: &mut SealedLog) {
+    for _ in 0..40u32 {
+        if digested(alloc, area, log) != Some(Ok(())) {
+            break;
+        }
     }
 }
