@@ -5,14 +5,16 @@ tools/failing_allocations.py [--quick] [PROGRAM..].
 They are those that read scripts, records, blocks and media: `strata_sh` over its tour and the scripts of `script_rows`, `strata_first`
 with and without stops, `file_log` over files with and without records, and torn and damaged ones, `media_rows`, `format_rows`,
 `image_rows` and `area_rows` row by row over their tables, where damaged images and worlds are read; rows that must not hold are left
-out. A run ends as it should where it tells the want of
+out. Where they are named, also the test functions of `shared_tests`, `relocate_tests`, `migrator_tests`, `digester_tests` and
+`apply_tests`, each by itself. A run ends as it should where it tells the want of
 memory by its name, or says what it says with all memory there. It does not where it answers anything else: damage, no such entry, or
 fewer bytes. Nor does a row that tells a want of memory while no allocation failed. How each program tells it stands at its function
 below.
 
-The programs are built by `rt run`; `tools/failing_allocations.c` makes their allocations fail. It takes four minutes, and those that a
-build takes; the gate does not run it. With --quick only each seventh allocation of a run fails. Exit status: 0 where all runs ended as
-they should, else 1.
+The programs are built by `rt run`, the tests by `rt test`; `tools/failing_allocations.c` makes their allocations fail. It takes four
+minutes without the tests, and those that a build takes; the gate does not run it. A test function takes up to ten seconds, and allocates
+thousands of times: at most 400 of its allocations fail, spread evenly. With --quick only each seventh allocation of a run fails, and 57
+of a test function. Exit status: 0 where all runs ended as they should, else 1.
 """
 import argparse
 import concurrent.futures
@@ -31,6 +33,8 @@ NOT_TO_HOLD = "must not hold"
 NAMES = ("out of memory", "ENOMEM", "the device failed")
 ROOM = tempfile.TemporaryDirectory(prefix="allocations-")
 STEP = 1
+# At most so many allocations of a test function fail.
+MOST = 400
 
 
 class Run(typing.NamedTuple):
@@ -46,8 +50,18 @@ class Run(typing.NamedTuple):
         return 0 < self.number <= self.made
 
 
+def path_of(name):
+    """Where the program stands once it is built, or the test functions of a crate of tests."""
+    return f"{CRATES}/{name}/out/{name}{'_tests' if name in TESTS else ''}"
+
+
 def build(name):
-    """Proves the program where it changed, and links it."""
+    """Proves the program where it changed, and links it; of tests, runs them too."""
+    if name in TESTS:
+        ran = subprocess.run(["rt", "test", "--jobs", "1"], cwd=f"{CRATES}/{name}", stdin=subprocess.DEVNULL, capture_output=True, text=True, check=False)
+        if ran.returncode:
+            sys.exit(f"{name} was not built, or one of its tests fails: {ran.stdout[-2000:]}{ran.stderr[-2000:]}")
+        return
     ran = subprocess.run(["rt", "run", "--jobs", "1"], cwd=f"{CRATES}/{name}", stdin=subprocess.DEVNULL, capture_output=True, text=True, check=False)
     if f"rt: running out/{name}" not in ran.stderr:
         sys.exit(f"{name} was not built: {ran.stderr[-2000:]}")
@@ -63,7 +77,7 @@ def sweep(name, text="", words=(), folder=None, clear=None, numbers=None):
     with tempfile.TemporaryFile() as file:
         file.write(text if isinstance(text, bytes) else text.encode("utf-8"))
         file.seek(0)
-        with subprocess.Popen([f"{CRATES}/{name}/out/{name}", *words], stdin=file, env=env, cwd=folder or ROOM.name, pass_fds=[to]) as child:
+        with subprocess.Popen([path_of(name), *words], stdin=file, env=env, cwd=folder or ROOM.name, pass_fds=[to]) as child:
             os.close(to)
             with os.fdopen(told, "rb") as pipe:
                 said = pipe.read()
@@ -362,8 +376,31 @@ def media_row(text):
     return tally(f"media_rows, {text.partition(': ')[0]}", whole, runs, lambda it: media_row_ends_well(it, text))
 
 
+# A test function passes all the same, or ends by an error that names the want of memory. As above, a `MemMedia` that can't keep a call
+# fails it. A failed assertion names nothing.
+
+TEST_ENDS = re.compile(r"error: (?:AllocError|Memory|DeviceFault)\nthe test failed: its result gives status 1\n")
+
+
+def test(program, name):
+    """Runs a test function. Loops in it allocate in step, so each time another of their allocations is to fail: an odd number of them is passed over."""
+    [whole] = sweep(program, words=(name,), numbers=(0, 0, 1))
+    if whole.status:
+        return Tally(0, 0, [f"{program}, {name} itself: status {whole.status}, {whole.err!r}"])
+    step = max(STEP, -(-whole.made // MOST)) | 1
+    runs = [it for it in sweep(program, words=(name,), numbers=(1, 1 << 40, step)) if it.failed()]
+    return tally(f"{program}, {name}", whole, runs, lambda it: it.status == 101 and bool(TEST_ENDS.fullmatch(it.err)))
+
+
+def tests_of(program):
+    listed = subprocess.run([path_of(program), "--list"], stdin=subprocess.DEVNULL, capture_output=True, text=True, check=True).stdout
+    return re.findall(r"^(\S+): test$", listed, re.M)
+
+
 def jobs_of(program):
     """What is run of a program: functions and what they take."""
+    if program in TESTS:
+        return [(test, (program, it)) for it in tests_of(program)]
     if program == "strata_sh":
         return [(tour, ()), *script_rows()]
     if program == "strata_first":
@@ -376,17 +413,18 @@ def jobs_of(program):
     return [(row, (program, it)) for it in rows_of(f"{CRATES}/{program}/stdin")]
 
 
+TESTS = ("shared_tests", "relocate_tests", "migrator_tests", "digester_tests", "apply_tests")
 PROGRAMS = ("strata_sh", "strata_first", "file_log", "media_rows", "format_rows", "image_rows", "area_rows")
 
 
 def main():
     words = argparse.ArgumentParser(description=__doc__.partition("\n")[0])
-    words.add_argument("--quick", action="store_true", help="each seventh allocation alone fails")
+    words.add_argument("--quick", action="store_true", help="each seventh allocation alone fails, and 57 of a test function")
     words.add_argument("--jobs", type=int, default=2, help="how many runs side by side (default: 2)")
-    words.add_argument("programs", nargs="*", metavar="PROGRAM", help=f"of {', '.join(PROGRAMS)} (default: all)")
+    words.add_argument("programs", nargs="*", metavar="PROGRAM", help=f"of {', '.join(PROGRAMS)} (default: all of these), and of {', '.join(TESTS)}")
     asked = words.parse_args()
-    global STEP
-    STEP = 7 if asked.quick else 1
+    global STEP, MOST
+    STEP, MOST = (7, 57) if asked.quick else (1, 400)
     subprocess.run([os.environ.get("CC", "cc"), "-O2", "-shared", "-fPIC", "-o", f"{ROOM.name}/allocations.so", f"{TOP}/tools/failing_allocations.c"], check=True)
     bad, tried = 0, 0
     for program in asked.programs or PROGRAMS:

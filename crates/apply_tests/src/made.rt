@@ -1,0 +1,94 @@
+// Changes over sound media.
+ghost use Rattle.std.specs.Prelude.{IfOk};
+ghost use Rattle.tier_device.specs.declared.media.Tier.{Tier};
+ghost use Rattle.tier_device.specs.Media.{AtRest};
+ghost use Rattle.tier_device.specs.Memory.{IsAtRest};
+
+use crate::applied::answer_to;
+use crate::rows::{MAKING, ROWS, SIZES, WORLD, change_at};
+use crate::told::{Lines, has_lines, put_area, told};
+use row_tables::Text;
+use small_worlds::{ApplyError, AreaError, Step, bare_media, opened};
+use std::alloc::Global;
+use std::test::Fail;
+use tier_device::{Fill, Media, MemMedia};
+
+/// What is answered to a change, what the area tells behind it, and the medium beneath. No answer where the steps come to no change.
+#[derive(Drop)]
+pub struct Answered<M> {
+    pub answer: Option<Result<(), ApplyError>>,
+    pub live: Text,
+    pub media: M,
+}
+
+/// Makes the change of these steps over a medium, with the marks of digest so many.
+pub fn change_of<M: Media + Drop>(
+    alloc: Global,
+    media: M,
+    steps: &[Step<'_>],
+    number: u32,
+) -> Result<Answered<M>, AreaError>
+    requires { (t : Tier) → AtRest (M.seen media) (M.left media (M.moment media)) t }
+{
+    let mut area = opened(alloc, media)?;
+    let answer = answer_to(alloc, &mut area, steps, number)?;
+    let mut live = Text::new(alloc);
+    put_area(&mut area, &mut live)?;
+    Ok(Answered {
+        answer,
+        live,
+        media: area.into_medium(),
+    })
+}
+
+// Whether a change is made, and the area tells these lines then, and again once it is opened anew.
+fn is_made(
+    alloc: Global,
+    media: MemMedia,
+    steps: &[Step<'_>],
+    number: u32,
+    after: &Lines,
+) -> Result<bool, AreaError>
+    requires { IsAtRest media }
+{
+    let made = change_of(alloc, media, steps, number)?;
+    let again = told(alloc, made.media.after_stop(Fill::Byte(0xa5))?)?;
+    Ok(
+        made.answer == Some(Ok(()))
+            && has_lines(made.live.as_str(), &after[..7])
+            && has_lines(again.as_str(), after),
+    )
+}
+
+/// The medium of the world, at rest.
+pub fn world(alloc: Global) -> Result<MemMedia, AreaError>
+    ensures { IfOk result IsAtRest }
+{
+    let made = change_of(alloc, bare_media(alloc, SIZES)?, MAKING, 1)?;
+    Ok(made.media.after_stop(Fill::Byte(0xa5))?)
+}
+
+fn are_made(alloc: Global) -> Result<bool, AreaError> {
+    let base = world(alloc)?;
+    for number in 0..ROWS {
+        let row = change_at(number);
+        let media = base.after_stop(Fill::Old)?;
+        if !is_made(alloc, media, row.steps, 2, &row.after)? {
+            return Ok(false);
+        }
+    }
+    Ok(true)
+}
+
+#[test]
+fn world_is_made_fast_blocks_first(rt: HostRuntime) -> Result<(), Fail> {
+    let media = bare_media(rt.alloc(), SIZES)?;
+    assert!(rt; is_made(rt.alloc(), media, MAKING, 1, &WORLD)?);
+    Ok(())
+}
+
+#[test]
+fn changes_are_made(rt: HostRuntime) -> Result<(), Fail> {
+    assert!(rt; are_made(rt.alloc())?);
+    Ok(())
+}
