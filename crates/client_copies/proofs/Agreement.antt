@@ -55,7 +55,7 @@ module _ (k : Knowledge) (new : ℕ) (operation : Operation) (es : List Effect) 
   less_granted m i is granted off = and_from (k.granted i) (not (makes operation && i == new)) granted (ap (λ b. not (b && i == new)) is ∙ ap not off)
 
   -- nothing is made
-  no_less : makes operation ≡ false → IsForgetful (knows_after k new operation es) (knows_logged k es None change)
+  pub no_less : makes operation ≡ false → IsForgetful (knows_after k new operation es) (knows_logged k es None change)
   no_less off = record {
     client = refl;
     own = λ number. ap (λ (own : Own). own number) (sym (own_is new k.own operation));
@@ -87,7 +87,7 @@ module _ (k : Knowledge) (new : ℕ) (operation : Operation) (es : List Effect) 
   off_new : (i : ℕ) → not (i == new) ≡ true → (i == new) ≡ false
   off_new i is = elim (i == new) as (λ b. not b ≡ true → b ≡ false) [ true ↦ λ h. absurd (cc) | false ↦ λ h. refl ] is
 
-  one_less : makes operation ≡ true → IsForgetful (knows_made k new operation es) (knows_logged k es (Some new) change)
+  pub one_less : makes operation ≡ true → IsForgetful (knows_made k new operation es) (knows_logged k es (Some new) change)
   one_less on = record {
     client = refl;
     own = λ number. ap (λ (own : Own). own number) (sym (own_is new k.own operation));

@@ -84,3 +84,13 @@ forgotten_is_known h i cs gone = λ t. record {
 
 pub opened_is_known : (h : Held) (number : ℕ) (what : Option Descriptor) (own : List (Option Descriptor)) → ((n : ℕ) → own_of own n ≡ set_own (own_of h.own) number what n) → knows (record h { own = own }) ≡ with_descriptor (knows h) number what
 opened_is_known h number what own same = λ t. record { client = h.client; own = λ n. same n t; copies = (knows h).copies; blocks = (knows h).blocks; granted = (knows h).granted }
+
+-- the blocks of an inode go, and its copy stays
+pub blocks_forgotten_is_known : (h : Held) (i : ℕ) → knows (record h { blocks = without_file i h.blocks }) ≡ without_blocks (knows h) i
+blocks_forgotten_is_known h i = λ t. record {
+  client = h.client;
+  own = (knows h).own;
+  copies = (knows h).copies;
+  blocks = λ j b. blocks_without h i h.copies j b (λ k other. refl) t;
+  granted = (knows h).granted;
+}

@@ -8,6 +8,8 @@ pub mod Nodes
 pub mod Numbers
 pub mod Preparable
 pub mod Put
+pub mod Room
+pub mod Stays
 pub mod Tables
 pub mod Touched
 pub mod Untouched

@@ -1,15 +1,15 @@
 //! What a client knows after a record of its own.
-ghost use Rattle.std.specs.Prelude.{◌≡◌, ◌<◌, ◌==◌, ℕ, true, None, IfOk, if◌then◌else◌};
+ghost use Rattle.std.specs.Prelude.{◌≡◌, ◌==◌, ℕ, true, None, IfOk, OnErr, if◌then◌else◌};
 ghost use Rattle.std.specs.Option.{ForSome};
 ghost use Rattle.std.specs.List.{AllByRecursion};
 ghost use Rattle.std.specs.Ordering.{nat_cmp};
 ghost use Rattle.std.specs.BTreeMap.{get};
-ghost use Rattle.posix_calls.specs.declared.limits.TheConstants.{MAX_DESCRIPTORS};
 ghost use Rattle.file_graph.specs.Numbers.{is_inode};
 ghost use Rattle.log_record.specs.Grammar.{Fits, IsRecord};
+ghost use Rattle.client_plan.specs.Planned.{OpensInRange};
 ghost use Rattle.client_copies.specs.Held.{knows};
 ghost use Rattle.client_copies.specs.Logged.{knows_logged, put_over, with_change, with_effects, with_made};
-ghost use Rattle.client_copies.specs.Prepared.{IsPreparedFor, nodes_after};
+ghost use Rattle.client_copies.specs.Prepared.{IsPreparedFor, any_known, nodes_after};
 
 use crate::copies::ClientCopies;
 use crate::own_change::OwnChange;
@@ -23,7 +23,8 @@ use std::collections::BTreeMap;
 
 impl ClientCopies {
     /// Prepares a change of the client's own by what it knows: its record, the number of the node that it makes, and the descriptor
-    /// that it changes, as `plan_call` tells them. All memory is taken that what it knows after the record needs, and nothing changes.
+    /// that it changes, as `plan_call` tells them. All memory is taken that what it knows after the record needs, and nothing changes. None is
+    /// asked for where nothing is known of what the record touches.
     pub fn prepare(
         &self,
         entry: Record,
@@ -32,9 +33,10 @@ impl ClientCopies {
     ) -> Result<OwnChange, AllocError>
         requires spelled { IsRecord entry }
         requires made { ForSome made (λ n. is_inode n ≡ true) }
-        requires number { ForSome descriptor (λ d. d.number < MAX_DESCRIPTORS) }
+        requires number { ForSome descriptor OpensInRange }
         ensures same { IfOk result (λ c. (c.entry ≡ entry) × (c.made ≡ made) × (c.descriptor ≡ descriptor)) }
         ensures prepared { IfOk result (IsPreparedFor (knows self.now)) }
+        ensures memory { OnErr result (any_known entry.effects (with_made (knows self.now) made).copies ≡ true) }
     {
         let effects = entry.effects.as_slice();
         let nodes = nodes_after(self.alloc, &self.copies, made, effects)?;
@@ -46,10 +48,11 @@ impl ClientCopies {
         })
     }
 
-    /// The record of a change is in the client's log: the client knows what it left. It takes no memory, and cannot fail.
-    pub fn commit(&mut self, change: OwnChange)
+    /// The record of a change is in the client's log: the client knows what it left, and gives the record back. It takes no memory, and cannot fail.
+    pub fn commit(&mut self, change: OwnChange) -> Record
         requires { IsPreparedFor (knows self.old) change }
-        ensures { knows self.new ≡ knows_logged (knows self.old) change.entry.effects change.made change.descriptor }
+        ensures known { knows self.new ≡ knows_logged (knows self.old) change.entry.effects change.made change.descriptor }
+        ensures entry { result ≡ change.entry }
     {
         let OwnChange {
             entry,
@@ -60,6 +63,7 @@ impl ClientCopies {
         self.use_made(made);
         self.change_descriptor(descriptor);
         self.put_nodes(entry.effects.as_slice(), nodes);
+        entry
     }
 
     // The number of a node that is made is used, and nothing stands there yet.
@@ -73,9 +77,11 @@ impl ClientCopies {
         }
     }
 
-    fn change_descriptor(&mut self, change: Option<DescriptorChange>)
-        requires { ForSome change (λ d. d.number < MAX_DESCRIPTORS) }
-        ensures { knows self.new ≡ with_change (knows self.old) change }
+    /// A descriptor changes, if one does, as `plan_call` tells it of a call that writes no record. It takes no memory.
+    pub fn change_descriptor(&mut self, change: Option<DescriptorChange>)
+        requires { ForSome change OpensInRange }
+        ensures known { knows self.new ≡ with_change (knows self.old) change }
+        ensures rest { self.new ≡ record self.old { own = self.new.own } }
     {
         if let Some(change) = change {
             self.set_descriptor(change.number, change.what);

@@ -1,4 +1,4 @@
-ghost use Rattle.std.specs.Prelude.{◌≡◌, ◌==◌, ◌<◌, ℕ, length, Some, None, not, true, false, IfOk, OnOk, OnErr};
+ghost use Rattle.std.specs.Prelude.{◌≡◌, ◌==◌, ◌<◌, ℕ, length, Some, None, IsSome, not, true, false, IfOk, OnOk, OnErr};
 ghost use Rattle.std.specs.List.{filter};
 ghost use Rattle.block_cache.specs.Cached.{put as put_first, used, without_file};
 ghost use Rattle.block_cache.specs.declared.bytes.TheConstants.{BLOCK_SIZE};
@@ -8,6 +8,7 @@ ghost use Rattle.call_effects.specs.Known.{IsForgetful, with_blocks, with_copy, 
 ghost use Rattle.posix_calls.specs.Content.{resized};
 ghost use Rattle.posix_calls.specs.declared.limits.TheConstants.{MAX_DESCRIPTORS};
 ghost use Rattle.posix_calls.specs.Own.{own_of};
+ghost use Rattle.posix_calls.specs.Tree.{set_own};
 ghost use Rattle.client_copies.specs.Held.{knows};
 ghost use Rattle.client_copies.specs.Put.{IsBlockLong};
 ghost use Rattle.client_copies.specs.Forgotten.{with_descriptor, without_blocks, without_inode, without_granted};
@@ -111,6 +112,14 @@ impl ClientCopies {
         forget_slot(&mut self.copies, inode as usize);
     }
 
+    /// The blocks of a file go, and its copy stays. It takes no memory.
+    pub fn forget_blocks(&mut self, inode: u32)
+        ensures known { knows self.new ≡ without_blocks (knows self.old) inode }
+        ensures rest { self.new ≡ record self.old { blocks = without_file inode self.old.blocks } }
+    {
+        self.blocks.drop_file(inode)
+    }
+
     /// A number for a new node is granted. Where there is no memory for it, nothing changes.
     pub fn grant(&mut self, number: u32) -> Result<(), AllocError>
         ensures granted { OnOk result (knows self.new ≡ with_granted (knows self.old) number) }
@@ -134,11 +143,11 @@ impl ClientCopies {
 
     /// Something is open at a number, or nothing any more.
     pub fn set_descriptor(&mut self, number: u32, what: Option<Descriptor>)
-        requires { number < MAX_DESCRIPTORS }
+        requires { IsSome what → number < MAX_DESCRIPTORS }
         ensures known { knows self.new ≡ with_descriptor (knows self.old) number what }
         ensures rest { self.new ≡ record self.old { own = self.new.own } }
     {
-        self.own.set(number, what);
+        put_descriptor(&mut self.own, number, what);
     }
 
     /// The client's number.
@@ -161,6 +170,17 @@ impl ClientCopies {
         ensures granted { (i : ℕ) → is_among i result.now ≡ (knows self.now).granted i }
     {
         &self.numbers
+    }
+}
+
+// What is open at a number; past all numbers nothing ever is.
+fn put_descriptor(own: &mut OwnDescriptors, number: u32, what: Option<Descriptor>)
+    requires { IsSome what → number < MAX_DESCRIPTORS }
+    ensures { (n : ℕ) → own_of own.new n ≡ set_own (own_of own.old) number what n }
+{
+    match what {
+        Some(descriptor) => own.set(number, Some(descriptor)),
+        None => own.clear(number),
     }
 }
 

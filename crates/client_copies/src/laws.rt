@@ -1,22 +1,28 @@
 //! What holds of every client's knowledge.
-ghost use Rattle.std.specs.Prelude.{◌≡◌, ℕ, true, Option};
+ghost use Rattle.std.specs.Prelude.{◌≡◌, ℕ, List, true, false, Option, Some};
 ghost use Rattle.std.specs.Option.{ForSome};
 ghost use Rattle.block_cache.specs.Cached.{used};
 ghost use Rattle.posix_calls.specs.Tree.{Descriptors, with_own};
+ghost use Rattle.posix_calls.specs.Operations.{makes};
 ghost use Rattle.posix_calls.specs.declared.call.Call.{Call};
 ghost use Rattle.posix_calls.specs.declared.call.Reply.{Reply};
+ghost use Rattle.posix_calls.specs.declared.operation.Operation.{Operation};
 ghost use Rattle.file_graph.specs.Graph.{Graph, after_effects};
+ghost use Rattle.file_graph.specs.declared.effect.Effect.{Effect};
 ghost use Rattle.file_graph.specs.Numbers.{is_inode};
 ghost use Rattle.log_record.specs.Grammar.{IsRecord};
 ghost use Rattle.log_record.specs.declared.format.Record.{Record};
-ghost use Rattle.call_effects.specs.Known.{Knowledge, Agrees, IsForgetful, part_of};
+ghost use Rattle.call_effects.specs.Known.{Knowledge, Agrees, IsForgetful, knows_after, knows_made, part_of};
+ghost use Rattle.call_effects.specs.NodeView.{NodeView};
 ghost use Rattle.call_effects.specs.Wholes.{IsSound};
 ghost use Rattle.client_plan.specs.declared.outcome.DescriptorChange.{DescriptorChange};
 ghost use Rattle.client_plan.specs.declared.outcome.Outcome.TheVariants as outcomes;
 ghost use Rattle.client_plan.specs.Holdings.{Holdings};
-ghost use Rattle.client_plan.specs.Planned.{outcome, own_changed};
+ghost use Rattle.client_plan.specs.Planned.{change_of, made_by, outcome, own_changed};
 ghost use Rattle.client_plan.specs.Steps.{IsOf};
 ghost use Rattle.client_copies.specs.Logged.{knows_logged};
+ghost use Rattle.client_copies.specs.Prepared.{IsPreparedFor};
+ghost use Rattle.client_copies.specs.declared.own_change.OwnChange.{OwnChange};
 ghost use Rattle.client_copies.specs.Held.{Held, knows};
 ghost use Rattle.client_copies.specs.Forgotten.{without_blocks, without_granted, without_inode};
 
@@ -36,6 +42,18 @@ pub fn used_block_is_known_as_before()
 pub fn logged_call_can_be_prepared()
     ensures spelled { (k : Knowledge) (h : Holdings) (call : Call) (entry : Record) (reply : Reply) (made : Option ℕ) (change : Option DescriptorChange) → IsOf k h → outcome (part_of k) h call ≡ outcomes.Log entry reply made change → IsRecord entry }
     ensures made { (k : Knowledge) (h : Holdings) (call : Call) (entry : Record) (reply : Reply) (made : Option ℕ) (change : Option DescriptorChange) → IsOf k h → outcome (part_of k) h call ≡ outcomes.Log entry reply made change → ForSome made (λ n. is_inode n ≡ true) }
+{}
+
+/// What was prepared for a call's record is right as long as the client keeps the copies that it had then, whatever else it gets or loses.
+pub fn prepared_change_stays()
+    ensures { (k more : Knowledge) (h : Holdings) (call : Call) (reply : Reply) (c : OwnChange) → IsOf k h → outcome (part_of k) h call ≡ outcomes.Log c.entry reply c.made c.descriptor → ((i : ℕ) (copy : Option NodeView) → k.copies i ≡ Some copy → more.copies i ≡ Some copy) → IsPreparedFor k c → IsPreparedFor more c }
+{}
+
+/// What a client knows once its change is committed is what it knows after the operation's effects, with a copy of the node that is made, less
+/// some blocks.
+pub fn committed_change_tells_no_more_than_the_effects()
+    ensures none { (k : Knowledge) (new : ℕ) (operation : Operation) (es : List Effect) → makes operation ≡ false → IsForgetful (knows_after k new operation es) (knows_logged k es (made_by new operation) (change_of new operation)) }
+    ensures made { (k : Knowledge) (new : ℕ) (operation : Operation) (es : List Effect) → makes operation ≡ true → IsForgetful (knows_made k new operation es) (knows_logged k es (made_by new operation) (change_of new operation)) }
 {}
 
 /// What a client knows once its change is committed agrees with the whole after the record's effects, where what it knew before agreed with

@@ -27,7 +27,8 @@ mod slots;
 
 pub use copies::ClientCopies;
 pub use laws::{
-    forgetting_leaves_no_more, logged_call_can_be_prepared, logged_call_keeps_agreement,
+    committed_change_tells_no_more_than_the_effects, forgetting_leaves_no_more,
+    logged_call_can_be_prepared, logged_call_keeps_agreement, prepared_change_stays,
     used_block_is_known_as_before,
 };
 pub use own_change::OwnChange;

@@ -1,5 +1,5 @@
 //! The copies that a client has after a record, made beside those that it has.
-ghost use Rattle.std.specs.Prelude.{◌≡◌, ◌==◌, ◌&&◌, ℕ, true, Some, None, IfOk, OnOk, is_some, if◌then◌else◌};
+ghost use Rattle.std.specs.Prelude.{◌≡◌, ◌==◌, ◌&&◌, ℕ, true, Some, None, IfOk, OnErr, OnOk, is_some, if◌then◌else◌};
 ghost use Rattle.std.specs.List.{AllByRecursion};
 ghost use Rattle.std.specs.FinMap as fin;
 ghost use Rattle.std.specs.Ordering.{nat_cmp};
@@ -11,7 +11,7 @@ ghost use Rattle.file_graph.specs.declared.effect.Kind.{Kind};
 ghost use Rattle.log_record.specs.Grammar.{Fits};
 ghost use Rattle.client_copies.specs.Held.{copy_at};
 ghost use Rattle.client_copies.specs.Logged.{is_made};
-ghost use Rattle.client_copies.specs.Prepared.{nodes_after, touched};
+ghost use Rattle.client_copies.specs.Prepared.{any_known, nodes_after, touched};
 
 use crate::slots::{Slot, slot_at};
 use file_graph::{Child, Effect, PlainEntry};
@@ -28,7 +28,8 @@ pub fn nodes_after(
     effects: &[Effect],
 ) -> Result<BTreeMap<u32, Option<NodeSummary>>, AllocError>
     requires { AllByRecursion Fits effects.now }
-    ensures { IfOk result (λ nodes. (i : ℕ) → get nat_cmp nodes i ≡ nodes_after effects.now (λ j. if is_made made j then Some None else copy_at slots.now j) i) }
+    ensures nodes { IfOk result (λ nodes. (i : ℕ) → get nat_cmp nodes i ≡ nodes_after effects.now (λ j. if is_made made j then Some None else copy_at slots.now j) i) }
+    ensures memory { OnErr result (any_known effects.now (λ j. if is_made made j then Some None else copy_at slots.now j) ≡ true) }
 {
     let mut nodes = touched(alloc, slots, made, effects)?;
     take_effects(alloc, &mut nodes, effects)?;
@@ -42,7 +43,8 @@ fn touched(
     made: Option<u32>,
     effects: &[Effect],
 ) -> Result<BTreeMap<u32, Option<NodeSummary>>, AllocError>
-    ensures { IfOk result (λ nodes. (i : ℕ) → get nat_cmp nodes i ≡ touched effects.now (λ j. if is_made made j then Some None else copy_at slots.now j) i) }
+    ensures nodes { IfOk result (λ nodes. (i : ℕ) → get nat_cmp nodes i ≡ touched effects.now (λ j. if is_made made j then Some None else copy_at slots.now j) i) }
+    ensures memory { OnErr result (any_known effects.now (λ j. if is_made made j then Some None else copy_at slots.now j) ≡ true) }
 {
     let mut nodes = BTreeMap::new(alloc);
     for effect in effects {
@@ -59,7 +61,8 @@ fn put_copy(
     made: Option<u32>,
     inode: u32,
 ) -> Result<(), AllocError>
-    ensures { OnOk result ((i : ℕ) → get nat_cmp nodes.new i ≡ (if i == inode && is_some (if is_made made i then Some None else copy_at slots.now i) then (if is_made made i then Some None else copy_at slots.now i) else get nat_cmp nodes.old i)) }
+    ensures memory { OnErr result (is_some (if is_made made inode then Some None else copy_at slots.now inode) ≡ true) }
+    ensures put { OnOk result ((i : ℕ) → get nat_cmp nodes.new i ≡ (if i == inode && is_some (if is_made made i then Some None else copy_at slots.now i) then (if is_made made i then Some None else copy_at slots.now i) else get nat_cmp nodes.old i)) }
 {
     if let Some(node) = known_copy(alloc, slots, made, inode)? {
         put_node(nodes, inode, node)?;
@@ -85,7 +88,8 @@ fn known_copy(
     made: Option<u32>,
     inode: u32,
 ) -> Result<Option<Option<NodeSummary>>, AllocError>
-    ensures { IfOk result (λ node. node ≡ (if is_made made inode then Some None else copy_at slots.now inode)) }
+    ensures known { IfOk result (λ node. node ≡ (if is_made made inode then Some None else copy_at slots.now inode)) }
+    ensures memory { OnErr result (is_some (if is_made made inode then Some None else copy_at slots.now inode) ≡ true) }
 {
     if is_made(made, inode) {
         return Ok(Some(None));
