@@ -1,16 +1,18 @@
 -- Bytes that are put into the blocks of a file one part after the other, each into one block.
-use Rattle.std.proofs.Common.{◌≡◌, ◌≢◌, ◌⊎◌, inl, inr, ℕ, zero, suc, ◌+◌, ◌-◌, ◌*◌, ◌/◌, ◌%◌, ◌<◌, ◌≤◌, if◌then◌else◌, cond, Bool, true, false, List, [], ◌∷◌, length, get_or, take, drop, refl, Some, Option, ap, sym, ◌∙◌, arith}
-use Rattle.std.specs.Prelude.{nat_lt, nat_le, nat_eq, ◌&&◌, ◌||◌, unwrap_or, is_some}
+use Rattle.std.proofs.Common.{◌≡◌, ◌≢◌, ◌⊎◌, inl, inr, ℕ, zero, suc, ◌+◌, ◌-◌, ◌*◌, ◌/◌, ◌%◌, ◌<◌, ◌≤◌, if◌then◌else◌, cond, Bool, true, false, List, [], ◌∷◌, length, get_or, take, drop, refl, Some, Option, ap, sym, subst, ◌∙◌, arith}
+use Rattle.std.specs.Prelude.{nat_lt, nat_le, nat_eq, ◌&&◌, ◌||◌, not, unwrap_or, is_some}
 use Rattle.std.specs.List.{range_with_len, list_any}
 use Rattle.std.specs.Cmp.{nat_cmp_total}
 use Rattle.std.specs.FinMap as fin
-use Rattle.std.proofs.lemmas.Bool.{cases_lt}
+use Rattle.std.proofs.lemmas.Bool.{cases_lt, false≢true}
+use Rattle.std.proofs.lemmas.List.{take_all}
 use Rattle.std.proofs.lemmas.Bool.Decides.{eqb_tells, nat_tests}
 use Rattle.std.proofs.lemmas.Grind.{common_steps}
 use Rattle.posix_calls.specs.declared.limits.TheConstants.{UNIT_BYTES}
 use Rattle.graph_change.specs.Bytes.{in_run}
 use Rattle.graph_change.specs.Change.{Patch, Patches, blank, patch_at, span, put_patch, over_patch, put_block, put_blocks}
-use Rattle.graph_change.proofs.Blocks.{get_put, value_put, either, any_range}
+use Rattle.graph_change.specs.Memory.{lacks_one}
+use Rattle.graph_change.proofs.Blocks.{get_put, value_put, either, any_range, in_span}
 
 -- a block with its part of the first bytes that are put at an offset of the file
 abbrev pub so_far : ℕ → ℕ → List ℕ → ℕ → Patch → Patch
@@ -185,3 +187,31 @@ one_part at done count bytes old now pos fits within put b =
           ∙ ap (λ t. cond t (Some (so_far at done bytes b (patch_at old b))) (fin.get old b)) (span_is at done b ∙ sym (lies_more at done count b pos within off.1) ∙ sym (span_is at (done + count) b))
           ∙ ap (λ f. if list_any (nat_eq b) (span at (done + count)) then Some f else fin.get old b) (other_block at done count bytes b (patch_at old b) within off.1)
     ]
+
+-- ---- all in one block
+
+pub in_one_block : (at place : ℕ) (bytes : List ℕ) (old : Patches) → place ≡ at % UNIT_BYTES → 0 < length bytes → place + length bytes ≤ UNIT_BYTES → fin.insert old (at / UNIT_BYTES) (put_patch place bytes (patch_at old (at / UNIT_BYTES))) ≡ put_blocks at bytes (span at (length bytes)) old
+in_one_block at place bytes old is some within =
+    let n = length bytes in
+    let here : at + 0 ≡ at = omega arith in
+    let nothing : 0 + n ≡ n = omega arith in
+    let all : take n (drop 0 bytes) ≡ bytes = take_all n bytes (omega arith) in
+    let new = fin.insert old ((at + 0) / UNIT_BYTES) (put_patch ((at + 0) % UNIT_BYTES) (take n (drop 0 bytes)) (patch_at old ((at + 0) / UNIT_BYTES))) in
+    ap (λ k. fin.insert old (at / UNIT_BYTES) (put_patch k bytes (patch_at old (at / UNIT_BYTES)))) is
+    ∙ sym (ap (λ k. fin.insert old (k / UNIT_BYTES) (put_patch (k % UNIT_BYTES) (take n (drop 0 bytes)) (patch_at old (k / UNIT_BYTES)))) here
+    ∙ ap (λ xs. fin.insert old (at / UNIT_BYTES) (put_patch (at % UNIT_BYTES) xs (patch_at old (at / UNIT_BYTES)))) all)
+    ∙ all_put at bytes old new (subst (λ k. PutSoFar at k bytes old new) nothing (one_part at 0 n bytes old old some (omega arith) (omega (arith, is, within)) (none_yet at bytes old)))
+
+any_of : (p : ℕ → Bool) (xs : List ℕ) (b : ℕ) → list_any (nat_eq b) xs ≡ true → p b ≡ true → list_any p xs ≡ true
+any_of p [] b there is = absurd (false≢true there)
+any_of p (x ∷ xs) b there is = elim (eqb_tells b x) [
+  | inl here ↦ ap (λ t. t || list_any p xs) (ap p (sym here.1) ∙ is)
+  | inr off ↦ or_right (p x) (list_any p xs) (any_of p xs b (sym (ap (λ t. t || list_any (nat_eq b) xs) off.0) ∙ there) is)
+] where
+  or_right : (s t : Bool) → t ≡ true → (s || t) ≡ true
+  or_right true t h = refl
+  or_right false t h = h
+
+-- and that one is not there
+pub one_lacks : (at : ℕ) (bytes : List ℕ) (old : Patches) → 0 < length bytes → fin.contains_key old (at / UNIT_BYTES) ≡ false → lacks_one (span at (length bytes)) old ≡ true
+one_lacks at bytes old some absent = any_of (λ b. not (fin.contains_key old b)) (span at (length bytes)) (at / UNIT_BYTES) (in_span at (length bytes) at (omega arith) (omega (arith, some))) (ap not absent)

@@ -123,6 +123,10 @@ fn put_bytes(
     ensures refused { OnErr result (patches_of blocks.new ≡ patches_of blocks.old) }
     ensures memory { OnErr result (lacks_one (span at (length bytes.now)) (patches_of blocks.old) ≡ true) }
 {
+    let place = (at % UNIT_BYTES as u64) as usize;
+    if !bytes.is_empty() && bytes.len() <= UNIT_BYTES as usize - place {
+        return put_in_one(alloc, blocks, at / UNIT_BYTES as u64, place, bytes);
+    }
     make_blocks(
         alloc,
         blocks,
@@ -130,6 +134,29 @@ fn put_bytes(
         span_end(at, bytes.len()),
     )?;
     put_parts(blocks, at, bytes);
+    Ok(())
+}
+
+// Puts bytes into one block, which is made if it is not there: it is looked for but once then, and once more where it is put among the others.
+fn put_in_one(
+    alloc: Global,
+    blocks: &mut BTreeMap<u64, BlockChange>,
+    block: u64,
+    place: usize,
+    part: &[u8],
+) -> Result<(), AllocError>
+    requires { place + length part.now ≤ UNIT_BYTES }
+    ensures put { OnOk result (patches_of blocks.new ≡ fin.insert (patches_of blocks.old) block (put_patch place part.now (patch_at (patches_of blocks.old) block))) }
+    ensures refused { OnErr result (patches_of blocks.new ≡ patches_of blocks.old) }
+    ensures memory { OnErr result (fin.contains_key (patches_of blocks.old) block ≡ false) }
+{
+    if let Some(known) = blocks.get_mut(&block) {
+        known.put(place, part);
+        return Ok(());
+    }
+    let mut new = BlockChange::new(alloc)?;
+    new.put(place, part);
+    blocks.insert(block, new)?;
     Ok(())
 }
 
