@@ -1,5 +1,5 @@
 -- What is counted of some effects, with one more.
-use Rattle.std.proofs.Common.{◌≡◌, ℕ, ◌+◌, ◌-◌, ◌≤◌, ◌==◌, if◌then◌else◌, cond, Bool, true, false, List, [], ◌∷◌, ◌++◌, refl, ap, sym, ◌∙◌, arith}
+use Rattle.std.proofs.Common.{◌≡◌, ℕ, ◌<◌, ◌/◌, ◌+◌, ◌-◌, ◌^◌, length, ◌≤◌, ◌==◌, if◌then◌else◌, cond, Bool, true, false, List, [], ◌∷◌, ◌++◌, refl, ap, sym, ◌∙◌, arith}
 use Rattle.std.specs.Prelude.{◌||◌, ◌&&◌, nat_eq, nat_lt, min, map, count_by}
 use Rattle.std.specs.List.{flat_map, range_with_len}
 use Rattle.std.specs.Set.{is_member}
@@ -7,18 +7,20 @@ use Rattle.std.specs.Ordering.{nat_cmp, is_eq}
 use Rattle.std.specs.Cmp.{nat_eq_equiv, unsigned_tied, tied_then}
 use Rattle.std.specs.BTreeMap.{is_at}
 use Rattle.std.specs.BTreeSet.{BTreeSet, contains, Updates}
-use Rattle.std.proofs.lemmas.List.{map-append, append-nil}
+use Rattle.std.proofs.lemmas.List.{map-append, append-nil, length-append}
 use Rattle.std.proofs.lemmas.List.Folds.{list_any-append}
-use Rattle.std.proofs.lemmas.List.FromFn.{map-range_with_len_more}
+use Rattle.std.proofs.lemmas.List.FromFn.{map-range_with_len_more, length-range_with_len}
 use Rattle.std.proofs.lemmas.List.Concat.{flat_map-append}
 use Rattle.std.proofs.lemmas.List.Sums.{sum_by_push}
 use Rattle.std.proofs.lemmas.Bool.Decides.{nat_tests}
 use Rattle.file_graph.specs.declared.effect.Effect.{Effect}
-use Rattle.graph_change.specs.Change.{subject}
+use Rattle.posix_calls.specs.declared.limits.TheConstants.{UNIT_BYTES}
+use Rattle.graph_change.specs.Change.{subject, span}
+use Rattle.coalescer.specs.declared.estimate.Estimate.{Estimate}
 use Rattle.coalescer.specs.declared.weight.Weight.{Weight}
 use Rattle.coalescer.specs.declared.weight.TheConstants.{CHUNK_IMAGES}
 use Rattle.coalescer.specs.Weight.{is_entry, file_blocks, blocks_at, same_block}
-use Rattle.coalescer.specs.Counted.{Weighs, block_cmp}
+use Rattle.coalescer.specs.Counted.{Weighs, IsEstimate, block_cmp}
 
 in_front : (a b : Bool) → cond a true b ≡ (b || (a || false))
 in_front true true = refl
@@ -84,3 +86,28 @@ one_effect es e old new was inodes entries blocks = record {
       ap (λ bs. is_member same_block bs q) (flat_map-append file_blocks es (e ∷ []) ∙ ap (λ bs. flat_map file_blocks es ++ bs) (append-nil (file_blocks e)))
       ∙ list_any-append (same_block q) (flat_map file_blocks es) (file_blocks e));
 }
+
+capped : (a b n c d most : ℕ) → a ≡ min c most → b ≡ min (a + n) most → d ≡ c + n → b ≡ min d most
+capped a b n c d most was is sum = omega (arith, was, is, sum)
+
+-- the same, where blocks are counted alone
+pub one_effect_more : (es : List Effect) (e : Effect) (old new : Estimate) → IsEstimate es old → Updates nat_cmp old.inodes new.inodes (subject e) true
+    → new.entries ≡ (if is_entry e && nat_lt old.entries CHUNK_IMAGES then old.entries + 1 else old.entries)
+    → new.blocks ≡ min (old.blocks + length (file_blocks e)) (2 ^ 64 - 1) → IsEstimate (es ++ e ∷ []) new
+one_effect_more es e old new was inodes entries blocks = record {
+  inodes = λ q. one_inode old.inodes new.inodes (subject e) (map subject es) inodes was.inodes q ∙ sym (ap (λ is. is_member nat_eq is q) (map-append subject es (e ∷ [])));
+  entries = one_entry old.entries CHUNK_IMAGES new.entries (count_by is_entry es) (count_by is_entry (es ++ e ∷ [])) (is_entry e) was.entries entries (sum_by_push (λ x. cond (is_entry x) 1 0) es e);
+  blocks =
+      capped old.blocks new.blocks (length (file_blocks e)) (length (flat_map file_blocks es)) (length (flat_map file_blocks (es ++ e ∷ []))) (2 ^ 64 - 1) was.blocks blocks
+      (ap length (flat_map-append file_blocks es (e ∷ []) ∙ ap (λ bs. flat_map file_blocks es ++ bs) (append-nil (file_blocks e)))
+      ∙ length-append (flat_map file_blocks es) (file_blocks e));
+}
+
+-- how many blocks some bytes lie in
+pub span_length : (at count last : ℕ) → 0 < count → last ≡ (at + (count - 1)) / UNIT_BYTES → last + 1 - at / UNIT_BYTES ≡ length (span at count)
+span_length at count last some is =
+    let pos : (count == 0) ≡ false = grind (arith, nat_tests, some) in
+    let behind : at + count - 1 ≡ at + (count - 1) = omega (arith, some) in
+    let same : (at + count - 1) / UNIT_BYTES ≡ last = ap (λ k. k / UNIT_BYTES) behind ∙ sym is in
+    sym (ap (λ t. length (cond t [] (range_with_len (at / UNIT_BYTES) ((at + count - 1) / UNIT_BYTES + 1 - at / UNIT_BYTES)))) pos
+    ∙ length-range_with_len (at / UNIT_BYTES) ((at + count - 1) / UNIT_BYTES + 1 - at / UNIT_BYTES) ∙ ap (λ q. q + 1 - at / UNIT_BYTES) same)

@@ -1,6 +1,6 @@
 -- The longest run of records that fits.
 use Rattle.std.proofs.Common.{◌≡◌, ℕ, ◌+◌, ◌<◌, ◌≤◌, true, false, List, length, take, drop, ap, sym, ◌∙◌, arith}
-use Rattle.std.proofs.lemmas.List.{take-append-drop, take-append-le, length-take-le}
+use Rattle.std.proofs.lemmas.List.{take-append-drop, take-append-le, length-take-le, take_all}
 use Rattle.std.proofs.lemmas.List.Concat.{flat_map-append}
 use Rattle.log_record.specs.declared.format.Record.{Record}
 use Rattle.coalescer.specs.Records.{effects_in}
@@ -37,3 +37,7 @@ all_of_them rs fitting = record {
   fitting = fitting;
   longest = λ m more le. absurd (omega (arith, more, le));
 }
+
+-- all of them, where they fit
+pub all_fit : (rs : List Record) → fits_chunk (effects_in rs) ≡ true → IsLongestRun rs (length rs)
+all_fit rs fits = all_of_them rs (λ _. ap (λ xs. fits_chunk (effects_in xs)) (take_all (length rs) rs (omega arith)) ∙ fits)

@@ -11,6 +11,7 @@
 //! also moves the ones behind it among the changed entries of its directory.
 #![tactic(auto)]
 
+mod estimate;
 mod laws;
 mod records;
 mod run;

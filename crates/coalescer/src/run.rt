@@ -2,6 +2,7 @@ ghost use Rattle.std.specs.Prelude.{◌<◌, IfErr, IfOk, length};
 ghost use Rattle.coalescer.specs.Records.{effects_in};
 ghost use Rattle.coalescer.specs.Weight.{IsLongestRun};
 
+use crate::estimate::surely_fit;
 use crate::weight::Weight;
 use log_record::Record;
 use std::alloc::{AllocError, Global};
@@ -11,6 +12,17 @@ use std::alloc::{AllocError, Global};
 /// each change of an entry, and one for the mark; a block that is cut within is written. An error is want of memory, which is asked for
 /// only where a record has an effect.
 pub fn longest_run(alloc: Global, records: &[Record]) -> Result<usize, AllocError>
+    ensures exact { IfOk result (IsLongestRun records.now) }
+    ensures memory { IfErr result (λ _. 0 < length (effects_in records.now)) }
+{
+    if surely_fit(alloc, records)? {
+        return Ok(records.len());
+    }
+    counted_run(alloc, records)
+}
+
+// The same, where each block has to be told from the others.
+fn counted_run(alloc: Global, records: &[Record]) -> Result<usize, AllocError>
     ensures exact { IfOk result (IsLongestRun records.now) }
     ensures memory { IfErr result (λ _. 0 < length (effects_in records.now)) }
 {

@@ -69,7 +69,7 @@ impl Weight {
 }
 
 // One more, if it is one.
-fn with_one_more(entries: usize, is_one: bool) -> usize
+pub fn with_one_more(entries: usize, is_one: bool) -> usize
     ensures { result ≡ (if is_one && nat_lt entries CHUNK_IMAGES then entries + 1 else entries) }
 {
     if is_one && entries < CHUNK_IMAGES {
@@ -79,7 +79,7 @@ fn with_one_more(entries: usize, is_one: bool) -> usize
     }
 }
 
-fn are_few(inodes: usize, entries: usize, blocks: usize) -> bool
+pub fn are_few(inodes: usize, entries: usize, blocks: usize) -> bool
     ensures { result ≡ (nat_le (4 * inodes + 2 * entries + 1) CHUNK_IMAGES && nat_le blocks CHUNK_BLOCKS) }
 {
     inodes < CHUNK_IMAGES
@@ -88,7 +88,7 @@ fn are_few(inodes: usize, entries: usize, blocks: usize) -> bool
         && blocks <= CHUNK_BLOCKS
 }
 
-fn is_entry(effect: &Effect) -> bool
+pub fn is_entry(effect: &Effect) -> bool
     ensures { result ≡ is_entry effect.now }
 {
     matches!(effect, Effect::Enter { .. } | Effect::Leave { .. })
@@ -132,7 +132,7 @@ fn add_span(
 }
 
 // The block that lies so many bytes behind an offset.
-fn last_of(at: u64, behind: u64) -> u64
+pub fn last_of(at: u64, behind: u64) -> u64
     ensures is { result ≡ (at + behind) / UNIT_BYTES }
     ensures small { result < 2 ^ 63 }
 {
