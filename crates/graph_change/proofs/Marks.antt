@@ -164,13 +164,16 @@ whole_by_count bytes marks n kept = (there, back)
 pub whole_told : (bytes : Vec ℕ) (marks : Vec Bool) (n : ℕ) → IsKept bytes marks n → IsTrue (n == UNIT_BYTES) ↔ IsWhole (patch_of (bytes.items, marks_in n marks.items))
 whole_told bytes marks n kept = let told = whole_by_count bytes marks n kept in (λ is. told.0 (eqb-true n UNIT_BYTES is), λ whole. eq-eqb n UNIT_BYTES (told.1 whole))
 
+-- where so many bytes are put as a block has, each is put at its place
+pub whole_byte : (bytes : List ℕ) (marks : List Bool) (n p : ℕ) → n ≡ UNIT_BYTES → p < UNIT_BYTES → patch_of (bytes, marks_in n marks) p ≡ Some (get_or bytes p 0)
+whole_byte bytes marks n p is lt = marked bytes (marks_in n marks) p (ap (λ ms. get_or ms p false) (marks_all n marks is) ∙ get_or-replicate UNIT_BYTES p true false lt)
+
 pub all_put_over : (bytes : List ℕ) (marks : List Bool) (n : ℕ) (old : List ℕ) → n ≡ UNIT_BYTES → length bytes ≡ UNIT_BYTES → length old ≡ UNIT_BYTES → bytes ≡ patched (patch_of (bytes, marks_in n marks)) old
 all_put_over bytes marks n old is long old_long =
     let patch = patch_of (bytes, marks_in n marks) in
     ext_get_or 0 _ _ (long ∙ sym old_long ∙ sym (patched_long patch old)) (λ p lt.
     let within : p < UNIT_BYTES = omega (arith, lt, long) in
-    let set = ap (λ ms. get_or ms p false) (marks_all n marks is) ∙ get_or-replicate UNIT_BYTES p true false within in
-    sym (patched_at patch old p (omega (arith, within, old_long)) ∙ ap (λ o. unwrap_or o (get_or old p 0)) (marked bytes (marks_in n marks) p set)))
+    sym (patched_at patch old p (omega (arith, within, old_long)) ∙ ap (λ o. unwrap_or o (get_or old p 0)) (whole_byte bytes marks n p is within)))
 
 unset : (n p : ℕ) → get_or (replicate n false) p false ≡ false
 unset zero p = refl

@@ -1,4 +1,4 @@
-ghost use Rattle.std.specs.Prelude.{◌≡◌, ◌≤◌, ◌+◌, ◌-◌, ℕ, ◌++◌, take, drop, replicate, true, false, None, length, get_or, Some, if◌then◌else◌, IfOk, IsTrue, ◌↔◌, ◌<◌, vec_capacity};
+ghost use Rattle.std.specs.Prelude.{◌≡◌, ◌≤◌, ◌+◌, ◌-◌, ℕ, ◌++◌, take, drop, replicate, true, false, None, length, get_or, Some, if◌then◌else◌, IfOk, IfSome, IsTrue, ◌↔◌, ◌<◌, vec_capacity};
 ghost use Rattle.std.specs.List.{count_by};
 ghost use Rattle.graph_change.specs.Change.{cut_patch, put_patch, patched, IsWhole};
 ghost use Rattle.graph_change.specs.View.{patch_of};
@@ -68,6 +68,18 @@ impl BlockChange {
             copy(block, &self.bytes);
         } else if self.count != 0 {
             put_marked(block, &self.bytes, &self.is_put);
+        }
+    }
+
+    /// The bytes that are put, where one is put at each place: those that the block had make no difference then.
+    pub fn whole(&self) -> Option<&[u8]>
+        ensures some { IfSome result (λ bytes. (length bytes.now ≡ UNIT_BYTES) × ((p : ℕ) → p < UNIT_BYTES → patch_of self.now p ≡ Some (get_or bytes.now p 0))) }
+        ensures none { result ≡ None → IsWhole (patch_of self.now) → ⊥ }
+    {
+        if self.count == UNIT_BYTES as usize {
+            Some(&self.bytes)
+        } else {
+            None
         }
     }
 
