@@ -1,5 +1,5 @@
 -- One block more behind the bytes of others.
-use Rattle.std.proofs.Common.{◌≡◌, ◌≤◌, ◌+◌, ◌*◌, ◌∙◌, ◌⊎◌, ℕ, Bool, true, List, [], ◌++◌, length, take, drop, Option, Some, None, arith, inl, inr, sym, ap, subst, refl}
+use Rattle.std.proofs.Common.{◌≡◌, ◌<◌, ◌≤◌, ◌+◌, ◌*◌, ◌∙◌, ◌⊎◌, ℕ, Bool, true, List, [], ◌++◌, length, take, drop, get_or, Option, Some, None, arith, inl, inr, sym, ap, subst, refl}
 use Rattle.std.specs.Prelude.{option_map, unwrap_or, replicate}
 use Rattle.std.specs.BTreeMap.{BTreeMap, get}
 use Rattle.std.specs.Ordering.{nat_cmp}
@@ -12,8 +12,8 @@ use Rattle.graph_change.specs.View.{patch_of, patches_of}
 use Rattle.graph_change.proofs.Maps.{value_at}
 use Rattle.tree_blocks.specs.Inode.{LogicalBlocks}
 use Rattle.std.proofs.lemmas.List.FromFn.{length-map-range_with_len}
-use Rattle.graph_change.specs.Bytes.{Length, byte_after}
-use Rattle.tree_blocks.specs.FileBlock.{put_in, in_block, block_after, is_cut_off, ReadSame, ReadsAfter}
+use Rattle.graph_change.specs.Bytes.{Length, Cut, byte_after, kept_byte}
+use Rattle.tree_blocks.specs.FileBlock.{kept_in, put_in, in_block, block_after, is_cut_off, ReadSame, ReadsAfter}
 use Rattle.tree_blocks.proofs.FileBlocks.{made_of_same, made_whole, made_behind}
 use Rattle.file_plan.specs.Placed.{nth_number}
 use Rattle.file_plan.specs.Bytes.{IsBlockAfter, HoldsBlocks}
@@ -60,6 +60,11 @@ pub made_anyway : (len : Length) (patch put : Patch) (k : ℕ) (old buffer block
 made_anyway len patch put k old buffer block is same no_matter =
     subst (ReadsAfter len patch k old) (sym (is ∙ ap (λ (p : Patch). block_after len p k buffer) same))
     (elim no_matter [ inl off ↦ made_behind len patch k old buffer off | inr whole ↦ made_whole len patch k old buffer (subst IsWhole same whole) ])
+
+-- the bytes of a block that are all put are what a change makes of it, whatever the old block is
+pub made_of_put : (len : Length) (patch put : Patch) (k : ℕ) (old block : List ℕ) → put ≡ patch → ((p : ℕ) → p < 4096 → put p ≡ Some (get_or block p 0)) → ReadsAfter len patch k old block
+made_of_put len patch put k old block same each p lt =
+    sym (ap (λ (o : Option ℕ). elim o [ None ↦ kept_byte (Cut (kept_in len k) 4096) old p | Some b ↦ b ]) (ap (λ (f : Patch). f p) (sym same) ∙ each p lt))
 
 -- a block that is as long as the buffer that it is made in
 pub made_long : (len : Length) (put : Patch) (k : ℕ) (buffer block : List ℕ) → block ≡ block_after len put k buffer → length block ≡ 4096

@@ -7,6 +7,7 @@ ghost use Rattle.area_image.specs.Looks.{Looks};
 ghost use Rattle.area_image.specs.declared.error.AreaError.TheVariants.{DeviceFault, Memory};
 ghost use Rattle.graph_change.specs.Change.{IsWhole};
 ghost use Rattle.graph_change.specs.View.{change_of, new_length};
+ghost use Rattle.tree_blocks.specs.Inode.{LogicalBlocks};
 ghost use Rattle.tree_blocks.specs.FileBlock.{put_in, is_cut_off, ReadSame};
 ghost use Rattle.file_plan.specs.Bytes.{IsBlockAfter, AddsBlocks, GoesOn, blocks_from};
 
@@ -192,6 +193,49 @@ fn push_block<M: Media>(
     }
 }
 
+// The bytes of a block that a change puts whole.
+fn whole_block(change: &NodeChange, number: u64) -> Option<&[u8]>
+    ensures long { IfSome result (λ bytes. length bytes.now ≡ BLOCK) }
+    ensures made { IfSome result (λ bytes. (old : LogicalBlocks) → IsBlockAfter (change_of change.now) old number bytes.now) }
+{
+    match change.blocks.get(&number) {
+        Some(put) => match put.whole() {
+            Some(bytes) => Some(bytes),
+            None => None,
+        },
+        None => None,
+    }
+}
+
+// Adds a block of a number: the bytes that are put, where the change puts it whole, and else what it makes of the old block.
+fn add_block<M: Media>(
+    journal: &mut Journal<M>,
+    inode: u32,
+    found: Option<&InodeExtents>,
+    change: &NodeChange,
+    number: u64,
+    out: &mut Vec<u8>,
+) -> Result<(), AreaError>
+    requires found { IfSome found (λ x. HasFound journal.old.geometry (store_of (M.seen journal.old.media)) inode x.now) }
+    requires once { IsOnce journal.old.geometry (store_of (M.seen journal.old.media)) inode }
+    requires going { journal.old.failed ≡ false }
+    ensures added { OnOk result ((block : List ℕ) × (out.new.items ≡ out.old.items ++ block) × (length block ≡ BLOCK) × IsBlockAfter (change_of change.now) (blocks_from found.entry (logical journal.old.geometry (store_of (M.seen journal.old.media)) inode)) number block) }
+    ensures refused { OnErr result (GoesOn out.old.items out.new.items) }
+    ensures only { IfErr result (λ e. (e ≡ DeviceFault) ⊎ (e ≡ Memory)) }
+    ensures looks { Looks M.moment M.seen M.left M.faults journal.old journal.new result }
+{
+    match whole_block(change, number) {
+        Some(bytes) => match out.extend_from_slice(bytes) {
+            Ok(()) => Ok(()),
+            Err(_) => Err(AreaError::Memory),
+        },
+        None => match push_block(journal, inode, found, change, number, out) {
+            Ok(()) => Ok(()),
+            Err(error) => Err(error),
+        },
+    }
+}
+
 // Adds the blocks of these numbers.
 fn push_blocks<M: Media>(
     journal: &mut Journal<M>,
@@ -211,7 +255,7 @@ fn push_blocks<M: Media>(
     ensures looks { Looks M.moment M.seen M.left M.faults journal.old journal.new result }
 {
     'each: for index in 0..numbers.len() {
-        match push_block(journal, inode, found, change, numbers[index], out) {
+        match add_block(journal, inode, found, change, numbers[index], out) {
             Ok(()) => {}
             Err(error) => return Err(error),
         }

@@ -11,13 +11,13 @@ use Rattle.file_plan.specs.Placed.{nth_number}
 use Rattle.file_plan.proofs.Adding.{holds_more}
 use Rattle.file_plan.proofs.changing.push_blocks.Goals as goal
 
-pub push_block-requires-clause-found : goal.push_block-requires-clause-found
-push_block-requires-clause-found g c =
+pub add_block-requires-clause-found : goal.add_block-requires-clause-found
+add_block-requires-clause-found g c =
     let m = g.M.Media in
     carried m.moment m.seen m.left m.faults (λ (x : Sizes) (s : Store). IfSome c.args.found (λ e. HasFound x s c.args.inode e.now)) c.args.journal.now c.each.journal looked c.each.invariant.looks c.requires.found
 
-pub push_block-requires-clause-once : goal.push_block-requires-clause-once
-push_block-requires-clause-once g c =
+pub add_block-requires-clause-once : goal.add_block-requires-clause-once
+add_block-requires-clause-once g c =
     let m = g.M.Media in
     carried m.moment m.seen m.left m.faults (λ (x : Sizes) (s : Store). IsOnce x s c.args.inode) c.args.journal.now c.each.journal looked c.each.invariant.looks c.requires.once
 
@@ -31,7 +31,7 @@ each-preserved g c =
     let n = c.each.index in
     let after = carried_back m.moment m.seen m.left m.faults (λ (x : Sizes) (s : Store). IsBlockAfter change (blocks_from c.args.found (logical x s c.args.inode)) (nth_number c.args.numbers.now n) added.0) old c.each.journal looked c.each.invariant.looks added.3 in
     record {
-      looks = looks_on m.moment m.seen m.left m.faults old c.each.journal c.push_block.new.journal tt looked c.each.invariant.looks c.in-Ok.ensures.looks;
+      looks = looks_on m.moment m.seen m.left m.faults old c.each.journal c.add_block.new.journal tt looked c.each.invariant.looks c.in-Ok.ensures.looks;
       added = (
         before.0 ++ added.0,
         added.1 ∙ ap (λ (xs : List ℕ). xs ++ added.0) before.1 ∙ append_assoc c.args.out.now.items before.0 added.0,
