@@ -8,8 +8,7 @@ pub returns-then-self-clause-some : goal.returns-then-self-clause-some
 returns-then-self-clause-some c =
     let b = c.self.inside in
     let all = c.if-self.true in
-    let is = c.deref.ensures.value in
-    (
+    let is = c.deref.ensures.value in (
       ap length is ∙ c.self.invariant.bytes_long (omega (arith, all)),
       λ p lt. subst (λ v. patch_of v p ≡ Some (get_or c.deref.result.now p 0)) c.self.view_is (whole_byte b.bytes.items b.is_put.items b.count p all lt ∙ ap (λ bs. Some (get_or bs p 0)) (sym is)),
     )
