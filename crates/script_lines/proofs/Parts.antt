@@ -1,10 +1,12 @@
 -- How the parts of a text come off from the left.
-use Rattle.std.proofs.Common.{◌≡◌, ◌==◌, All, List, ℕ, ◌+◌, ◌<◌, ◌≤◌, Bool, false, None, Some, [], ◌∷◌, refl, arith, length, take, drop}
+use Rattle.std.proofs.Common.{◌≡◌, ◌==◌, All, List, ℕ, ◌+◌, ◌<◌, ◌≤◌, Bool, false, Option, None, Some, [], ◌∷◌, refl, sym, subst, arith, length, take, drop}
 use Rattle.std.proofs.lemmas.Grind.{common_steps}
 use Rattle.std.specs.List.{position, position_or_len}
 use Rattle.std.proofs.lemmas.List.Splits.{slice_split_first, slice_split_none}
 use Rattle.std.proofs.lemmas.List.Sums.{fails_before_first}
-use Rattle.script_lines.specs.Script.{parts, one}
+use Rattle.std.specs.Prelude.{option_map}
+use Rattle.script_lines.specs.Script.{parts, one, three, four}
+use Rattle.script_lines.specs.SystemLines.{asks, asks_either, event}
 
 -- where the first is found, as a number below the length
 pub found_at : (p : ℕ → Bool) (xs : List ℕ) (i : ℕ) → position p xs ≡ Some i → (position_or_len p xs ≡ i) × (position_or_len p xs < length xs)
@@ -30,3 +32,23 @@ parts_last byte text none = slice_split_none (λ b. b == byte) text (none_passes
 pub one-parts : (a : List ℕ) (byte : ℕ) (text : List ℕ) → one (a ∷ parts byte text) ≡ None
 one-parts a byte [] = refl
 one-parts a byte (b ∷ bs) = grind (arith, common_steps)
+
+-- four words are one and three behind it
+pub four-first : (a : List ℕ) (ws : List (List ℕ)) → four (a ∷ ws) ≡ option_map (λ w. (a, w.0, w.1, w.2)) (three ws)
+four-first a [] = refl
+four-first a (b ∷ []) = refl
+four-first a (b ∷ c ∷ []) = refl
+four-first a (b ∷ c ∷ d ∷ []) = refl
+four-first a (b ∷ c ∷ d ∷ e ∷ ws) = refl
+
+-- a text has a first part
+pub parts-some : (byte : ℕ) (text : List ℕ) → (x : List ℕ) × (xs : List (List ℕ)) × (parts byte text ≡ x ∷ xs)
+parts-some byte text = by_place (position (λ b. b == byte) text) refl
+  where
+    by_place : (o : Option ℕ) → position (λ b. b == byte) text ≡ o → (x : List ℕ) × (xs : List (List ℕ)) × (parts byte text ≡ x ∷ xs)
+    by_place None none = (text, [], parts_last byte text none)
+    by_place (Some at) found = (take at text, parts byte (drop (at + 1) text), parts_step byte text at found)
+
+-- so a word before a text has words behind it
+pub asks-parts : (w : List ℕ) (text : List ℕ) → asks (w ∷ parts 32 text) ≡ asks_either (event w) w (parts 32 text)
+asks-parts w text = let some = parts-some 32 text in subst (λ ps. asks (w ∷ ps) ≡ asks_either (event w) w ps) (sym some.2) refl

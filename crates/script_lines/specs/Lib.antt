@@ -2,3 +2,4 @@ pub mod Lines
 pub mod Runs
 pub mod Script
 pub mod Seen
+pub mod SystemLines

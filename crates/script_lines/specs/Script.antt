@@ -38,6 +38,15 @@ three (a ∷ []) = None
 three (a ∷ b ∷ []) = None
 three (a ∷ b ∷ c ∷ d ∷ ws) = None
 
+-- all words, where there are four
+abbrev pub four : List (List ℕ) → Option (List ℕ × List ℕ × List ℕ × List ℕ)
+four (a ∷ b ∷ c ∷ d ∷ []) = Some (a, b, c, d)
+four [] = None
+four (a ∷ []) = None
+four (a ∷ b ∷ []) = None
+four (a ∷ b ∷ c ∷ []) = None
+four (a ∷ b ∷ c ∷ d ∷ e ∷ ws) = None
+
 -- ---- numbers
 
 -- whether a byte is a digit, from `0` (48) to `9`

@@ -10,6 +10,9 @@ use Rattle.script_lines.specs.declared.call_text.CallText.{CallText}
 use Rattle.script_lines.specs.declared.call_text.CallText.TheVariants as text
 use Rattle.script_lines.specs.declared.call_text.Line.{Line}
 use Rattle.script_lines.specs.declared.call_text.Line.TheVariants as line
+use Rattle.script_lines.specs.declared.system_line.SystemLine.{SystemLine}
+use Rattle.script_lines.specs.declared.system_line.SystemLine.TheVariants as system
+use Rattle.script_lines.specs.SystemLines.{Asked, Calls, Steps, Digests, Wipes, Moves, Places, Books}
 
 -- the value, or no bytes
 abbrev pub or_empty : Option (List ℕ) → List ℕ
@@ -43,3 +46,14 @@ asked (text.Stat path) = call.Stat (path_of path)
 abbrev pub line_seen : Line → Option (ℕ × Call)
 line_seen line.Silent = None
 line_seen (line.Asks c q) = Some (c, asked q)
+
+-- what is asked of a running system, where the line asks something
+abbrev pub system_line_seen : SystemLine → Option Asked
+system_line_seen system.Silent = None
+system_line_seen (system.Call c m q) = Some (Calls c m (asked q))
+system_line_seen (system.Step c) = Some (Steps c)
+system_line_seen (system.Digest c) = Some (Digests c)
+system_line_seen (system.Wipe c) = Some (Wipes c)
+system_line_seen (system.Migrate path first count to) = Some (Moves (path_of path) first count to)
+system_line_seen (system.Where path block) = Some (Places (path_of path) block)
+system_line_seen system.Book = Some Books

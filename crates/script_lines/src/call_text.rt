@@ -105,7 +105,7 @@ pub fn read_line(line: &[u8]) -> Option<Line<'_>>
     }
 }
 
-fn verb_of(word: &[u8]) -> Option<Verb>
+pub fn verb_of(word: &[u8]) -> Option<Verb>
     ensures { result ≡ verb word.now }
 {
     match word {
@@ -125,7 +125,7 @@ fn verb_of(word: &[u8]) -> Option<Verb>
     }
 }
 
-fn call_of(verb: Verb, words: &[u8]) -> Option<CallText<'_>>
+pub fn call_of(verb: Verb, words: &[u8]) -> Option<CallText<'_>>
     ensures { option_map asked result ≡ call_for verb (parts 32 words.now) }
 {
     match verb {

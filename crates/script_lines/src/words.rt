@@ -1,6 +1,6 @@
 // The words of a line.
 ghost use Rattle.std.specs.Prelude.{◌≡◌, ◌∷◌, ◌<◌, ◌==◌, [], None, IfSome, length, option_map};
-ghost use Rattle.script_lines.specs.Script.{parts, one, two, three};
+ghost use Rattle.script_lines.specs.Script.{parts, one, two, three, four};
 ghost use Rattle.std.specs.List.{position};
 
 const SPACE: u8 = b' ';
@@ -48,4 +48,13 @@ pub fn three_words(text: &[u8]) -> Option<(&[u8], &[u8], &[u8])>
     let (first, rest) = cut(text, SPACE)?;
     let (second, third) = two_words(rest)?;
     Some((first, second, third))
+}
+
+/// All words, where there are four.
+pub fn four_words(text: &[u8]) -> Option<(&[u8], &[u8], &[u8], &[u8])>
+    ensures { option_map (λ w. (w.0.now, w.1.now, w.2.now, w.3.now)) result ≡ four (parts SPACE text.now) }
+{
+    let (first, rest) = cut(text, SPACE)?;
+    let (second, third, fourth) = three_words(rest)?;
+    Some((first, second, third, fourth))
 }
