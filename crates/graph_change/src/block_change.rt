@@ -1,34 +1,36 @@
-ghost use Rattle.std.specs.Prelude.{◌≡◌, ◌≤◌, ◌+◌, ◌-◌, ℕ, ◌++◌, take, drop, replicate, true, false, None, length, get_or, Some, if◌then◌else◌, IfOk, IfSome, IsTrue, ◌↔◌, ◌<◌, vec_capacity};
+ghost use Rattle.std.specs.Prelude.{◌≡◌, ◌≤◌, ◌+◌, ◌-◌, ◌*◌, ℕ, ◌++◌, take, drop, replicate, true, None, length, map, get_or, Some, IfOk, IfSome, IsTrue, ◌↔◌, ◌<◌, vec_capacity};
 ghost use Rattle.std.specs.List.{count_by};
 ghost use Rattle.graph_change.specs.Change.{cut_patch, put_patch, patched, IsWhole};
 ghost use Rattle.graph_change.specs.View.{patch_of};
-ghost use Rattle.graph_change.specs.Kept.{marks_in, IsKept};
+ghost use Rattle.graph_change.specs.Kept.{IsKept, bytes_in, is_set, kept_marks, marks_in};
 ghost use Rattle.posix_calls.specs.declared.limits.TheConstants.{UNIT_BYTES};
 
 use posix_calls::UNIT_BYTES;
 use std::alloc::{AllocError, Global};
 use std::marker::Model;
 
+// The bytes of a block, and a mark for each.
+const ROOM: usize = 2 * UNIT_BYTES as usize;
+
 /// The bytes that are put into one block of a file, and at which places of it.
 #[derive(Debug, Drop)]
 pub struct BlockChange {
-    // As many as a block has, once some are put.
-    bytes: Vec<u8>,
-    // One for each byte where some are put and not all; else they say nothing, and are not written.
-    is_put: Vec<bool>,
+    // The bytes of the block, once some are put. Behind them stands the mark of each, where some are put and not all; else nothing there says anything, and no mark is written. Both are in one vector, so
+    // that memory is asked for once.
+    slots: Vec<u8>,
     // How many bytes are put.
     count: usize,
 }
 
 impl Model for BlockChange {
     ghost use Rattle.std.specs.Prelude.{ℕ, List, Bool};
-    ghost use Rattle.graph_change.specs.Kept.{marks_in, IsKept};
+    ghost use Rattle.graph_change.specs.Kept.{bytes_in, kept_marks, marks_in, IsKept};
 
     ghost Value = { List ℕ × List Bool };
 
-    ghost view = { λ b. (b.bytes.items, marks_in b.count b.is_put.items) };
+    ghost view = { λ b. (bytes_in b.slots.items, marks_in b.count (kept_marks b.slots.items)) };
 
-    ghost invariant = { λ b. IsKept b.bytes b.is_put b.count };
+    ghost invariant = { λ b. IsKept b.slots b.count };
 }
 
 impl BlockChange {
@@ -37,8 +39,7 @@ impl BlockChange {
         ensures { IfOk result (λ b. (p : ℕ) → patch_of b p ≡ None) }
     {
         Ok(BlockChange {
-            bytes: Vec::with_capacity(alloc, UNIT_BYTES as usize)?,
-            is_put: Vec::with_capacity(alloc, UNIT_BYTES as usize)?,
+            slots: Vec::with_capacity(alloc, ROOM)?,
             count: 0,
         })
     }
@@ -48,7 +49,7 @@ impl BlockChange {
         requires { at + length bytes.now ≤ UNIT_BYTES }
         ensures { (p : ℕ) → patch_of self.new p ≡ put_patch at bytes.now (patch_of self.old) p }
     {
-        self.count = put_into(&mut self.bytes, &mut self.is_put, self.count, at, bytes);
+        self.count = put_into(&mut self.slots, self.count, at, bytes);
     }
 
     /// Nothing is put from a place on.
@@ -56,7 +57,7 @@ impl BlockChange {
         requires { place ≤ UNIT_BYTES }
         ensures { (p : ℕ) → patch_of self.new p ≡ cut_patch place (patch_of self.old) p }
     {
-        self.count = cut_from(&mut self.bytes, &mut self.is_put, self.count, place);
+        self.count = cut_from(&mut self.slots, self.count, place);
     }
 
     /// Puts the bytes over those of a block.
@@ -65,9 +66,10 @@ impl BlockChange {
         ensures { block.new ≡ patched (patch_of self.now) block.old }
     {
         if self.count == UNIT_BYTES as usize {
-            copy(block, &self.bytes);
+            copy(block, &self.slots[..UNIT_BYTES as usize]);
         } else if self.count != 0 {
-            put_marked(block, &self.bytes, &self.is_put);
+            let (bytes, marks) = self.slots.split_at(UNIT_BYTES as usize);
+            put_marked(block, bytes, marks);
         }
     }
 
@@ -77,7 +79,7 @@ impl BlockChange {
         ensures none { result ≡ None → IsWhole (patch_of self.now) → ⊥ }
     {
         if self.count == UNIT_BYTES as usize {
-            Some(&self.bytes)
+            Some(&self.slots[..UNIT_BYTES as usize])
         } else {
             None
         }
@@ -92,114 +94,117 @@ impl BlockChange {
 }
 
 // Puts bytes over the whole block, and answers how many they are.
-fn put_all(bytes: &mut Vec<u8>, part: &[u8]) -> usize
-    requires room { UNIT_BYTES ≤ vec_capacity bytes.old }
+fn put_all(slots: &mut Vec<u8>, part: &[u8]) -> usize
+    requires room { 2 * UNIT_BYTES ≤ vec_capacity slots.old }
     requires long { length part.now ≡ UNIT_BYTES }
-    ensures items { bytes.new.items ≡ part.now }
-    ensures room { UNIT_BYTES ≤ vec_capacity bytes.new }
+    ensures items { slots.new.items ≡ part.now }
+    ensures room { 2 * UNIT_BYTES ≤ vec_capacity slots.new }
     ensures count { result ≡ UNIT_BYTES }
 {
-    bytes.clear();
-    let Ok(()) = bytes.extend_from_slice(part) else {
+    slots.clear();
+    let Ok(()) = slots.extend_from_slice(part) else {
         unreachable!()
     };
     part.len()
 }
 
 // Puts bytes at a place, where so many are put, and answers how many are then.
-fn put_into(
-    bytes: &mut Vec<u8>,
-    marks: &mut Vec<bool>,
-    count: usize,
-    at: usize,
-    part: &[u8],
-) -> usize
-    requires kept { IsKept bytes.old marks.old count }
+fn put_into(slots: &mut Vec<u8>, count: usize, at: usize, part: &[u8]) -> usize
+    requires kept { IsKept slots.old count }
     requires within { at + length part.now ≤ UNIT_BYTES }
-    ensures kept { IsKept bytes.new marks.new result }
-    ensures put { (p : ℕ) → patch_of (bytes.new.items, marks_in result marks.new.items) p ≡ put_patch at part.now (patch_of (bytes.old.items, marks_in count marks.old.items)) p }
+    ensures kept { IsKept slots.new result }
+    ensures put { (p : ℕ) → patch_of (bytes_in slots.new.items, marks_in result (kept_marks slots.new.items)) p ≡ put_patch at part.now (patch_of (bytes_in slots.old.items, marks_in count (kept_marks slots.old.items))) p }
 {
     if part.len() == UNIT_BYTES as usize {
-        return put_all(bytes, part);
+        return put_all(slots, part);
     }
-    put_part(bytes, marks, count, at, part)
+    put_part(slots, count, at, part)
 }
 
 // The same of less than a block: each mark is written then.
-fn put_part(
-    bytes: &mut Vec<u8>,
-    marks: &mut Vec<bool>,
-    count: usize,
-    at: usize,
-    part: &[u8],
-) -> usize
-    requires kept { IsKept bytes.old marks.old count }
+fn put_part(slots: &mut Vec<u8>, count: usize, at: usize, part: &[u8]) -> usize
+    requires kept { IsKept slots.old count }
     requires within { at + length part.now ≤ UNIT_BYTES }
-    ensures kept { IsKept bytes.new marks.new result }
-    ensures put { (p : ℕ) → patch_of (bytes.new.items, marks_in result marks.new.items) p ≡ put_patch at part.now (patch_of (bytes.old.items, marks_in count marks.old.items)) p }
+    ensures kept { IsKept slots.new result }
+    ensures put { (p : ℕ) → patch_of (bytes_in slots.new.items, marks_in result (kept_marks slots.new.items)) p ≡ put_patch at part.now (patch_of (bytes_in slots.old.items, marks_in count (kept_marks slots.old.items))) p }
 {
-    spread(bytes, marks, count);
-    overwrite(bytes, at, part);
-    count + mark_more(marks, at, part.len())
+    spread(slots, count);
+    count + put_marking(slots, at, part)
 }
 
 // Takes out what is put from a place on, where so many bytes are put, and answers how many are then.
-fn cut_from(bytes: &mut Vec<u8>, marks: &mut Vec<bool>, count: usize, place: usize) -> usize
-    requires kept { IsKept bytes.old marks.old count }
+fn cut_from(slots: &mut Vec<u8>, count: usize, place: usize) -> usize
+    requires kept { IsKept slots.old count }
     requires within { place ≤ UNIT_BYTES }
-    ensures kept { IsKept bytes.new marks.new result }
-    ensures cut { (p : ℕ) → patch_of (bytes.new.items, marks_in result marks.new.items) p ≡ cut_patch place (patch_of (bytes.old.items, marks_in count marks.old.items)) p }
+    ensures kept { IsKept slots.new result }
+    ensures cut { (p : ℕ) → patch_of (bytes_in slots.new.items, marks_in result (kept_marks slots.new.items)) p ≡ cut_patch place (patch_of (bytes_in slots.old.items, marks_in count (kept_marks slots.old.items))) p }
 {
-    spread(bytes, marks, count);
-    count - unmark_from(marks, place)
+    spread(slots, count);
+    count - cut_marking(slots, place)
 }
 
 // Writes a mark for each byte, and bytes where none are put yet.
-fn spread(bytes: &mut Vec<u8>, marks: &mut Vec<bool>, count: usize)
-    requires { IsKept bytes.old marks.old count }
-    ensures marks { marks.new.items ≡ marks_in count marks.old.items }
-    ensures long { length bytes.new.items ≡ UNIT_BYTES }
-    ensures same { 0 < count → bytes.new.items ≡ bytes.old.items }
-    ensures room { UNIT_BYTES ≤ vec_capacity bytes.new }
-    ensures marks_room { UNIT_BYTES ≤ vec_capacity marks.new }
+fn spread(slots: &mut Vec<u8>, count: usize)
+    requires { IsKept slots.old count }
+    ensures marks { kept_marks slots.new.items ≡ marks_in count (kept_marks slots.old.items) }
+    ensures long { length slots.new.items ≡ 2 * UNIT_BYTES }
+    ensures same { 0 < count → bytes_in slots.new.items ≡ bytes_in slots.old.items }
+    ensures room { 2 * UNIT_BYTES ≤ vec_capacity slots.new }
 {
     if count == 0 {
-        fill_bytes(bytes);
-        fill_marks(marks, false);
+        fill_from(slots, 0, 0);
     } else if count == UNIT_BYTES as usize {
-        fill_marks(marks, true);
+        fill_from(slots, UNIT_BYTES as usize, 1);
     }
 }
 
-fn fill_bytes(bytes: &mut Vec<u8>)
-    requires { UNIT_BYTES ≤ vec_capacity bytes.old }
-    ensures long { length bytes.new.items ≡ UNIT_BYTES }
-    ensures room { UNIT_BYTES ≤ vec_capacity bytes.new }
+// Writes one value over all from a place on.
+fn fill_from(slots: &mut Vec<u8>, place: usize, value: u8)
+    requires room { 2 * UNIT_BYTES ≤ vec_capacity slots.old }
+    requires within { place ≤ length slots.old.items }
+    requires end { place ≤ 2 * UNIT_BYTES }
+    ensures items { slots.new.items ≡ take place slots.old.items ++ replicate (2 * UNIT_BYTES - place) value }
+    ensures room { 2 * UNIT_BYTES ≤ vec_capacity slots.new }
 {
-    let Ok(()) = bytes.resize(UNIT_BYTES as usize, 0) else {
+    slots.truncate(place);
+    let Ok(()) = slots.resize(ROOM, value) else {
         unreachable!()
     };
 }
 
-fn fill_marks(marks: &mut Vec<bool>, mark: bool)
-    requires { UNIT_BYTES ≤ vec_capacity marks.old }
-    ensures items { marks.new.items ≡ replicate UNIT_BYTES mark }
-    ensures room { UNIT_BYTES ≤ vec_capacity marks.new }
+// Puts bytes at a place and marks them, where each mark is written, and answers how many of them were not put.
+fn put_marking(slots: &mut [u8], at: usize, part: &[u8]) -> usize
+    requires long { length slots.old ≡ 2 * UNIT_BYTES }
+    requires within { at + length part.now ≤ UNIT_BYTES }
+    ensures bytes { bytes_in slots.new ≡ take at (bytes_in slots.old) ++ part.now ++ drop (at + length part.now) (bytes_in slots.old) }
+    ensures marks { drop UNIT_BYTES slots.new ≡ take at (drop UNIT_BYTES slots.old) ++ replicate (length part.now) 1 ++ drop (at + length part.now) (drop UNIT_BYTES slots.old) }
+    ensures more { count_by is_set (drop UNIT_BYTES slots.old) + result ≡ count_by is_set (drop UNIT_BYTES slots.new) }
 {
-    marks.clear();
-    let Ok(()) = marks.resize(UNIT_BYTES as usize, mark) else {
-        unreachable!()
-    };
+    let (bytes, marks) = slots.split_at_mut(UNIT_BYTES as usize);
+    overwrite(bytes, at, part);
+    mark_more(marks, at, part.len())
+}
+
+// Takes out the marks from a place on, where each is written, and answers how many of them were set.
+fn cut_marking(slots: &mut [u8], place: usize) -> usize
+    requires long { length slots.old ≡ 2 * UNIT_BYTES }
+    requires within { place ≤ UNIT_BYTES }
+    ensures bytes { bytes_in slots.new ≡ bytes_in slots.old }
+    ensures marks { drop UNIT_BYTES slots.new ≡ take place (drop UNIT_BYTES slots.old) ++ replicate (UNIT_BYTES - place) 0 }
+    ensures fewer { count_by is_set (drop UNIT_BYTES slots.new) + result ≡ count_by is_set (drop UNIT_BYTES slots.old) }
+{
+    let (_, marks) = slots.split_at_mut(UNIT_BYTES as usize);
+    unmark_from(marks, place)
 }
 
 // Puts the bytes that are marked over others. Each place is written, so that no branch stands between them.
-fn put_marked(block: &mut [u8], bytes: &[u8], marks: &[bool])
+fn put_marked(block: &mut [u8], bytes: &[u8], marks: &[u8])
     requires bytes { length bytes.now ≡ length block.old }
     requires marks { length marks.now ≡ length block.old }
-    ensures { block.new ≡ patched (patch_of (bytes.now, marks.now)) block.old }
+    ensures { block.new ≡ patched (patch_of (bytes.now, map is_set marks.now)) block.old }
 {
     'places: for place in 0..block.len() {
-        block[place] = if marks[place] {
+        block[place] = if marks[place] != 0 {
             bytes[place]
         } else {
             block[place]
@@ -215,13 +220,13 @@ fn copy(block: &mut [u8], bytes: &[u8])
 }
 
 // How many marks are set.
-fn count_set(marks: &[bool]) -> usize
-    ensures count { result ≡ count_by (λ m. m) marks.now }
+fn count_set(marks: &[u8]) -> usize
+    ensures count { result ≡ count_by is_set marks.now }
     ensures few { result ≤ length marks.now }
 {
     let mut count = 0;
     'marks: for place in 0..marks.len() {
-        if marks[place] {
+        if marks[place] != 0 {
             count += 1;
         }
     }
@@ -236,37 +241,37 @@ fn overwrite(block: &mut [u8], at: usize, bytes: &[u8])
 }
 
 // Sets so many marks, and answers how many of them were not set.
-fn mark_more(marks: &mut [bool], at: usize, count: usize) -> usize
+fn mark_more(marks: &mut [u8], at: usize, count: usize) -> usize
     requires { at + count ≤ length marks.old }
-    ensures marks { marks.new ≡ take at marks.old ++ replicate count true ++ drop (at + count) marks.old }
-    ensures more { count_by (λ m. m) marks.old + result ≡ count_by (λ m. m) marks.new }
+    ensures marks { marks.new ≡ take at marks.old ++ replicate count 1 ++ drop (at + count) marks.old }
+    ensures more { count_by is_set marks.old + result ≡ count_by is_set marks.new }
 {
     let set = count_set(&marks[at..at + count]);
     mark(marks, at, count);
     count - set
 }
 
-fn mark(marks: &mut [bool], at: usize, count: usize)
+fn mark(marks: &mut [u8], at: usize, count: usize)
     requires { at + count ≤ length marks.old }
-    ensures { marks.new ≡ take at marks.old ++ replicate count true ++ drop (at + count) marks.old }
+    ensures { marks.new ≡ take at marks.old ++ replicate count 1 ++ drop (at + count) marks.old }
 {
-    marks[at..at + count].fill(true);
+    marks[at..at + count].fill(1);
 }
 
 // Takes out the marks from a place on, and answers how many of them were set.
-fn unmark_from(marks: &mut [bool], place: usize) -> usize
+fn unmark_from(marks: &mut [u8], place: usize) -> usize
     requires { place ≤ length marks.old }
-    ensures marks { marks.new ≡ take place marks.old ++ replicate (length marks.old - place) false }
-    ensures fewer { count_by (λ m. m) marks.new + result ≡ count_by (λ m. m) marks.old }
+    ensures marks { marks.new ≡ take place marks.old ++ replicate (length marks.old - place) 0 }
+    ensures fewer { count_by is_set marks.new + result ≡ count_by is_set marks.old }
 {
     let set = count_set(&marks[place..]);
     unmark(marks, place);
     set
 }
 
-fn unmark(marks: &mut [bool], place: usize)
+fn unmark(marks: &mut [u8], place: usize)
     requires { place ≤ length marks.old }
-    ensures { marks.new ≡ take place marks.old ++ replicate (length marks.old - place) false }
+    ensures { marks.new ≡ take place marks.old ++ replicate (length marks.old - place) 0 }
 {
-    marks[place..].fill(false);
+    marks[place..].fill(0);
 }

@@ -1,36 +1,31 @@
-use Rattle.std.proofs.Common.{◌∙◌, ◌+◌, ◌++◌, true, length, take, drop, ap, sym}
-use Rattle.std.specs.Prelude.{replicate}
+use Rattle.std.proofs.Common.{◌∙◌, ◌+◌, length, drop, ap, sym}
 use Rattle.std.specs.List.{count_by}
-use Rattle.graph_change.specs.Kept.{marks_in}
+use Rattle.std.specs.Vec.{with_items}
+use Rattle.posix_calls.specs.declared.limits.TheConstants.{UNIT_BYTES}
+use Rattle.graph_change.specs.Kept.{bytes_in, is_set, kept_marks, marks_in}
 use Rattle.graph_change.specs.View.{patch_of}
-use Rattle.graph_change.proofs.Marks.{put_settled, written_back}
+use Rattle.graph_change.proofs.Marks.{kept_some, marks_counted, put_kept, written_back}
 use Rattle.graph_change.proofs.block_change.put_part.Goals as goal
+
+pub returns-clause-kept : goal.returns-clause-kept
+returns-clause-kept c =
+    let slots = c.spread.new.slots in
+    let new = c.put_marking.new.slots in
+    let lent = c.deref_mut.ensures.value in
+    let new_long = c.put_marking.auto.slots ∙ ap length lent in
+    let back = written_back slots.len new slots.items slots.ok.0 new_long in
+    let before = ap (λ xs. count_by is_set (drop UNIT_BYTES xs)) lent ∙ sym (marks_counted (drop UNIT_BYTES slots.items)) ∙ ap (count_by (λ b. b)) c.spread.ensures.marks ∙ c.requires.kept.counted in
+    kept_some (with_items slots new) (c.args.count + c.put_marking.result) c.spread.ensures.room (ap length back ∙ new_long ∙ c.spread.ensures.long)
+    (ap (λ xs. count_by is_set (drop UNIT_BYTES xs)) back ∙ sym c.put_marking.ensures.more ∙ ap (λ k. k + c.put_marking.result) before)
 
 pub returns-clause-put : goal.returns-clause-put
 returns-clause-put c p =
-    let at = c.args.at in
-    let part = c.args.part.now in
-    let n = length part in
-    let bs = c.spread.new.bytes.items in
-    let ms = c.spread.new.marks.items in
-    let nb = c.overwrite.new.block in
-    let nm = c.mark_more.new.marks in
+    let slots = c.spread.new.slots.items in
+    let new = c.put_marking.new.slots in
     let count = c.args.count in
-    let more = c.mark_more.result in
+    let more = c.put_marking.result in
     let lent = c.deref_mut.ensures.value in
-    let lent_marks = c.deref_mut-2.ensures.value in
-    let nb_long = c.overwrite.auto.block ∙ ap length lent in
-    let nm_long = c.mark_more.auto.marks ∙ ap length lent_marks in
-    let back = written_back c.spread.new.bytes.len nb bs c.spread.new.bytes.ok.0 nb_long in
-    let back_marks = written_back c.spread.new.marks.len nm ms c.spread.new.marks.ok.0 nm_long in
-    ap (λ xs. patch_of (xs, marks_in (count + more) (take c.spread.new.marks.len (nm ++ drop (length nm) ms))) p) back
-    ∙ ap (λ ys. patch_of (nb, marks_in (count + more) ys) p) back_marks
-    ∙ put_settled count more at c.args.bytes.now.items bs nb part c.args.marks.now.items ms nm c.spread.ensures.marks c.spread.ensures.same c.spread.ensures.long
-    (ap length c.spread.ensures.marks ∙ c.requires.kept.long)
-    (ap (count_by (λ b. b)) c.spread.ensures.marks ∙ c.requires.kept.counted)
-    c.requires.within
-    (c.overwrite.ensures ∙ ap (λ xs. take at xs ++ part ++ drop (at + n) xs) lent)
-    (c.mark_more.ensures.marks ∙ ap (λ xs. take at xs ++ replicate n true ++ drop (at + n) xs) lent_marks)
-    nm_long
-    (sym (ap (λ xs. count_by (λ b. b) xs + more) lent_marks) ∙ c.mark_more.ensures.more)
-    p
+    let new_long = c.put_marking.auto.slots in
+    ap (λ xs. patch_of (bytes_in xs, marks_in (count + more) (kept_marks xs)) p) (written_back c.spread.new.slots.len new slots c.spread.new.slots.ok.0 (new_long ∙ ap length lent))
+    ∙ put_kept count more c.args.at c.args.slots.now.items slots c.deref_mut.result.now new c.args.part.now c.spread.ensures.marks c.spread.ensures.same c.spread.ensures.long c.requires.kept.counted c.requires.within lent
+    c.put_marking.ensures.bytes c.put_marking.ensures.marks c.put_marking.ensures.more new_long p

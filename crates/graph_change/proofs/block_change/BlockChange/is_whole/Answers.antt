@@ -9,4 +9,4 @@ use Rattle.graph_change.proofs.block_change.BlockChange.is_whole.Goals as goal
 pub returns : goal.returns
 returns c =
     let b = c.self.inside in
-    subst (λ v. IsTrue (b.count == UNIT_BYTES) ↔ IsWhole (patch_of v)) c.self.view_is (whole_told b.bytes b.is_put b.count c.self.invariant)
+    subst (λ v. IsTrue (b.count == UNIT_BYTES) ↔ IsWhole (patch_of v)) c.self.view_is (whole_told b.slots b.count c.self.invariant)
