@@ -133,6 +133,13 @@ impl ClientCopies {
         Ok(())
     }
 
+    /// These numbers are granted, in place of those that were. It takes no memory.
+    pub fn put_numbers(&mut self, numbers: Vec<u32>)
+        ensures { self.new ≡ record self.old { numbers = numbers.items } }
+    {
+        self.numbers = numbers;
+    }
+
     /// A number that was granted is used, and granted no longer. It takes no memory.
     pub fn use_number(&mut self, number: u32)
         ensures known { knows self.new ≡ without_granted (knows self.old) number }

@@ -1,4 +1,5 @@
-ghost use Rattle.std.specs.Prelude.{◌≡◌, [], ◌∷◌, ◌++◌, ◌≤◌, true, false, IfOk, OnErr, OnOk, option_map, take, drop, length};
+ghost use Rattle.std.specs.Prelude.{◌≡◌, [], ◌∷◌, ◌++◌, ◌+◌, ◌^◌, ◌<◌, ◌≤◌, true, false, IfOk, OnErr, OnOk, option_map, take, drop, length};
+ghost use Rattle.std.specs.List.{AllByRecursion};
 ghost use Rattle.std.specs.Option.{ForSome};
 ghost use Rattle.posix_calls.specs.declared.limits.TheConstants.{UNIT_BYTES};
 ghost use Rattle.log_record.specs.Grammar.{IsRecord};
@@ -47,11 +48,29 @@ impl OwnRecords {
         }
     }
 
-    /// Takes the memory for one record more of the region that is written, before it is begun. No memory is asked for where there is room already.
+    /// The records of the region that was handed over, until it is back.
+    pub fn away(&self) -> &[Record]
+        ensures list { result.now ≡ self.now.away }
+        ensures spelled { AllByRecursion IsRecord result.now }
+    {
+        &self.away
+    }
+
+    /// The records of the region that is written.
+    pub fn current(&self) -> &[Record]
+        ensures list { result.now ≡ self.now.current }
+        ensures spelled { AllByRecursion IsRecord result.now }
+    {
+        &self.current
+    }
+
+    /// Takes the memory for one record more of the region that is written, before it is begun. No memory is asked for where there is room already. With one more the records of both regions are still fewer
+    /// than 2⁶⁴.
     pub fn make_room(&mut self) -> Result<(), AllocError>
         ensures room { OnOk result (self.new.has_room ≡ true) }
         ensures rest { self.new ≡ record self.old { has_room = self.new.has_room } }
         ensures refused { OnErr result (self.old.has_room ≡ false) }
+        ensures few { length self.old.away + length self.old.current + 1 < 2 ^ 64 }
     {
         self.current.reserve(1)
     }
