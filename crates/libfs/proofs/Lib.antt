@@ -1,0 +1,5 @@
+pub mod Kept
+pub mod Ready
+pub mod LogSteps
+pub mod Forgetting
+pub mod Agreeing

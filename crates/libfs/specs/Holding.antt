@@ -1,0 +1,33 @@
+-- What a client has for its calls.
+use Rattle.std.specs.Prelude.{ℕ, List}
+use Rattle.tier_device.specs.declared.media.Tier.{Tier}
+use Rattle.posix_calls.specs.Own.{own_of}
+use Rattle.posix_calls.specs.declared.call.Call.{Call}
+use Rattle.call_effects.specs.Known.{Knowledge, part_of}
+use Rattle.client_plan.specs.Holdings.{Holdings}
+use Rattle.client_plan.specs.Planned.{outcome}
+use Rattle.client_plan.specs.declared.outcome.Outcome.{Outcome}
+use Rattle.client_leases.specs.Held.{reads, writes}
+use Rattle.client_log.specs.Steps.{most_of}
+use Rattle.client_copies.specs.Held.{knows}
+use Rattle.libfs.specs.View.{ClientView}
+
+-- what a client has
+abbrev pub holdings_of : {M : Type 0} → (M → Tier → List ℕ) → ClientView M → Holdings
+holdings_of seen v = record {
+  own = own_of v.copies.own;
+  reads = reads v.pass;
+  writes = writes v.pass;
+  pins = v.pins;
+  numbers = v.copies.numbers;
+  spare = v.spare;
+  room = most_of seen v.log;
+}
+
+-- what it knows
+abbrev pub known_to : {M : Type 0} → ClientView M → Knowledge
+known_to v = knows v.copies
+
+-- what a call comes to for it
+abbrev pub outcome_for : {M : Type 0} → (M → Tier → List ℕ) → ClientView M → Call → Outcome
+outcome_for seen v call = outcome (part_of (known_to v)) (holdings_of seen v) call

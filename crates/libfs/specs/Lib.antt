@@ -1,0 +1,9 @@
+pub mod Denied
+pub mod View
+pub mod Holding
+pub mod Sound
+pub mod Starting
+pub mod Stepping
+pub mod Leasing
+pub mod HandingOver
+pub mod Opening

@@ -1,0 +1,29 @@
+-- What holds of a client between two calls.
+use Rattle.std.specs.Prelude.{◌≡◌, ℕ, ◌++◌, Bool, true, List, [], Option, is_some}
+use Rattle.std.specs.Option.{ForSome}
+use Rattle.atomic_table.specs.Seated.{TableId}
+use Rattle.tier_device.specs.declared.media.Tier.{Tier}
+use Rattle.update_log.specs.Frames.{with_record}
+use Rattle.lease_manager.specs.Passes.{PassView, client_of}
+use Rattle.client_log.specs.View.{LogView, written}
+use Rattle.client_copies.specs.Held.{Held, knows}
+use Rattle.client_copies.specs.Prepared.{IsPreparedFor}
+use Rattle.libfs.specs.declared.begun.Begun.{Begun}
+use Rattle.libfs.specs.View.{begun_record}
+use Rattle.client_leases.specs.Counted.{Counts}
+use Rattle.own_records.specs.Kept.{Kept}
+
+-- Pass, log and copies are one client's; what is begun here is begun in the log, and prepared; and the pass counts the records that are not digested.
+pub record IsSound {M : Type 0} (seen : M → Tier → List ℕ) (leases : TableId) (pass : PassView) (log : LogView M) (copies : Held) (begun : Option Begun) (answered : Bool) (records : Kept) : Type 0 where
+  pub table : pass.table ≡ leases
+  pub number : copies.client ≡ client_of pass
+  -- the records of the current region are in memory too; those of the other one while it is away
+  pub written_is : records.current ≡ written seen log
+  pub back : is_some log.other ≡ true → records.away ≡ []
+  pub begins : begun_record begun ≡ log.current.begun
+  pub prepared : ForSome begun (λ b. IsPreparedFor (knows copies) b.change)
+  -- its record has room among those of the current region
+  pub room : is_some begun ≡ true → records.has_room ≡ true
+  pub counts : Counts pass (with_record (records.away ++ records.current) (begun_record begun))
+  -- only a fault answers a call whose record stays begun
+  pub failed : answered ≡ true → (log.failed ≡ true) × (is_some begun ≡ true)

@@ -1,0 +1,37 @@
+-- What a device call of a begun record makes of its client.
+use Rattle.std.specs.Prelude.{◌≡◌, ℕ, Bool, true, false, List, Option, Some, None, Result, Ok, Err}
+use Rattle.tier_device.specs.declared.media.Tier.{Tier}
+use Rattle.posix_calls.specs.declared.call.Reply.{Reply}
+use Rattle.posix_calls.specs.declared.call.Reply.TheVariants as replies
+use Rattle.posix_calls.specs.declared.errno.Errno.TheVariants.{IoError}
+use Rattle.client_log.specs.Turns.{turn_of, record_appended}
+use Rattle.client_log.specs.declared.error.LogError.{LogError}
+use Rattle.client_log.specs.declared.error.LogError.TheVariants.{DeviceFault}
+use Rattle.client_copies.specs.Logged.{knows_logged}
+use Rattle.libfs.specs.declared.begun.Begun.{Begun}
+use Rattle.libfs.specs.View.{ClientView}
+use Rattle.libfs.specs.Holding.{known_to}
+
+-- The record is not kept yet: nothing has changed but the log's region.
+pub record IsGoing {M : Type 0} (seen : M → Tier → List ℕ) (old : ClientView M) (answer : Option Reply) (new : ClientView M) : Type 0 where
+  pub told : answer ≡ None
+  pub turn : turn_of seen new.log ≡ turn_of seen old.log
+  pub rest : new ≡ record old { log = new.log }
+
+-- It is kept: the call is answered, and the client knows what the record left.
+pub record HasReplied {M : Type 0} (seen : M → Tier → List ℕ) (old : ClientView M) (begun : Begun) (answer : Option Reply) (new : ClientView M) : Type 0 where
+  pub told : answer ≡ Some begun.reply
+  pub turn : turn_of seen new.log ≡ record_appended (turn_of seen old.log) begun.change.entry
+  pub knows_then : known_to new ≡ knows_logged (known_to old) begun.change.entry.effects begun.change.made begun.change.descriptor
+  pub rest : new ≡ record old { log = new.log; copies = new.copies; begun = None }
+
+-- A device failed, or had failed: the call is answered by that, and its record stays begun.
+pub record HasFailed {M : Type 0} (seen : M → Tier → List ℕ) (old : ClientView M) (answer : Option Reply) (new : ClientView M) : Type 0 where
+  pub told : answer ≡ Some (replies.Failed IoError)
+  pub turn : turn_of seen new.log ≡ turn_of seen old.log
+  pub rest : new ≡ record old { log = new.log; answered = true }
+
+-- what a device call was answered that failed, or didn't
+abbrev pub call_answer : Bool → Result (Unit {0}) LogError
+call_answer false = Ok tt
+call_answer true = Err DeviceFault

@@ -1,0 +1,194 @@
+ghost use Rattle.std.specs.Prelude.{◌≡◌, ◌≢◌, ◌<◌, ◌≤◌, ℕ, ◌++◌, [], true, false, Some, None, IfOk, IfErr, is_some, length};
+ghost use Rattle.file_graph.specs.Graph.{is_among};
+ghost use Rattle.lease_manager.specs.declared.view.LeaseMode.TheVariants.{Writing, Trying};
+ghost use Rattle.lease_manager.specs.Words.{HasWord, IsClient};
+ghost use Rattle.lease_manager.specs.Passes.{client_of, lease_of, records_of};
+ghost use Rattle.posix_calls.specs.Tree.{has_open};
+ghost use Rattle.client_log.specs.Regions.{in_turn};
+ghost use Rattle.client_log.specs.View.{written};
+ghost use Rattle.libfs.specs.View.{begun_record, is_pending, own_records};
+ghost use Rattle.client_leases.specs.Counted.{Counts, touching};
+ghost use Rattle.libfs.specs.Holding.{known_to};
+ghost use Rattle.libfs.specs.Opening.{IsBlank, IsNew};
+
+use crate::begun::Begun;
+use client_copies::ClientCopies;
+use client_log::ClientLog;
+use lease_manager::{LeaseMode, Leases, Pass};
+use own_records::OwnRecords;
+use std::alloc::{AllocError, Global};
+use std::marker::Model;
+use tier_device::Media;
+use update_log::Region;
+
+/// One client of the file system. Contracts see its parts (`ClientView`): the pass, the log, what it knows, its pins and spare units, the call that it has begun, and the
+/// records of the region that is away.
+#[derive(Drop)]
+pub struct Client<M: Media> {
+    pub(crate) leases: Leases,
+    pub(crate) pass: Pass,
+    pub(crate) log: ClientLog<M>,
+    pub(crate) copies: ClientCopies,
+    pub(crate) pins: Vec<u32>,
+    pub(crate) spare: u32,
+    pub(crate) begun: Option<Begun>,
+    // whether the begun call was answered all the same, as it met a fault
+    pub(crate) answered: bool,
+    // the records that may not be digested yet: those of the region that is away, and those of the current one
+    pub(crate) records: OwnRecords,
+}
+
+impl<M: Media> Model for Client<M> {
+    ghost use Rattle.std.specs.Coded.{codes};
+    ghost use Rattle.client_copies.specs.Held.{held_code};
+    ghost use Rattle.libfs.specs.contracts.begun.Begun as begun_call;
+    ghost use Rattle.libfs.specs.View.{ClientView};
+    ghost use Rattle.libfs.specs.Sound.{IsSound};
+
+    ghost Value = { ClientView M };
+
+    ghost coded = { Prim.hlevel (codes, held_code, begun_call.the_row.coded) };
+
+    ghost view = { λ c. record { pass = c.pass; log = c.log; copies = c.copies; pins = c.pins.items; spare = c.spare; begun = c.begun; answered = c.answered; sealed = c.records.away } };
+
+    ghost invariant = { λ c. IsSound M.seen c.leases c.pass c.log c.copies c.begun c.answered c.records };
+}
+
+/// What a client leaves.
+#[derive(Drop)]
+pub struct Detached<M: Media> {
+    pub leases: Leases,
+    pub pass: Pass,
+    /// The region of even generations and that of odd ones, where they are here.
+    pub regions: (Option<Region<M>>, Option<Region<M>>),
+}
+
+impl<M: Media> Client<M> {
+    /// The client of a pass and of a log, which has no record and neither region away. It knows nothing, and nothing is granted to it.
+    ///
+    /// All is given back where there is no memory.
+    pub fn open(
+        alloc: Global,
+        leases: Leases,
+        pass: Pass,
+        log: ClientLog<M>,
+    ) -> Result<Self, (AllocError, (Leases, Pass, ClientLog<M>))>
+        requires table { pass.table ≡ leases }
+        requires blank { IsBlank M.seen log }
+        requires uncounted { (i : ℕ) → HasWord i → records_of pass i ≡ 0 }
+        ensures opened { IfOk result (IsNew pass log) }
+        ensures back { IfErr result (λ e. e.1 ≡ (leases, pass, log)) }
+    {
+        match ClientCopies::new(alloc, pass.client()) {
+            Ok(copies) => Ok(Client {
+                leases,
+                pass,
+                log,
+                copies,
+                pins: Vec::new(alloc),
+                spare: 0,
+                begun: None,
+                answered: false,
+                records: OwnRecords::new(alloc),
+            }),
+            Err(error) => Err((error, (leases, pass, log))),
+        }
+    }
+
+    /// The client's number, from 1 to 8.
+    pub fn client(&self) -> u32
+        ensures number { result ≡ client_of self.now.pass }
+        ensures known { (known_to self.now).client ≡ result }
+        ensures within { IsClient result }
+    {
+        let _ = &self.log;
+        self.pass.client()
+    }
+
+    /// Whether a call waits for its answer: it is begun and not answered.
+    pub fn is_pending(&self) -> bool
+        ensures { result ≡ is_pending self.now }
+    {
+        self.begun.is_some() && !self.answered
+    }
+
+    /// Whether a device of the client's regions has failed: each further call is answered by that.
+    pub fn has_failed(&self) -> bool
+        ensures { result ≡ self.now.log.failed }
+    {
+        self.log.has_failed()
+    }
+
+    /// Whether a record is begun and not kept: its call waits for its answer, or met a fault.
+    pub fn has_begun(&self) -> bool
+        ensures { result ≡ is_some self.now.begun }
+    {
+        self.begun.is_some()
+    }
+
+    /// How many records of the client are not known to be digested: those of the current region, and of the one that is away.
+    pub fn undigested(&self) -> usize
+        ensures { result ≡ length (self.now.sealed ++ written M.seen self.now.log) }
+    {
+        self.records.away().len() + self.records.current().len()
+    }
+
+    /// The units that it was granted and has not used.
+    pub fn spare(&self) -> u32
+        ensures { result ≡ self.now.spare }
+    {
+        self.spare
+    }
+
+    /// Whether it has pinned an inode.
+    pub fn is_pinned(&self, inode: u32) -> bool
+        ensures { result ≡ is_among inode self.now.pins }
+    {
+        self.pins.contains(&inode)
+    }
+
+    /// Whether an inode is open at one of its descriptors.
+    pub fn has_open(&self, inode: u32) -> bool
+        ensures { result ≡ has_open (known_to self.now).own inode }
+    {
+        self.copies.own().has_open(inode)
+    }
+
+    /// How the client stands to an inode.
+    pub fn holds(&self, inode: u32) -> LeaseMode
+        requires { HasWord inode }
+        ensures mode { result ≡ lease_of self.now.pass inode }
+        ensures settled { result ≢ Trying }
+    {
+        self.pass.lease(inode)
+    }
+
+    /// What holds of a client: what it has begun is begun in its log, its pass counts just its records that are not digested, and each inode that one of them touches it holds for
+    /// writing.
+    pub fn own_records_are_held(&self)
+        ensures begins { begun_record self.now.begun ≡ self.now.log.current.begun }
+        ensures counts { Counts self.now.pass (own_records M.seen self.now) }
+        ensures held { (i : ℕ) → HasWord i → 0 < touching (own_records M.seen self.now) i → lease_of self.now.pass i ≡ Writing }
+    {
+        self.pass.counts_held();
+    }
+
+    /// The pass and the regions that are here, to which the client makes no call any more.
+    pub fn detach(self) -> Detached<M>
+        ensures pass { result.pass ≡ self.pass }
+        ensures table { result.leases ≡ self.pass.table }
+        ensures regions { result.regions ≡ in_turn self.log.generation (Some self.log.current, self.log.other) }
+    {
+        let Client {
+            leases,
+            pass,
+            log,
+            ..
+        } = self;
+        Detached {
+            leases,
+            pass,
+            regions: log.into_regions(),
+        }
+    }
+}

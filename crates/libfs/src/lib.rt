@@ -1,0 +1,29 @@
+//! One client of the file system: what it knows, what it holds, and its log, and by these the answers to its calls.
+//!
+//! A call is started (`Client::start`): it is answered at once, or something is lacking first, or a record of it is begun in the client's log. That record is kept by four device
+//! calls, one a `Client::step`, and then the call is answered. What a call comes to is decided by `client_plan`, from what the client knows (`client_copies`) and what it holds
+//! (`specs/Holding.antt`); neither `start` nor `step` nor a call on a lease waits for anyone.
+//!
+//! The records that are not digested stay in memory beside the log: those of the current region and those of the region that is away. The pass counts on each inode how many of them
+//! touch it, so no lease goes while a record on its inode is not digested.
+//!
+//! That what a client answers is a step of the file tree, in every whole that agrees with what it knows, is told by the laws.
+#![tactic(auto)]
+
+mod begun;
+mod client;
+mod denying;
+mod handing_over;
+mod laws;
+mod leasing;
+mod now;
+mod starting;
+mod stepping;
+mod supplies;
+
+pub use begun::Begun;
+pub use client::{Client, Detached};
+pub use denying::Denied;
+pub use handing_over::Sealed;
+pub use laws::{answered_start_is_a_step, begun_record_is_a_step};
+pub use now::Now;

@@ -1,0 +1,115 @@
+ghost use Rattle.std.specs.Prelude.{◌≡◌, ◌⊎◌, ℕ, true, false, None, IfOk, IfErr};
+ghost use Rattle.posix_calls.specs.declared.call.Reply.TheVariants as replies;
+ghost use Rattle.posix_calls.specs.declared.errno.Errno.TheVariants.{IoError, NoMemory};
+ghost use Rattle.call_effects.specs.Known.{part_of};
+ghost use Rattle.client_plan.specs.Memory.{wants_memory};
+ghost use Rattle.client_copies.specs.Prepared.{IsPreparedFor};
+ghost use Rattle.libfs.specs.declared.now.Now.TheVariants as now;
+ghost use Rattle.libfs.specs.View.{is_pending};
+ghost use Rattle.libfs.specs.Holding.{holdings_of, known_to, outcome_for};
+ghost use Rattle.libfs.specs.Starting.{HasBegun, HasStarted, IsOutOfMemory, IsReadyToBegin, MayGoOn};
+
+use crate::begun::Begun;
+use crate::client::Client;
+use crate::now::Now;
+use client_copies::{OwnChange, logged_call_can_be_prepared};
+use client_leases::note_effects;
+use client_plan::{DescriptorChange, Outcome, logged_call_is_a_step, plan_call};
+use log_record::Record;
+use posix_calls::{Call, Errno, Reply};
+use std::alloc::{AllocError, Global};
+use tier_device::Media;
+
+impl<M: Media> Client<M> {
+    /// Starts a call, where none waits for its answer. A client of which a device has failed answers EIO. Else it comes to what `plan_call` decides by what the client knows and has: it is
+    /// answered at once, or needs what is lacking first, with nothing changed, or its record is begun, and `step` does the rest.
+    ///
+    /// Memory is taken for names and bytes that the call tells or has, and for all that its record needs until it is answered; where there is none the answer is ENOMEM, and nothing has
+    /// changed. It makes no device call.
+    pub fn start(&mut self, alloc: Global, call: &Call) -> Now
+        requires idle { is_pending self.old ≡ false }
+        ensures failed { self.old.log.failed ≡ true → (result ≡ now.Done (replies.Failed IoError)) × (self.new ≡ self.old) }
+        ensures started { self.old.log.failed ≡ false → HasStarted M.seen self.old (outcome_for M.seen self.old call.now) result self.new ⊎ IsOutOfMemory M.seen self.old call.now result self.new }
+    {
+        if self.log.has_failed() {
+            return answer(Errno::IoError);
+        }
+        match self.plan(alloc, call) {
+            Ok(Outcome::Reply { reply, change }) => {
+                self.copies.change_descriptor(change);
+                Now::Done { reply }
+            }
+            Ok(Outcome::Need { need }) => Now::Need { need },
+            Ok(
+                Outcome::Log {
+                    record: entry,
+                    reply,
+                    made,
+                    change,
+                },
+            ) => self.begin(entry, reply, made, change),
+            Err(_) => answer(Errno::NoMemory),
+        }
+    }
+
+    // What a call comes to. Of a record all is there that it asks for.
+    fn plan(&self, alloc: Global, call: &Call) -> Result<Outcome, AllocError>
+        ensures exact { IfOk result (λ o. o ≡ outcome_for M.seen self.now call.now) }
+        ensures ready { IfOk result (MayGoOn M.seen self.now) }
+        ensures memory { IfErr result (λ _. wants_memory (part_of (known_to self.now)) (holdings_of M.seen self.now).own call.now ≡ true) }
+    {
+        logged_call_is_a_step();
+        logged_call_can_be_prepared();
+        plan_call(alloc, &self.copies, self, call)
+    }
+
+    // Begins a record, for which all is there.
+    fn begin(
+        &mut self,
+        entry: Record,
+        reply: Reply,
+        made: Option<u32>,
+        change: Option<DescriptorChange>,
+    ) -> Now
+        requires idle { self.old.begun ≡ None }
+        requires going { self.old.log.failed ≡ false }
+        requires ready { IsReadyToBegin M.seen self.old entry made change }
+        ensures { ((result ≡ now.Pending) × HasBegun M.seen self.old entry reply made change self.new) ⊎ ((result ≡ now.Done (replies.Failed NoMemory)) × (self.new ≡ self.old)) }
+    {
+        match self.copies.prepare(entry, made, change) {
+            Ok(change) => self.begin_prepared(change, reply),
+            Err(_) => answer(Errno::NoMemory),
+        }
+    }
+
+    // Begins a record that is prepared.
+    fn begin_prepared(&mut self, change: OwnChange, reply: Reply) -> Now
+        requires idle { self.old.begun ≡ None }
+        requires going { self.old.log.failed ≡ false }
+        requires ready { IsReadyToBegin M.seen self.old change.entry change.made change.descriptor }
+        requires prepared { IsPreparedFor (known_to self.old) change }
+        ensures { ((result ≡ now.Pending) × HasBegun M.seen self.old change.entry reply change.made change.descriptor self.new) ⊎ ((result ≡ now.Done (replies.Failed NoMemory)) × (self.new ≡ self.old)) }
+    {
+        match self.records.make_room() {
+            Ok(()) => {}
+            Err(_) => return answer(Errno::NoMemory),
+        }
+        match self.log.begin(change.entry()) {
+            Ok(()) => {}
+            Err(_) => unreachable!(),
+        }
+        let entry = change.entry();
+        note_effects(&self.leases, &mut self.pass, entry.effects.as_slice());
+        self.spare -= entry.units;
+        self.begun = Some(Begun { change, reply });
+        Now::Pending
+    }
+}
+
+fn answer(errno: Errno) -> Now
+    ensures { result ≡ now.Done (replies.Failed errno) }
+{
+    Now::Done {
+        reply: Reply::Failed { errno },
+    }
+}

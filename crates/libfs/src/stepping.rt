@@ -1,0 +1,54 @@
+ghost use Rattle.std.specs.Prelude.{◌≡◌, ℕ, List, true, false, IfSome, is_some};
+ghost use Rattle.update_log.specs.Stage.{progress};
+ghost use Rattle.update_log.specs.Calls.{ShowsCall};
+ghost use Rattle.update_log.specs.declared.stage.Progress.TheVariants.{Going, Appended};
+ghost use Rattle.client_log.specs.Calls.{IsMovedOnce};
+ghost use Rattle.client_log.specs.Counts.{AreLeft, CountOf};
+ghost use Rattle.client_log.specs.View.{written};
+ghost use Rattle.libfs.specs.View.{is_pending};
+ghost use Rattle.libfs.specs.Stepping.{IsGoing, HasReplied, HasFailed, call_answer};
+
+use crate::begun::Begun;
+use crate::client::Client;
+use posix_calls::{Errno, Reply};
+use tier_device::Media;
+use update_log::Progress;
+
+impl<M: Media> Client<M> {
+    /// Makes one device call for the call that waits for its answer. The fourth that succeeds ends it: its record is kept, the client knows what that left, and the call is answered. A
+    /// device that fails ends it at once with EIO, and its record stays begun. It takes no memory.
+    pub fn step(&mut self) -> Option<Reply>
+        requires { is_pending self.old ≡ true }
+
+        // At each moment of the call what counted before it counts, with the begun record or without.
+        ensures any_moment { (regions : ℕ → List ℕ) → AreLeft M.moment M.left self.old.log self.new.log regions → CountOf self.old.log.generation (is_some self.old.log.other) (written M.seen self.old.log) self.old.log.current.begun regions }
+
+        ensures going { self.new.log.failed ≡ false → progress self.old.log.current.stage ≡ Going → IsGoing M.seen self.old result self.new }
+        ensures replied { self.new.log.failed ≡ false → progress self.old.log.current.stage ≡ Appended → IfSome self.old.begun (λ b. HasReplied M.seen self.old b result self.new) }
+        ensures failed { self.new.log.failed ≡ true → HasFailed M.seen self.old result self.new }
+
+        // What the device call does, and that it is one; a log that has failed before makes none.
+        ensures shown { self.new.log.failed ≡ false → ShowsCall self.old.log.current.stage self.old.log.current.end self.old.log.current.begun (M.seen self.old.log.current.media) (M.seen self.new.log.current.media) }
+        ensures moved { self.old.log.failed ≡ false → IsMovedOnce M.moment M.left M.faults self.old.log.current self.new.log.current (call_answer self.new.log.failed) }
+        ensures rest { self.new.log ≡ record self.old.log { current = self.new.log.current; failed = self.new.log.failed } }
+        ensures stays_failed { self.old.log.failed ≡ true → self.new.log ≡ self.old.log }
+    {
+        match self.log.step() {
+            Ok(Progress::Going) => None,
+            Ok(Progress::Appended) => match self.begun.take() {
+                Some(Begun { change, reply }) => {
+                    let entry = self.copies.commit(change);
+                    self.records.push(entry);
+                    Some(reply)
+                }
+                None => unreachable!(),
+            },
+            Err(_) => {
+                self.answered = true;
+                Some(Reply::Failed {
+                    errno: Errno::IoError,
+                })
+            }
+        }
+    }
+}
