@@ -1,5 +1,5 @@
 -- What a digest answers, by what was answered to it.
-use Rattle.std.proofs.Common.{◌≡◌, ◌≢◌, ◌≤◌, ◌+◌, ℕ, List, Bool, true, false, refl, sym, ap, ◌∙◌, subst, arith}
+use Rattle.std.proofs.Common.{◌≡◌, ◌≢◌, ◌≤◌, ◌+◌, ℕ, List, Bool, true, false, refl, sym, ap, ◌∙◌, arith}
 use Rattle.std.specs.Prelude.{Result, Ok, Err}
 use Rattle.std.proofs.lemmas.Bool.{true≢false}
 use Rattle.tier_device.specs.declared.media.Tier.{Tier}
@@ -7,9 +7,6 @@ use Rattle.batch_journal.specs.View.{JournalView}
 use Rattle.digester.specs.Digesting.{DigestsOrStays}
 use Rattle.digester.specs.declared.error.DigestError.{DigestError}
 use Rattle.digester.specs.declared.error.DigestError.TheVariants as errors
-use Rattle.kernel_book.specs.Book.{Accounts}
-use Rattle.kernel_fs.specs.Answering.{Answers, told}
-use Rattle.kernel_fs.specs.KernelView.{KernelView}
 
 err_is : {T : Type 0} (e f : DigestError) → ◌≡◌ {A = Result T DigestError} (Err e) (Err f) → e ≡ f
 err_is e f is = cc
@@ -36,9 +33,3 @@ module _ {M : Type 0} (moment : M → ℕ) (seen : M → Tier → List ℕ) (lef
   -- no call at all
   pub none : {U : Type 0} (area : JournalView M) (y : U) → area.failed ≡ false → DigestsOrStays moment seen left faults area area (Ok y)
   none area y going = record { unmoved = tt; geometry = refl; more_faults = omega arith; one_fault = omega arith; quiet = refl; going = (going, going); quiet_refused = tt; stays_failed = λ was. absurd (true≢false (sym was ∙ going)); fault = λ is. absurd (cc is) }
-
-  pub answered : {T : Type 0} (area next : JournalView M) (book new : Accounts) (old : KernelView M) → record { area = area; book = book } ≡ old → (r : Result T DigestError) → area.failed ≡ false → DigestsOrStays moment seen left faults area next r
-      → Answers old.area.failed old (record { area = next; book = new }) (told r) (DigestsOrStays moment seen left faults old.area next)
-  answered {T = T} area next book new old same r going is =
-      subst (λ (v : KernelView M). Answers v.area.failed v (record { area = next; book = new }) (told r) (DigestsOrStays moment seen left faults v.area next)) same
-      (record { failed = λ was. absurd (true≢false (sym was ∙ going)); going = λ _. (r, refl, is) })

@@ -4,7 +4,7 @@ use Rattle.std.proofs.lemmas.Bool.Decides.{eqb_tells}
 use Rattle.std.proofs.lemmas.List.{length-drop, length-take-le, get_or-set_other}
 use Rattle.tier_device.specs.declared.media.Tier.{Tier}
 use Rattle.posix_calls.specs.Operations.{is_client}
-use Rattle.file_graph.specs.Graph.{Graph}
+use Rattle.file_graph.specs.Graph.{Graph, is_among}
 use Rattle.layout.specs.declared.marks.Mark.{Mark}
 use Rattle.layout.specs.declared.marks.Marks.{Marks}
 use Rattle.log_record.specs.declared.format.Record.{Record}
@@ -16,17 +16,17 @@ use Rattle.update_log.specs.Counting.{next_generation}
 use Rattle.digester.specs.SealedLog.{IsSealed, StandsAt, StandsAtMark, done_to, undone, mark_then}
 use Rattle.digester.specs.declared.sealed_log.SealedLog.{SealedLog}
 use Rattle.world_facts.specs.Logs.{after_records}
-use Rattle.world_facts.specs.Machine.{Machine, Sealed, accept, digest}
+use Rattle.world_facts.specs.Machine.{Machine, Sealed, CanAccept, accept, digest}
 use Rattle.world_facts.proofs.Owners.{client_is, is_low}
 use Rattle.kernel_book.specs.Book.{Accounts, IsBookOf, waiting_of}
 use Rattle.kernel_book.specs.Marks.{AreMarksAfter, AreMarksOf}
 use Rattle.kernel_book.proofs.MarksGo.{accepted_marks, digested_marks}
-use Rattle.kernel_fs.specs.Accepting.{client_of, HasAsManyWaiting}
+use Rattle.kernel_fs.specs.Accepting.{client_of, HasAsManyWaiting, IsRegionOf}
 use Rattle.kernel_fs.specs.KernelView.{KernelView}
 use Rattle.kernel_fs.specs.Standing.{IsKernelOf, done_in}
 use Rattle.kernel_fs.proofs.SealedRecords.{effects_are}
 
-some_is : (o : Option Marks) (v w : Marks) → o ≡ Some v → o ≡ Some w → v ≡ w
+pub some_is : (o : Option Marks) (v w : Marks) → o ≡ Some v → o ≡ Some w → v ≡ w
 some_is o v w one two = cc
 
 -- ---- the mark that a log names
@@ -76,6 +76,29 @@ module _ (x : SealedLog) (sealed : IsSealed x) where
 
       pub whole : (s : Sealed) → s.records ≡ x.records.items → length s.records ≡ length (undone x)
       whole s records = ap length records ∙ sym (ap (λ (k : ℕ). length (drop k x.records.items)) none_done)
+
+      -- so the machine may accept it, and has it as that region
+      module _ (s : Sealed) (past : m.accepted (client_of x) ≡ s.past) (records : s.records ≡ x.records.items) where
+        pub may_accept : CanAccept m (client_of x) s
+        may_accept =
+            let some = sealed.some in
+            record {
+              client = its_client;
+              some = λ empty. (let long : length x.records.items ≡ 0 = ap length (sym records ∙ empty) in omega (arith, long, some));
+              before = sym all_digested ∙ past;
+              first = past;
+            }
+
+        pub its_region : ((i : ℕ) → s.writes i ≡ true → is_among i x.held.items ≡ true) → IsRegionOf x (m.kernel.accounts (client_of x)).mark s
+        its_region writes =
+            let all : m.accepted (client_of x) ≡ (m.kernel.accounts (client_of x)).mark = all_digested in
+            let long : length s.records ≡ length (undone x) = whole s records in
+            let none_yet : x.done ≡ 0 = none_done in
+            record {
+              records = records;
+              writes = writes;
+              waits = record { behind = omega (arith, all, past, long); many = omega (arith, long, none_yet) };
+            }
 
       pub accepted_kernel : (next : Accounts) (s : Sealed) → m.accepted (client_of x) ≡ s.past → s.records ≡ x.records.items → IsBookOf next (accept m (client_of x) s) → IsKernelOf seen (record { area = area; book = next }) (accept m (client_of x) s)
       accepted_kernel next s past records next_is =

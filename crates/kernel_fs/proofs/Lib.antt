@@ -2,8 +2,11 @@ pub mod SealedRecords
 pub mod BookSteps
 pub mod Digested
 pub mod FirstNodes
-pub mod MarkThere
 pub mod MediaSteps
 pub mod Refilled
 pub mod ChunkSteps
+pub mod Answered
 pub mod DigestAnswers
+pub mod Dropping
+pub mod Reclaimed
+pub mod DropSteps

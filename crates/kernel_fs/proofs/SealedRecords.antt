@@ -5,6 +5,7 @@ use Rattle.std.specs.Prelude.{option_map}
 use Rattle.std.proofs.lemmas.List.{length-drop, length-take-le, take-append-drop}
 use Rattle.posix_calls.specs.Tree.{sum_up_to}
 use Rattle.posix_calls.specs.Operations.{is_client}
+use Rattle.posix_calls.proofs.Sums.{there_if}
 use Rattle.file_graph.specs.Graph.{Graph, Node, Body, FileBody, DirBody, after_effects, is_among}
 use Rattle.file_graph.specs.Units.{charge}
 use Rattle.log_record.specs.Grammar.{IsRecord}
@@ -16,14 +17,14 @@ use Rattle.digest_plan.specs.Covered.{AreCovered, units_of}
 use Rattle.digest_plan.specs.Plan.{IsFirstBad}
 use Rattle.digest_plan.proofs.Covered.{never_bad}
 use Rattle.digest_plan.proofs.Runs.{after_more}
-use Rattle.digester.specs.SealedLog.{IsSealed, undone}
+use Rattle.digester.specs.SealedLog.{IsSealed, done_to, undone}
 use Rattle.digester.specs.declared.sealed_log.SealedLog.{SealedLog}
 use Rattle.world_facts.specs.Limits.{AreWithin, IsWithin, IsBodyWithin}
 use Rattle.world_facts.specs.Logs.{after_records, is_touched, is_written, units_in}
 use Rattle.world_facts.specs.World.{Account}
 use Rattle.world_facts.specs.Standing.{IsLogged}
 use Rattle.world_facts.specs.Opening.{idle_account}
-use Rattle.world_facts.specs.Machine.{Machine, Sealed, IsRunning, StandsSealed, CanDigestNext, undigested_sealed}
+use Rattle.world_facts.specs.Machine.{Machine, Sealed, IsRunning, StandsSealed, CanDigestNext, account_after, digest, undigested_sealed}
 use Rattle.world_facts.proofs.Kernels.{units_moved}
 use Rattle.world_facts.proofs.Owners.{client_is}
 use Rattle.world_facts.proofs.Records.{in_first, in_rest}
@@ -76,6 +77,24 @@ module _ (x : SealedLog) (m : Machine) (s : Sealed) (region : IsRegionOf x (m.ke
 
   pub same_undone : undigested_sealed own s ≡ undone x
   same_undone = undigested own s x.done (length (undone x)) region.waits ∙ ap (drop x.done) region.records
+
+  -- with so many more of its records digested
+  pub region_after : (n : ℕ) → n ≤ length (undone x) → IsRegionOf (done_to (x.done + n) x) ((digest m (client_of x) (take n (undone x))).kernel.accounts (client_of x)).mark s
+  region_after n few =
+      let many : length (take n (undone x)) ≡ n = length-take-le n (undone x) few in
+      let long : length (undone x) ≡ length x.records.items - x.done = length-drop x.done x.records.items in
+      let rest : length (drop (x.done + n) x.records.items) ≡ length x.records.items - (x.done + n) = length-drop (x.done + n) x.records.items in
+      let behind = region.waits.behind in
+      let all = region.waits.many in
+      let moved : ((digest m (client_of x) (take n (undone x))).kernel.accounts (client_of x)).mark ≡ own.mark + length (take n (undone x)) = ap (λ (a : Account). a.mark) (there_if (client_of x) (account_after own (take n (undone x))) own) in
+      record {
+        records = region.records;
+        writes = region.writes;
+        waits = record {
+          behind = omega (arith, moved, many, long, rest, behind, few);
+          many = omega (arith, all, long, rest, few);
+        };
+      }
 
   module _ (sealed : IsSealed x) where
     its_client : is_client (client_of x) ≡ true

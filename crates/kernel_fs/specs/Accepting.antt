@@ -18,7 +18,7 @@ client_of x = x.client + 1
 abbrev pub HasAsManyWaiting : Accounts → SealedLog → Type 0
 HasAsManyWaiting book x = waiting_of book (client_of x) ≡ length (undone x)
 
--- A chunk of a log begins at the mark: with the first record that is not digested, where the log stands at its client's mark.
+-- A chunk of a log begins at the mark where both hold: it is not stale, but begins with the first record that the log has undigested; and the log stands at its client's mark.
 abbrev pub BeginsAtMark : SealedLog → Chunk → Store → Type 0
 BeginsAtMark x chunk s = (is_next x chunk ≡ true) × StandsAtMark x s
 

@@ -3,6 +3,7 @@ pub mod Answering
 pub mod Standing
 pub mod Accepting
 pub mod Opening
+pub mod Reclaiming
 -- Passed on to the crates above, which so need not list those below.
 pub use Rattle.digester.specs.Chunk
 pub use Rattle.digester.specs.Digesting
@@ -20,6 +21,7 @@ pub use Rattle.shared_area.specs.Looks
 pub use Rattle.shared_area.specs.Moving
 pub use Rattle.shared_area.specs.Parts
 pub use Rattle.shared_area.specs.Reading
+pub use Rattle.shared_area.specs.Ready
 pub use Rattle.shared_area.specs.RelocateError
 pub use Rattle.shared_area.specs.RunMoving
 pub use Rattle.shared_area.specs.Store

@@ -4,8 +4,10 @@ ghost use Rattle.std.specs.Prelude.{◌≡◌, ◌≤◌, ◌<◌, ◌+◌, ◌�
 ghost use Rattle.std.specs.List.{AllByRecursion};
 ghost use Rattle.posix_calls.specs.Operations.{is_client};
 ghost use Rattle.file_graph.specs.Graph.{Graph};
+ghost use Rattle.graph_change.specs.View.{changes_of};
 ghost use Rattle.layout.specs.declared.marks.TheConstants.{CLIENTS};
 ghost use Rattle.log_record.specs.Grammar.{IsRecord};
+ghost use Rattle.shared_area.specs.ChangeApplying.{MakesFewCalls};
 ghost use Rattle.shared_area.specs.Store.{store_of};
 ghost use Rattle.digester.specs.Chunk.{IsChunkOf, is_next};
 ghost use Rattle.digester.specs.Digesting.{IsDigested, IsToldBad, StaysOrDigests, DigestsOrStays};
@@ -30,7 +32,8 @@ use tier_device::Media;
 pub enum Digestion {
     /// It is digested.
     Digested,
-    /// It does not begin at the mark of its log's client: records were digested since it was prepared, or the log is another generation's. It is to be prepared again.
+    /// It does not begin at the mark of its log's client, for one of two reasons. It is stale: it does not begin with the first record that its log has undigested, and is to be prepared again. Or its log stands at
+    /// another mark than its client's: its generation is over, or records of it were digested that it does not count.
     NotNext,
     /// It begins at the mark, but not as many records of its client are waiting as its log has undigested: the region was not accepted since the media were opened, or its client was buried.
     NotAccepted,
@@ -84,6 +87,7 @@ pub fn digest_and_follow<M: Media>(
     ensures bad { IfErr result (IsToldBad area.old.geometry (store_of (M.seen area.old.media)) log.old chunk.now.count) }
     ensures refused { OnErr result ((book.new ≡ book.old) × (nodes.new ≡ nodes.old) × (log.new ≡ log.old)) }
     ensures digests { DigestsOrStays M.moment M.seen M.left M.faults area.old area.new result }
+    ensures at_most { MakesFewCalls area.old.geometry (store_of (M.seen area.old.media)) (changes_of chunk.now.change) (M.moment area.old.media) (M.moment area.new.media) }
 {
     let first = log.done as usize;
     match digest_chunk(alloc, area, log, chunk) {

@@ -28,3 +28,17 @@ pub enum AcceptError {
     #[error("the region is accepted already")]
     AlreadyAccepted,
 }
+
+/// Why a file was not dropped.
+#[derive(Clone, Copy, Debug, PartialEq, Eq, Error)]
+pub enum ReclaimError {
+    /// A device failed in this call.
+    #[error("a device failed")]
+    DeviceFault,
+    /// At the inode there is no file that has no name and that nobody has pinned: a file with a name or a pin, a directory, or nothing at all.
+    #[error("the file is in use")]
+    InUse,
+    /// There was no memory.
+    #[error("out of memory")]
+    Memory,
+}

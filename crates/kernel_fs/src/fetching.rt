@@ -13,6 +13,7 @@ ghost use Rattle.shared_area.specs.Reading.{bytes_of_inode, IsReadFrom};
 ghost use Rattle.digester.specs.Marking.{mark_of};
 ghost use Rattle.kernel_fs.specs.Standing.{IsMarkIn};
 
+use digester::mark_of;
 use layout::{Mark, Marks};
 use posix_calls::UNIT_BYTES;
 use record_check::NodeSummary;
@@ -38,12 +39,11 @@ pub struct FetchedBytes {
 }
 
 // The mark of a client, which counts from 1; marks have it from 0.
-#[tactic(auto, using(crate::proofs::MarkThere::mark_there))]
 fn mark_of_client(marks: &Marks, client: u32) -> Mark
     requires { is_client client ≡ true }
     ensures { result ≡ mark_of marks.now (client - 1) }
 {
-    marks.clients[(client - 1) as usize]
+    mark_of(marks, (client - 1) as usize)
 }
 
 /// How far a client's records are digested.

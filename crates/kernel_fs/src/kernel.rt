@@ -1,26 +1,33 @@
-ghost use Rattle.std.specs.Prelude.{◌≡◌, ◌≢◌, ◌↔◌, ◌≤◌, ◌<◌, ◌+◌, ◌-◌, ◌*◌, ℕ, List, min, length, take, drop, true, false, None, Some, Err, OnOk, OnErr, IfOk, IfErr, IfSome, IsErrOf};
+ghost use Rattle.std.specs.Prelude.{◌≡◌, ◌≢◌, ◌↔◌, ◌≤◌, ◌<◌, ◌+◌, ◌-◌, ◌*◌, ◌⊎◌, ℕ, List, [], ◌∷◌, min, length, take, drop, true, false, None, Some, Err, OnOk, OnErr, IfOk, IfErr, IfSome, IsErrOf};
 ghost use Rattle.posix_calls.specs.Operations.{is_client};
 ghost use Rattle.posix_calls.specs.declared.limits.TheConstants.{UNIT_BYTES};
+ghost use Rattle.file_graph.specs.Graph.{is_among};
 ghost use Rattle.file_graph.specs.Units.{charge};
+ghost use Rattle.file_graph.specs.declared.effect.Effect.TheVariants as effect;
+ghost use Rattle.graph_change.specs.Change.{coalesced};
+ghost use Rattle.graph_change.specs.View.{changes_of};
 ghost use Rattle.call_effects.specs.NodeView.{view_at};
 ghost use Rattle.shared_area.specs.Store.{store_of, graph};
 ghost use Rattle.shared_area.specs.Looks.{Looks, looked};
+ghost use Rattle.shared_area.specs.ChangeApplying.{MakesFewCalls};
 ghost use Rattle.shared_area.specs.Map.{WantsMemory};
 ghost use Rattle.shared_area.specs.AreaError.TheVariants.{Memory};
 ghost use Rattle.shared_area.specs.Parts.{IsNoDamage, IsTierOf};
+ghost use Rattle.shared_area.specs.Ready.{HasFree};
 ghost use Rattle.shared_area.specs.Reading.{bytes_of_inode, IsReadFrom};
 ghost use Rattle.shared_area.specs.RunMoving.{CanMove, IsMoved};
 ghost use Rattle.shared_area.specs.Found.{HasFileRun};
 ghost use Rattle.shared_area.specs.RelocateError.TheVariants as moves;
 ghost use Rattle.shared_area.specs.Moving.{HasTooFew, HasEnough, StaysOpen, MovesOrStays};
-ghost use Rattle.digester.specs.Chunk.{IsChunkOf};
+ghost use Rattle.digester.specs.Chunk.{IsChunkOf, is_next};
 ghost use Rattle.digester.specs.Digesting.{IsDigested, IsToldBad, StaysOrDigests, DigestsOrStays};
 ghost use Rattle.digester.specs.SealedLog.{IsSealed, IsDoneBy, StandsAtMark, undone};
 ghost use Rattle.digester.specs.declared.error.DigestError.TheVariants.{BadLog};
 ghost use Rattle.migrator.specs.Picking.{IsPicked, MayBeMoved};
-ghost use Rattle.world_facts.specs.Logs.{units_in};
-ghost use Rattle.world_facts.specs.Machine.{Machine, Sealed, IsRunning, StandsSealed, accept as accepted, digest as digested, book_pin, unbook_pin, bury as buried};
-ghost use Rattle.kernel_book.specs.Book.{units_of, waiting_of, out_of, is_free};
+ghost use Rattle.world_facts.specs.KernelSteps.{CanReclaim};
+ghost use Rattle.world_facts.specs.Logs.{IsNameless, units_in};
+ghost use Rattle.world_facts.specs.Machine.{Machine, Sealed, IsRunning, StandsSealed, CanAccept, accept as accepted, digest as digested, book_pin, unbook_pin, bury as buried, reclaim as reclaimed};
+ghost use Rattle.kernel_book.specs.Book.{units_of, waiting_of, out_of, is_free, is_pinned};
 ghost use Rattle.kernel_book.specs.Free.{AreLowest, count_of};
 ghost use Rattle.kernel_book.specs.Inodes.{IsInode, has};
 ghost use Rattle.kernel_book.specs.Nodes.{nodes_in};
@@ -28,17 +35,20 @@ ghost use Rattle.kernel_book.specs.Steps.{grant as granted, opened, take_back as
 ghost use Rattle.kernel_book.specs.declared.error.RefillError.TheVariants.{NoUnits, NoInode};
 ghost use Rattle.kernel_fs.specs.Accepting.{client_of, HasAsManyWaiting, BeginsAtMark, IsRegionOf};
 ghost use Rattle.kernel_fs.specs.Answering.{Answers, OnRefusal};
+ghost use Rattle.kernel_fs.specs.Reclaiming.{IsUnused, IsReclaimed, StaysOrReclaims, ReclaimsOrStays};
 ghost use Rattle.kernel_fs.specs.Standing.{IsKernelOf, IsMarkIn, StandBeforeRegions};
 ghost use Rattle.kernel_fs.specs.declared.digesting.Digestion.TheVariants.{Digested, NotNext, NotAccepted};
 ghost use Rattle.kernel_fs.specs.declared.error.AcceptError.TheVariants.{NotAtMark, AlreadyAccepted};
 ghost use Rattle.kernel_fs.specs.declared.error.KernelError.TheVariants.{Failed, Refused};
+ghost use Rattle.kernel_fs.specs.declared.error.ReclaimError.TheVariants as reclaims;
 
 use crate::accepting::{client_of, has_as_many_waiting, undone_of};
 use crate::digesting::{Digestion, begins_at_mark, digest_and_follow};
-use crate::error::{AcceptError, KernelError, KernelFailed};
+use crate::error::{AcceptError, KernelError, KernelFailed, ReclaimError};
 use crate::fetching::{Fetched, FetchedBytes, fetch_bytes, fetch_node};
 use crate::opening::nodes_of;
-use digester::{Chunk, DigestError, SealedLog};
+use crate::reclaiming::drop_nameless;
+use digester::{Chunk, DigestError, SealedLog, capacity_of};
 use kernel_book::{Book, InodeSet, RefillError};
 use migrator::{FileRun, migrate, pick};
 use shared_area::{AreaError, RelocateError, Shared};
@@ -85,23 +95,17 @@ impl<M: Media> Model for Kernel<M> {
     ghost invariant = { λ k. k.area.failed ≡ false → AreNodes (graph k.area.geometry (store_of (M.seen k.area.media))) (has k.nodes) };
 }
 
-// How many units there are in all.
-fn capacity_of<M: Media>(area: &Shared<M>) -> u64
-    ensures { result ≡ area.now.geometry.units }
-{
-    area.geometry().units() as u64
-}
-
 impl<M: Media> Kernel<M> {
     /// The kernel over shared media that are opened: nothing is granted, pinned or accepted. It reads each inode once. Where each mark stands before a region, the kernel stands for the machine that was just
     /// opened over the graph, whatever it has of the records that were digested before.
     ///
-    /// The area is given back with a refusal: `DeviceFault` where a device has failed or fails, `Memory` where there was none for what is read.
+    /// The area is given back with a refusal: `DeviceFault` where a device has failed or fails, `Memory` where there was none for an extent block or an entry of some inode.
     pub fn open(alloc: Global, area: Shared<M>) -> Result<Self, (AreaError, Shared<M>)>
         ensures opens { IfOk result (λ k. (marks : ℕ → ℕ) → StandBeforeRegions (store_of (M.seen k.area.media)) → IsKernelOf M.seen k (opened (graph k.area.geometry (store_of (M.seen k.area.media))) k.area.geometry.units marks)) }
         ensures out { IfOk result (λ k. out_of k.book ≡ 0) }
         ensures looks { IfOk result (λ k. Looks M.moment M.seen M.left M.faults area k.area looked) }
         ensures only { IfErr result (λ e. IsNoDamage e.0) }
+        ensures memory { IfErr result (λ e. e.0 ≡ Memory → (i : ℕ) × WantsMemory area.geometry (store_of (M.seen area.media)) i) }
         ensures refused { IfErr result (λ e. Looks {T = Unit {0}} M.moment M.seen M.left M.faults area e.1 (Err e.0)) }
     {
         let mut area = area;
@@ -229,6 +233,18 @@ impl<M: Media> Kernel<M> {
         })
     }
 
+    /// How many data blocks of a tier are free: a run that has more is refused `NoBlock` there (`migrate`). It makes no device call.
+    pub fn free(&self, tier: Tier) -> Result<u32, KernelFailed>
+        ensures free { IfOk result (λ n. HasFree self.now.area.geometry (store_of (M.seen self.now.area.media)) tier n) }
+        ensures going { OnOk result (self.now.area.failed ≡ false) }
+        ensures failed { OnErr result (self.now.area.failed ≡ true) }
+    {
+        if self.area.has_failed() {
+            return Err(KernelFailed);
+        }
+        Ok(self.area.free(tier))
+    }
+
     // ---- what is given
 
     /// Grants a client units and the lowest inode numbers that are free: those from 2 on that are no node of the shared graph and in no account. It makes no device call.
@@ -351,7 +367,9 @@ impl<M: Media> Kernel<M> {
     pub fn accept(&mut self, log: &SealedLog) -> Result<(), KernelError<AcceptError>>
         requires sealed { IsSealed log.now }
         ensures accepted { OnOk result (HasAsManyWaiting self.new.book log.now) }
+        ensures can { OnOk result ((m : Machine) (s : Sealed) → IsKernelOf M.seen self.old m → m.accepted (client_of log.now) ≡ s.past → s.records ≡ log.now.records.items → CanAccept m (client_of log.now) s) }
         ensures step { OnOk result ((m : Machine) (s : Sealed) → IsKernelOf M.seen self.old m → m.accepted (client_of log.now) ≡ s.past → s.records ≡ log.now.records.items → IsKernelOf M.seen self.new (accepted m (client_of log.now) s)) }
+        ensures region { OnOk result ((m : Machine) (s : Sealed) → IsKernelOf M.seen self.old m → m.accepted (client_of log.now) ≡ s.past → s.records ≡ log.now.records.items → ((i : ℕ) → s.writes i ≡ true → is_among i log.now.held.items ≡ true) → IsRegionOf log.now (m.kernel.accounts (client_of log.now)).mark s) }
         ensures out { out_of self.new.book ≡ out_of self.old.book }
         ensures not_at_mark { IsErrOf result (Refused NotAtMark) ↔ ((self.old.area.failed ≡ false) × (StandsAtMark log.now (store_of (M.seen self.old.area.media)) → ⊥)) }
         ensures already_accepted { IsErrOf result (Refused AlreadyAccepted) ↔ ((self.old.area.failed ≡ false) × StandsAtMark log.now (store_of (M.seen self.old.area.media)) × (waiting_of self.old.book (client_of log.now) ≢ 0)) }
@@ -376,8 +394,9 @@ impl<M: Media> Kernel<M> {
     /// Digests a chunk of an accepted region: its records are tested one after the other over the shared area, and what they come to reaches the area in one batch, together with the client's mark; then
     /// their units and the numbers of the nodes that they make leave the client's account. So graph, mark and account move together. At each moment a stop leaves graph and mark both as before, or both after.
     ///
-    /// It answers `NotNext` exactly where the chunk does not begin at the mark: the next chunk is to be prepared again. `NotAccepted` exactly where it does, but not as many records of its client are waiting as its
-    /// log has undigested. Nothing has changed then, and no device was asked.
+    /// It answers `NotNext` exactly where the chunk does not begin at the mark, for one of two reasons: the chunk is stale, so that it does not begin with the first record that its log has undigested, and is to be
+    /// prepared again; or the log stands at another mark than its client's, since its generation is over, or records of it were digested that it does not count, and has to be read anew. `NotAccepted` exactly where
+    /// the chunk begins at the mark, but not as many records of its client are waiting as its log has undigested. Nothing has changed then, and no device was asked.
     ///
     /// The refusals are of chunks that begin at the mark and are accepted. `BadLog` names the first bad record of the chunk, by its place
     /// in the region; there is none in a region that stands in a machine which runs. It never wants for blocks. `Memory` where there was none. After these nothing has changed. `DeviceFault` where a device failed.
@@ -394,6 +413,8 @@ impl<M: Media> Kernel<M> {
         // What is answered, and what has changed then.
         ensures next { IfOk result (λ a. (a ≡ Digested) ↔ (BeginsAtMark log.old chunk.now (store_of (M.seen self.old.area.media)) × HasAsManyWaiting self.old.book log.old)) }
         ensures not_next { IfOk result (λ a. (a ≡ NotNext) ↔ (BeginsAtMark log.old chunk.now (store_of (M.seen self.old.area.media)) → ⊥)) }
+        ensures stale { IfOk result (λ a. is_next log.old chunk.now ≡ false → a ≡ NotNext) }
+        ensures another_mark { IfOk result (λ a. (StandsAtMark log.old (store_of (M.seen self.old.area.media)) → ⊥) → a ≡ NotNext) }
         ensures not_accepted { IfOk result (λ a. (a ≡ NotAccepted) ↔ (BeginsAtMark log.old chunk.now (store_of (M.seen self.old.area.media)) × (HasAsManyWaiting self.old.book log.old → ⊥))) }
         ensures not_digested { IfOk result (λ a. a ≢ Digested → (self.new ≡ self.old) × (log.new ≡ log.old)) }
         ensures digested { IfOk result (λ a. a ≡ Digested → IsDigested self.old.area.geometry (store_of (M.seen self.old.area.media)) log.old chunk.now.count (store_of (M.seen self.new.area.media))) }
@@ -412,6 +433,8 @@ impl<M: Media> Kernel<M> {
             → IsErrOf result (Refused (BadLog place)) → ⊥ }
         ensures refused { OnErr result ((self.new.book ≡ self.old.book) × (log.new ≡ log.old)) }
         ensures answers { Answers self.old.area.failed self.old self.new result (DigestsOrStays M.moment M.seen M.left M.faults self.old.area self.new.area) }
+        // As many writes and fences as the change of the chunk makes, and none where it is not made; what is read is not counted.
+        ensures at_most { MakesFewCalls self.old.area.geometry (store_of (M.seen self.old.area.media)) (changes_of chunk.now.change) (M.moment self.old.area.media) (M.moment self.new.area.media) }
     {
         if self.area.has_failed() {
             return Err(KernelError::Failed);
@@ -436,7 +459,41 @@ impl<M: Media> Kernel<M> {
         Ok(Digestion::Digested)
     }
 
-    // ---- where blocks lie
+    // ---- files, and where their blocks lie
+
+    /// Drops the file at an inode that has no name and that nobody has pinned: its slot, its blocks and its units are free again. The marks stay, with their number of digests, which counts digests alone. At
+    /// each moment a stop leaves the graph with the file or without it, and the same marks.
+    ///
+    /// `InUse` exactly where there is no such file: one that has a name or a pin, a directory, or nothing at all. A pin is told before any device is asked. `Memory` where there was none: for an extent block or
+    /// an entry of what stands there, or for the change. After these nothing has changed. `DeviceFault` where a device failed.
+    pub fn reclaim(&mut self, inode: u32) -> Result<(), KernelError<ReclaimError>>
+        ensures any_moment { self.old.area.failed ≡ false → StaysOrReclaims self.old.area.geometry (store_of (M.seen self.old.area.media)) inode (M.moment self.old.area.media) (M.moment self.new.area.media) (M.left self.old.area.media) (M.left self.new.area.media) }
+        ensures unused { OnOk result (IsUnused (graph self.old.area.geometry (store_of (M.seen self.old.area.media))) self.old.book inode) }
+        ensures reclaimed { OnOk result (IsReclaimed self.old.area.geometry (store_of (M.seen self.old.area.media)) inode (store_of (M.seen self.new.area.media))) }
+        ensures can { OnOk result ((m : Machine) → IsKernelOf M.seen self.old m → CanReclaim m.kernel inode) }
+        ensures step { OnOk result ((m : Machine) → IsKernelOf M.seen self.old m → IsKernelOf M.seen self.new (reclaimed m inode)) }
+        ensures in_use { IsErrOf result (Refused reclaims.InUse) → IsUnused (graph self.old.area.geometry (store_of (M.seen self.old.area.media))) self.old.book inode → ⊥ }
+        ensures pinned { self.old.area.failed ≡ false → is_pinned self.old.book inode ≡ true → IsErrOf result (Refused reclaims.InUse) × (self.new ≡ self.old) }
+        ensures memory { IsErrOf result (Refused reclaims.Memory) → WantsMemory self.old.area.geometry (store_of (M.seen self.old.area.media)) inode ⊎ IsNameless (graph self.old.area.geometry (store_of (M.seen self.old.area.media)) inode) }
+        ensures book { self.new.book ≡ self.old.book }
+        ensures answers { Answers self.old.area.failed self.old self.new result (ReclaimsOrStays M.moment M.seen M.left M.faults self.old.area self.new.area) }
+        // As many writes and fences as the change that drops a node makes, and none where it is not made; what is read is not counted.
+        ensures at_most { MakesFewCalls self.old.area.geometry (store_of (M.seen self.old.area.media)) (coalesced (effect.Drop inode ∷ [])) (M.moment self.old.area.media) (M.moment self.new.area.media) }
+    {
+        if self.area.has_failed() {
+            return Err(KernelError::Failed);
+        }
+        self.area.left_now();
+        if self.book.is_pinned(inode) {
+            return Err(KernelError::Refused(ReclaimError::InUse));
+        }
+        match drop_nameless(self.alloc, &mut self.area, inode) {
+            Ok(()) => {}
+            Err(error) => return Err(KernelError::Refused(error)),
+        }
+        self.nodes.remove(inode);
+        Ok(())
+    }
 
     /// What is to be moved to a tier next: of the files that have a block in the tier next above it the one with the least touch number, of several the one with the least inode, with its first run there, of 256
     /// blocks at most. `None` where no file has a block there, and for the fast tier. It changes nothing.

@@ -1,6 +1,6 @@
 //! Where the machine's records meet those of the digester.
 
-ghost use Rattle.std.specs.Prelude.{◌≡◌, ◌<◌, ◌≤◌, ℕ, Bool, List, true, length, take, drop};
+ghost use Rattle.std.specs.Prelude.{◌≡◌, ◌<◌, ◌≤◌, ◌+◌, ℕ, Bool, List, true, length, take, drop};
 ghost use Rattle.std.specs.List.{AllByRecursion};
 ghost use Rattle.file_graph.specs.Graph.{Graph, after_effects, is_among};
 ghost use Rattle.log_record.specs.Grammar.{IsRecord};
@@ -9,12 +9,12 @@ ghost use Rattle.batch_journal.specs.Course.{Unmoved};
 ghost use Rattle.coalescer.specs.Records.{effects_in};
 ghost use Rattle.digest_plan.specs.Covered.{AreCovered, units_of};
 ghost use Rattle.digest_plan.specs.Plan.{IsFirstBad};
-ghost use Rattle.digester.specs.SealedLog.{IsSealed, undone};
+ghost use Rattle.digester.specs.SealedLog.{IsSealed, done_to, undone};
 ghost use Rattle.digester.specs.declared.sealed_log.SealedLog.{SealedLog};
 ghost use Rattle.world_facts.specs.Limits.{AreWithin};
 ghost use Rattle.world_facts.specs.Logs.{after_records, units_in};
 ghost use Rattle.world_facts.specs.Standing.{IsLogged};
-ghost use Rattle.world_facts.specs.Machine.{Machine, Sealed, IsRunning, StandsSealed, CanDigestNext, undigested_sealed};
+ghost use Rattle.world_facts.specs.Machine.{Machine, Sealed, IsRunning, StandsSealed, CanDigestNext, digest, undigested_sealed};
 ghost use Rattle.kernel_book.specs.Book.{Accounts, IsBookOf};
 ghost use Rattle.kernel_fs.specs.Accepting.{client_of, HasAsManyWaiting, IsRegionOf};
 ghost use Rattle.kernel_fs.specs.KernelView.{KernelView};
@@ -45,6 +45,12 @@ pub fn accepted_records_may_be_digested()
     ensures undone { (x : SealedLog) (m : Machine) (s : Sealed) → IsRegionOf x (m.kernel.accounts (client_of x)).mark s → undigested_sealed (m.kernel.accounts (client_of x)) s ≡ undone x }
     ensures next { (x : SealedLog) (book : Accounts) (m : Machine) (s : Sealed) (n : ℕ) → IsSealed x → IsBookOf book m → HasAsManyWaiting book x → IsRegionOf x (m.kernel.accounts (client_of x)).mark s
         → 0 < n → n ≤ length (undone x) → CanDigestNext m (client_of x) s (take n (undone x)) (drop n (undone x)) }
+{}
+
+/// A digest of the next records keeps which region of the machine the log is of: the same one, with so many more records digested.
+pub fn digest_keeps_its_region()
+    ensures { (x : SealedLog) (m : Machine) (s : Sealed) (n : ℕ) → IsRegionOf x (m.kernel.accounts (client_of x)).mark s → n ≤ length (undone x)
+        → IsRegionOf (done_to (x.done + n) x) ((digest m (client_of x) (take n (undone x))).kernel.accounts (client_of x)).mark s }
 {}
 
 /// What leaves the book and moves nothing on the media keeps the machine that the kernel stands for: so do `fetch`, `blocks`, `tier_of` and `pick`, whatever they answer, and the refusals of the other calls but

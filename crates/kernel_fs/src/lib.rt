@@ -14,15 +14,16 @@ mod fetching;
 mod kernel;
 mod laws;
 mod opening;
+mod reclaiming;
 
 pub use digester::{Chunk, DigestError, SealedLog, prepare};
 pub use digesting::Digestion;
-pub use error::{AcceptError, KernelError, KernelFailed};
+pub use error::{AcceptError, KernelError, KernelFailed, ReclaimError};
 pub use fetching::{Fetched, FetchedBytes};
 pub use kernel::{Figures, Kernel};
 pub use kernel_book::{InodeSet, RefillError};
 pub use laws::{
-    accepted_records_may_be_digested, effects_of_records_are_the_records,
+    accepted_records_may_be_digested, digest_keeps_its_region, effects_of_records_are_the_records,
     sealed_records_are_covered, units_of_records_are_one_number,
     unmoved_kernel_stands_for_its_machine,
 };

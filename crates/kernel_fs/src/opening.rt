@@ -2,7 +2,9 @@
 
 ghost use Rattle.std.specs.Prelude.{◌≡◌, ◌≤◌, ◌<◌, ◌+◌, ℕ, false, IfOk, IfErr};
 ghost use Rattle.shared_area.specs.Store.{store_of, graph};
+ghost use Rattle.shared_area.specs.AreaError.TheVariants.{Memory};
 ghost use Rattle.shared_area.specs.Looks.{Looks};
+ghost use Rattle.shared_area.specs.Map.{WantsMemory};
 ghost use Rattle.shared_area.specs.Parts.{IsNoDamage};
 ghost use Rattle.kernel_book.specs.Inodes.{IsInode, has};
 ghost use Rattle.kernel_book.specs.Nodes.{AreNodes, is_node};
@@ -17,6 +19,7 @@ use tier_device::Media;
 fn is_there<M: Media>(area: &mut Shared<M>, inode: u32) -> Result<bool, AreaError>
     ensures tells { IfOk result (λ b. b ≡ is_node (graph area.old.geometry (store_of (M.seen area.old.media)) inode)) }
     ensures only { IfErr result IsNoDamage }
+    ensures memory { IfErr result (λ e. e ≡ Memory → WantsMemory area.old.geometry (store_of (M.seen area.old.media)) inode) }
     ensures looks { Looks M.moment M.seen M.left M.faults area.old area.new result }
 {
     match area.node(inode) {
@@ -36,6 +39,7 @@ fn add_node<M: Media>(
     requires below { AreNodesBelow (graph area.old.geometry (store_of (M.seen area.old.media))) inode (has nodes.old) }
     ensures below { IfOk result (λ _. AreNodesBelow (graph area.old.geometry (store_of (M.seen area.old.media))) (inode + 1) (has nodes.new)) }
     ensures only { IfErr result IsNoDamage }
+    ensures memory { IfErr result (λ e. e ≡ Memory → WantsMemory area.old.geometry (store_of (M.seen area.old.media)) inode) }
     ensures looks { Looks M.moment M.seen M.left M.faults area.old area.new result }
 {
     match is_there(area, inode) {
@@ -52,6 +56,7 @@ fn add_node<M: Media>(
 pub fn nodes_of<M: Media>(area: &mut Shared<M>) -> Result<InodeSet, AreaError>
     ensures nodes { IfOk result (λ nodes. AreNodes (graph area.old.geometry (store_of (M.seen area.old.media))) (has nodes)) }
     ensures only { IfErr result IsNoDamage }
+    ensures memory { IfErr result (λ e. e ≡ Memory → (i : ℕ) × WantsMemory area.old.geometry (store_of (M.seen area.old.media)) i) }
     ensures looks { Looks M.moment M.seen M.left M.faults area.old area.new result }
 {
     if area.has_failed() {

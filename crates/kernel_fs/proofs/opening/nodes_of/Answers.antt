@@ -2,6 +2,7 @@ use Rattle.std.proofs.Common.{◌+◌, ◌∙◌, sym}
 use Rattle.layout.specs.Places.{Sizes}
 use Rattle.shared_area.specs.Store.{Store, store_of, graph}
 use Rattle.shared_area.specs.Looks.{looked}
+use Rattle.shared_area.specs.Map.{WantsMemory}
 use Rattle.shared_area.proofs.Looked.{carried, carried_back, looks_on, looks_none}
 use Rattle.kernel_book.specs.Inodes.{has}
 use Rattle.kernel_fs.specs.Opening.{AreNodesBelow}
@@ -35,3 +36,8 @@ pub returns-clause-nodes : goal.returns-clause-nodes
 returns-clause-nodes g c =
     let old = c.args.area.now in
     ends old.geometry (store_of (g.M.Media.seen old.media)) c.inodes.inode (has c.inodes.nodes) c.inodes-test.false c.inodes.invariant.below
+
+pub returns-in-Err-clause-memory : goal.returns-in-Err-clause-memory
+returns-in-Err-clause-memory g c = λ is.
+    let m = g.M.Media in
+    (c.inodes.inode, carried_back m.moment m.seen m.left m.faults (λ (x : Sizes) (s : Store). WantsMemory x s c.inodes.inode) c.args.area.now c.inodes.area looked c.inodes.invariant.looks (c.in-Err.ensures.memory is))

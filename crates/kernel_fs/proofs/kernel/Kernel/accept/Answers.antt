@@ -7,7 +7,7 @@ use Rattle.kernel_book.specs.declared.account.ClientAccount.{ClientAccount}
 use Rattle.kernel_fs.specs.Accepting.{client_of}
 use Rattle.kernel_fs.specs.KernelView.{KernelView}
 use Rattle.kernel_fs.specs.Standing.{IsKernelOf}
-use Rattle.kernel_fs.proofs.Digested.{accepted_kernel, whole}
+use Rattle.kernel_fs.proofs.Digested.{accepted_kernel, its_region, may_accept, whole}
 use Rattle.kernel_fs.proofs.kernel.Kernel.accept.Goals as goal
 
 pub returns-clause-step : goal.returns-clause-step
@@ -24,3 +24,29 @@ returns-clause-step g c = λ m s is past records.
     accepted_kernel x c.requires.sealed seen area book m own none at c.accept.new.self s past records
     (subst (λ (k : ℕ). IsBookOf c.accept.new.self (accept m k s)) client
     (c.accept.ensures.step m s own.book (ap m.accepted client ∙ past) (whole x c.requires.sealed seen area book m own none at s records ∙ sym c.undone_of.ensures)))
+
+pub returns-clause-can : goal.returns-clause-can
+returns-clause-can g c = λ m s is past records.
+    let seen = g.M.Media.seen in
+    let x = c.args.log.now in
+    let area = c.self.inside.area in
+    let book = c.self.inside.book in
+    let own = subst (λ (v : KernelView _). IsKernelOf seen v m) (sym c.self.view_is) is in
+    let going : _ = sym c.has_failed.ensures ∙ c.if-has_failed.false in
+    let at : StandsAtMark x (store_of (seen area.media)) = (c.marks.result, c.marks.ensures going, c.stands_at.ensures.exact.0 c.if-not-stands_at.false) in
+    let client : c.client_of-client.result ≡ client_of x = c.client_of-client.ensures.is in
+    let none : waiting_of book (client_of x) ≡ 0 = sym (ap (waiting_of book) client) ∙ sym (ap (λ (a : ClientAccount). a.waiting) c.account.ensures) ∙ c.if-account-ne0.false in
+    may_accept x c.requires.sealed seen area book m own none at s past records
+
+pub returns-clause-region : goal.returns-clause-region
+returns-clause-region g c = λ m s is past records writes.
+    let seen = g.M.Media.seen in
+    let x = c.args.log.now in
+    let area = c.self.inside.area in
+    let book = c.self.inside.book in
+    let own = subst (λ (v : KernelView _). IsKernelOf seen v m) (sym c.self.view_is) is in
+    let going : _ = sym c.has_failed.ensures ∙ c.if-has_failed.false in
+    let at : StandsAtMark x (store_of (seen area.media)) = (c.marks.result, c.marks.ensures going, c.stands_at.ensures.exact.0 c.if-not-stands_at.false) in
+    let client : c.client_of-client.result ≡ client_of x = c.client_of-client.ensures.is in
+    let none : waiting_of book (client_of x) ≡ 0 = sym (ap (waiting_of book) client) ∙ sym (ap (λ (a : ClientAccount). a.waiting) c.account.ensures) ∙ c.if-account-ne0.false in
+    its_region x c.requires.sealed seen area book m own none at s past records writes

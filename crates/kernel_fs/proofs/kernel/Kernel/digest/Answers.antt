@@ -18,7 +18,8 @@ use Rattle.digester.specs.Digesting.{DigestsOrStays}
 use Rattle.kernel_fs.specs.Accepting.{BeginsAtMark}
 use Rattle.kernel_fs.specs.declared.digesting.Digestion.TheVariants.{Digested, NotNext, NotAccepted}
 use Rattle.kernel_fs.specs.Answering.{Answers, told}
-use Rattle.kernel_fs.proofs.DigestAnswers.{another, answered, none, refused}
+use Rattle.kernel_fs.proofs.Answered.{answered}
+use Rattle.kernel_fs.proofs.DigestAnswers.{another, none, refused}
 use Rattle.kernel_fs.proofs.kernel.Kernel.digest.Goals as goal
 
 pub invariant_of-self-2 : goal.invariant_of-self-2
@@ -66,7 +67,7 @@ returns-then-not-begins_at_mark-clause-answers g c =
     let area = c.self.inside.area in
     let book = c.self.inside.book in
     subst (λ (v : KernelView _). Answers v.area.failed v v (told (Ok NotNext)) (DigestsOrStays m.moment m.seen m.left m.faults v.area v.area)) c.self.view_is
-    (answered m.moment m.seen m.left m.faults area area book book (record { area = area; book = book }) refl (Ok NotNext) going (none m.moment m.seen m.left m.faults area NotNext going))
+    (answered (DigestsOrStays m.moment m.seen m.left m.faults) area area book book (record { area = area; book = book }) refl (Ok NotNext) going (none m.moment m.seen m.left m.faults area NotNext going))
 
 pub returns-then-not-has_as_many_waiting-clause-any_moment : goal.returns-then-not-has_as_many_waiting-clause-any_moment
 returns-then-not-has_as_many_waiting-clause-any_moment g c = λ going begins many.
@@ -79,18 +80,30 @@ returns-then-not-has_as_many_waiting-clause-answers g c =
     let area = c.self.inside.area in
     let book = c.self.inside.book in
     subst (λ (v : KernelView _). Answers v.area.failed v v (told (Ok NotAccepted)) (DigestsOrStays m.moment m.seen m.left m.faults v.area v.area)) c.self.view_is
-    (answered m.moment m.seen m.left m.faults area area book book (record { area = area; book = book }) refl (Ok NotAccepted) going (none m.moment m.seen m.left m.faults area NotAccepted going))
+    (answered (DigestsOrStays m.moment m.seen m.left m.faults) area area book book (record { area = area; book = book }) refl (Ok NotAccepted) going (none m.moment m.seen m.left m.faults area NotAccepted going))
 
 pub returns-in-Err-clause-answers : goal.returns-in-Err-clause-answers
 returns-in-Err-clause-answers g c =
     let m = g.M.Media in
     let going : _ = sym c.has_failed.ensures ∙ c.if-has_failed.false in
-    answered m.moment m.seen m.left m.faults c.self.inside.area c.digest_and_follow.new.area c.self.inside.book c.digest_and_follow.new.book c.args.self.now c.self.view_is (Err c.in-Err.error) going
+    answered (DigestsOrStays m.moment m.seen m.left m.faults) c.self.inside.area c.digest_and_follow.new.area c.self.inside.book c.digest_and_follow.new.book c.args.self.now c.self.view_is (Err c.in-Err.error) going
     (refused m.moment m.seen m.left m.faults c.self.inside.area c.digest_and_follow.new.area c.in-Err.error c.in-Err.ensures.digests)
 
 pub returns-clause-answers : goal.returns-clause-answers
 returns-clause-answers g c =
     let m = g.M.Media in
     let going : _ = sym c.has_failed.ensures ∙ c.if-has_failed.false in
-    answered m.moment m.seen m.left m.faults c.self.inside.area c.digest_and_follow.new.area c.self.inside.book c.digest_and_follow.new.book c.args.self.now c.self.view_is (Ok Digested) going
+    answered (DigestsOrStays m.moment m.seen m.left m.faults) c.self.inside.area c.digest_and_follow.new.area c.self.inside.book c.digest_and_follow.new.book c.args.self.now c.self.view_is (Ok Digested) going
     (another m.moment m.seen m.left m.faults c.self.inside.area c.digest_and_follow.new.area tt Digested c.in-Ok.ensures.digests)
+
+pub returns-then-not-has_as_many_waiting-clause-stale : goal.returns-then-not-has_as_many_waiting-clause-stale
+returns-then-not-has_as_many_waiting-clause-stale g c = λ stale. absurd (false≢true (sym stale ∙ (c.begins_at_mark.ensures.0 c.if-not-begins_at_mark.false).0))
+
+pub returns-then-not-has_as_many_waiting-clause-another_mark : goal.returns-then-not-has_as_many_waiting-clause-another_mark
+returns-then-not-has_as_many_waiting-clause-another_mark g c = λ other. absurd (other (subst (λ (v : KernelView _). StandsAtMark c.args.log.now (store_of (g.M.Media.seen v.area.media))) c.self.view_is (c.begins_at_mark.ensures.0 c.if-not-begins_at_mark.false).1))
+
+pub returns-clause-stale : goal.returns-clause-stale
+returns-clause-stale g c = λ stale. absurd (false≢true (sym stale ∙ (c.begins_at_mark.ensures.0 c.if-not-begins_at_mark.false).0))
+
+pub returns-clause-another_mark : goal.returns-clause-another_mark
+returns-clause-another_mark g c = λ other. absurd (other (subst (λ (v : KernelView _). StandsAtMark c.args.log.now (store_of (g.M.Media.seen v.area.media))) c.self.view_is (c.begins_at_mark.ensures.0 c.if-not-begins_at_mark.false).1))

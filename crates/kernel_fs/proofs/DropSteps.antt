@@ -1,0 +1,46 @@
+-- A file is dropped, and the machine that the kernel stands for.
+use Rattle.std.proofs.Common.{◌≡◌, ◌≢◌, inl, inr, ℕ, zero, suc, ◌+◌, ◌≤◌, ◌==◌, List, [], ◌∷◌, take, Bool, true, false, cond, Option, Some, None, refl, ap, sym, ◌∙◌, subst, arith}
+use Rattle.std.proofs.lemmas.Bool.Decides.{eqb_tells}
+use Rattle.tier_device.specs.declared.media.Tier.{Tier}
+use Rattle.file_graph.specs.Graph.{Graph, set_node}
+use Rattle.layout.specs.Places.{Sizes}
+use Rattle.batch_journal.specs.View.{JournalView}
+use Rattle.shared_area.specs.Store.{store_of, graph}
+use Rattle.world_facts.specs.KernelSteps.{CanReclaim}
+use Rattle.world_facts.specs.Logs.{IsNameless}
+use Rattle.world_facts.specs.LeaseSteps.{without}
+use Rattle.world_facts.specs.Machine.{Machine, reclaim}
+use Rattle.kernel_book.specs.Book.{Accounts, IsBookOf}
+use Rattle.kernel_book.specs.Nodes.{AreNodes, is_node}
+use Rattle.kernel_fs.specs.KernelView.{KernelView}
+use Rattle.kernel_fs.specs.Reclaiming.{IsReclaimed, IsUnused}
+use Rattle.kernel_fs.specs.Standing.{IsKernelOf}
+use Rattle.kernel_book.proofs.Machines.{pinned_not}
+
+module _ {M : Type 0} (seen : M → Tier → List ℕ) (old new : JournalView M) (i : ℕ) (same : new.geometry ≡ old.geometry) (gone : IsReclaimed old.geometry (store_of (seen old.media)) i (store_of (seen new.media))) where
+  graph_without : graph new.geometry (store_of (seen new.media)) ≡ set_node (graph old.geometry (store_of (seen old.media))) i None
+  graph_without = ap (λ (g : Sizes). graph g (store_of (seen new.media))) same ∙ gone.graph_after
+
+  pub reclaimed_kernel : (book : Accounts) (m : Machine) → IsKernelOf seen (record { area = old; book = book }) m → IsKernelOf seen (record { area = new; book = book }) (reclaim m i)
+  reclaimed_kernel book m is = record {
+    shared = ap (λ (g : Graph). set_node g i None) is.shared ∙ sym graph_without;
+    capacity = is.capacity ∙ ap (λ (g : Sizes). g.units) (sym same);
+    book = is.book;
+    marks = (is.marks.0, gone.same_marks ∙ is.marks.1, is.marks.2);
+  }
+
+  pub reclaimed_nodes : (nodes after : ℕ → Bool) → ((j : ℕ) → after j ≡ without nodes i j) → AreNodes (graph old.geometry (store_of (seen old.media))) nodes → AreNodes (graph new.geometry (store_of (seen new.media))) after
+  reclaimed_nodes nodes after less are = subst (λ (g : Graph). AreNodes g after) (sym graph_without) each
+    where
+      each : (j : ℕ) → after j ≡ is_node (set_node (graph old.geometry (store_of (seen old.media))) i None j)
+      each j = elim (eqb_tells j i) [
+        | inl here ↦ less j ∙ ap (λ b. cond b false (nodes j)) here.0 ∙ sym (ap (λ b. is_node (cond b None (graph old.geometry (store_of (seen old.media)) j))) here.0)
+        | inr other ↦ less j ∙ ap (λ b. cond b false (nodes j)) other.0 ∙ are j ∙ sym (ap (λ b. is_node (cond b None (graph old.geometry (store_of (seen old.media)) j))) other.0)
+      ]
+
+-- so the machine may drop it
+pub may_reclaim : {M : Type 0} (seen : M → Tier → List ℕ) (area : JournalView M) (book : Accounts) (m : Machine) (i : ℕ) → IsUnused (graph area.geometry (store_of (seen area.media))) book i → IsKernelOf seen (record { area = area; book = book }) m → CanReclaim m.kernel i
+may_reclaim seen area book m i unused is = record {
+  file = subst (λ (g : Graph). IsNameless (g i)) (sym is.shared) unused.0;
+  unpinned = pinned_not book m is.book i unused.1;
+}

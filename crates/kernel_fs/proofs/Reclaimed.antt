@@ -1,0 +1,159 @@
+-- What a reclaim answers, by what its area answered.
+use Rattle.std.proofs.Common.{◌≡◌, ◌≢◌, ◌⊎◌, inl, inr, ℕ, ◌+◌, ◌≤◌, List, Bool, true, false, refl, ap, sym, ◌∙◌, subst, arith}
+use Rattle.std.specs.Prelude.{Result, Ok, Err}
+use Rattle.std.proofs.lemmas.Bool.{true≢false}
+use Rattle.tier_device.specs.declared.media.Tier.{Tier}
+use Rattle.tier_device.specs.Media.{Rose}
+use Rattle.batch_journal.specs.View.{JournalView}
+use Rattle.batch_journal.specs.Course.{Unmoved}
+use Rattle.batch_journal.proofs.Courses.{tiers_same, unmoved_on}
+use Rattle.shared_area.specs.AreaError.{AreaError}
+use Rattle.shared_area.specs.AreaError.TheVariants as area
+use Rattle.shared_area.specs.ApplyError.{ApplyError}
+use Rattle.shared_area.specs.ApplyError.TheVariants as apply
+use Rattle.shared_area.specs.Applying.{AppliesOrStays}
+use Rattle.shared_area.specs.Looks.{Looks}
+use Rattle.digester.specs.Errors.{IsAreaTold, IsChangeTold}
+use Rattle.shared_area.specs.Store.{store_of, graph}
+use Rattle.kernel_book.specs.Nodes.{AreNodes}
+use Rattle.kernel_fs.specs.Reclaiming.{ReclaimsOrStays}
+use Rattle.kernel_fs.specs.declared.error.ReclaimError.{ReclaimError}
+use Rattle.kernel_fs.specs.declared.error.ReclaimError.TheVariants as errors
+use Rattle.kernel_fs.proofs.MediaSteps.{moved_nodes}
+
+pub not_fault : errors.Memory ≢ errors.DeviceFault
+not_fault is = cc
+
+pub in_use_no_fault : errors.InUse ≢ errors.DeviceFault
+in_use_no_fault is = cc
+
+err_is : {T : Type 0} (e f : ReclaimError) → ◌≡◌ {A = Result T ReclaimError} (Err e) (Err f) → e ≡ f
+err_is e f is = cc
+
+module _ {M : Type 0} (moment : M → ℕ) (seen : M → Tier → List ℕ) (left : M → ℕ → Tier → List ℕ → Type 0) (faults : M → ℕ) (old new : JournalView M) where
+  pub applied_stays : AppliesOrStays moment seen left faults old new (Ok tt) → ReclaimsOrStays moment seen left faults old new (Ok tt)
+  applied_stays a = record { unmoved = tt; geometry = a.geometry; more_faults = a.more_faults; one_fault = a.one_fault; quiet = (a.quiet, a.going.1); quiet_refused = tt; fault = λ is. absurd (cc is) }
+
+  -- no memory
+  pub memory_stays : (e : ApplyError) → e ≢ apply.DeviceFault → AppliesOrStays moment seen left faults old new (Err e) → ReclaimsOrStays moment seen left faults old new (Err errors.Memory)
+  memory_stays e other a = record {
+    unmoved = λ _. a.unmoved other;
+    geometry = a.geometry;
+    more_faults = a.more_faults;
+    one_fault = a.one_fault;
+    quiet = tt;
+    quiet_refused = λ _. (let q = a.quiet_refused other in (q.0, q.2));
+    fault = λ is. absurd (not_fault (err_is {T = Unit {0}} errors.Memory errors.DeviceFault is));
+  }
+
+  pub fault_stays : old.failed ≡ false → AppliesOrStays moment seen left faults old new (Err apply.DeviceFault) → ReclaimsOrStays moment seen left faults old new (Err errors.DeviceFault)
+  fault_stays going a = record {
+    unmoved = λ other. absurd (other refl);
+    geometry = a.geometry;
+    more_faults = a.more_faults;
+    one_fault = a.one_fault;
+    quiet = tt;
+    quiet_refused = λ other. absurd (other refl);
+    fault = λ _. (let f = a.fault refl in (f.0, elim (f.1) [ inl was ↦ absurd (true≢false (sym was ∙ going)) | inr rose ↦ rose ]));
+  }
+
+  pub apply_stays : (e : ApplyError) (r : ReclaimError) → IsChangeTold errors.DeviceFault errors.Memory e r → old.failed ≡ false → AppliesOrStays moment seen left faults old new (Err e) → ReclaimsOrStays moment seen left faults old new (Err r)
+  apply_stays apply.DeviceFault r told going a = subst (λ (x : ReclaimError). ReclaimsOrStays moment seen left faults old new (Err x)) (sym told) (fault_stays going a)
+  apply_stays apply.NoBlock r told going a = absurd told
+  apply_stays apply.Memory r told going a = subst (λ (x : ReclaimError). ReclaimsOrStays moment seen left faults old new (Err x)) (sym told) (memory_stays apply.Memory (λ is. cc) a)
+
+  -- ---- where it was only looked at
+
+  pub looked_stays : {T : Type 0} (x : T) (r : ReclaimError) → r ≢ errors.DeviceFault → Looks moment seen left faults old new (Ok x) → ReclaimsOrStays moment seen left faults old new (Err r)
+  looked_stays x r other a = record {
+    unmoved = λ _. a.unmoved;
+    geometry = a.geometry;
+    more_faults = a.more_faults;
+    one_fault = a.one_fault;
+    quiet = tt;
+    quiet_refused = λ _. (a.quiet, a.going.1);
+    fault = λ is. absurd (other (err_is {T = Unit {0}} r errors.DeviceFault is));
+  }
+
+  pub node_stays : {T : Type 0} (e : AreaError) (r : ReclaimError) → IsAreaTold errors.DeviceFault errors.Memory e r → old.failed ≡ false → Looks {T = T} moment seen left faults old new (Err e) → ReclaimsOrStays moment seen left faults old new (Err r)
+  node_stays area.DeviceFault r told going a = subst (λ (x : ReclaimError). ReclaimsOrStays moment seen left faults old new (Err x)) (sym told) (record {
+    unmoved = λ _. a.unmoved;
+    geometry = a.geometry;
+    more_faults = a.more_faults;
+    one_fault = a.one_fault;
+    quiet = tt;
+    quiet_refused = λ other. absurd (other refl);
+    fault = λ _. (let f = a.fault refl in (f.0, elim (f.1) [ inl was ↦ absurd (true≢false (sym was ∙ going)) | inr rose ↦ rose ]));
+  })
+  node_stays (area.Damaged what block) r told going a = absurd told
+  node_stays area.Memory r told going a = subst (λ (x : ReclaimError). ReclaimsOrStays moment seen left faults old new (Err x)) (sym told) (record {
+    unmoved = λ _. a.unmoved;
+    geometry = a.geometry;
+    more_faults = a.more_faults;
+    one_fault = a.one_fault;
+    quiet = tt;
+    quiet_refused = λ _. (let q = a.quiet_refused (λ is. cc) in (q.0, q.2));
+    fault = λ is. absurd (not_fault (err_is {T = Unit {0}} errors.Memory errors.DeviceFault is));
+  })
+
+-- after a refusal the nodes are those that there were, or a device has failed
+module _ {M : Type 0} (moment : M → ℕ) (seen : M → Tier → List ℕ) (left : M → ℕ → Tier → List ℕ → Type 0) (faults : M → ℕ) (old new : JournalView M) (nodes : ℕ → Bool) where
+  kept_nodes : (e : ReclaimError) → e ≢ errors.DeviceFault → ReclaimsOrStays moment seen left faults old new (Err e) → AreNodes (graph old.geometry (store_of (seen old.media))) nodes → AreNodes (graph new.geometry (store_of (seen new.media))) nodes
+  kept_nodes e other a are = moved_nodes seen old new nodes a.geometry (ap (λ (c : Tier → List ℕ). graph old.geometry (store_of c)) (tiers_same (seen old.media) (seen new.media) (a.unmoved other).reads)) are
+
+  pub refused_nodes : (e : ReclaimError) → ReclaimsOrStays moment seen left faults old new (Err e) → AreNodes (graph old.geometry (store_of (seen old.media))) nodes → new.failed ≡ false → AreNodes (graph new.geometry (store_of (seen new.media))) nodes
+  refused_nodes errors.DeviceFault a are going = absurd (true≢false (sym (a.fault refl).0 ∙ going))
+  refused_nodes errors.InUse a are going = kept_nodes errors.InUse in_use_no_fault a are
+  refused_nodes errors.Memory a are going = kept_nodes errors.Memory not_fault a are
+
+-- a change behind a look
+module _ {M : Type 0} (moment : M → ℕ) (seen : M → Tier → List ℕ) (left : M → ℕ → Tier → List ℕ → Type 0) (faults : M → ℕ) (old mid new : JournalView M) where
+  pub stays_behind : {T : Type 0} (x : T) (r : Result (Unit {0}) ReclaimError) → Looks moment seen left faults old mid (Ok x) → ReclaimsOrStays moment seen left faults mid new r → ReclaimsOrStays moment seen left faults old new r
+  stays_behind x (Ok u) first a = record {
+    unmoved = tt;
+    geometry = a.geometry ∙ first.geometry;
+    more_faults = omega (arith, first.more_faults, a.more_faults);
+    one_fault = omega (arith, first.quiet, a.one_fault);
+    quiet = (a.quiet.0 ∙ first.quiet, a.quiet.1);
+    quiet_refused = tt;
+    fault = λ is. absurd (cc is);
+  }
+  stays_behind x (Err e) first a = record {
+    unmoved = λ other. unmoved_on first.unmoved (a.unmoved other);
+    geometry = a.geometry ∙ first.geometry;
+    more_faults = omega (arith, first.more_faults, a.more_faults);
+    one_fault = omega (arith, first.quiet, a.one_fault);
+    quiet = tt;
+    quiet_refused = λ other. (let q = a.quiet_refused other in (q.0 ∙ first.quiet, q.1));
+    fault = λ is. (let f = a.fault is in (f.0, subst (λ (n : ℕ). Rose n (faults new.media)) first.quiet f.1));
+  }
+
+module _ {M : Type 0} (moment : M → ℕ) (seen : M → Tier → List ℕ) (left : M → ℕ → Tier → List ℕ → Type 0) (faults : M → ℕ) (old : JournalView M) where
+  -- no device call
+  pub nothing_stays : (r : ReclaimError) → r ≢ errors.DeviceFault → old.failed ≡ false → ReclaimsOrStays moment seen left faults old old (Err r)
+  nothing_stays r other going = record {
+    unmoved = λ _. record { clock = refl; reads = λ t. refl; past = λ m t x le l. l; kept = λ m t x le l. l };
+    geometry = refl;
+    more_faults = omega arith;
+    one_fault = omega arith;
+    quiet = tt;
+    quiet_refused = λ _. (refl, going);
+    fault = λ is. absurd (other (err_is {T = Unit {0}} r errors.DeviceFault is));
+  }
+
+-- a fault and want of memory are told as such
+pub told_no_use : (e : AreaError) (r : ReclaimError) → IsAreaTold errors.DeviceFault errors.Memory e r → ◌≡◌ {A = Result (Unit {0}) ReclaimError} (Err r) (Err errors.InUse) → ⊥
+told_no_use area.DeviceFault r told is = cc (told, is)
+told_no_use (area.Damaged what block) r told is = told
+told_no_use area.Memory r told is = cc (told, is)
+
+-- memory is told to be wanted where the area told so
+pub told_memory : (e : AreaError) (r : ReclaimError) → IsAreaTold errors.DeviceFault errors.Memory e r → ◌≡◌ {A = Result (Unit {0}) ReclaimError} (Err r) (Err errors.Memory) → e ≡ area.Memory
+told_memory area.DeviceFault r told is = absurd (cc (told, is))
+told_memory (area.Damaged what block) r told is = absurd told
+told_memory area.Memory r told is = refl
+
+pub change_no_use : (e : ApplyError) (r : ReclaimError) → IsChangeTold errors.DeviceFault errors.Memory e r → ◌≡◌ {A = Result (Unit {0}) ReclaimError} (Err r) (Err errors.InUse) → ⊥
+change_no_use apply.DeviceFault r told is = cc (told, is)
+change_no_use apply.NoBlock r told is = told
+change_no_use apply.Memory r told is = cc (told, is)
