@@ -2,6 +2,7 @@
 use Rattle.std.proofs.Common.{◌≡◌, inl, inr, ℕ, List, [], ◌∷◌, Bool, true, false, Option, Some, None, refl, sym, ap, ◌∙◌, cond, subst}
 use Rattle.std.proofs.lemmas.Bool.Decides.{eqb_tells}
 use Rattle.std.specs.Prelude.{option_map, unwrap_or, IsSome}
+use Rattle.std.specs.Option.{UnwrapsOrElse}
 use Rattle.std.specs.Ordering.{nat_cmp, is_eq, eq_by_cmp}
 use Rattle.std.specs.Cmp.{nat_cmp_total, eq_by_cmp_equiv}
 use Rattle.std.specs.Map.{lookup}
@@ -25,14 +26,17 @@ pub value_at : {X Y : Type 0} (f : X → Y) (m : BTreeMap ℕ X) (i : ℕ) → f
 value_at f m i = found f i m.entries
 
 -- what is put into the one is put into the other
-pub put_at : {X Y : Type 0} (f : X → Y) (old new : BTreeMap ℕ X) (i : ℕ) (x : X) (y : Y) → f x ≡ y → Updates nat_cmp old new i (Some x) → map_of f new.entries ≡ fin.insert (map_of f old.entries) i y
-put_at f old new i x y same updates = fin.same_map nat_cmp_total fin.nat_cmp-IsAntisymmetric _ _ (λ q.
-    value_at f new q
-    ∙ ap (option_map f) (updates.0 q)
+put_in : {X Y : Type 0} (f : X → Y) (old : BTreeMap ℕ X) (new : List (ℕ × X)) (i : ℕ) (x : X) (y : Y) → f x ≡ y → ((q : ℕ) → lookup (is_at (nat_cmp q)) new ≡ cond (is_at (nat_cmp i) q) (Some x) (get nat_cmp old q)) → map_of f new ≡ fin.insert (map_of f old.entries) i y
+put_in f old new i x y same updates = fin.same_map nat_cmp_total fin.nat_cmp-IsAntisymmetric _ _ (λ q.
+    found f q new
+    ∙ ap (option_map f) (updates q)
     ∙ sym (in_option f (is_at (nat_cmp i) q) x (get nat_cmp old q))
     ∙ ap (λ b. cond b (Some (f x)) (option_map f (get nat_cmp old q))) ((eq_by_cmp_equiv nat_cmp_total).symm i q)
     ∙ ap (λ z. cond (eq_by_cmp nat_cmp q i) (Some z) (option_map f (get nat_cmp old q))) same
     ∙ sym (fin.get-insert nat_cmp_total (map_of f old.entries) i y q ∙ ap (cond (eq_by_cmp nat_cmp q i) (Some y)) (value_at f old q)))
+
+pub put_at : {X Y : Type 0} (f : X → Y) (old new : BTreeMap ℕ X) (i : ℕ) (x : X) (y : Y) → f x ≡ y → Updates nat_cmp old new i (Some x) → map_of f new.entries ≡ fin.insert (map_of f old.entries) i y
+put_at f old new i x y same updates = put_in f old new.entries i x y same updates.0
 
 -- what was there
 pub was_there : {X Y : Type 0} (f : X → Y) (m : BTreeMap ℕ X) (i : ℕ) (o : Option X) (none : Y) → get nat_cmp m i ≡ o → unwrap_or (fin.get (map_of f m.entries) i) none ≡ unwrap_or (option_map f o) none
@@ -57,3 +61,12 @@ put_same f old new i x w there same updates =
       | inl here ↦ ap (λ t. cond t (Some (f x)) (fin.get (map_of f old.entries) q)) here.0 ∙ sym (ap (fin.get (map_of f old.entries)) here.1 ∙ value_at f old i ∙ ap (option_map f) there)
       | inr off ↦ ap (λ t. cond t (Some (f x)) (fin.get (map_of f old.entries) q)) off.0
     ])
+
+-- the same of a map that was lent until then
+pub put_lent : {X Y : Type 0} (f : X → Y) (old : BTreeMap ℕ X) (lent new : List (ℕ × X)) (i : ℕ) (x : X) (y : Y) → ((q : ℕ) → lookup (is_at (nat_cmp q)) lent ≡ cond (is_at (nat_cmp i) q) (Some x) (get nat_cmp old q)) → f x ≡ y → new ≡ lent → map_of f new ≡ fin.insert (map_of f old.entries) i y
+put_lent f old lent new i x y updates same is = ap (map_of f) is ∙ put_in f old lent i x y same updates
+
+-- what stands at a place, which is made first if nothing does
+pub stood_or_made : {X Y : Type 0} (f : X → Y) (m : BTreeMap ℕ X) (i : ℕ) (o : Option X) (x : X) (none : Y) (Made : X → Type 0) → o ≡ get nat_cmp m i → UnwrapsOrElse o Made x → (Made x → f x ≡ none) → f x ≡ unwrap_or (fin.get (map_of f m.entries) i) none
+stood_or_made f m i None x none Made is made new = new made ∙ sym (was_there f m i None none (sym is))
+stood_or_made f m i (Some y) x none Made is same new = ap f same ∙ sym (was_there f m i (Some y) none (sym is))

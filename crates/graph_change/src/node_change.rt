@@ -137,7 +137,7 @@ fn put_bytes(
     Ok(())
 }
 
-// Puts bytes into one block, which is made if it is not there: it is looked for but once then, and once more where it is put among the others.
+// Puts bytes into one block, which is made if it is not there: its place among the others is looked for but once.
 fn put_in_one(
     alloc: Global,
     blocks: &mut BTreeMap<u64, BlockChange>,
@@ -150,13 +150,10 @@ fn put_in_one(
     ensures refused { OnErr result (patches_of blocks.new ≡ patches_of blocks.old) }
     ensures memory { OnErr result (fin.contains_key (patches_of blocks.old) block ≡ false) }
 {
-    if let Some(known) = blocks.get_mut(&block) {
-        known.put(place, part);
-        return Ok(());
-    }
-    let mut new = BlockChange::new(alloc)?;
-    new.put(place, part);
-    blocks.insert(block, new)?;
+    let changed = blocks
+        .entry(block)?
+        .or_try_insert_with(|| BlockChange::new(alloc))?;
+    changed.put(place, part);
     Ok(())
 }
 
