@@ -1,5 +1,5 @@
 -- What the tests of a record tell: it is good over each graph that is as it is known, or over none.
-use Rattle.std.proofs.Common.{◌≡◌, ◌≤◌, inl, inr, ℕ, ◌+◌, ◌-◌, ◌==◌, ◌||◌, Bool, true, false, cond, List, [], ◌∷◌, Option, Some, None, refl, ap, sym, subst, ◌∙◌, arith}
+use Rattle.std.proofs.Common.{◌≡◌, ◌≤◌, inl, inr, ℕ, ◌+◌, ◌-◌, ◌==◌, ◌||◌, ◌&&◌, Bool, true, false, cond, not, List, [], ◌∷◌, Option, Some, None, refl, ap, sym, subst, ◌∙◌, arith}
 use Rattle.std.specs.Prelude.{option_map, nat_le}
 use Rattle.std.specs.List.{list_all}
 use Rattle.std.specs.FinMap as fin
@@ -7,7 +7,7 @@ use Rattle.std.proofs.lemmas.Bool.{false≢true, and_parts, and_from, leb-true, 
 use Rattle.std.proofs.lemmas.Bool.Decides.{eqb_tells}
 use Rattle.posix_calls.specs.declared.limits.TheConstants.{MAX_FILE, MAX_ENTRIES, MAX_NAMES}
 use Rattle.file_graph.specs.declared.effect.Effect.{Effect}
-use Rattle.file_graph.specs.Graph.{Graph, after_effects, touches, is_among}
+use Rattle.file_graph.specs.Graph.{Graph, after_effects, touches, subjects, is_among}
 use Rattle.file_graph.specs.Units.{charge, growth}
 use Rattle.log_record.specs.Grammar.{IsRecord}
 use Rattle.log_record.proofs.Fields.{test_some}
@@ -17,7 +17,7 @@ use Rattle.call_effects.proofs.NodeViews.{viewed_after}
 use Rattle.record_check.specs.Counts.{counts_of}
 use Rattle.record_check.specs.Known.{Known, ViewsAgree, known_at, first_unknown}
 use Rattle.record_check.specs.Good.{KeepsLimits, AreHeld, IsGood, are_held, is_within, keeps}
-use Rattle.record_check.proofs.Touched.{as_known}
+use Rattle.record_check.proofs.Touched.{as_known, next_all}
 
 -- ---- a test of each of some inodes
 
@@ -43,6 +43,14 @@ among_rest false c e = e
 all_from : (test : ℕ → Bool) (is : List ℕ) → ((i : ℕ) → is_among i is ≡ true → test i ≡ true) → list_all test is ≡ true
 all_from test [] each = refl
 all_from test (d ∷ is) each = and_from (test d) (list_all test is) (each d (among_first d is)) (all_from test is (λ i among. each i (among_rest (d == i) (is_among i is) among)))
+
+all_with : (test : ℕ → Bool) (d : ℕ) (is : List ℕ) (b c : Bool) → test d ≡ b → list_all test is ≡ c → is_among d is ≡ true → (b && c) ≡ c
+all_with test d is true c first rest again = refl
+all_with test d is false false first rest again = refl
+all_with test d is false true first rest again = absurd (false≢true (sym first ∙ at_all test is rest d again))
+
+pub all_again : (test : ℕ → Bool) (e : Effect) (d : ℕ) (es : List Effect) → subjects e ≡ d ∷ [] → is_among d (touches es) ≡ true → list_all test (touches (e ∷ es)) ≡ (true && list_all test (touches es))
+all_again test e d es is again = next_all test e d es is ∙ all_with test d (touches es) (test d) (list_all test (touches es)) refl refl again
 
 -- ---- limits
 
@@ -74,6 +82,14 @@ pub held_tested : (held : List ℕ) (es : List Effect) → AreHeld held es → a
 held_tested held es each = all_from (λ i. is_among i held) (touches es) each
 
 -- ---- verdicts
+
+pub is_not : (b : Bool) → not b ≡ true → b ≡ false
+is_not true e = absurd (false≢true e)
+is_not false e = refl
+
+pub is_so : (b : Bool) → not b ≡ false → b ≡ true
+is_so true e = refl
+is_so false e = absurd (false≢true (sym e))
 
 pub bad_held : (held : List ℕ) (capacity : ℕ) (g : Graph) (r : Record) (es : List Effect) → es ≡ r.effects → are_held held es ≡ false → IsGood held capacity g r → ⊥
 bad_held held capacity g r es is out good = false≢true (sym out ∙ ap (are_held held) is ∙ held_tested held r.effects good.holds)

@@ -1,17 +1,19 @@
 //! By how much a record raises the units of a graph, told by what is known of the nodes that it touches.
 
-ghost use Rattle.std.specs.Prelude.{◌≡◌, ◌+◌, ◌<◌, ◌≤◌, ◌^◌, ◌∷◌, Some, None, IfOk, IfErr, length};
-ghost use Rattle.std.specs.List.{AllByRecursion};
+ghost use Rattle.std.specs.Prelude.{◌≡◌, ◌+◌, ◌-◌, ◌<◌, ◌≤◌, ◌^◌, ◌∷◌, ◌&&◌, Some, None, IfOk, IfErr, length, option_map};
+ghost use Rattle.std.specs.List.{AllByRecursion, list_all};
 ghost use Rattle.file_graph.specs.Graph.{Graph, after_effects, is_among, touches};
 ghost use Rattle.file_graph.specs.Units.{charge, growth};
 ghost use Rattle.log_record.specs.Grammar.{Fits};
 ghost use Rattle.log_record.specs.declared.format.TheConstants.{MAX_EFFECTS};
+ghost use Rattle.record_check.specs.Counts.{counts_of, counts_after, counts_cost};
+ghost use Rattle.record_check.specs.Good.{is_within, keeps};
 ghost use Rattle.record_check.specs.Known.{ViewsAgree, first_unknown, known_at};
 ghost use Rattle.record_check.specs.Rises.{sum_distinct, view_cost, view_cost_after, view_rise};
 
 use crate::counting::{counts_after, counts_of, is_on};
-use crate::known::{first_unknown, node_at};
-use crate::node_counts::cost;
+use crate::known::known_node;
+use crate::node_counts::{cost, is_within};
 use crate::node_summary::NodeSummary;
 use file_graph::Effect;
 use std::collections::BTreeMap;
@@ -42,82 +44,123 @@ pub fn record_costs(
     ensures known { IfOk result (λ c. first_unknown known.now effects.now ≡ None) }
     ensures unknown { IfErr result (λ i. first_unknown known.now effects.now ≡ Some i) }
 {
-    match first_unknown(known, effects) {
-        Some(inode) => Err(inode),
-        None => Ok(costs(known, effects)),
+    match tally_record(known, effects) {
+        Ok(tally) => Ok(tally.costs),
+        Err(inode) => Err(inode),
     }
 }
 
-// What the inodes that effects touch cost, each once.
-fn costs(known: &BTreeMap<u32, Option<NodeSummary>>, effects: &[Effect]) -> RecordCosts
+/// What a record costs, and whether each node that it touches keeps the limits after it.
+#[derive(Clone, Copy)]
+pub struct RecordTally {
+    pub costs: RecordCosts,
+    pub within: bool,
+}
+
+/// The costs of a record (`record_costs`), and whether what it touches keeps the limits after it: each inode is looked up but once for both.
+pub fn tally_record(
+    known: &BTreeMap<u32, Option<NodeSummary>>,
+    effects: &[Effect],
+) -> Result<RecordTally, u32>
     requires few { length effects.now ≤ MAX_EFFECTS }
     requires fit { AllByRecursion Fits effects.now }
-    ensures growth { result.growth ≡ sum_distinct (view_rise effects.now (known_at known.now)) (touches effects.now) }
-    ensures before { result.before ≡ sum_distinct (view_cost (known_at known.now)) (touches effects.now) }
-    ensures after { result.after ≡ sum_distinct (view_cost_after effects.now (known_at known.now)) (touches effects.now) }
+    ensures growth { IfOk result (λ t. (g : Graph) → ViewsAgree known.now g → growth g effects.now ≡ t.costs.growth) }
+    ensures charge { IfOk result (λ t. (g : Graph) → ViewsAgree known.now g → charge (after_effects g effects.now) + t.costs.before ≡ charge g + t.costs.after) }
+    ensures small { IfOk result (λ t. (t.costs.before < 2 ^ 64) × (t.costs.after < 2 ^ 64)) }
+    ensures within { IfOk result (λ t. t.within ≡ list_all (keeps known.now effects.now) (touches effects.now)) }
+    ensures known { IfOk result (λ t. first_unknown known.now effects.now ≡ None) }
+    ensures unknown { IfErr result (λ i. first_unknown known.now effects.now ≡ Some i) }
 {
-    let mut all = RecordCosts {
-        growth: 0,
-        before: 0,
-        after: 0,
-    };
+    match tally(known, effects) {
+        Ok(all) => Ok(all),
+        Err(inode) => Err(inode),
+    }
+}
+
+// What the inodes that effects touch cost, each once, and whether each keeps the limits.
+fn tally(known: &BTreeMap<u32, Option<NodeSummary>>, effects: &[Effect]) -> Result<RecordTally, u32>
+    requires few { length effects.now ≤ MAX_EFFECTS }
+    requires fit { AllByRecursion Fits effects.now }
+    ensures growth { IfOk result (λ t. t.costs.growth ≡ sum_distinct (view_rise effects.now (known_at known.now)) (touches effects.now)) }
+    ensures before { IfOk result (λ t. t.costs.before ≡ sum_distinct (view_cost (known_at known.now)) (touches effects.now)) }
+    ensures after { IfOk result (λ t. t.costs.after ≡ sum_distinct (view_cost_after effects.now (known_at known.now)) (touches effects.now)) }
+    ensures within { IfOk result (λ t. t.within ≡ list_all (keeps known.now effects.now) (touches effects.now)) }
+    ensures known { IfOk result (λ t. first_unknown known.now effects.now ≡ None) }
+    ensures unknown { IfErr result (λ i. first_unknown known.now effects.now ≡ Some i) }
+{
+    let mut all = NOTHING;
     let mut place = 0;
     for effect in effects {
         place += 1;
-        let one = costs_once(known, effects, effect, &effects[place..]);
-        all.growth += one.growth;
-        all.before += one.before;
-        all.after += one.after;
+        let one = match tally_once(known, effects, effect, &effects[place..]) {
+            Ok(one) => one,
+            Err(inode) => return Err(inode),
+        };
+        all.costs.growth += one.costs.growth;
+        all.costs.before += one.costs.before;
+        all.costs.after += one.costs.after;
+        all.within = all.within && one.within;
     }
-    all
+    Ok(all)
 }
 
-// What the inode that an effect is on costs, where no effect behind it is on that inode too; else nothing.
-#[tactic(auto, using(crate::proofs::Touched::next_sum))]
-fn costs_once(
+// Of no inode.
+const NOTHING: RecordTally = RecordTally {
+    costs: RecordCosts {
+        growth: 0,
+        before: 0,
+        after: 0,
+    },
+    within: true,
+};
+
+// What the inode that an effect is on costs, where no effect behind it is on that inode too; else nothing. The inode is the error where nothing is known of it.
+fn tally_once(
     known: &BTreeMap<u32, Option<NodeSummary>>,
     effects: &[Effect],
     effect: &Effect,
     behind: &[Effect],
-) -> RecordCosts
+) -> Result<RecordTally, u32>
     requires few { length effects.now ≤ MAX_EFFECTS }
     requires fit { AllByRecursion Fits effects.now }
-    ensures growth { sum_distinct (view_rise effects.now (known_at known.now)) (touches (effect.now ∷ behind.now)) ≡ result.growth + sum_distinct (view_rise effects.now (known_at known.now)) (touches behind.now) }
-    ensures before { sum_distinct (view_cost (known_at known.now)) (touches (effect.now ∷ behind.now)) ≡ result.before + sum_distinct (view_cost (known_at known.now)) (touches behind.now) }
-    ensures after { sum_distinct (view_cost_after effects.now (known_at known.now)) (touches (effect.now ∷ behind.now)) ≡ result.after + sum_distinct (view_cost_after effects.now (known_at known.now)) (touches behind.now) }
-    ensures small { (result.growth < 2 ^ 60) × (result.before < 2 ^ 60) × (result.after < 2 ^ 60) }
+    ensures growth { IfOk result (λ t. sum_distinct (view_rise effects.now (known_at known.now)) (touches (effect.now ∷ behind.now)) ≡ t.costs.growth + sum_distinct (view_rise effects.now (known_at known.now)) (touches behind.now)) }
+    ensures before { IfOk result (λ t. sum_distinct (view_cost (known_at known.now)) (touches (effect.now ∷ behind.now)) ≡ t.costs.before + sum_distinct (view_cost (known_at known.now)) (touches behind.now)) }
+    ensures after { IfOk result (λ t. sum_distinct (view_cost_after effects.now (known_at known.now)) (touches (effect.now ∷ behind.now)) ≡ t.costs.after + sum_distinct (view_cost_after effects.now (known_at known.now)) (touches behind.now)) }
+    ensures within { IfOk result (λ t. list_all (keeps known.now effects.now) (touches (effect.now ∷ behind.now)) ≡ (t.within && list_all (keeps known.now effects.now) (touches behind.now))) }
+    ensures known { IfOk result (λ t. first_unknown known.now (effect.now ∷ behind.now) ≡ first_unknown known.now behind.now) }
+    ensures unknown { IfErr result (λ i. first_unknown known.now (effect.now ∷ behind.now) ≡ Some i) }
+    ensures small { IfOk result (λ t. (t.costs.growth < 2 ^ 60) × (t.costs.before < 2 ^ 60) × (t.costs.after < 2 ^ 60)) }
 {
     let inode = effect.subject();
+    let Some(old) = known_node(known, inode) else {
+        return Err(inode);
+    };
     if are_on(behind, inode) {
-        return RecordCosts {
-            growth: 0,
-            before: 0,
-            after: 0,
-        };
+        return Ok(NOTHING);
     }
-    costs_of(known, effects, inode)
+    Ok(tally_of(old, effects, inode))
 }
 
-// What one inode costs before effects and after them.
-fn costs_of(
-    known: &BTreeMap<u32, Option<NodeSummary>>,
-    effects: &[Effect],
-    inode: u32,
-) -> RecordCosts
+// What one inode costs before effects and after them, by what stood there.
+fn tally_of(old: Option<&NodeSummary>, effects: &[Effect], inode: u32) -> RecordTally
     requires few { length effects.now ≤ MAX_EFFECTS }
     requires fit { AllByRecursion Fits effects.now }
-    ensures growth { result.growth ≡ view_rise effects.now (known_at known.now) inode }
-    ensures before { result.before ≡ view_cost (known_at known.now) inode }
-    ensures after { result.after ≡ view_cost_after effects.now (known_at known.now) inode }
-    ensures small { (result.growth < 2 ^ 60) × (result.before < 2 ^ 60) × (result.after < 2 ^ 60) }
+    ensures growth { result.costs.growth ≡ counts_cost (counts_after effects.now inode (option_map (λ n. n.now) old.entry)) - counts_cost (option_map counts_of (option_map (λ n. n.now) old.entry)) }
+    ensures before { result.costs.before ≡ counts_cost (option_map counts_of (option_map (λ n. n.now) old.entry)) }
+    ensures after { result.costs.after ≡ counts_cost (counts_after effects.now inode (option_map (λ n. n.now) old.entry)) }
+    ensures within { result.within ≡ is_within (counts_after effects.now inode (option_map (λ n. n.now) old.entry)) }
+    ensures small { (result.costs.growth < 2 ^ 60) × (result.costs.before < 2 ^ 60) × (result.costs.after < 2 ^ 60) }
 {
-    let old = node_at(known, inode);
     let before = cost(counts_of(old));
-    let after = cost(counts_after(effects, inode, old));
-    RecordCosts {
-        growth: after.saturating_sub(before),
-        before,
-        after,
+    let counts = counts_after(effects, inode, old);
+    let after = cost(counts);
+    RecordTally {
+        costs: RecordCosts {
+            growth: after.saturating_sub(before),
+            before,
+            after,
+        },
+        within: is_within(counts),
     }
 }
 

@@ -1,7 +1,9 @@
 //! What is known of the inodes that effects touch.
 
 ghost use Rattle.std.specs.Prelude.{◌≡◌, option_map};
-ghost use Rattle.record_check.specs.Known.{first_unknown, is_unknown, known_at};
+ghost use Rattle.std.specs.Ordering.{nat_cmp};
+ghost use Rattle.std.specs.BTreeMap.{get};
+ghost use Rattle.record_check.specs.Known.{first_unknown, is_unknown};
 
 use crate::node_summary::NodeSummary;
 use file_graph::Effect;
@@ -29,12 +31,16 @@ pub fn is_unknown(known: &BTreeMap<u32, Option<NodeSummary>>, inode: u32) -> boo
     known.get(&inode).is_none()
 }
 
-// What is known to stand at an inode.
-pub fn node_at(known: &BTreeMap<u32, Option<NodeSummary>>, inode: u32) -> Option<&NodeSummary>
-    ensures { option_map (λ n. n.now) result ≡ known_at known.now inode }
+/// What is known to stand at an inode, if anything is known of it.
+pub fn known_node(
+    known: &BTreeMap<u32, Option<NodeSummary>>,
+    inode: u32,
+) -> Option<Option<&NodeSummary>>
+    ensures { option_map (option_map (λ n. n.now)) result ≡ get nat_cmp known.now inode }
 {
     match known.get(&inode) {
-        Some(Some(node)) => Some(node),
-        _ => None,
+        Some(Some(node)) => Some(Some(node)),
+        Some(None) => Some(None),
+        None => None,
     }
 }

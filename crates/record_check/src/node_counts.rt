@@ -1,10 +1,11 @@
 ghost use Rattle.std.specs.Prelude.{◌≡◌, ◌+◌, ◌-◌, ◌≤◌, ◌<◌, ◌^◌, Some, max, option_map, if◌then◌else◌};
 ghost use Rattle.posix_calls.specs.Content.{file_units, directory_units};
 ghost use Rattle.log_record.specs.Grammar.{Fits};
+ghost use Rattle.record_check.specs.Good.{is_within};
 ghost use Rattle.record_check.specs.Counts.{counts_acted, counts_cost, empty_counts, entry_count, in_count, in_length, with_count};
 
 use file_graph::{Effect, Kind};
-use posix_calls::{UNIT_BYTES, UNIT_ENTRIES};
+use posix_calls::{MAX_ENTRIES, MAX_FILE, MAX_NAMES, UNIT_BYTES, UNIT_ENTRIES};
 
 /// A node by numbers alone: what tells its cost, and whether it keeps the limits.
 #[derive(Clone, Copy, Debug, PartialEq, Eq)]
@@ -156,5 +157,18 @@ fn grown(counts: Option<NodeCounts>, end: u64) -> Option<NodeCounts>
             size: size.max(end),
         }),
         other => other,
+    }
+}
+
+/// Whether a node of these numbers keeps the limits.
+pub fn is_within(counts: Option<NodeCounts>) -> bool
+    ensures { result ≡ is_within counts }
+{
+    match counts {
+        None => true,
+        Some(NodeCounts::File { names, size }) => names <= MAX_NAMES && size <= MAX_FILE,
+        Some(NodeCounts::Directory { names, entries }) => {
+            names <= MAX_NAMES && entries <= MAX_ENTRIES as u64
+        }
     }
 }

@@ -1,23 +1,17 @@
 //! Whether the next record of a client's log may be digested.
 
-ghost use Rattle.std.specs.Prelude.{◌≡◌, ◌-◌, ◌+◌, ◌≤◌, Some, None, length, nat_le, if◌then◌else◌};
-ghost use Rattle.std.specs.List.{AllByRecursion, list_all};
+ghost use Rattle.std.specs.Prelude.{◌≡◌, ◌-◌, ◌+◌, Some, None, nat_le, if◌then◌else◌};
 ghost use Rattle.std.specs.List.Sorted.{IsNonDecreasing};
-ghost use Rattle.file_graph.specs.Graph.{Graph, is_among, touches};
+ghost use Rattle.file_graph.specs.Graph.{Graph, is_among};
 ghost use Rattle.file_graph.specs.Units.{charge};
-ghost use Rattle.log_record.specs.Grammar.{Fits, IsRecord};
-ghost use Rattle.log_record.specs.declared.format.TheConstants.{MAX_EFFECTS};
-ghost use Rattle.record_check.specs.Good.{VerdictTells, are_held, asked, is_within, keeps};
+ghost use Rattle.log_record.specs.Grammar.{IsRecord};
+ghost use Rattle.record_check.specs.Good.{VerdictTells, are_held, asked};
 ghost use Rattle.record_check.specs.Known.{ViewsAgree, first_unknown};
 
-use crate::costs::{RecordCosts, record_costs};
-use crate::counting::counts_after;
-use crate::known::node_at;
-use crate::node_counts::NodeCounts;
+use crate::costs::{RecordCosts, tally_record};
 use crate::node_summary::NodeSummary;
 use file_graph::Effect;
 use log_record::Record;
-use posix_calls::{MAX_ENTRIES, MAX_FILE, MAX_NAMES};
 use std::collections::BTreeMap;
 
 /// What a test says of a record.
@@ -48,20 +42,20 @@ pub fn test_record(
     ensures unknown { asked result ≡ first_unknown known.now next.now.effects }
 {
     let effects = next.effects.as_slice();
-    let costs = match record_costs(known, effects) {
-        Ok(costs) => costs,
+    let tally = match tally_record(known, effects) {
+        Ok(tally) => tally,
         Err(inode) => return Verdict::Unknown { inode },
     };
     if !are_held(held, effects) {
         return Verdict::Bad;
     }
-    if costs.growth > next.units as u64 {
+    if tally.costs.growth > next.units as u64 {
         return Verdict::Bad;
     }
-    if !keep_limits(known, effects) {
+    if !tally.within {
         return Verdict::Bad;
     }
-    match charge_after(used, capacity, costs) {
+    match charge_after(used, capacity, tally.costs) {
         Some(charge) => Verdict::Good { charge },
         None => Verdict::Bad,
     }
@@ -99,40 +93,4 @@ fn is_among(inodes: &[u32], inode: u32) -> bool
     ensures { result ≡ is_among inode inodes.now }
 {
     inodes.binary_search(&inode).is_ok()
-}
-
-// Whether each inode that effects touch keeps the limits after them.
-#[tactic(auto, using(crate::proofs::Touched::next_all))]
-fn keep_limits(known: &BTreeMap<u32, Option<NodeSummary>>, effects: &[Effect]) -> bool
-    requires few { length effects.now ≤ MAX_EFFECTS }
-    requires fit { AllByRecursion Fits effects.now }
-    ensures { result ≡ list_all (keeps known.now effects.now) (touches effects.now) }
-{
-    for effect in effects {
-        if !keeps(known, effects, effect.subject()) {
-            return false;
-        }
-    }
-    true
-}
-
-fn keeps(known: &BTreeMap<u32, Option<NodeSummary>>, effects: &[Effect], inode: u32) -> bool
-    requires few { length effects.now ≤ MAX_EFFECTS }
-    requires fit { AllByRecursion Fits effects.now }
-    ensures { result ≡ keeps known.now effects.now inode }
-{
-    is_within(counts_after(effects, inode, node_at(known, inode)))
-}
-
-// Whether a node of these numbers keeps the limits.
-fn is_within(counts: Option<NodeCounts>) -> bool
-    ensures { result ≡ is_within counts }
-{
-    match counts {
-        None => true,
-        Some(NodeCounts::File { names, size }) => names <= MAX_NAMES && size <= MAX_FILE,
-        Some(NodeCounts::Directory { names, entries }) => {
-            names <= MAX_NAMES && entries <= MAX_ENTRIES as u64
-        }
-    }
 }
