@@ -7,8 +7,8 @@ use Rattle.kernel_book.specs.Book.{Accounts}
 use Rattle.kernel_fs.specs.Answering.{Answers, told}
 use Rattle.kernel_fs.specs.KernelView.{KernelView}
 
-pub answered : {M T E : Type 0} (IsAnswer : JournalView M → JournalView M → Result T E → Type 0) (area next : JournalView M) (book new : Accounts) (old : KernelView M) → record { area = area; book = book } ≡ old → (r : Result T E) → area.failed ≡ false → IsAnswer area next r
-    → Answers old.area.failed old (record { area = next; book = new }) (told r) (IsAnswer old.area next)
-answered {M = M} IsAnswer area next book new old same r going is =
-    subst (λ (v : KernelView M). Answers v.area.failed v (record { area = next; book = new }) (told r) (IsAnswer v.area next)) same
+pub answered : {M T E : Type 0} {opening : JournalView M} (IsAnswer : JournalView M → JournalView M → Result T E → Type 0) (area next : JournalView M) (book new : Accounts) (old : KernelView M) → record { area = area; book = book; opening = opening } ≡ old → (r : Result T E) → area.failed ≡ false → IsAnswer area next r
+    → Answers old.area.failed old (record { area = next; book = new; opening = opening }) (told r) (IsAnswer old.area next)
+answered {M = M} {opening = opening} IsAnswer area next book new old same r going is =
+    subst (λ (v : KernelView M). Answers v.area.failed v (record { area = next; book = new; opening = opening }) (told r) (IsAnswer v.area next)) same
     (record { failed = λ was. absurd (true≢false (sym was ∙ going)); going = λ _. (r, refl, is) })

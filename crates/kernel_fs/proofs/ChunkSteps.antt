@@ -20,7 +20,7 @@ use Rattle.kernel_book.specs.Book.{Accounts, IsBookOf}
 use Rattle.kernel_book.specs.Nodes.{AreNodes}
 use Rattle.kernel_fs.specs.Accepting.{client_of, IsRegionOf}
 use Rattle.kernel_fs.specs.KernelView.{KernelView}
-use Rattle.kernel_fs.specs.Standing.{IsKernelOf}
+use Rattle.kernel_fs.specs.Standing.{IsKernelOf, StandFor}
 use Rattle.kernel_fs.proofs.SealedRecords.{effects_are, never}
 
 good_paid : (held : List ℕ) (capacity : ℕ) (rs : List Record) (g : Graph) → AreGood held capacity g rs → ArePaid g rs
@@ -45,7 +45,7 @@ module _ {M : Type 0} (seen : M → Tier → List ℕ) (old new : JournalView M)
   nodes_moved nodes after follow are = subst (λ (g : Graph). AreNodes g after) (sym graph_moved) (follow (graph old.geometry (store_of (seen old.media))) are)
 
 -- no record of a region that stands in a running machine is bad
-pub never_told : {M : Type 0} (seen : M → Tier → List ℕ) (area : JournalView M) (book : Accounts) (x : SealedLog) (m : Machine) (s : Sealed) (n place : ℕ) (e : DigestError) → IsSealed x → IsKernelOf seen (record { area = area; book = book }) m → IsRunning m
+pub never_told : {M : Type 0} (seen : M → Tier → List ℕ) (area : JournalView M) (book : Accounts) (x : SealedLog) (m : Machine) (s : Sealed) (n place : ℕ) (e : DigestError) → IsSealed x → StandFor seen area book m → IsRunning m
     → IsRegionOf x (m.kernel.accounts (client_of x)).mark s → StandsSealed m.kernel.shared (m.kernel.accounts (client_of x)) s → e ≡ errors.BadLog place → IsToldBad area.geometry (store_of (seen area.media)) x n e → ⊥
 never_told seen area book x m s n place e sealed is runs region stands told bad =
     let first = subst (IsToldBad area.geometry (store_of (seen area.media)) x n) told bad in

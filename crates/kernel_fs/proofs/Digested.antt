@@ -23,7 +23,7 @@ use Rattle.kernel_book.specs.Marks.{AreMarksAfter, AreMarksOf}
 use Rattle.kernel_book.proofs.MarksGo.{accepted_marks, digested_marks}
 use Rattle.kernel_fs.specs.Accepting.{client_of, HasAsManyWaiting, IsRegionOf}
 use Rattle.kernel_fs.specs.KernelView.{KernelView}
-use Rattle.kernel_fs.specs.Standing.{IsKernelOf, done_in}
+use Rattle.kernel_fs.specs.Standing.{IsKernelOf, done_in, StandFor}
 use Rattle.kernel_fs.proofs.SealedRecords.{effects_are}
 
 pub some_is : (o : Option Marks) (v w : Marks) → o ≡ Some v → o ≡ Some w → v ≡ w
@@ -62,7 +62,7 @@ module _ (x : SealedLog) (sealed : IsSealed x) where
 
   -- ---- an accepted region
 
-  module _ {M : Type 0} (seen : M → Tier → List ℕ) (area : JournalView M) (book : Accounts) (m : Machine) (is : IsKernelOf seen (record { area = area; book = book }) m) where
+  module _ {M : Type 0} (seen : M → Tier → List ℕ) (area : JournalView M) (book : Accounts) (m : Machine) (is : StandFor seen area book m) where
     -- all that were accepted before are digested
     module _ (none : waiting_of book (client_of x) ≡ 0) (at : StandsAtMark x (store_of (seen area.media))) where
       all_digested : m.accepted (client_of x) ≡ (m.kernel.accounts (client_of x)).mark
@@ -100,7 +100,7 @@ module _ (x : SealedLog) (sealed : IsSealed x) where
               waits = record { behind = omega (arith, all, past, long); many = omega (arith, long, none_yet) };
             }
 
-      pub accepted_kernel : (next : Accounts) (s : Sealed) → m.accepted (client_of x) ≡ s.past → s.records ≡ x.records.items → IsBookOf next (accept m (client_of x) s) → IsKernelOf seen (record { area = area; book = next }) (accept m (client_of x) s)
+      pub accepted_kernel : (next : Accounts) (s : Sealed) → m.accepted (client_of x) ≡ s.past → s.records ≡ x.records.items → IsBookOf next (accept m (client_of x) s) → StandFor seen area next (accept m (client_of x) s)
       accepted_kernel next s past records next_is =
           let some = sealed.some in
           let all : m.accepted (client_of x) ≡ (m.kernel.accounts (client_of x)).mark = all_digested in
@@ -119,7 +119,7 @@ module _ (x : SealedLog) (sealed : IsSealed x) where
 -- ---- a digested chunk
 
 module _ (x : SealedLog) (sealed : IsSealed x) {M : Type 0} (seen : M → Tier → List ℕ) (old new : JournalView M) (book next : Accounts) (m : Machine) (n : ℕ)
-    (is : IsKernelOf seen (record { area = old; book = book }) m) (accepted : HasAsManyWaiting book x)
+    (is : StandFor seen old book m) (accepted : HasAsManyWaiting book x)
     (done : IsDigested old.geometry (store_of (seen old.media)) x n (store_of (seen new.media))) (at : StandsAtMark (done_to (x.done + n) x) (store_of (seen new.media))) (same : new.geometry ≡ old.geometry) where
   abbrev rs : List Record
   rs = take n (undone x)
@@ -156,7 +156,7 @@ module _ (x : SealedLog) (sealed : IsSealed x) {M : Type 0} (seen : M → Tier �
         ∙ all_done x.generation (x.done + n) (length x.records.items) (omega (arith, all, long, count, few));
   }
 
-  pub digested_kernel : IsBookOf next (digest m (client_of x) rs) → IsKernelOf seen (record { area = new; book = next }) (digest m (client_of x) rs)
+  pub digested_kernel : IsBookOf next (digest m (client_of x) rs) → StandFor seen new next (digest m (client_of x) rs)
   digested_kernel next_is =
       let waits = (is.book (client_of x) (its_client x sealed)).waiting in
       let all : m.accepted (client_of x) ≡ (m.kernel.accounts (client_of x)).mark + length (undone x) = waits ∙ ap (λ (k : ℕ). (m.kernel.accounts (client_of x)).mark + k) accepted in

@@ -14,14 +14,14 @@ use Rattle.kernel_book.specs.Book.{Accounts, IsBookOf}
 use Rattle.kernel_book.specs.Nodes.{AreNodes, is_node}
 use Rattle.kernel_fs.specs.KernelView.{KernelView}
 use Rattle.kernel_fs.specs.Reclaiming.{IsReclaimed, IsUnused}
-use Rattle.kernel_fs.specs.Standing.{IsKernelOf}
+use Rattle.kernel_fs.specs.Standing.{IsKernelOf, StandFor}
 use Rattle.kernel_book.proofs.Machines.{pinned_not}
 
 module _ {M : Type 0} (seen : M → Tier → List ℕ) (old new : JournalView M) (i : ℕ) (same : new.geometry ≡ old.geometry) (gone : IsReclaimed old.geometry (store_of (seen old.media)) i (store_of (seen new.media))) where
   graph_without : graph new.geometry (store_of (seen new.media)) ≡ set_node (graph old.geometry (store_of (seen old.media))) i None
   graph_without = ap (λ (g : Sizes). graph g (store_of (seen new.media))) same ∙ gone.graph_after
 
-  pub reclaimed_kernel : (book : Accounts) (m : Machine) → IsKernelOf seen (record { area = old; book = book }) m → IsKernelOf seen (record { area = new; book = book }) (reclaim m i)
+  pub reclaimed_kernel : (book : Accounts) (m : Machine) → StandFor seen old book m → StandFor seen new book (reclaim m i)
   reclaimed_kernel book m is = record {
     shared = ap (λ (g : Graph). set_node g i None) is.shared ∙ sym graph_without;
     capacity = is.capacity ∙ ap (λ (g : Sizes). g.units) (sym same);
@@ -39,7 +39,7 @@ module _ {M : Type 0} (seen : M → Tier → List ℕ) (old new : JournalView M)
       ]
 
 -- so the machine may drop it
-pub may_reclaim : {M : Type 0} (seen : M → Tier → List ℕ) (area : JournalView M) (book : Accounts) (m : Machine) (i : ℕ) → IsUnused (graph area.geometry (store_of (seen area.media))) book i → IsKernelOf seen (record { area = area; book = book }) m → CanReclaim m.kernel i
+pub may_reclaim : {M : Type 0} (seen : M → Tier → List ℕ) (area : JournalView M) (book : Accounts) (m : Machine) (i : ℕ) → IsUnused (graph area.geometry (store_of (seen area.media))) book i → StandFor seen area book m → CanReclaim m.kernel i
 may_reclaim seen area book m i unused is = record {
   file = subst (λ (g : Graph). IsNameless (g i)) (sym is.shared) unused.0;
   unpinned = pinned_not book m is.book i unused.1;

@@ -10,3 +10,4 @@ pub mod DigestAnswers
 pub mod Dropping
 pub mod Reclaimed
 pub mod DropSteps
+pub mod Runs

@@ -13,12 +13,12 @@ use Rattle.kernel_book.specs.Marks.{AreMarksOf}
 use Rattle.kernel_book.specs.Nodes.{AreNodes}
 use Rattle.kernel_book.specs.Steps.{opened}
 use Rattle.kernel_fs.specs.KernelView.{KernelView}
-use Rattle.kernel_fs.specs.Standing.{IsKernelOf, StandBeforeRegions}
+use Rattle.kernel_fs.specs.Standing.{IsKernelOf, StandBeforeRegions, StandFor}
 
 -- ---- opened
 
 pub opened_kernel : {M : Type 0} (seen : M → Tier → List ℕ) (area : JournalView M) (book : Accounts) (v : Marks) → marks (store_of (seen area.media)) ≡ Some v
-    → ((g : Graph) (capacity : ℕ) (m : ℕ → ℕ) → IsBookOf book (opened g capacity m)) → (m : ℕ → ℕ) → StandBeforeRegions (store_of (seen area.media)) → IsKernelOf seen (record { area = area; book = book }) (opened (graph area.geometry (store_of (seen area.media))) area.geometry.units m)
+    → ((g : Graph) (capacity : ℕ) (m : ℕ → ℕ) → IsBookOf book (opened g capacity m)) → (m : ℕ → ℕ) → StandBeforeRegions (store_of (seen area.media)) → StandFor seen area book (opened (graph area.geometry (store_of (seen area.media))) area.geometry.units m)
 opened_kernel seen area book v is empty m before = record {
   shared = refl;
   capacity = refl;
@@ -29,7 +29,7 @@ opened_kernel seen area book v is empty m before = record {
 -- ---- a run is moved
 
 pub moved_kernel : {M : Type 0} (seen : M → Tier → List ℕ) (old new : JournalView M) (book : Accounts) (m : Machine) → new.geometry ≡ old.geometry → graph old.geometry (store_of (seen new.media)) ≡ graph old.geometry (store_of (seen old.media))
-    → marks (store_of (seen new.media)) ≡ marks (store_of (seen old.media)) → IsKernelOf seen (record { area = old; book = book }) m → IsKernelOf seen (record { area = new; book = book }) m
+    → marks (store_of (seen new.media)) ≡ marks (store_of (seen old.media)) → StandFor seen old book m → StandFor seen new book m
 moved_kernel seen old new book m same same_graph same_marks is = record {
   shared = is.shared ∙ sym same_graph ∙ ap (λ (g : Sizes). graph g (store_of (seen new.media))) (sym same);
   capacity = is.capacity ∙ ap (λ (g : Sizes). g.units) (sym same);
@@ -46,5 +46,5 @@ moved_nodes seen old new nodes same same_graph are = subst (λ (g : Graph). AreN
 pub unmoved_kernel : {M : Type 0} (seen : M → Tier → List ℕ) (old new : KernelView M) (m : Machine) → new.book ≡ old.book → new.area.geometry ≡ old.area.geometry → ((t : Tier) → seen new.area.media t ≡ seen old.area.media t) → IsKernelOf seen old m → IsKernelOf seen new m
 unmoved_kernel {M = M} seen old new m book geometry reads is =
     let same : store_of (seen new.area.media) ≡ store_of (seen old.area.media) = ap store_of (tiers_same (seen old.area.media) (seen new.area.media) reads) in
-    let moved : IsKernelOf seen (record { area = new.area; book = old.book }) m = moved_kernel seen old.area new.area old.book m geometry (ap (graph old.area.geometry) same) (ap marks same) is in
-    subst (λ (b : Accounts). IsKernelOf seen (record { area = new.area; book = b }) m) (sym book) moved
+    let moved : StandFor seen new.area old.book m = moved_kernel seen old.area new.area old.book m geometry (ap (graph old.area.geometry) same) (ap marks same) is in
+    subst (λ (b : Accounts). StandFor seen new.area b m) (sym book) moved

@@ -1,12 +1,12 @@
 -- What a reclaim answers, by what its area answered.
-use Rattle.std.proofs.Common.{◌≡◌, ◌≢◌, ◌⊎◌, inl, inr, ℕ, ◌+◌, ◌≤◌, List, Bool, true, false, refl, ap, sym, ◌∙◌, subst, arith}
+use Rattle.std.proofs.Common.{◌≡◌, ◌≢◌, ◌⊎◌, inl, inr, ℕ, ◌+◌, ◌≤◌, List, true, false, refl, ap, sym, ◌∙◌, subst, arith}
 use Rattle.std.specs.Prelude.{Result, Ok, Err}
 use Rattle.std.proofs.lemmas.Bool.{true≢false}
 use Rattle.tier_device.specs.declared.media.Tier.{Tier}
 use Rattle.tier_device.specs.Media.{Rose}
 use Rattle.batch_journal.specs.View.{JournalView}
 use Rattle.batch_journal.specs.Course.{Unmoved}
-use Rattle.batch_journal.proofs.Courses.{tiers_same, unmoved_on}
+use Rattle.batch_journal.proofs.Courses.{unmoved_on}
 use Rattle.shared_area.specs.AreaError.{AreaError}
 use Rattle.shared_area.specs.AreaError.TheVariants as area
 use Rattle.shared_area.specs.ApplyError.{ApplyError}
@@ -14,12 +14,9 @@ use Rattle.shared_area.specs.ApplyError.TheVariants as apply
 use Rattle.shared_area.specs.Applying.{AppliesOrStays}
 use Rattle.shared_area.specs.Looks.{Looks}
 use Rattle.digester.specs.Errors.{IsAreaTold, IsChangeTold}
-use Rattle.shared_area.specs.Store.{store_of, graph}
-use Rattle.kernel_book.specs.Nodes.{AreNodes}
 use Rattle.kernel_fs.specs.Reclaiming.{ReclaimsOrStays}
 use Rattle.kernel_fs.specs.declared.error.ReclaimError.{ReclaimError}
 use Rattle.kernel_fs.specs.declared.error.ReclaimError.TheVariants as errors
-use Rattle.kernel_fs.proofs.MediaSteps.{moved_nodes}
 
 pub not_fault : errors.Memory ≢ errors.DeviceFault
 not_fault is = cc
@@ -95,16 +92,6 @@ module _ {M : Type 0} (moment : M → ℕ) (seen : M → Tier → List ℕ) (lef
     quiet_refused = λ _. (let q = a.quiet_refused (λ is. cc) in (q.0, q.2));
     fault = λ is. absurd (not_fault (err_is {T = Unit {0}} errors.Memory errors.DeviceFault is));
   })
-
--- after a refusal the nodes are those that there were, or a device has failed
-module _ {M : Type 0} (moment : M → ℕ) (seen : M → Tier → List ℕ) (left : M → ℕ → Tier → List ℕ → Type 0) (faults : M → ℕ) (old new : JournalView M) (nodes : ℕ → Bool) where
-  kept_nodes : (e : ReclaimError) → e ≢ errors.DeviceFault → ReclaimsOrStays moment seen left faults old new (Err e) → AreNodes (graph old.geometry (store_of (seen old.media))) nodes → AreNodes (graph new.geometry (store_of (seen new.media))) nodes
-  kept_nodes e other a are = moved_nodes seen old new nodes a.geometry (ap (λ (c : Tier → List ℕ). graph old.geometry (store_of c)) (tiers_same (seen old.media) (seen new.media) (a.unmoved other).reads)) are
-
-  pub refused_nodes : (e : ReclaimError) → ReclaimsOrStays moment seen left faults old new (Err e) → AreNodes (graph old.geometry (store_of (seen old.media))) nodes → new.failed ≡ false → AreNodes (graph new.geometry (store_of (seen new.media))) nodes
-  refused_nodes errors.DeviceFault a are going = absurd (true≢false (sym (a.fault refl).0 ∙ going))
-  refused_nodes errors.InUse a are going = kept_nodes errors.InUse in_use_no_fault a are
-  refused_nodes errors.Memory a are going = kept_nodes errors.Memory not_fault a are
 
 -- a change behind a look
 module _ {M : Type 0} (moment : M → ℕ) (seen : M → Tier → List ℕ) (left : M → ℕ → Tier → List ℕ → Type 0) (faults : M → ℕ) (old mid new : JournalView M) where

@@ -7,3 +7,5 @@ pub record KernelView (M : Type 0) : Type 0 where
   pub area : JournalView M
   -- what each client was given, and how many of its records are waiting
   pub book : Accounts
+  -- the shared media as they were when the kernel was opened over them
+  pub opening : JournalView M

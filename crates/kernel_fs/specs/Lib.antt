@@ -1,6 +1,7 @@
 pub mod KernelView
 pub mod Answering
 pub mod Standing
+pub mod History
 pub mod Accepting
 pub mod Opening
 pub mod Reclaiming
@@ -12,6 +13,7 @@ pub use Rattle.kernel_book.specs.Book
 pub use Rattle.kernel_book.specs.Free
 pub use Rattle.kernel_book.specs.Inodes
 pub use Rattle.kernel_book.specs.Nodes
+pub use Rattle.kernel_book.specs.Run
 pub use Rattle.kernel_book.specs.Steps
 pub use Rattle.kernel_book.specs.declared.error.RefillError
 pub use Rattle.migrator.specs.Picking

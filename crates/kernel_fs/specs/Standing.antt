@@ -7,7 +7,8 @@ use Rattle.layout.specs.declared.marks.Marks.{Marks}
 use Rattle.shared_area.specs.Store.{Store, store_of, graph, marks}
 use Rattle.digester.specs.Marking.{mark_of}
 use Rattle.world_facts.specs.Machine.{Machine}
-use Rattle.kernel_book.specs.Book.{IsBookOf}
+use Rattle.batch_journal.specs.View.{JournalView}
+use Rattle.kernel_book.specs.Book.{Accounts, IsBookOf}
 use Rattle.kernel_book.specs.Marks.{AreMarksOf}
 use Rattle.kernel_fs.specs.KernelView.{KernelView}
 
@@ -23,12 +24,16 @@ IsMarkIn s c k = (v : Marks) × (marks s ≡ Some v) × (k ≡ mark_of v (c - 1)
 abbrev pub HasMarksOf : Store → Machine → Type 0
 HasMarksOf s m = (v : Marks) × (marks s ≡ Some v) × AreMarksOf (done_in v) m
 
--- A kernel stands for a machine: its media spell the machine's graph and its marks, its capacity is that of the media, and its book has the machine's accounts.
-pub record IsKernelOf {M : Type 0} (seen : M → Tier → List ℕ) (k : KernelView M) (m : Machine) : Type 0 where
-  pub shared : m.kernel.shared ≡ graph k.area.geometry (store_of (seen k.area.media))
-  pub capacity : m.kernel.capacity ≡ k.area.geometry.units
-  pub book : IsBookOf k.book m
-  pub marks : HasMarksOf (store_of (seen k.area.media)) m
+-- Shared media and a book stand for a machine: the media spell the machine's graph and its marks, its capacity is that of the media, and the book has the machine's accounts.
+pub record StandFor {M : Type 0} (seen : M → Tier → List ℕ) (area : JournalView M) (accounts : Accounts) (m : Machine) : Type 0 where
+  pub shared : m.kernel.shared ≡ graph area.geometry (store_of (seen area.media))
+  pub capacity : m.kernel.capacity ≡ area.geometry.units
+  pub book : IsBookOf accounts m
+  pub marks : HasMarksOf (store_of (seen area.media)) m
+
+-- A kernel stands for a machine where its media and its book do.
+abbrev pub IsKernelOf : {M : Type 0} → (M → Tier → List ℕ) → KernelView M → Machine → Type 0
+IsKernelOf seen k m = StandFor seen k.area k.book m
 
 -- Each client's mark stands before a region: none of its records is digested.
 abbrev pub StandBeforeRegions : Store → Type 0

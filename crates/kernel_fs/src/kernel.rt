@@ -35,6 +35,7 @@ ghost use Rattle.kernel_book.specs.Steps.{grant as granted, opened, take_back as
 ghost use Rattle.kernel_book.specs.declared.error.RefillError.TheVariants.{NoUnits, NoInode};
 ghost use Rattle.kernel_fs.specs.Accepting.{client_of, HasAsManyWaiting, BeginsAtMark, IsRegionOf};
 ghost use Rattle.kernel_fs.specs.Answering.{Answers, OnRefusal};
+ghost use Rattle.kernel_fs.specs.History.{EndsRun};
 ghost use Rattle.kernel_fs.specs.Reclaiming.{IsUnused, IsReclaimed, StaysOrReclaims, ReclaimsOrStays};
 ghost use Rattle.kernel_fs.specs.Standing.{IsKernelOf, IsMarkIn, StandBeforeRegions};
 ghost use Rattle.kernel_fs.specs.declared.digesting.Digestion.TheVariants.{Digested, NotNext, NotAccepted};
@@ -43,6 +44,7 @@ ghost use Rattle.kernel_fs.specs.declared.error.KernelError.TheVariants.{Failed,
 ghost use Rattle.kernel_fs.specs.declared.error.ReclaimError.TheVariants as reclaims;
 
 use crate::accepting::{client_of, has_as_many_waiting, undone_of};
+use crate::began::Began;
 use crate::digesting::{Digestion, begins_at_mark, digest_and_follow};
 use crate::error::{AcceptError, KernelError, KernelFailed, ReclaimError};
 use crate::fetching::{Fetched, FetchedBytes, fetch_bytes, fetch_node};
@@ -72,6 +74,8 @@ pub struct Figures {
 /// Contracts see the shared area and the accounts. Clients are counted from 1; only a sealed log has its client from 0.
 #[derive(Debug, Drop)]
 pub struct Kernel<M: Media> {
+    // the media at the opening
+    began: Began<Shared<M>>,
     alloc: Global,
     area: Shared<M>,
     book: Book,
@@ -85,14 +89,15 @@ impl<M: Media> Model for Kernel<M> {
     ghost use Rattle.shared_area.specs.Store.{store_of, graph};
     ghost use Rattle.kernel_book.specs.Inodes.{has};
     ghost use Rattle.kernel_book.specs.Nodes.{AreNodes};
+    ghost use Rattle.kernel_fs.specs.History.{EndsRun};
     ghost use Rattle.kernel_fs.specs.KernelView.{KernelView};
 
     ghost Value = { KernelView M };
 
-    ghost view = { λ k. record { area = k.area; book = k.book } };
+    ghost view = { λ k. record { area = k.area; book = k.book; opening = k.began.value } };
 
-    // until a device has failed
-    ghost invariant = { λ k. k.area.failed ≡ false → AreNodes (graph k.area.geometry (store_of (M.seen k.area.media))) (has k.nodes) };
+    // Until a device has failed: the set has the nodes of the graph, and the kernel stands at the end of a run of its machine.
+    ghost invariant = { λ k. k.area.failed ≡ false → AreNodes (graph k.area.geometry (store_of (M.seen k.area.media))) (has k.nodes) × EndsRun M.seen (record { area = k.area; book = k.book; opening = k.began.value }) };
 }
 
 impl<M: Media> Kernel<M> {
@@ -103,6 +108,7 @@ impl<M: Media> Kernel<M> {
     pub fn open(alloc: Global, area: Shared<M>) -> Result<Self, (AreaError, Shared<M>)>
         ensures opens { IfOk result (λ k. (marks : ℕ → ℕ) → StandBeforeRegions (store_of (M.seen k.area.media)) → IsKernelOf M.seen k (opened (graph k.area.geometry (store_of (M.seen k.area.media))) k.area.geometry.units marks)) }
         ensures out { IfOk result (λ k. out_of k.book ≡ 0) }
+        ensures opening { IfOk result (λ k. k.opening ≡ k.area) }
         ensures looks { IfOk result (λ k. Looks M.moment M.seen M.left M.faults area k.area looked) }
         ensures only { IfErr result (λ e. IsNoDamage e.0) }
         ensures memory { IfErr result (λ e. e.0 ≡ Memory → (i : ℕ) × WantsMemory area.geometry (store_of (M.seen area.media)) i) }
@@ -112,7 +118,9 @@ impl<M: Media> Kernel<M> {
         match nodes_of(&mut area) {
             Ok(nodes) => {
                 let _marks = area.marks();
+                let began = Began::of(&area);
                 Ok(Kernel {
+                    began,
                     alloc,
                     area,
                     book: Book::new(),
@@ -137,6 +145,14 @@ impl<M: Media> Kernel<M> {
         self.area.has_failed()
     }
 
+    /// Where it stands: at the end of a run of its machine, from the one that was opened over the media as they were then, where each mark stood before a region. That is a fact of the value: no list of
+    /// entries is kept, and nothing grows with them. It makes no device call.
+    pub fn history(&self)
+        ensures { self.now.area.failed ≡ false → EndsRun M.seen self.now }
+    {
+        let _failed = self.area.has_failed();
+    }
+
     // ---- what is there
 
     /// What stands at an inode of the shared graph: a file with its size and how many names it has, a directory with its entries by name; `None` where nothing does. Beside it the mark of the client that asks:
@@ -151,6 +167,7 @@ impl<M: Media> Kernel<M> {
         ensures memory { IfErr result (λ e. OnRefusal e (λ r. r ≡ Memory → WantsMemory self.old.area.geometry (store_of (M.seen self.old.area.media)) inode)) }
         ensures book { self.new.book ≡ self.old.book }
         ensures answers { Answers self.old.area.failed self.old self.new result (Looks M.moment M.seen M.left M.faults self.old.area self.new.area) }
+        ensures opening { self.new.opening ≡ self.old.opening }
     {
         if self.area.has_failed() {
             return Err(KernelError::Failed);
@@ -182,6 +199,7 @@ impl<M: Media> Kernel<M> {
         ensures memory { IfErr result (λ e. OnRefusal e (λ r. r ≡ Memory → WantsMemory self.old.area.geometry (store_of (M.seen self.old.area.media)) inode)) }
         ensures book { self.new.book ≡ self.old.book }
         ensures answers { Answers self.old.area.failed self.old self.new result (Looks M.moment M.seen M.left M.faults self.old.area self.new.area) }
+        ensures opening { self.new.opening ≡ self.old.opening }
     {
         if self.area.has_failed() {
             return Err(KernelError::Failed);
@@ -205,6 +223,7 @@ impl<M: Media> Kernel<M> {
         ensures memory { IfErr result (λ e. OnRefusal e (λ r. r ≡ Memory → WantsMemory self.old.area.geometry (store_of (M.seen self.old.area.media)) inode)) }
         ensures book { self.new.book ≡ self.old.book }
         ensures answers { Answers self.old.area.failed self.old self.new result (Looks M.moment M.seen M.left M.faults self.old.area self.new.area) }
+        ensures opening { self.new.opening ≡ self.old.opening }
     {
         if self.area.has_failed() {
             return Err(KernelError::Failed);
@@ -268,6 +287,7 @@ impl<M: Media> Kernel<M> {
         ensures failed { IsErrOf result Failed ↔ (self.old.area.failed ≡ true) }
         ensures refused { OnErr result (self.new ≡ self.old) }
         ensures area { self.new.area ≡ self.old.area }
+        ensures opening { self.new.opening ≡ self.old.opening }
     {
         if self.area.has_failed() {
             return Err(KernelError::Failed);
@@ -298,6 +318,7 @@ impl<M: Media> Kernel<M> {
         ensures failed { OnErr result (self.old.area.failed ≡ true) }
         ensures refused { OnErr result (self.new ≡ self.old) }
         ensures area { self.new.area ≡ self.old.area }
+        ensures opening { self.new.opening ≡ self.old.opening }
     {
         if self.area.has_failed() {
             return Err(KernelFailed);
@@ -316,6 +337,7 @@ impl<M: Media> Kernel<M> {
         ensures failed { OnErr result (self.old.area.failed ≡ true) }
         ensures refused { OnErr result (self.new ≡ self.old) }
         ensures area { self.new.area ≡ self.old.area }
+        ensures opening { self.new.opening ≡ self.old.opening }
     {
         if self.area.has_failed() {
             return Err(KernelFailed);
@@ -333,6 +355,7 @@ impl<M: Media> Kernel<M> {
         ensures failed { OnErr result (self.old.area.failed ≡ true) }
         ensures refused { OnErr result (self.new ≡ self.old) }
         ensures area { self.new.area ≡ self.old.area }
+        ensures opening { self.new.opening ≡ self.old.opening }
     {
         if self.area.has_failed() {
             return Err(KernelFailed);
@@ -350,6 +373,7 @@ impl<M: Media> Kernel<M> {
         ensures failed { OnErr result (self.old.area.failed ≡ true) }
         ensures refused { OnErr result (self.new ≡ self.old) }
         ensures area { self.new.area ≡ self.old.area }
+        ensures opening { self.new.opening ≡ self.old.opening }
     {
         if self.area.has_failed() {
             return Err(KernelFailed);
@@ -376,6 +400,7 @@ impl<M: Media> Kernel<M> {
         ensures failed { IsErrOf result Failed ↔ (self.old.area.failed ≡ true) }
         ensures refused { OnErr result (self.new ≡ self.old) }
         ensures area { self.new.area ≡ self.old.area }
+        ensures opening { self.new.opening ≡ self.old.opening }
     {
         if self.area.has_failed() {
             return Err(KernelError::Failed);
@@ -435,6 +460,7 @@ impl<M: Media> Kernel<M> {
         ensures answers { Answers self.old.area.failed self.old self.new result (DigestsOrStays M.moment M.seen M.left M.faults self.old.area self.new.area) }
         // As many writes and fences as the change of the chunk makes, and none where it is not made; what is read is not counted.
         ensures at_most { MakesFewCalls self.old.area.geometry (store_of (M.seen self.old.area.media)) (changes_of chunk.now.change) (M.moment self.old.area.media) (M.moment self.new.area.media) }
+        ensures opening { self.new.opening ≡ self.old.opening }
     {
         if self.area.has_failed() {
             return Err(KernelError::Failed);
@@ -479,6 +505,7 @@ impl<M: Media> Kernel<M> {
         ensures answers { Answers self.old.area.failed self.old self.new result (ReclaimsOrStays M.moment M.seen M.left M.faults self.old.area self.new.area) }
         // As many writes and fences as the change that drops a node makes, and none where it is not made; what is read is not counted.
         ensures at_most { MakesFewCalls self.old.area.geometry (store_of (M.seen self.old.area.media)) (coalesced (effect.Drop inode ∷ [])) (M.moment self.old.area.media) (M.moment self.new.area.media) }
+        ensures opening { self.new.opening ≡ self.old.opening }
     {
         if self.area.has_failed() {
             return Err(KernelError::Failed);
@@ -506,6 +533,7 @@ impl<M: Media> Kernel<M> {
         ensures memory { IfErr result (λ e. OnRefusal e (λ r. r ≡ Memory → (i : ℕ) × WantsMemory self.old.area.geometry (store_of (M.seen self.old.area.media)) i)) }
         ensures book { self.new.book ≡ self.old.book }
         ensures answers { Answers self.old.area.failed self.old self.new result (Looks M.moment M.seen M.left M.faults self.old.area self.new.area) }
+        ensures opening { self.new.opening ≡ self.old.opening }
     {
         if self.area.has_failed() {
             return Err(KernelError::Failed);
@@ -541,6 +569,7 @@ impl<M: Media> Kernel<M> {
         ensures book { self.new.book ≡ self.old.book }
         ensures answers { Answers self.old.area.failed self.old self.new result (MovesOrStays M.moment M.seen M.left M.faults self.old.area self.new.area) }
         ensures at_most { M.moment self.new.area.media ≤ M.moment self.old.area.media + count + 13 }
+        ensures opening { self.new.opening ≡ self.old.opening }
     {
         if self.area.has_failed() {
             return Err(KernelError::Failed);

@@ -8,6 +8,7 @@
 #![tactic(auto)]
 
 mod accepting;
+mod began;
 mod digesting;
 mod error;
 mod fetching;

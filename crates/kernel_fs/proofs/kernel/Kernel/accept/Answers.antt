@@ -1,13 +1,15 @@
-use Rattle.std.proofs.Common.{◌≡◌, ◌∙◌, ◌+◌, ℕ, length, ap, sym, subst}
+use Rattle.std.proofs.Common.{◌≡◌, ◌∙◌, ◌+◌, ℕ, length, ap, sym, subst, refl}
 use Rattle.shared_area.specs.Store.{store_of}
 use Rattle.digester.specs.SealedLog.{StandsAtMark}
-use Rattle.world_facts.specs.Machine.{accept}
+use Rattle.world_facts.specs.Machine.{accept, Sealed}
 use Rattle.kernel_book.specs.Book.{IsBookOf, waiting_of}
 use Rattle.kernel_book.specs.declared.account.ClientAccount.{ClientAccount}
 use Rattle.kernel_fs.specs.Accepting.{client_of}
 use Rattle.kernel_fs.specs.KernelView.{KernelView}
 use Rattle.kernel_fs.specs.Standing.{IsKernelOf}
 use Rattle.kernel_fs.proofs.Digested.{accepted_kernel, its_region, may_accept, whole}
+use Rattle.kernel_fs.proofs.Runs.{goes_on, region_of}
+use Rattle.kernel_book.specs.Run as entry
 use Rattle.kernel_fs.proofs.kernel.Kernel.accept.Goals as goal
 
 pub returns-clause-step : goal.returns-clause-step
@@ -50,3 +52,24 @@ returns-clause-region g c = λ m s is past records writes.
     let client : c.client_of-client.result ≡ client_of x = c.client_of-client.ensures.is in
     let none : waiting_of book (client_of x) ≡ 0 = sym (ap (waiting_of book) client) ∙ sym (ap (λ (a : ClientAccount). a.waiting) c.account.ensures) ∙ c.if-account-ne0.false in
     its_region x c.requires.sealed seen area book m own none at s past records writes
+
+pub invariant_of-self : goal.invariant_of-self
+invariant_of-self g c = λ still.
+    let going : _ = sym c.has_failed.ensures ∙ c.if-has_failed.false in
+    let inside = c.self.invariant going in
+    let seen = g.M.Media.seen in
+    let x = c.args.log.now in
+    let area = c.self.inside.area in
+    let book = c.self.inside.book in
+    let at : StandsAtMark x (store_of (seen area.media)) = (c.marks.result, c.marks.ensures going, c.stands_at.ensures.exact.0 c.if-not-stands_at.false) in
+    let client : c.client_of-client.result ≡ client_of x = c.client_of-client.ensures.is in
+    let none : waiting_of book (client_of x) ≡ 0 = sym (ap (waiting_of book) client) ∙ sym (ap (λ (a : ClientAccount). a.waiting) c.account.ensures) ∙ c.if-account-ne0.false in (
+      inside.0,
+      goes_on seen c.self.inside.began.value area area book c.accept.new.self (λ m. entry.Accept (client_of x) (region_of x (m.accepted (client_of x)))) (λ m is.
+          let s : Sealed = region_of x (m.accepted (client_of x)) in (
+            may_accept x c.requires.sealed seen area book m is none at s refl refl,
+            accepted_kernel x c.requires.sealed seen area book m is none at c.accept.new.self s refl refl
+                (subst (λ (k : ℕ). IsBookOf c.accept.new.self (accept m k s)) client
+                (c.accept.ensures.step m s is.book (ap m.accepted client) (whole x c.requires.sealed seen area book m is none at s refl ∙ sym c.undone_of.ensures))),
+          )) inside.1,
+    )

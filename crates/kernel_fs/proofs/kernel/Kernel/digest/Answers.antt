@@ -1,10 +1,10 @@
-use Rattle.std.proofs.Common.{◌≡◌, ◌∙◌, ℕ, ◌≤◌, ◌+◌, true, false, refl, ap, sym, subst, take, arith}
+use Rattle.std.proofs.Common.{◌≡◌, ◌∙◌, ℕ, ◌≤◌, ◌+◌, true, false, refl, ap, sym, subst, take, arith, drop, length, ◌<◌, ◌-◌, List}
 use Rattle.shared_area.specs.Store.{store_of, graph}
 use Rattle.digester.specs.SealedLog.{StandsAtMark, done_to, undone}
 use Rattle.digester.specs.declared.sealed_log.SealedLog.{SealedLog}
 use Rattle.file_graph.specs.Units.{charge}
 use Rattle.layout.specs.Places.{Sizes}
-use Rattle.kernel_book.specs.Book.{units_of, out_of}
+use Rattle.kernel_book.specs.Book.{units_of, out_of, Accounts}
 use Rattle.world_facts.specs.Logs.{units_in}
 use Rattle.kernel_book.specs.Inodes.{has}
 use Rattle.kernel_fs.specs.Accepting.{client_of, HasAsManyWaiting}
@@ -20,13 +20,11 @@ use Rattle.kernel_fs.specs.declared.digesting.Digestion.TheVariants.{Digested, N
 use Rattle.kernel_fs.specs.Answering.{Answers, told}
 use Rattle.kernel_fs.proofs.Answered.{answered}
 use Rattle.kernel_fs.proofs.DigestAnswers.{another, none, refused}
+use Rattle.kernel_fs.proofs.Runs.{Inside, digest_refused, goes_on, region_of, told_region}
+use Rattle.kernel_book.specs.Run as entry
+use Rattle.kernel_fs.proofs.SealedRecords.{next}
+use Rattle.std.proofs.lemmas.List.{length-drop}
 use Rattle.kernel_fs.proofs.kernel.Kernel.digest.Goals as goal
-
-pub invariant_of-self-2 : goal.invariant_of-self-2
-invariant_of-self-2 g c =
-    let seen = g.M.Media.seen in
-    let going : _ = sym c.has_failed.ensures ∙ c.if-has_failed.false in
-    λ still. nodes_moved seen c.self.inside.area c.digest_and_follow.new.area c.args.log.now c.args.chunk.now.count c.in-Ok.ensures.digests.geometry c.in-Ok.ensures.digested (has c.self.inside.nodes) (has c.digest_and_follow.new.nodes) c.in-Ok.ensures.nodes (c.self.invariant going)
 
 pub returns-clause-step : goal.returns-clause-step
 returns-clause-step g c = λ yes m is.
@@ -67,7 +65,7 @@ returns-then-not-begins_at_mark-clause-answers g c =
     let area = c.self.inside.area in
     let book = c.self.inside.book in
     subst (λ (v : KernelView _). Answers v.area.failed v v (told (Ok NotNext)) (DigestsOrStays m.moment m.seen m.left m.faults v.area v.area)) c.self.view_is
-    (answered (DigestsOrStays m.moment m.seen m.left m.faults) area area book book (record { area = area; book = book }) refl (Ok NotNext) going (none m.moment m.seen m.left m.faults area NotNext going))
+    (answered (DigestsOrStays m.moment m.seen m.left m.faults) area area book book (record { area = area; book = book; opening = c.self.inside.began.value }) refl (Ok NotNext) going (none m.moment m.seen m.left m.faults area NotNext going))
 
 pub returns-then-not-has_as_many_waiting-clause-any_moment : goal.returns-then-not-has_as_many_waiting-clause-any_moment
 returns-then-not-has_as_many_waiting-clause-any_moment g c = λ going begins many.
@@ -80,7 +78,7 @@ returns-then-not-has_as_many_waiting-clause-answers g c =
     let area = c.self.inside.area in
     let book = c.self.inside.book in
     subst (λ (v : KernelView _). Answers v.area.failed v v (told (Ok NotAccepted)) (DigestsOrStays m.moment m.seen m.left m.faults v.area v.area)) c.self.view_is
-    (answered (DigestsOrStays m.moment m.seen m.left m.faults) area area book book (record { area = area; book = book }) refl (Ok NotAccepted) going (none m.moment m.seen m.left m.faults area NotAccepted going))
+    (answered (DigestsOrStays m.moment m.seen m.left m.faults) area area book book (record { area = area; book = book; opening = c.self.inside.began.value }) refl (Ok NotAccepted) going (none m.moment m.seen m.left m.faults area NotAccepted going))
 
 pub returns-in-Err-clause-answers : goal.returns-in-Err-clause-answers
 returns-in-Err-clause-answers g c =
@@ -95,6 +93,42 @@ returns-clause-answers g c =
     let going : _ = sym c.has_failed.ensures ∙ c.if-has_failed.false in
     answered (DigestsOrStays m.moment m.seen m.left m.faults) c.self.inside.area c.digest_and_follow.new.area c.self.inside.book c.digest_and_follow.new.book c.args.self.now c.self.view_is (Ok Digested) going
     (another m.moment m.seen m.left m.faults c.self.inside.area c.digest_and_follow.new.area tt Digested c.in-Ok.ensures.digests)
+
+pub invariant_of-self : goal.invariant_of-self
+invariant_of-self g c = λ still.
+    let going : _ = sym c.has_failed.ensures ∙ c.if-has_failed.false in
+    let inside = c.self.invariant going in
+    let m = g.M.Media in
+    let new = c.digest_and_follow.new in
+    let same = c.in-Err.ensures.refused in
+    let stays = digest_refused m.seen c.self.inside.began.value (has c.self.inside.nodes) c.self.inside.book c.self.inside.area new.area m.moment m.left m.faults c.in-Err.error c.in-Err.ensures.digests still inside in
+    subst (λ (b : Accounts). Inside m.seen c.self.inside.began.value (has new.nodes) b new.area) (sym same.0)
+    (subst (λ (set : List ℕ). Inside m.seen c.self.inside.began.value (has set) c.self.inside.book new.area) (sym same.1) stays)
+
+pub invariant_of-self-2 : goal.invariant_of-self-2
+invariant_of-self-2 g c = λ still.
+    let going : _ = sym c.has_failed.ensures ∙ c.if-has_failed.false in
+    let inside = c.self.invariant going in
+    let seen = g.M.Media.seen in
+    let x = c.args.log.now in
+    let n = c.args.chunk.now.count in
+    let old = c.self.inside.area in
+    let book = c.self.inside.book in
+    let new = c.digest_and_follow.new in
+    let done = c.in-Ok.ensures.digested in
+    let same = c.in-Ok.ensures.digests.geometry in
+    let accepted = c.has_as_many_waiting.ensures.0 c.if-not-has_as_many_waiting.false in
+    let begins = c.begins_at_mark.ensures.0 c.if-not-begins_at_mark.false in
+    let at = subst (λ (z : SealedLog). StandsAtMark z (store_of (seen new.area.media))) c.in-Ok.ensures.done c.in-Ok.ensures.at_mark in
+    let left : 0 < length (undone x) = (let few = c.requires.sealed.some in let long = length-drop x.done x.records.items in omega (arith, few, long)) in (
+      nodes_moved seen old new.area x n same done (has c.self.inside.nodes) (has new.nodes) c.in-Ok.ensures.nodes inside.0,
+      goes_on seen c.self.inside.began.value old new.area book new.book
+          (λ m. entry.Digest (client_of x) (region_of x ((m.kernel.accounts (client_of x)).mark - x.done)) (take n (undone x)) (drop n (undone x)))
+          (λ m is. (
+            next x m (region_of x ((m.kernel.accounts (client_of x)).mark - x.done)) (told_region x c.requires.sealed seen old book m is begins.1) c.requires.sealed book n is.book accepted (done.run.some left) done.run.within,
+            digested_kernel x c.requires.sealed seen old new.area book new.book m n is accepted done at same (c.in-Ok.ensures.book m is.book),
+          )) inside.1,
+    )
 
 pub returns-then-not-has_as_many_waiting-clause-stale : goal.returns-then-not-has_as_many_waiting-clause-stale
 returns-then-not-has_as_many_waiting-clause-stale g c = λ stale. absurd (false≢true (sym stale ∙ (c.begins_at_mark.ensures.0 c.if-not-begins_at_mark.false).0))

@@ -1,5 +1,20 @@
-use Rattle.kernel_fs.proofs.MediaSteps.{opened_kernel}
+use Rattle.std.proofs.Common.{ap}
+use Rattle.batch_journal.proofs.Courses.{tiers_same}
+use Rattle.shared_area.specs.Store.{store_of, graph}
+use Rattle.kernel_book.specs.Inodes.{has}
+use Rattle.kernel_fs.proofs.MediaSteps.{moved_nodes, opened_kernel}
+use Rattle.kernel_fs.proofs.Runs.{begins}
 use Rattle.kernel_fs.proofs.kernel.Kernel.open.Goals as goal
+
+pub invariant_of-result : goal.invariant_of-result
+invariant_of-result g c = λ still.
+    let m = g.M.Media in
+    let old = c.args.area in
+    let new = c.nodes_of.new.area in
+    let looks = c.in-Ok.ensures.looks in (
+      moved_nodes m.seen old new (has c.in-Ok.nodes) looks.geometry (ap (λ s. graph old.geometry (store_of s)) (tiers_same (m.seen old.media) (m.seen new.media) looks.unmoved.reads)) c.in-Ok.ensures.nodes,
+      begins m.seen new c.of-began.result.value c.new.result c.of-began.ensures (opened_kernel m.seen new c.new.result c.marks-marks.result (c.marks-marks.ensures looks.going.1) c.new.ensures.opens),
+    )
 
 pub returns-in-Ok-clause-opens : goal.returns-in-Ok-clause-opens
 returns-in-Ok-clause-opens g c =

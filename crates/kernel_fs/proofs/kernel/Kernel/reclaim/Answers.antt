@@ -8,17 +8,14 @@ use Rattle.kernel_fs.specs.Reclaiming.{IsUnused, ReclaimsOrStays, StaysOrReclaim
 use Rattle.kernel_fs.specs.declared.error.ReclaimError.TheVariants as errors
 use Rattle.kernel_fs.proofs.Dropping.{still_open}
 use Rattle.kernel_fs.proofs.Answered.{answered}
-use Rattle.kernel_fs.proofs.Reclaimed.{in_use_no_fault, nothing_stays, refused_nodes}
+use Rattle.kernel_fs.proofs.Reclaimed.{in_use_no_fault, nothing_stays}
 use Rattle.kernel_book.specs.Inodes.{has}
 use Rattle.kernel_fs.specs.KernelView.{KernelView}
 use Rattle.kernel_fs.specs.Standing.{IsKernelOf}
 use Rattle.kernel_fs.proofs.DropSteps.{may_reclaim, reclaimed_kernel, reclaimed_nodes}
+use Rattle.kernel_fs.proofs.Runs.{goes_on, reclaim_refused}
+use Rattle.kernel_book.specs.Run as entry
 use Rattle.kernel_fs.proofs.kernel.Kernel.reclaim.Goals as goal
-
-pub invariant_of-self-2 : goal.invariant_of-self-2
-invariant_of-self-2 g c =
-    let going : _ = sym c.has_failed.ensures ∙ c.if-has_failed.false in
-    λ still. reclaimed_nodes g.M.Media.seen c.self.inside.area c.drop_nameless.new.area c.args.inode c.in-Ok.ensures.stays.geometry c.in-Ok.ensures.dropped (has c.self.inside.nodes) (has c.remove.new.self) c.remove.ensures (c.self.invariant going)
 
 pub returns-clause-step : goal.returns-clause-step
 returns-clause-step g c = λ m is.
@@ -46,15 +43,16 @@ returns-then-is_pinned-clause-answers g c =
     let area = c.self.inside.area in
     let book = c.self.inside.book in
     subst (λ (v : KernelView _). Answers v.area.failed v v (told (Err errors.InUse)) (ReclaimsOrStays m.moment m.seen m.left m.faults v.area v.area)) c.self.view_is
-    (answered (ReclaimsOrStays m.moment m.seen m.left m.faults) area area book book (record { area = area; book = book }) refl (Err errors.InUse) going (nothing_stays m.moment m.seen m.left m.faults area errors.InUse in_use_no_fault going))
+    (answered (ReclaimsOrStays m.moment m.seen m.left m.faults) area area book book (record { area = area; book = book; opening = c.self.inside.began.value }) refl (Err errors.InUse) going (nothing_stays m.moment m.seen m.left m.faults area errors.InUse in_use_no_fault going))
 
 -- ---- where it was refused
 
 pub invariant_of-self : goal.invariant_of-self
-invariant_of-self g c =
-    let m = g.M.Media in
+invariant_of-self g c = λ still.
     let going : _ = sym c.has_failed.ensures ∙ c.if-has_failed.false in
-    λ still. refused_nodes m.moment m.seen m.left m.faults c.self.inside.area c.drop_nameless.new.area (has c.self.inside.nodes) c.in-Err.error c.in-Err.ensures.stays (c.self.invariant going) still
+    let inside = c.self.invariant going in
+    let m = g.M.Media in
+    reclaim_refused m.seen c.self.inside.began.value (has c.self.inside.nodes) c.self.inside.book c.self.inside.area c.drop_nameless.new.area m.moment m.left m.faults c.in-Err.error c.in-Err.ensures.stays still inside
 
 pub returns-in-Err-clause-in_use : goal.returns-in-Err-clause-in_use
 returns-in-Err-clause-in_use g c = λ is.
@@ -74,6 +72,22 @@ returns-in-Err-clause-answers g c =
     answered (ReclaimsOrStays m.moment m.seen m.left m.faults) c.self.inside.area c.drop_nameless.new.area c.self.inside.book c.self.inside.book c.args.self.now c.self.view_is (Err c.in-Err.error) going c.in-Err.ensures.stays
 
 -- ---- where it was dropped
+
+pub invariant_of-self-2 : goal.invariant_of-self-2
+invariant_of-self-2 g c = λ still.
+    let going : _ = sym c.has_failed.ensures ∙ c.if-has_failed.false in
+    let inside = c.self.invariant going in
+    let seen = g.M.Media.seen in
+    let old = c.self.inside.area in
+    let new = c.drop_nameless.new.area in
+    let book = c.self.inside.book in
+    let geometry = c.in-Ok.ensures.stays.geometry in (
+      reclaimed_nodes seen old new c.args.inode geometry c.in-Ok.ensures.dropped (has c.self.inside.nodes) (has c.remove.new.self) c.remove.ensures inside.0,
+      goes_on seen c.self.inside.began.value old new book book (λ m. entry.Reclaim c.args.inode) (λ m is. (
+        may_reclaim seen old book m c.args.inode (c.in-Ok.ensures.was, sym c.is_pinned.ensures ∙ c.if-is_pinned.false) is,
+        reclaimed_kernel seen old new c.args.inode geometry c.in-Ok.ensures.dropped book m is,
+      )) inside.1,
+    )
 
 pub returns-clause-answers : goal.returns-clause-answers
 returns-clause-answers g c =
