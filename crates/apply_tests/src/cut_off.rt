@@ -50,15 +50,24 @@ fn first_course(alloc: Global) -> Result<Course, AreaError> {
 }
 
 // Each change of the table is cut off in each of its calls.
-fn are_whole(alloc: Global, fill: Fill, stops: bool) -> Result<bool, AreaError> {
-    let mut course = first_course(alloc)?;
+fn rows_are_whole(
+    alloc: Global,
+    course: &mut Course,
+    fill: Fill,
+    stops: bool,
+) -> Result<bool, AreaError> {
     for number in 0..ROWS {
         course.row = change_at(number);
-        if !is_whole(alloc, &course, fill, stops)? {
+        if !is_whole(alloc, course, fill, stops)? {
             return Ok(false);
         }
     }
     Ok(true)
+}
+
+fn are_whole(alloc: Global, fill: Fill, stops: bool) -> Result<bool, AreaError> {
+    let mut course = first_course(alloc)?;
+    rows_are_whole(alloc, &mut course, fill, stops)
 }
 
 #[test]

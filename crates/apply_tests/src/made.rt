@@ -5,10 +5,10 @@ ghost use Rattle.tier_device.specs.Media.{AtRest};
 ghost use Rattle.tier_device.specs.Memory.{IsAtRest};
 
 use crate::applied::answer_to;
-use crate::rows::{MAKING, ROWS, SIZES, WORLD, change_at};
+use crate::rows::{MAKING, ROWS, Row, SIZES, WORLD, change_at};
 use crate::told::{Lines, has_lines, put_area, told};
 use row_tables::Text;
-use small_worlds::{ApplyError, AreaError, Step, bare_media, opened};
+use small_worlds::{ApplyError, AreaError, Shared, Step, bare_media, opened};
 use std::alloc::Global;
 use std::test::Fail;
 use tier_device::{Fill, Media, MemMedia};
@@ -21,6 +21,23 @@ pub struct Answered<M> {
     pub media: M,
 }
 
+// What is answered to a change over an opened area, and what the area tells then.
+fn answered<M: Media + Drop>(
+    alloc: Global,
+    area: &mut Shared<M>,
+    steps: &[Step<'_>],
+    number: u32,
+) -> Result<(Option<Result<(), ApplyError>>, Text), AreaError> {
+    let answer = answer_to(alloc, area, steps, number)?;
+    Ok((answer, live(alloc, area)?))
+}
+
+fn live<M: Media + Drop>(alloc: Global, area: &mut Shared<M>) -> Result<Text, AreaError> {
+    let mut live = Text::new(alloc);
+    put_area(area, &mut live)?;
+    Ok(live)
+}
+
 /// Makes the change of these steps over a medium, with the marks of digest so many.
 pub fn change_of<M: Media + Drop>(
     alloc: Global,
@@ -31,9 +48,7 @@ pub fn change_of<M: Media + Drop>(
     requires { (t : Tier) → AtRest (M.seen media) (M.left media (M.moment media)) t }
 {
     let mut area = opened(alloc, media)?;
-    let answer = answer_to(alloc, &mut area, steps, number)?;
-    let mut live = Text::new(alloc);
-    put_area(&mut area, &mut live)?;
+    let (answer, live) = answered(alloc, &mut area, steps, number)?;
     Ok(Answered {
         answer,
         live,
@@ -41,7 +56,16 @@ pub fn change_of<M: Media + Drop>(
     })
 }
 
-// Whether a change is made, and the area tells these lines then, and again once it is opened anew.
+// Whether a change was made, and the area told these lines then, and tells them again once it is opened anew.
+fn is_told(alloc: Global, made: &Answered<MemMedia>, after: &Lines) -> Result<bool, AreaError> {
+    if made.answer != Some(Ok(())) || !has_lines(made.live.as_str(), &after[..7]) {
+        return Ok(false);
+    }
+    let again = told(alloc, made.media.after_stop(Fill::Byte(0xa5))?)?;
+    Ok(has_lines(again.as_str(), after))
+}
+
+// The same of a change that is made now.
 fn is_made(
     alloc: Global,
     media: MemMedia,
@@ -52,12 +76,7 @@ fn is_made(
     requires { IsAtRest media }
 {
     let made = change_of(alloc, media, steps, number)?;
-    let again = told(alloc, made.media.after_stop(Fill::Byte(0xa5))?)?;
-    Ok(
-        made.answer == Some(Ok(()))
-            && has_lines(made.live.as_str(), &after[..7])
-            && has_lines(again.as_str(), after),
-    )
+    is_told(alloc, &made, after)
 }
 
 /// The medium of the world, at rest.
@@ -68,16 +87,24 @@ pub fn world(alloc: Global) -> Result<MemMedia, AreaError>
     Ok(made.media.after_stop(Fill::Byte(0xa5))?)
 }
 
-fn are_made(alloc: Global) -> Result<bool, AreaError> {
-    let base = world(alloc)?;
+// Whether a row's change is made over the world.
+fn is_row_made(alloc: Global, world: &MemMedia, row: Row) -> Result<bool, AreaError> {
+    let media = world.after_stop(Fill::Old)?;
+    is_made(alloc, media, row.steps, 2, &row.after)
+}
+
+fn rows_are_made(alloc: Global, world: &MemMedia) -> Result<bool, AreaError> {
     for number in 0..ROWS {
-        let row = change_at(number);
-        let media = base.after_stop(Fill::Old)?;
-        if !is_made(alloc, media, row.steps, 2, &row.after)? {
+        if !is_row_made(alloc, world, change_at(number))? {
             return Ok(false);
         }
     }
     Ok(true)
+}
+
+fn are_made(alloc: Global) -> Result<bool, AreaError> {
+    let world = world(alloc)?;
+    rows_are_made(alloc, &world)
 }
 
 #[test]

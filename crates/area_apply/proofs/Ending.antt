@@ -27,6 +27,7 @@ use Rattle.area_apply.specs.Applying.{IsAppliedStore, IsAppliedOrNot, MakesFewCa
 use Rattle.area_apply.specs.Errors.{IsTold, IsForced}
 use Rattle.area_apply.specs.declared.error.ApplyError.{ApplyError}
 use Rattle.area_apply.specs.declared.error.ApplyError.TheVariants as errors
+use Rattle.area_apply.proofs.Calls.{few_behind}
 
 -- ---- answers
 
@@ -109,7 +110,7 @@ module _ {M : Type 0} (moment : M → ℕ) (seen : M → Tier → List ℕ) (lef
 
     -- how many calls it makes
     abbrev MakesFew : JournalView M → JournalView M → Type 0
-    MakesFew old new = MakesFewCalls old.geometry (store_of (seen old.media)) cs (moment old.media) (moment new.media)
+    MakesFew old new = MakesFewCalls old.geometry (store_of (seen old.media)) cs (moment old.media) (moment new.media) (left old.media) (left new.media)
 
     abbrev EndsAt : JournalView M → JournalView M → PoolsView → Result (Unit {0}) ApplyError → Type 0
     EndsAt old new pools r = Ends moment seen left faults cs v old new pools r
@@ -205,9 +206,10 @@ module _ {M : Type 0} (moment : M → ℕ) (seen : M → Tier → List ℕ) (lef
     few_on : (old mid new : JournalView M) → StillAt old mid → mid.geometry ≡ old.geometry → MakesFew mid new → MakesFew old new
     few_on old mid new still geometry few =
         let same : store_of (seen mid.media) ≡ store_of (seen old.media) = ap store_of (tiers_same (seen old.media) (seen mid.media) still.reads) in
-        subst (λ (g : Sizes). MakesFewCalls g (store_of (seen old.media)) cs (moment old.media) (moment new.media)) geometry (
-        subst (λ (s : Store). MakesFewCalls mid.geometry s cs (moment old.media) (moment new.media)) same (subst (λ (n : ℕ). MakesFewCalls mid.geometry (store_of (seen mid.media)) cs n (moment new.media)) still.clock few)
-        )
+        subst (λ (g : Sizes). MakesFewCalls g (store_of (seen old.media)) cs (moment old.media) (moment new.media) (left old.media) (left new.media)) geometry (
+        subst (λ (s : Store). MakesFewCalls mid.geometry s cs (moment old.media) (moment new.media) (left old.media) (left new.media)) same (
+        few_behind mid.geometry (store_of (seen mid.media)) cs (moment old.media) (moment mid.media) (moment new.media) (left old.media) (left mid.media) (left new.media) still.clock still.past few
+        ))
 
     pub ends_on : (old mid new : JournalView M) (pools : PoolsView) (r : Result (Unit {0}) ApplyError) → StillAt old mid → mid.geometry ≡ old.geometry → faults mid.media ≡ faults old.media → EndsAt mid new pools r → EndsAt old new pools r
     ends_on old mid new pools (Ok u) still geometry quiet ends = record {

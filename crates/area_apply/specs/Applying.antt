@@ -19,11 +19,11 @@ use Rattle.change_plan.specs.PoolsValue.{PoolsView}
 use Rattle.change_plan.specs.Settled.{IsSettled, StaysStill}
 use Rattle.change_plan.specs.Taken.{Taken}
 use Rattle.change_plan.specs.Taking.{taken_data}
-use Rattle.change_plan.specs.Writing.{RunsAreNormal, calls_for}
+use Rattle.change_plan.specs.Writing.{RunsAreNormal, TakenInTurn, calls_for}
 use Rattle.change_plan.specs.Laid.{LeavesFile, GetPlaces, LieInPlaces, KeepsPlaces}
 use Rattle.change_plan.specs.Next.{HasFewEntries}
 use Rattle.change_plan.specs.Part.{IsTouchedBy}
-use Rattle.change_plan.specs.Wanted.{images_for}
+use Rattle.change_plan.specs.Wanted.{images_for, images_left}
 use Rattle.area_apply.specs.declared.error.ApplyError.{ApplyError}
 use Rattle.area_apply.specs.declared.error.ApplyError.TheVariants.{DeviceFault}
 
@@ -56,19 +56,20 @@ pub record AreCallsFor (g : Sizes) (places : List (Tier × ℕ)) (calls : ℕ) :
   pub are : taken_data taken ≡ places
   pub many : calls ≡ calls_for taken
 
--- From one moment to another there are no more writes and fences than a change makes: those that put the blocks which it writes into their places, one for each image that its inodes
--- may take, and 8 for the marks and the journal.
-pub record MakesCalls (g : Sizes) (s : Store) (cs : Changes) (before now : ℕ) : Type 0 where
+-- From one moment to another there are no more writes and fences than a change makes: those that put the blocks which it writes into their places, fastest tier first, one for each image that
+-- what it leaves of its inodes may take, and 8 for the marks and the journal.
+pub record MakesCalls (g : Sizes) (s : Store) (cs : Changes) (before now : ℕ) (old new : ℕ → Tier → List ℕ → Type 0) : Type 0 where
   pub blocks : List (ℕ × ℕ)
   pub places : List (Tier × ℕ)
   pub got : GetPlaces g s cs blocks places
   pub calls : ℕ
   pub for_data : AreCallsFor g places calls
-  pub few : now ≤ before + calls + images_for cs + 8
+  pub turn : TakenInTurn for_data.taken before now old new
+  pub few : now ≤ before + calls + images_left g s cs + 8
 
 -- There are no more than these, or none.
-abbrev pub MakesFewCalls : Sizes → Store → Changes → ℕ → ℕ → Type 0
-MakesFewCalls g s cs before now = (now ≤ before) ⊎ MakesCalls g s cs before now
+abbrev pub MakesFewCalls : Sizes → Store → Changes → (before now : ℕ) → (old new : ℕ → Tier → List ℕ → Type 0) → Type 0
+MakesFewCalls g s cs before now old new = (now ≤ before) ⊎ MakesCalls g s cs before now old new
 
 -- Contents from which a journal opens: a store that is as that one but for free blocks, or one in which the change is made.
 pub record IsAppliedOrNot (g : Sizes) (s : Store) (cs : Changes) (v : Marks) (content : Tier → List ℕ) : Type 0 where
@@ -94,4 +95,4 @@ pub record Ends {M : Type 0} (moment : M → ℕ) (seen : M → Tier → List �
   pub geometry : new.geometry ≡ old.geometry
   pub more_faults : faults old.media ≤ faults new.media
   pub one_fault : faults new.media ≤ faults old.media + 1
-  pub at_most : MakesFewCalls old.geometry (store_of (seen old.media)) cs (moment old.media) (moment new.media)
+  pub at_most : MakesFewCalls old.geometry (store_of (seen old.media)) cs (moment old.media) (moment new.media) (left old.media) (left new.media)

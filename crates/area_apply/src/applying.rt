@@ -183,7 +183,7 @@ fn count_and_write<M: Media>(
 }
 
 /// Changes the graph on the shared media, with new marks, in one batch: each block that the change writes goes into a data block of its own, the first that are free, fastest tier
-/// first, with one write for each run of them and then one fence for each tier that was written; then one batch writes slots, lists of extents, blocks of directories and marks;
+/// first, with one write for each run of them in that order and then one fence for each tier that was written; then one batch writes slots, lists of extents, blocks of directories and marks;
 /// then what the inodes used and use no more is free. So a stop at any moment leaves the graph and the marks from before, or the graph after the change and the new marks. Each
 /// inode that is written tells the number of digests that the marks tell.
 ///
@@ -222,8 +222,8 @@ pub fn apply<M: Media>(
     ensures geometry { journal.new.geometry ≡ journal.old.geometry }
     ensures faults { M.faults journal.old.media ≤ M.faults journal.new.media }
     ensures one_fault { M.faults journal.new.media ≤ M.faults journal.old.media + 1 }
-    // A write for each run of data blocks that is taken, a fence for each tier that is written, and the batch; what is read is not counted.
-    ensures at_most { MakesFewCalls journal.old.geometry (store_of (M.seen journal.old.media)) (changes_of change.now) (M.moment journal.old.media) (M.moment journal.new.media) }
+    // A write for each run of data blocks that is taken, fastest tier first, a fence for each tier that is written, in the same order, and the batch; what is read is not counted.
+    ensures at_most { MakesFewCalls journal.old.geometry (store_of (M.seen journal.old.media)) (changes_of change.now) (M.moment journal.old.media) (M.moment journal.new.media) (M.left journal.old.media) (M.left journal.new.media) }
 {
     if journal.has_failed() {
         return Err(ApplyError::DeviceFault);

@@ -15,3 +15,4 @@ pub use Rattle.area_move.proofs.Roots
 pub use Rattle.area_move.proofs.Steps
 pub use Rattle.area_rewrite.proofs.Places
 pub use Rattle.free_pools.proofs.Members
+pub use Rattle.free_pools.proofs.Turns

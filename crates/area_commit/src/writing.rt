@@ -11,7 +11,7 @@ ghost use Rattle.area_image.specs.declared.error.AreaError.TheVariants.{DeviceFa
 ghost use Rattle.area_batch.specs.Batches.{IsBatchOf};
 ghost use Rattle.free_pools.specs.Value.{HasRanges, AreFree};
 ghost use Rattle.free_pools.specs.Taking.{WasUndone};
-ghost use Rattle.free_pools.specs.Writing.{Went, calls_for};
+ghost use Rattle.free_pools.specs.Writing.{Went, calls_for, TakenInTurn};
 ghost use Rattle.area_commit.specs.Plan.{IsPlan};
 ghost use Rattle.area_commit.specs.Done.{IsCarriedOut, AllOrNothing};
 ghost use Rattle.area_commit.specs.Room.{AreReadyFor};
@@ -42,6 +42,7 @@ fn write_plan<M: Media>(
     ensures any_moment { AllOrNothing journal.old.geometry (store_of (M.seen journal.old.media)) plan.now (M.moment journal.old.media) (M.moment journal.new.media) (M.left journal.old.media) (M.left journal.new.media) }
     ensures done { OnOk result (IsCarriedOut journal.old.geometry (store_of (M.seen journal.old.media)) plan.now (store_of (M.seen journal.new.media))) }
     ensures rests { OnOk result ((t : Tier) → AtRest (M.seen journal.new.media) (M.left journal.new.media (M.moment journal.new.media)) t) }
+    ensures turn { TakenInTurn plan.now.taken (M.moment journal.old.media) (M.moment journal.new.media) (M.left journal.old.media) (M.left journal.new.media) }
     ensures at_most { M.moment journal.new.media ≤ M.moment journal.old.media + calls_for plan.now.taken + length batch.now + 7 }
     ensures went { Went M.faults journal.old journal.new result }
 {
@@ -63,6 +64,7 @@ fn write_all<M: Media>(
     ensures any_moment { AllOrNothing journal.old.geometry (store_of (M.seen journal.old.media)) plan.now (M.moment journal.old.media) (M.moment journal.new.media) (M.left journal.old.media) (M.left journal.new.media) }
     ensures done { OnOk result (IsCarriedOut journal.old.geometry (store_of (M.seen journal.old.media)) plan.now (store_of (M.seen journal.new.media))) }
     ensures rests { OnOk result ((t : Tier) → AtRest (M.seen journal.new.media) (M.left journal.new.media (M.moment journal.new.media)) t) }
+    ensures turn { TakenInTurn plan.now.taken (M.moment journal.old.media) (M.moment journal.new.media) (M.left journal.old.media) (M.left journal.new.media) }
     ensures at_most { M.moment journal.new.media ≤ M.moment journal.old.media + calls_for plan.now.taken + min (length plan.now.slots.items) 32 + length plan.now.nodes + 8 }
     ensures only { IfErr result (λ e. (e ≡ DeviceFault) ⊎ (e ≡ Memory)) }
     ensures memory { IsErrOf result Memory → Looks M.moment M.seen M.left M.faults journal.old journal.new result }
@@ -81,7 +83,7 @@ fn write_all<M: Media>(
     }
 }
 
-/// Carries out a plan: its data goes to the blocks that were taken for it, and each tier that was written is fenced; then one batch writes slots, marks and node blocks; then
+/// Carries out a plan: its data goes to the blocks that were taken for it, fastest tier first, and then each tier that was written is fenced, fastest first; then one batch writes slots, marks and node blocks; then
 /// what the plan gives up is free. The blocks of the slots are read once for the batch. Beside the images of the batch it takes no memory.
 ///
 /// `Memory` where there was none for the batch, and `DeviceFault` where a device failed. After each refusal what was taken stands in the pools again; after `Memory` nothing has
@@ -105,6 +107,8 @@ pub fn carry_out<M: Media>(
     // The pools have the free blocks of that store.
     ensures free { OnOk result (AreFree journal.old.geometry (store_of (M.seen journal.new.media)) pools.new) }
     ensures ranges { OnOk result (HasRanges journal.old.geometry pools.new) }
+    // The data is written fastest tier first, and the tiers are fenced in the same order.
+    ensures turn { TakenInTurn plan.taken (M.moment journal.old.media) (M.moment journal.new.media) (M.left journal.old.media) (M.left journal.new.media) }
     // One for each run of data and for each tier that has some, and of the batch 7 and one for each image: those of the slot blocks, of the marks and of the node blocks.
     ensures at_most { M.moment journal.new.media ≤ M.moment journal.old.media + calls_for plan.taken + min (length plan.slots.items) 32 + length plan.nodes + 8 }
 

@@ -36,4 +36,5 @@ pub use Rattle.area_commit.proofs.Course
 pub use Rattle.area_commit.proofs.Given
 pub use Rattle.area_commit.proofs.Moments
 pub use Rattle.area_commit.proofs.Returned
+pub use Rattle.area_commit.proofs.Turns
 pub use Rattle.file_plan.proofs.Keys

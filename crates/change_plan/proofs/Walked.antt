@@ -1,12 +1,14 @@
 -- The first inodes of a change are planned: what stands then, and what the next one needs.
-use Rattle.std.proofs.Common.{◌≡◌, ◌≤◌, ◌<◌, ◌+◌, ◌-◌, ◌∙◌, ℕ, List, [], ◌∷◌, ◌++◌, length, map, take, drop, take_all, Bool, true, Option, Some, refl, sym, ap, subst, append_assoc, append-nil, arith}
+use Rattle.std.proofs.Common.{◌≡◌, ◌≤◌, ◌<◌, ◌+◌, ◌-◌, ◌∙◌, ℕ, List, [], ◌∷◌, ◌++◌, length, map, take, drop, take_all, Bool, true, Option, Some, None, refl, sym, ap, subst, append_assoc, append-nil, arith}
 use Rattle.std.specs.Prelude.{◌==◌, ◌||◌, IfSome}
 use Rattle.std.specs.List.{Contains, sum_by, list_any}
 use Rattle.std.specs.Ordering.{nat_cmp, eq_by_cmp}
 use Rattle.std.specs.Cmp.{nat_cmp_total, eq_by_cmp_equiv, unsigned_tied}
 use Rattle.std.specs.FinMap as fin
-use Rattle.std.proofs.lemmas.List.{length-append, length-drop, map-append}
+use Rattle.std.proofs.lemmas.List.{length-append, length-drop, length-map, map-append}
 use Rattle.std.proofs.lemmas.List.Sums.{sum_by-cons}
+use Rattle.file_graph.specs.declared.effect.Kind.{Kind}
+use Rattle.file_graph.specs.declared.effect.Kind.TheVariants as kind
 use Rattle.graph_change.specs.Bounds.{IsBounded, AreBounded}
 use Rattle.graph_change.specs.Change.{Change, Changes, change_at, changed, net_of}
 use Rattle.graph_change.specs.Net.{node_after}
@@ -19,7 +21,8 @@ use Rattle.layout.specs.Marks.{fits_marks}
 use Rattle.layout.specs.Places.{Sizes, IsAllowed, is_inode}
 use Rattle.layout.specs.Slot.{fits_slot}
 use Rattle.block_map.specs.declared.map.Place.{Place}
-use Rattle.area_image.specs.Store.{Store, graph, slot_read}
+use Rattle.tree_blocks.specs.After.{started}
+use Rattle.area_image.specs.Store.{Store, graph, inode, slot_read}
 use Rattle.area_image.specs.Spelled.{IsSpelled}
 use Rattle.area_commit.specs.ChangedSlot.{ChangedSlot}
 use Rattle.area_commit.specs.PoolsValue.{PoolsView}
@@ -31,8 +34,8 @@ use Rattle.area_commit.specs.Plan.{WereFree, is_changed}
 use Rattle.area_commit.proofs.Returned.{were_free}
 use Rattle.change_plan.specs.Adding.{HasTaken, TakesMoreNodes, AddsPart}
 use Rattle.change_plan.specs.First.{PlansNothing, PlansFirst, IsWhole}
-use Rattle.change_plan.specs.Next.{HasFewEntries, nodes_for, IsNext, HasPlaces, PlansInode}
-use Rattle.change_plan.specs.Wanted.{images_for, WantInTurn, WantsBlocks}
+use Rattle.change_plan.specs.Next.{HasFewEntries, nodes_for, nodes_left, IsNext, HasPlaces, PlansInode}
+use Rattle.change_plan.specs.Wanted.{images_for, nodes_left_in, WantInTurn, WantsBlocks}
 use Rattle.change_plan.specs.declared.partial.PartialPlan.{PartialPlan}
 use Rattle.block_alloc.proofs.Blocks.{normal-rising}
 use Rattle.change_plan.proofs.Firsts.{none_first, first_and_one}
@@ -45,6 +48,12 @@ use Rattle.change_plan.proofs.Wants.{wants_same}
 -- how many images some inodes take at most
 abbrev pub images_in : List (ℕ × Change) → ℕ
 images_in es = sum_by (λ e. 1 + nodes_for e.1) es
+
+-- what is left takes no more than a change may take
+left_few : (k : Option Kind) (c : Change) → nodes_left k c ≤ nodes_for c
+left_few None c = omega arith
+left_few (Some kind.File) c = omega arith
+left_few (Some kind.Directory) c = omega arith
 
 -- the numbers of inodes whose slots these are
 abbrev pub inodes_of : List ChangedSlot → List ℕ
@@ -61,6 +70,7 @@ pub record Walked (g : Sizes) (s : Store) (cs : Changes) (touch : ℕ) (places :
   pub wanted : WantInTurn g s rest more
   pub enough : used + more ≡ length places
   pub images : length plan.nodes + length plan.slots.items + images_in rest ≤ images_for cs
+  pub images_left : length plan.nodes + nodes_left_in g s rest ≤ nodes_left_in g s (fin.entries cs)
   pub nodes : images_in rest ≤ length left.nodes.free
 
 -- where what is left of a map in memory is the same
@@ -102,6 +112,7 @@ module _ (g : Sizes) (s : Store) (cs : Changes) (touch : ℕ) (places : List Pla
     wanted = wanted;
     enough = omega arith;
     images = (let no_slots = ap length nothing.slots in let no_nodes = ap length nothing.nodes in omega (arith, no_slots, no_nodes));
+    images_left = (let no_nodes = ap length nothing.nodes in omega (arith, no_nodes));
     nodes = omega (arith, images, nodes);
   }
 
@@ -117,7 +128,7 @@ module _ (g : Sizes) (s : Store) (cs : Changes) (touch : ℕ) (places : List Pla
         used = used;
         many = (let none = walked.wanted in omega (arith, none, walked.enough));
         first = walked.first;
-        images = omega (arith, walked.images);
+        images = (let slots = ap length keys in let many = length-map plan.slots.items (λ (c : ChangedSlot). c.inode) in let all = length-map (fin.entries cs) (λ (e : ℕ × Change). e.0) in let nodes = walked.images_left in omega (arith, slots, many, all, nodes));
         few = omega (arith, walked.images, most);
         fits = fits;
       }
@@ -136,6 +147,9 @@ module _ (g : Sizes) (s : Store) (cs : Changes) (touch : ℕ) (places : List Pla
 
     images_are : images_in (e ∷ rest) ≡ 1 + nodes_for e.1 + images_in rest
     images_are = sum_by-cons (λ (d : ℕ × Change). 1 + nodes_for d.1) e rest
+
+    left_are : nodes_left_in g s (e ∷ rest) ≡ nodes_left (started e.1.base (inode g s e.0)).kind e.1 + nodes_left_in g s rest
+    left_are = sum_by-cons (λ (d : ℕ × Change). nodes_left (started d.1.base (inode g s d.0)).kind d.1) e rest
 
     pub its_number : is_inode e.0 ≡ true
     its_number = bounded.inodes e.0 (has_here cs e at)
@@ -198,6 +212,7 @@ module _ (g : Sizes) (s : Store) (cs : Changes) (touch : ℕ) (places : List Pla
         more = walked.wanted.1;
         wanted = walked.wanted.3;
         enough = (let sum = walked.wanted.4 in omega (arith, its_count, sum, walked.enough));
-        images = (let few = planned.images in omega (arith, few, one_slot, images_are, walked.images));
+        images = (let few = planned.images in let most = left_few (started e.1.base (inode g s e.0)).kind e.1 in omega (arith, few, most, one_slot, images_are, walked.images));
+        images_left = (let few = planned.images in omega (arith, few, left_are, walked.images_left));
         nodes = (let free_now = planned.free in omega (arith, free_now, images_are, walked.nodes));
       }

@@ -19,7 +19,7 @@ use Rattle.area_commit.specs.Plan.{is_changed}
 use Rattle.change_plan.specs.Part.{Share}
 use Rattle.change_plan.specs.Parts.{AreParts}
 use Rattle.change_plan.specs.Adding.{HasTaken}
-use Rattle.change_plan.specs.Wanted.{images_for}
+use Rattle.change_plan.specs.Wanted.{images_left}
 use Rattle.change_plan.specs.declared.partial.PartialPlan.{PartialPlan}
 
 -- Nothing is planned.
@@ -50,7 +50,7 @@ AreLast places taken = (used : ℕ) × (pairs_of places ≡ drop used (taken_dat
 abbrev pub whole_of : PartialPlan → Taken → Option Marks → Rewrite
 whole_of plan taken marks = record { slots = plan.slots; marks = marks; nodes = plan.nodes; taken = taken; bytes = plan.bytes; lost = plan.lost }
 
--- All inodes of a change are planned over all blocks that were taken of the free ones of a store, with no more images than it may take; and one batch is enough for them.
+-- All inodes of a change are planned over all blocks that were taken of the free ones of a store, with no more images than what it leaves takes; and one batch is enough for them.
 pub record IsWhole (g : Sizes) (s : Store) (cs : Changes) (touch : ℕ) (plan : PartialPlan) (taken : Taken) (marks : Option Marks) : Type 0 where
   pub inodes : (i : ℕ) → fin.contains_key cs i ≡ is_changed plan.slots.items i
   pub left : PoolsView
@@ -60,6 +60,6 @@ pub record IsWhole (g : Sizes) (s : Store) (cs : Changes) (touch : ℕ) (plan : 
   pub used : ℕ
   pub many : length places ≤ used
   pub first : PlansFirst g s cs touch places used taken plan
-  pub images : length plan.slots.items + length plan.nodes ≤ images_for cs
+  pub images : min (length plan.slots.items) 32 + length plan.nodes ≤ images_left g s cs
   pub few : min (length plan.slots.items) 32 + length plan.nodes ≤ 255
   pub fits : IfSome marks (λ v. fits_marks v ≡ true)

@@ -2,6 +2,7 @@
 use Rattle.std.specs.Prelude.{◌≡◌, ◌≤◌, ◌+◌, ◌*◌, ◌⊎◌, ℕ, List, length, true, Option, Some, None}
 use Rattle.std.specs.FinMap as fin
 use Rattle.posix_calls.specs.declared.limits.TheConstants.{MAX_ENTRIES}
+use Rattle.file_graph.specs.declared.effect.Kind.{Kind}
 use Rattle.file_graph.specs.declared.effect.Kind.TheVariants as kind
 use Rattle.file_graph.specs.Graph.{Node, FileBody, DirBody}
 use Rattle.graph_change.specs.Bounds.{IsBounded}
@@ -28,6 +29,13 @@ use Rattle.change_plan.specs.declared.partial.PartialPlan.{PartialPlan}
 -- and one that lists its blocks
 abbrev pub nodes_for : Change → ℕ
 nodes_for c = 3 + 2 * fin.len c.entries
+
+-- how many images it takes at most by what the change leaves there: none where that is nothing, three that list the extents of a file, and of a directory two for each entry that changes,
+-- and one that lists its blocks
+abbrev pub nodes_left : Option Kind → Change → ℕ
+nodes_left None c = 0
+nodes_left (Some kind.File) c = 3
+nodes_left (Some kind.Directory) c = 1 + 2 * fin.len c.entries
 
 -- What stands there is no directory with more entries than one may have.
 abbrev pub HasFewEntries : Option Node → Type 0
@@ -59,10 +67,10 @@ pub record HasPlaces (g : Sizes) (s : Store) (c : Change) (i : ℕ) (places : Li
   pub fit : PlacesFit places
   pub enough : (count : ℕ) → WantsData g s c i count → count ≤ length places
 
--- Inode i is planned, over the first so many of these places, which is as many as it wants, and over blocks that were taken of the node pool; no more of these, and no more images, than
--- its change may take.
+-- Inode i is planned, over the first so many of these places, which is as many as it wants, and over blocks that were taken of the node pool; no more of these than its change may take, and
+-- no more images than what it leaves.
 pub record PlansInode (g : Sizes) (s : Store) (c : Change) (touch i : ℕ) (places : List Place) (count : ℕ) (old_left : PoolsView) (old_taken : Taken) (new_left : PoolsView) (new_taken : Taken) (old new : PartialPlan) : Type 0 where
   pub part : AddsPart g s c touch i places count old_taken new_taken old new
   pub wants : WantsData g s c i count
-  pub images : length new.nodes ≤ length old.nodes + nodes_for c
+  pub images : length new.nodes ≤ length old.nodes + nodes_left (started c.base (inode g s i)).kind c
   pub free : length old_left.nodes.free ≤ length new_left.nodes.free + nodes_for c

@@ -1,5 +1,5 @@
 -- What a whole change wants: images of a batch, and data blocks.
-use Rattle.std.specs.Prelude.{◌≡◌, ◌+◌, ◌==◌, ◌&&◌, ℕ, List, [], ◌∷◌, true, Bool, Some}
+use Rattle.std.specs.Prelude.{◌≡◌, ◌+◌, ◌==◌, ◌&&◌, ℕ, List, [], ◌∷◌, true, Bool, Some, length, min}
 use Rattle.std.specs.List.{AllByRecursion, IsDistinct, sum_by}
 use Rattle.std.specs.FinMap as fin
 use Rattle.file_graph.specs.declared.effect.Kind.TheVariants as kind
@@ -7,11 +7,19 @@ use Rattle.graph_change.specs.Change.{Change, Changes, change_at, writes_block}
 use Rattle.layout.specs.Places.{Sizes}
 use Rattle.tree_blocks.specs.After.{started}
 use Rattle.area_image.specs.Store.{Store, inode}
-use Rattle.change_plan.specs.Next.{nodes_for, WantsData}
+use Rattle.change_plan.specs.Next.{nodes_for, nodes_left, WantsData}
 
 -- how many images a change takes at most, besides that of the marks: one for the block of each slot, and those of its inodes
 abbrev pub images_for : Changes → ℕ
 images_for cs = sum_by (λ e. 1 + nodes_for e.1) (fin.entries cs)
+
+-- how many of them some inodes take at most, by what their changes leave
+abbrev pub nodes_left_in : Sizes → Store → List (ℕ × Change) → ℕ
+nodes_left_in g s es = sum_by (λ e. nodes_left (started e.1.base (inode g s e.0)).kind e.1) es
+
+-- how many images the batch of a change has at most, besides that of the marks: one for the block of each slot, of which there are 32, and those of what it leaves of its inodes
+abbrev pub images_left : Sizes → Store → Changes → ℕ
+images_left g s cs = min (length (fin.entries cs)) 32 + nodes_left_in g s (fin.entries cs)
 
 -- So many data blocks are wanted for the changes of these inodes, one after the other.
 abbrev pub WantInTurn : Sizes → Store → List (ℕ × Change) → ℕ → Type 0

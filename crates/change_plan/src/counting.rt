@@ -2,7 +2,7 @@
 ghost use Rattle.std.specs.Prelude.{◌≡◌, ◌⊎◌, ℕ, List, Some, true, false, length, IfOk, IfErr, OnErr};
 ghost use Rattle.std.specs.FinMap as fin;
 ghost use Rattle.graph_change.specs.Bounds.{AreBounded};
-ghost use Rattle.graph_change.specs.Change.{Changes, change_at};
+ghost use Rattle.graph_change.specs.Change.{Changes, writes_block};
 ghost use Rattle.graph_change.specs.Tidy.{AreTidyChanges};
 ghost use Rattle.graph_change.specs.View.{change_of, changes_of};
 ghost use Rattle.layout.specs.Places.{Sizes, is_inode};
@@ -10,7 +10,7 @@ ghost use Rattle.area_image.specs.Store.{Store, store_of, slot_read};
 ghost use Rattle.area_image.specs.Spelled.{IsSpelled};
 ghost use Rattle.area_image.specs.Looks.{Looks};
 ghost use Rattle.area_image.specs.declared.error.AreaError.TheVariants.{DeviceFault, Memory};
-ghost use Rattle.change_plan.specs.Laid.{LeavesFile};
+ghost use Rattle.change_plan.specs.Laid.{LeavesFile, WritesBlock};
 ghost use Rattle.change_plan.specs.Next.{WantsData};
 ghost use Rattle.change_plan.specs.Wanted.{WantsBlocks, AreWritten};
 
@@ -27,7 +27,7 @@ use tier_device::Media;
 // How many data blocks the change of an inode wants that has this slot.
 fn blocks_for(alloc: Global, slot: &Slot, change: &NodeChange) -> Result<usize, AllocError>
     ensures wanted { (g : Sizes) (s : Store) (i : ℕ) → slot_read g s i ≡ Some slot.now → IfOk result (WantsData g s (change_of change.now) i) }
-    ensures memory { (g : Sizes) (s : Store) (i : ℕ) → slot_read g s i ≡ Some slot.now → OnErr result (LeavesFile g s (change_of change.now) i) }
+    ensures memory { (g : Sizes) (s : Store) (i : ℕ) → slot_read g s i ≡ Some slot.now → OnErr result (LeavesFile g s (change_of change.now) i × (k : ℕ) × (writes_block (change_of change.now) k ≡ true)) }
 {
     match kind_from(change.base, slot) {
         Some(Kind::File) => {
@@ -50,7 +50,7 @@ fn count_in<M: Media>(
     requires number { is_inode inode ≡ true }
     ensures wanted { IfOk result (WantsData journal.old.geometry (store_of (M.seen journal.old.media)) (change_of change.now) inode) }
     ensures only { IfErr result (λ e. (e ≡ DeviceFault) ⊎ (e ≡ Memory)) }
-    ensures memory { IfErr result (λ e. e ≡ Memory → LeavesFile journal.old.geometry (store_of (M.seen journal.old.media)) (change_of change.now) inode) }
+    ensures memory { IfErr result (λ e. e ≡ Memory → LeavesFile journal.old.geometry (store_of (M.seen journal.old.media)) (change_of change.now) inode × (k : ℕ) × (writes_block (change_of change.now) k ≡ true)) }
     ensures looks { Looks M.moment M.seen M.left M.faults journal.old journal.new result }
 {
     match read_slot(journal, inode) {
@@ -63,7 +63,7 @@ fn count_in<M: Media>(
 }
 
 /// How many data blocks a change wants: one for each block of a file that it writes. The slot of each inode in it is read, in one device call each. `Memory` where there was none for the
-/// numbers of a file's blocks, and only where the change leaves a file.
+/// numbers of a file's blocks, and only where the change writes a block of a file that it leaves.
 pub fn count_blocks<M: Media>(
     alloc: Global,
     journal: &mut Journal<M>,
@@ -75,7 +75,7 @@ pub fn count_blocks<M: Media>(
     requires tidy { AreTidyChanges (changes_of change.now) }
     ensures wanted { IfOk result (WantsBlocks journal.old.geometry (store_of (M.seen journal.old.media)) (changes_of change.now)) }
     ensures only { IfErr result (λ e. (e ≡ DeviceFault) ⊎ (e ≡ Memory)) }
-    ensures memory { IfErr result (λ e. e ≡ Memory → (i : ℕ) × (fin.contains_key (changes_of change.now) i ≡ true) × LeavesFile journal.old.geometry (store_of (M.seen journal.old.media)) (change_at (changes_of change.now) i) i) }
+    ensures memory { IfErr result (λ e. e ≡ Memory → (i : ℕ) × (k : ℕ) × (fin.contains_key (changes_of change.now) i ≡ true) × WritesBlock journal.old.geometry (store_of (M.seen journal.old.media)) (changes_of change.now) i k) }
     ensures looks { Looks M.moment M.seen M.left M.faults journal.old journal.new result }
 {
     let mut count = 0;

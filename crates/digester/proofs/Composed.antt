@@ -24,6 +24,7 @@ use Rattle.shared_area.proofs.Looked.{carried_back}
 use Rattle.shared_area.specs.AreaError.{AreaError}
 use Rattle.shared_area.specs.AreaError.TheVariants as area
 use Rattle.shared_area.specs.ChangeApplying.{IsAppliedStore, MakesFewCalls}
+use Rattle.shared_area.proofs.Calls.{few_behind}
 use Rattle.shared_area.specs.ApplyError.{ApplyError}
 use Rattle.shared_area.specs.ApplyError.TheVariants as apply
 use Rattle.log_record.specs.Grammar.{IsRecord}
@@ -302,6 +303,7 @@ module _ {M : Type 0} (moment : M → ℕ) (seen : M → Tier → List ℕ) (lef
   }
 
   -- the change makes few calls, behind what was only read
-  pub few_behind : {P : Type 0} (old mid : JournalView M) (p : P) (cs : Changes) (now : ℕ) → Looks moment seen left faults old mid (Ok p) → MakesFewCalls mid.geometry (store_of (seen mid.media)) cs (moment mid.media) now → MakesFewCalls old.geometry (store_of (seen old.media)) cs (moment old.media) now
-  few_behind old mid p cs now looks few = subst (λ (k : ℕ). MakesFewCalls old.geometry (store_of (seen old.media)) cs k now) looks.unmoved.clock
-      (carried_back moment seen left faults (λ h t. MakesFewCalls h t cs (moment mid.media) now) old mid (Ok p) looks few)
+  pub few_looked : {P : Type 0} (old mid new : JournalView M) (p : P) (cs : Changes) → Looks moment seen left faults old mid (Ok p) → MakesFewCalls mid.geometry (store_of (seen mid.media)) cs (moment mid.media) (moment new.media) (left mid.media) (left new.media)
+      → MakesFewCalls old.geometry (store_of (seen old.media)) cs (moment old.media) (moment new.media) (left old.media) (left new.media)
+  few_looked old mid new p cs looks few = carried_back moment seen left faults (λ h t. MakesFewCalls h t cs (moment old.media) (moment new.media) (left old.media) (left new.media)) old mid (Ok p) looks
+      (few_behind mid.geometry (store_of (seen mid.media)) cs (moment old.media) (moment mid.media) (moment new.media) (left old.media) (left mid.media) (left new.media) looks.unmoved.clock looks.unmoved.past few)

@@ -44,7 +44,7 @@ fn apply_run<M: Media>(
     ensures fits { (v : Marks) × (marks_of (store_of (M.seen area.old.media)) ≡ Some v) × (fits_marks (marks_after v client mark) ≡ true) }
     ensures never { IsErrOf result NoBlock → ⊥ }
     ensures applies { AppliesOrStays M.moment M.seen M.left M.faults area.old area.new result }
-    ensures at_most { MakesFewCalls area.old.geometry (store_of (M.seen area.old.media)) (changes_of change.now) (M.moment area.old.media) (M.moment area.new.media) }
+    ensures at_most { MakesFewCalls area.old.geometry (store_of (M.seen area.old.media)) (changes_of change.now) (M.moment area.old.media) (M.moment area.new.media) (M.left area.old.media) (M.left area.new.media) }
 {
     let marks = marks_after(area.marks(), client, mark);
     area.apply(change, marks)
@@ -78,7 +78,7 @@ fn digest_next<M: Media>(
     ensures at_mark { IfOk result (λ done. StandsAtMark (done_to done sealed.now) (store_of (M.seen area.new.media))) }
     ensures bad { IfErr result (IsToldBad area.old.geometry (store_of (M.seen area.old.media)) sealed.now chunk.now.count) }
     ensures digests { DigestsOrStays M.moment M.seen M.left M.faults area.old area.new result }
-    ensures at_most { MakesFewCalls area.old.geometry (store_of (M.seen area.old.media)) (changes_of chunk.now.change) (M.moment area.old.media) (M.moment area.new.media) }
+    ensures at_most { MakesFewCalls area.old.geometry (store_of (M.seen area.old.media)) (changes_of chunk.now.change) (M.moment area.old.media) (M.moment area.new.media) (M.left area.old.media) (M.left area.new.media) }
 {
     area.left_now();
     let done = sealed.done as usize;
@@ -125,7 +125,7 @@ pub fn digest_chunk<M: Media>(
     ensures refused { OnErr result (sealed.new ≡ sealed.old) }
     ensures digests { DigestsOrStays M.moment M.seen M.left M.faults area.old area.new result }
     // As many writes and fences as the change of the chunk makes; what is read is not counted.
-    ensures at_most { MakesFewCalls area.old.geometry (store_of (M.seen area.old.media)) (changes_of chunk.now.change) (M.moment area.old.media) (M.moment area.new.media) }
+    ensures at_most { MakesFewCalls area.old.geometry (store_of (M.seen area.old.media)) (changes_of chunk.now.change) (M.moment area.old.media) (M.moment area.new.media) (M.left area.old.media) (M.left area.new.media) }
 {
     match digest_next(alloc, area, sealed, chunk) {
         Ok(done) => {

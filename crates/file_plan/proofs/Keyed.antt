@@ -1,6 +1,6 @@
 -- The numbers of the blocks that a change writes.
 use Rattle.std.proofs.Common.{◌≡◌, ◌∙◌, ◌↔◌, ◌⊎◌, ◌||◌, ℕ, List, Bool, true, false, inl, inr, sym, ap, refl}
-use Rattle.std.specs.Prelude.{IsSome}
+use Rattle.std.specs.Prelude.{Result, Ok, Err, OnErr, IsSome}
 use Rattle.std.specs.Ordering.{nat_cmp}
 use Rattle.std.specs.BTreeMap.{get}
 use Rattle.std.specs.FinMap as fin
@@ -11,6 +11,11 @@ use Rattle.graph_change.proofs.Making.{has_is}
 use Rattle.graph_change.proofs.Touched.{or_cases}
 use Rattle.file_plan.specs.Written.{AreNumbers, AreKeys, HasOneMore}
 
+-- what holds anyhow holds where there is an error
+pub with_err : {T E : Type 0} (P : Type 0) (r : Result T E) → P → OnErr r P
+with_err P (Ok t) p = tt
+with_err P (Err e) p = p
+
 or_left : (a b : Bool) → a ≡ true → (a || b) ≡ true
 or_left a b is = ap (λ x. x || b) is
 
@@ -18,13 +23,15 @@ or_right : (a b : Bool) → b ≡ true → (a || b) ≡ true
 or_right true b is = refl
 or_right false b is = is
 
+-- a block into which bytes are put is written
+pub put_is : (c : NodeChange) (k : ℕ) → IsSome (get nat_cmp c.blocks k) → writes_block (change_of c) k ≡ true
+put_is c k some = or_left (fin.contains_key (patches_of c.blocks) k) (cuts_within (new_length c.length) k) (has_is c.blocks k ∙ some)
+
+-- and so is one within which the file is cut
+pub cut_is : (c : NodeChange) (k : ℕ) → cuts_within (new_length c.length) k ≡ true → writes_block (change_of c) k ≡ true
+cut_is c k cut = or_right (fin.contains_key (patches_of c.blocks) k) (cuts_within (new_length c.length) k) cut
+
 module _ (c : NodeChange) (keys : List ℕ) (are : AreKeys c.blocks keys) where
-  put_is : (k : ℕ) → IsSome (get nat_cmp c.blocks k) → writes_block (change_of c) k ≡ true
-  put_is k some = or_left (fin.contains_key (patches_of c.blocks) k) (cuts_within (new_length c.length) k) (has_is c.blocks k ∙ some)
-
-  cut_is : (k : ℕ) → cuts_within (new_length c.length) k ≡ true → writes_block (change_of c) k ≡ true
-  cut_is k cut = or_right (fin.contains_key (patches_of c.blocks) k) (cuts_within (new_length c.length) k) cut
-
   by : (k : ℕ) → writes_block (change_of c) k ≡ true → IsSome (get nat_cmp c.blocks k) ⊎ (cuts_within (new_length c.length) k ≡ true)
   by k is = elim (or_cases (fin.contains_key (patches_of c.blocks) k) (cuts_within (new_length c.length) k) is) [
     | inl put ↦ inl (sym (has_is c.blocks k) ∙ put)
@@ -35,7 +42,7 @@ module _ (c : NodeChange) (keys : List ℕ) (are : AreKeys c.blocks keys) where
   with_cut new number cuts more = record {
     rising = more.rising;
     each = λ k. (
-      λ has. elim ((more.each k).0 has) [ inl key ↦ put_is k ((are.each k).0 key) | inr is ↦ cut_is k ((cuts k).1 is) ],
+      λ has. elim ((more.each k).0 has) [ inl key ↦ put_is c k ((are.each k).0 key) | inr is ↦ cut_is c k ((cuts k).1 is) ],
       λ is. elim (by k is) [ inl put ↦ (more.each k).1 (inl ((are.each k).1 put)) | inr cut ↦ (more.each k).1 (inr ((cuts k).0 cut)) ],
     );
   }
@@ -44,7 +51,7 @@ module _ (c : NodeChange) (keys : List ℕ) (are : AreKeys c.blocks keys) where
   without_cut none = record {
     rising = are.rising;
     each = λ k. (
-      λ has. put_is k ((are.each k).0 has),
+      λ has. put_is c k ((are.each k).0 has),
       λ is. elim (by k is) [ inl put ↦ (are.each k).1 put | inr cut ↦ absurd (none k cut) ],
     );
   }

@@ -1,7 +1,9 @@
 // Which blocks of a file are written for a change.
-ghost use Rattle.std.specs.Prelude.{◌≡◌, ◌↔◌, ◌<◌, ◌≤◌, ◌⊎◌, true, ℕ, length, slice_index, IfOk, OnOk, IfSome, IfNone};
+ghost use Rattle.std.specs.Prelude.{◌≡◌, ◌↔◌, ◌<◌, ◌≤◌, ◌⊎◌, true, ℕ, length, slice_index, IfOk, OnOk, OnErr, IsSome, IfSome, IfNone};
 ghost use Rattle.std.specs.List.{Contains};
-ghost use Rattle.graph_change.specs.Change.{cuts_within};
+ghost use Rattle.std.specs.Ordering.{nat_cmp};
+ghost use Rattle.std.specs.BTreeMap.{get};
+ghost use Rattle.graph_change.specs.Change.{cuts_within, writes_block};
 ghost use Rattle.graph_change.specs.View.{change_of, new_length};
 ghost use Rattle.file_plan.specs.Written.{AreNumbers, AreKeys, Rise, HasOneMore};
 
@@ -26,7 +28,8 @@ fn cut_block(len: NodeLength) -> Option<u64>
 
 // The numbers of the blocks into which bytes are put.
 fn put_numbers(alloc: Global, blocks: &BTreeMap<u64, BlockChange>) -> Result<Vec<u64>, AllocError>
-    ensures { IfOk result (λ numbers. AreKeys blocks.now numbers.items) }
+    ensures keys { IfOk result (λ numbers. AreKeys blocks.now numbers.items) }
+    ensures memory { OnErr result ((k : ℕ) × IsSome (get nat_cmp blocks.now k)) }
 {
     let mut numbers = Vec::new(alloc);
     'keys: for number in blocks.keys() {
@@ -63,9 +66,11 @@ fn add_number(numbers: &mut Vec<u64>, number: u64) -> Result<(), AllocError>
     Ok(())
 }
 
-/// The numbers of the blocks of a file that are written for a change, rising: those into which bytes are put, and the one within which it is cut. No other block is looked at.
+/// The numbers of the blocks of a file that are written for a change, rising: those into which bytes are put, and the one within which it is cut. No other block is looked at. It wants
+/// memory only where there is such a block.
 pub fn written_numbers(alloc: Global, change: &NodeChange) -> Result<Vec<u64>, AllocError>
-    ensures { IfOk result (λ written. AreNumbers (change_of change.now) written.items) }
+    ensures numbers { IfOk result (λ written. AreNumbers (change_of change.now) written.items) }
+    ensures memory { OnErr result ((k : ℕ) × (writes_block (change_of change.now) k ≡ true)) }
 {
     let mut written = put_numbers(alloc, &change.blocks)?;
     if let Some(number) = cut_block(change.length) {

@@ -9,6 +9,7 @@ use Rattle.block_alloc.specs.declared.runs.Run.{Run}
 use Rattle.block_alloc.specs.Runs.{blocks_of, AreNormalRuns}
 use Rattle.batch_journal.specs.Images.{slice}
 use Rattle.batch_journal.specs.Blocks.{block_of}
+use Rattle.batch_journal.specs.Course.{Since}
 use Rattle.batch_journal.specs.View.{JournalView}
 use Rattle.batch_journal.specs.Volume.{IsJournal}
 use Rattle.batch_journal.specs.declared.error.JournalError.{JournalError}
@@ -73,6 +74,33 @@ pub record StaysLoose (g : Sizes) (s : Store) (before now : ℕ) (old new : ℕ 
 -- Each such tier that was at rest is so still.
 abbrev pub RestsBut : (Tier → Type 0) → (seen seen' : Tier → List ℕ) → (left left' : Tier → List ℕ → Type 0) → Type 0
 RestsBut these seen seen' left left' = (t : Tier) → these t → AtRest seen left t → AtRest seen' left' t
+
+-- Only one content may be left of a tier.
+abbrev pub IsKept : (Tier → List ℕ → Type 0) → Tier → Type 0
+IsKept left t = (c d : List ℕ) → left t c → left t d → c ≡ d
+
+-- The past stays. Tiers in which these runs are written are fenced in turn, fastest first: at each call behind the fence of one, only one content might be left of it when it was fenced.
+pub record FencesInTurn (fast block : List Run) (before now : ℕ) (old new : ℕ → Tier → List ℕ → Type 0) : Type 0 where
+  pub past : (m : ℕ) (t : Tier) (c : List ℕ) → m ≤ before → new m t c → old m t c
+  pub fast_kept : (m : ℕ) → m ≡ before + 1 → m < now → 0 < length fast → IsKept (new m) Fast
+  pub block_kept : (m : ℕ) → m ≡ before + fences_of fast + 1 → m < now → 0 < length block → IsKept (new m) Block
+
+-- The past stays. Runs of three tiers are written in turn, fastest first, with one call for each: until those of the faster tiers are written, what may be left of a tier is what might be
+-- left before. Then the tiers are fenced in the same order: at each call behind the fence of one, only one content might be left of it when it was fenced.
+pub record GoesInTurn (fast block slow : List Run) (before now : ℕ) (old new : ℕ → Tier → List ℕ → Type 0) : Type 0 where
+  pub past : (m : ℕ) (t : Tier) (c : List ℕ) → m ≤ before → new m t c → old m t c
+  pub block_waits : (m : ℕ) (c : List ℕ) → before ≤ m → m ≤ now → m ≤ before + length fast → new m Block c → old before Block c
+  pub slow_waits : (m : ℕ) (c : List ℕ) → before ≤ m → m ≤ now → m ≤ before + length fast + length block → new m Slow c → old before Slow c
+  pub fast_kept : (m : ℕ) → m ≡ before + length fast + length block + length slow + 1 → m < now → 0 < length fast → IsKept (new m) Fast
+  pub block_kept : (m : ℕ) → m ≡ before + length fast + length block + length slow + fences_of fast + 1 → m < now → 0 < length block → IsKept (new m) Block
+
+-- So does the data for all that was taken.
+abbrev pub TakenInTurn : Taken → (before now : ℕ) → (old new : ℕ → Tier → List ℕ → Type 0) → Type 0
+TakenInTurn taken = GoesInTurn taken.fast.items taken.block.items taken.slow.items
+
+-- Nothing but reads, and writes of one tier: the past stays, and of the other tiers a stop leaves what it might before.
+abbrev pub WritesIn : Tier → (before now : ℕ) → (old new : ℕ → Tier → List ℕ → Type 0) → Type 0
+WritesIn tier = Since tier (λ _. Unit {0})
 
 -- one of three, by its tier
 abbrev pub part_in : List Run → List Run → List Run → Tier → List Run

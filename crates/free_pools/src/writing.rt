@@ -12,7 +12,7 @@ ghost use Rattle.batch_journal.specs.declared.error.JournalError.TheVariants.{De
 ghost use Rattle.area_image.specs.Reads.{Loose};
 ghost use Rattle.area_image.specs.Store.{Store, store_of};
 ghost use Rattle.free_pools.specs.Taking.{tier_places, runs_of, taken_data};
-ghost use Rattle.free_pools.specs.Writing.{AreFreeIn, StaysLoose, Went, KeepsRest, RestsBut, part_in, HoldParts, HoldData, IsLooseLeft, RunsAreNormal, fences_of, tier_calls, calls_for};
+ghost use Rattle.free_pools.specs.Writing.{AreFreeIn, StaysLoose, Went, KeepsRest, RestsBut, part_in, HoldParts, HoldData, IsLooseLeft, RunsAreNormal, fences_of, tier_calls, calls_for, WritesIn, FencesInTurn, GoesInTurn, TakenInTurn};
 
 use crate::taking::Taken;
 use batch_journal::{Journal, JournalError};
@@ -37,6 +37,7 @@ fn write_run<M: Media>(
     ensures keeps_rest { OnOk result (RestsBut (λ t. t ≢ tier) (M.seen journal.old.media) (M.seen journal.new.media) (M.left journal.old.media (M.moment journal.old.media)) (M.left journal.new.media (M.moment journal.new.media))) }
     ensures calls { OnOk result (M.moment journal.new.media ≡ M.moment journal.old.media + 1) }
     ensures at_most { M.moment journal.new.media ≤ M.moment journal.old.media + 1 }
+    ensures turn { WritesIn tier (M.moment journal.old.media) (M.moment journal.new.media) (M.left journal.old.media) (M.left journal.new.media) }
     ensures went { Went M.faults journal.old journal.new result }
     ensures lengths { SameLengths (M.seen journal.old.media) (M.seen journal.new.media) }
 {
@@ -60,6 +61,7 @@ fn write_runs<M: Media>(
     ensures keeps_rest { OnOk result (RestsBut (λ t. t ≡ tier → length runs.now ≡ 0) (M.seen journal.old.media) (M.seen journal.new.media) (M.left journal.old.media (M.moment journal.old.media)) (M.left journal.new.media (M.moment journal.new.media))) }
     ensures calls { OnOk result (M.moment journal.new.media ≡ M.moment journal.old.media + length runs.now) }
     ensures at_most { M.moment journal.new.media ≤ M.moment journal.old.media + length runs.now }
+    ensures turn { WritesIn tier (M.moment journal.old.media) (M.moment journal.new.media) (M.left journal.old.media) (M.left journal.new.media) }
     ensures went { Went M.faults journal.old journal.new result }
     ensures lengths { SameLengths (M.seen journal.old.media) (M.seen journal.new.media) }
 {
@@ -86,6 +88,7 @@ fn fence_runs<M: Media>(
     ensures seen { OnOk result ((t : Tier) → M.seen journal.new.media t ≡ M.seen journal.old.media t) }
     ensures calls { OnOk result (M.moment journal.new.media ≡ M.moment journal.old.media + fences_of runs.now) }
     ensures at_most { M.moment journal.new.media ≤ M.moment journal.old.media + fences_of runs.now }
+    ensures turn { WritesIn tier (M.moment journal.old.media) (M.moment journal.new.media) (M.left journal.old.media) (M.left journal.new.media) }
     ensures went { Went M.faults journal.old journal.new result }
     ensures lengths { SameLengths (M.seen journal.old.media) (M.seen journal.new.media) }
 {
@@ -125,6 +128,7 @@ fn write_all<M: Media>(
     ensures keeps_rest { OnOk result (RestsBut (λ t. length (part_in fast.now block.now slow.now t) ≡ 0) (M.seen journal.old.media) (M.seen journal.new.media) (M.left journal.old.media (M.moment journal.old.media)) (M.left journal.new.media (M.moment journal.new.media))) }
     ensures calls { OnOk result (M.moment journal.new.media ≡ M.moment journal.old.media + length fast.now + length block.now + length slow.now) }
     ensures at_most { M.moment journal.new.media ≤ M.moment journal.old.media + length fast.now + length block.now + length slow.now }
+    ensures turn { GoesInTurn fast.now block.now slow.now (M.moment journal.old.media) (M.moment journal.new.media) (M.left journal.old.media) (M.left journal.new.media) }
     ensures went { Went M.faults journal.old journal.new result }
     ensures lengths { SameLengths (M.seen journal.old.media) (M.seen journal.new.media) }
 {
@@ -151,6 +155,7 @@ fn fence_all<M: Media>(
     ensures seen { OnOk result ((t : Tier) → M.seen journal.new.media t ≡ M.seen journal.old.media t) }
     ensures calls { OnOk result (M.moment journal.new.media ≡ M.moment journal.old.media + fences_of fast.now + fences_of block.now + fences_of slow.now) }
     ensures at_most { M.moment journal.new.media ≤ M.moment journal.old.media + fences_of fast.now + fences_of block.now + fences_of slow.now }
+    ensures turn { FencesInTurn fast.now block.now (M.moment journal.old.media) (M.moment journal.new.media) (M.left journal.old.media) (M.left journal.new.media) }
     ensures went { Went M.faults journal.old journal.new result }
     ensures lengths { SameLengths (M.seen journal.old.media) (M.seen journal.new.media) }
 {
@@ -180,6 +185,7 @@ fn write_and_fence<M: Media>(
     ensures keeps_rest { OnOk result (KeepsRest (M.seen journal.old.media) (M.seen journal.new.media) (M.left journal.old.media (M.moment journal.old.media)) (M.left journal.new.media (M.moment journal.new.media))) }
     ensures calls { OnOk result (M.moment journal.new.media ≡ M.moment journal.old.media + tier_calls fast.now + tier_calls block.now + tier_calls slow.now) }
     ensures at_most { M.moment journal.new.media ≤ M.moment journal.old.media + tier_calls fast.now + tier_calls block.now + tier_calls slow.now }
+    ensures turn { GoesInTurn fast.now block.now slow.now (M.moment journal.old.media) (M.moment journal.new.media) (M.left journal.old.media) (M.left journal.new.media) }
     ensures went { Went M.faults journal.old journal.new result }
     ensures lengths { SameLengths (M.seen journal.old.media) (M.seen journal.new.media) }
 {
@@ -212,6 +218,8 @@ pub fn write_data<M: Media>(
     ensures rests { OnOk result ((t : Tier) → 0 < length (runs_of taken.now t) → AtRest (M.seen journal.new.media) (M.left journal.new.media (M.moment journal.new.media)) t) }
     // A tier to which nothing is written is at rest where it was before.
     ensures keeps_rest { OnOk result (KeepsRest (M.seen journal.old.media) (M.seen journal.new.media) (M.left journal.old.media (M.moment journal.old.media)) (M.left journal.new.media (M.moment journal.new.media))) }
+    // The runs are written fastest tier first, and then the tiers are fenced, fastest first, also where a device fails on the way.
+    ensures turn { TakenInTurn taken.now (M.moment journal.old.media) (M.moment journal.new.media) (M.left journal.old.media) (M.left journal.new.media) }
     ensures calls { OnOk result (M.moment journal.new.media ≡ M.moment journal.old.media + calls_for taken.now) }
     ensures at_most { M.moment journal.new.media ≤ M.moment journal.old.media + calls_for taken.now }
 

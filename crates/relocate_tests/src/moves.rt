@@ -1,19 +1,18 @@
 // Runs of a file go to slower tiers, over media that are sound, that stop within a call, and that fail in one.
-ghost use Rattle.std.specs.Prelude.{◌≤◌, IfOk};
+ghost use Rattle.std.specs.Prelude.{IfOk};
 ghost use Rattle.tier_device.specs.declared.media.Tier.{Tier};
 ghost use Rattle.tier_device.specs.Media.{AtRest};
 ghost use Rattle.tier_device.specs.Memory.{IsAtRest};
-ghost use Rattle.tier_device.specs.Stop.{medium_of};
-ghost use Rattle.tier_device.specs.Fault.{sound_of};
 
 use layout::BLOCK;
 use record_check::NodeCounts;
 use small_worlds::{
-    AreaError, LONG_SIZE, RelocateError, SIZE, Shared, World, opened, same_bytes, tells_the_root,
+    AreaError, Change, LONG_SIZE, Left, RelocateError, SIZE, Shared, World, is_whole, opened,
+    same_bytes, tells_the_root,
 };
 use std::alloc::{AllocError, Global};
 use std::test::Fail;
-use tier_device::{FaultMedia, Fill, Media, MemMedia, StopMedia, Tier};
+use tier_device::{Fill, Media, MemMedia, Tier};
 
 const FAST: Option<Tier> = Some(Tier::Fast);
 
@@ -182,12 +181,15 @@ fn told_of_media<M: Media + Drop>(
 
 // ---- one move
 
-// What is answered to a move, and then; and the medium beneath.
-#[derive(Drop)]
-struct Answered<M> {
-    answer: Result<(), RelocateError>,
-    fails_on: bool,
-    media: M,
+// What is answered to a move; want of memory is an error of the test.
+fn relocate<M: Media>(
+    area: &mut Shared<M>,
+    run: RunMove,
+) -> Result<Result<(), RelocateError>, AreaError> {
+    match area.relocate(run.inode, run.first, run.count, run.to) {
+        Err(RelocateError::Memory) => Err(AreaError::Memory),
+        answer => Ok(answer),
+    }
 }
 
 // Whether an area on which a device has failed answers nothing else.
@@ -198,17 +200,13 @@ fn fails_on<M: Media>(area: &mut Shared<M>, run: RunMove) -> bool {
         && area.touch(2) == Err(AreaError::DeviceFault)
 }
 
-fn moved<M: Media + Drop>(alloc: Global, media: M, run: RunMove) -> Result<Answered<M>, AreaError>
-    requires { (t : Tier) → AtRest (M.seen media) (M.left media (M.moment media)) t }
-{
-    let mut area = opened(alloc, media)?;
-    let answer = area.relocate(run.inode, run.first, run.count, run.to);
-    let fails_on = answer == Err(RelocateError::DeviceFault) && fails_on(&mut area, run);
-    Ok(Answered {
-        answer,
-        fails_on,
-        media: area.into_medium(),
-    })
+// Whether the run is moved, or a device has failed and the area answers nothing else then; none where it is neither.
+fn is_made<M: Media>(area: &mut Shared<M>, run: RunMove) -> Result<Option<bool>, AreaError> {
+    match relocate(area, run)? {
+        Ok(()) => Ok(Some(true)),
+        Err(RelocateError::DeviceFault) if fails_on(area, run) => Ok(Some(false)),
+        Err(_) => Ok(None),
+    }
 }
 
 // ---- moves that are done
@@ -281,7 +279,7 @@ fn rows_in_turn() -> [Row; 4] {
 
 fn is_moved<M: Media + Drop>(area: &mut Shared<M>, row: &Row) -> Result<bool, AreaError> {
     let (run, tiers) = *row;
-    let answer = area.relocate(run.inode, run.first, run.count, run.to);
+    let answer = relocate(area, run)?;
     match told_of(area, run.shape)? {
         Some(told) => Ok(answer == Ok(()) && told.0 == tiers),
         None => Ok(false),
@@ -355,12 +353,25 @@ fn refused_rows() -> [(RunMove, RelocateError); 16] {
     ]
 }
 
+// What is answered to a move over a medium, and the medium.
+fn answered<M: Media + Drop>(
+    alloc: Global,
+    media: M,
+    run: RunMove,
+) -> Result<(Result<(), RelocateError>, M), AreaError>
+    requires { (t : Tier) → AtRest (M.seen media) (M.left media (M.moment media)) t }
+{
+    let mut area = opened(alloc, media)?;
+    let answer = relocate(&mut area, run)?;
+    Ok((answer, area.into_medium()))
+}
+
 // A refusal leaves each byte of the media as it was.
 fn is_refused(alloc: Global, run: RunMove, error: RelocateError) -> Result<bool, AreaError> {
     let fresh = run.shape.media(alloc)?;
     let media = fresh.after_stop(Fill::Old)?;
-    let moved = moved(alloc, media, run)?;
-    Ok(moved.answer == Err(error) && same_bytes(&moved.media, &fresh))
+    let (answer, media) = answered(alloc, media, run)?;
+    Ok(answer == Err(error) && same_bytes(&media, &fresh))
 }
 
 #[test]
@@ -377,115 +388,53 @@ fn refused_moves_change_nothing(rt: HostRuntime) -> Result<(), Fail> {
 
 // ---- moves that are cut off
 
-// What is left of a move that is cut off in a call.
-#[derive(Clone, Copy, Debug, PartialEq, Eq)]
-enum Left {
-    // There is no such call: the run is moved.
-    Whole,
-    Before,
-    After,
-    Bad,
+// A row that is cut off.
+struct Course {
+    row: Row,
+}
+
+impl Change for Course {
+    fn media(&self, alloc: Global) -> Result<MemMedia, AllocError> {
+        self.row.0.shape.media(alloc)
+    }
+
+    fn make<D: Media + Drop>(
+        &self,
+        alloc: Global,
+        media: D,
+    ) -> Result<(Option<bool>, D), AreaError> {
+        let mut area = opened(alloc, media)?;
+        let made = is_made(&mut area, self.row.0)?;
+        Ok((made, area.into_medium()))
+    }
+
+    fn left(&self, alloc: Global, rest: MemMedia) -> Result<Left, AreaError> {
+        match told_of_media(alloc, rest, self.row.0.shape)? {
+            Some(told) => {
+                let tiers = told.0;
+                Ok(left_by(tiers, &self.row))
+            }
+            None => Ok(Left::Wrong),
+        }
+    }
 }
 
 // What is left of a move, by where the blocks of the file lie.
-fn left_by(told: Tiers, row: &Row, fails: bool) -> Left {
+fn left_by(told: Tiers, row: &Row) -> Left {
     let (run, after) = *row;
-    let before = run.shape.tiers();
     if told == after {
-        if fails { Left::After } else { Left::Whole }
-    } else if fails && told == before {
+        Left::After
+    } else if told == run.shape.tiers() {
         Left::Before
     } else {
-        Left::Bad
+        Left::Wrong
     }
 }
 
-// The same by the medium, once it is at rest.
-fn left_of(alloc: Global, rest: MemMedia, row: &Row, fails: bool) -> Result<Left, AreaError>
-    requires { IsAtRest rest }
-{
-    match told_of_media(alloc, rest, row.0.shape)? {
-        Some(told) => {
-            let tiers = told.0;
-            Ok(left_by(tiers, row, fails))
-        }
-        None => Ok(Left::Bad),
-    }
-}
-
-// A medium that stops within this call.
-fn stopping(media: MemMedia, call: u64, fill: Fill) -> StopMedia
-    requires call { 1 ≤ call }
-    requires rests { IsAtRest media }
-    ensures { IsAtRest (medium_of result) }
-{
-    let mut media = StopMedia::new(media);
-    media.stop_within(call, fill);
-    media
-}
-
-// A medium whose call of this number fails.
-fn failing(media: MemMedia, call: u64) -> FaultMedia<MemMedia>
-    requires call { 1 ≤ call }
-    requires rests { IsAtRest media }
-    ensures { IsAtRest (sound_of result) }
-{
-    let mut media = FaultMedia::new(media);
-    media.fail_at(call);
-    media
-}
-
-fn stopped(alloc: Global, row: &Row, call: u64, fill: Fill) -> Result<Left, AreaError>
-    requires { 1 ≤ call }
-{
-    let media = stopping(row.0.shape.media(alloc)?, call, fill);
-    let moved = moved(alloc, media, row.0)?;
-    let fails = moved.media.is_stopped();
-    if fails != moved.fails_on || fails == moved.answer.is_ok() {
-        return Ok(Left::Bad);
-    }
-    match moved.media.rest() {
-        Ok(rest) => left_of(alloc, rest, row, fails),
-        Err(_) => Err(AreaError::Memory),
-    }
-}
-
-fn failed(alloc: Global, row: &Row, call: u64, fill: Fill) -> Result<Left, AreaError>
-    requires { 1 ≤ call }
-{
-    let media = failing(row.0.shape.media(alloc)?, call);
-    let moved = moved(alloc, media, row.0)?;
-    let fails = moved.fails_on;
-    if fails == moved.answer.is_ok() {
-        return Ok(Left::Bad);
-    }
-    let rest = moved.media.into_inner().after_stop(fill)?;
-    left_of(alloc, rest, row, fails)
-}
-
-// Whether the run lies where it lay or is moved, whichever call is cut off; early calls leave the one, late calls the other.
-fn is_whole(alloc: Global, row: &Row, fill: Fill, stops: bool) -> Result<bool, AreaError> {
-    let mut before = false;
-    let mut after = false;
-    for call in 1..100u64 {
-        let left = if stops {
-            stopped(alloc, row, call, fill)?
-        } else {
-            failed(alloc, row, call, fill)?
-        };
-        match left {
-            Left::Whole => return Ok(before && after),
-            Left::Before => before = true,
-            Left::After => after = true,
-            Left::Bad => return Ok(false),
-        }
-    }
-    Ok(false)
-}
-
+// Each of the rows is cut off in each of its calls.
 fn are_whole(alloc: Global, fill: Fill, stops: bool) -> Result<bool, AreaError> {
-    for row in &rows() {
-        if !is_whole(alloc, row, fill, stops)? {
+    for row in rows() {
+        if !is_whole(alloc, &Course { row }, fill, stops)? {
             return Ok(false);
         }
     }

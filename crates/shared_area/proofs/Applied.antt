@@ -25,6 +25,7 @@ use Rattle.area_apply.specs.Applying.{IsAppliedStore, MakesFewCalls, Applies, En
 use Rattle.area_apply.specs.Costs.{units_in}
 use Rattle.area_apply.specs.declared.error.ApplyError.{ApplyError}
 use Rattle.area_apply.specs.declared.error.ApplyError.TheVariants.{DeviceFault}
+use Rattle.area_apply.proofs.Calls.{few_then}
 use Rattle.area_apply.proofs.Ending.{settled_still}
 use Rattle.shared_area.specs.Ready.{IsReady}
 use Rattle.shared_area.specs.Applying.{HasTooFewData, StaysOrChanges, AppliesOrStays}
@@ -101,8 +102,11 @@ module _ {M : Type 0} (moment : M → ℕ) (seen : M → Tier → List ℕ) (lef
       any_moment = λ m content lo hi l. (let clock = still.clock in let within : m ≤ moment mid.media = omega (arith, hi, clock) in applies.any_moment m content lo within (λ t. still.past m t (content t) within (l t)));
     }
 
-    few_then : (old mid new : JournalView M) → MakesFewCalls old.geometry (store_of (seen old.media)) cs (moment old.media) (moment mid.media) → StillAt mid new → MakesFewCalls old.geometry (store_of (seen old.media)) cs (moment old.media) (moment new.media)
-    few_then old mid new few still = subst (λ (n : ℕ). MakesFewCalls old.geometry (store_of (seen old.media)) cs (moment old.media) n) (sym still.clock) few
+    abbrev MakesFew : JournalView M → JournalView M → Type 0
+    MakesFew old new = MakesFewCalls old.geometry (store_of (seen old.media)) cs (moment old.media) (moment new.media) (left old.media) (left new.media)
+
+    few_on : (old mid new : JournalView M) → moment old.media ≤ moment mid.media → MakesFew old mid → StillAt mid new → MakesFew old new
+    few_on old mid new later few still = few_then old.geometry (store_of (seen old.media)) cs (moment old.media) (moment mid.media) (moment new.media) (left old.media) (left mid.media) (left new.media) later still.clock still.past few
 
     store_still : (mid new : JournalView M) → StillAt mid new → store_of (seen new.media) ≡ store_of (seen mid.media)
     store_still mid new still = ap store_of (tiers_same (seen mid.media) (seen new.media) still.reads)
@@ -118,7 +122,7 @@ module _ {M : Type 0} (moment : M → ℕ) (seen : M → Tier → List ℕ) (lef
       geometry = looks.geometry ∙ ends.geometry;
       more_faults = (let a = ends.more_faults in let b = looks.more_faults in omega (arith, a, b));
       one_fault = (let a = ends.quiet.1 in let b = looks.quiet in omega (arith, a, b));
-      at_most = few_then old mid new ends.at_most looks.unmoved;
+      at_most = few_on old mid new ends.any_moment.later ends.at_most looks.unmoved;
     }
       where
         ok_fault : (u : Unit {0}) → IsErrOf {T = Unit {0}} {E = ApplyError} (Ok u) DeviceFault → ⊥
@@ -128,7 +132,7 @@ module _ {M : Type 0} (moment : M → ℕ) (seen : M → Tier → List ℕ) (lef
     pub ends_of : (old new : JournalView M) (pools : PoolsView) (r : Result (Unit {0}) ApplyError) → old.failed ≡ false → (old.failed ≡ false → AppliesTo old new) → OnOk r (IsAppliedStore old.geometry (store_of (seen old.media)) cs v (store_of (seen new.media)))
         → (new.failed ≡ false → IsSettled new.geometry (seen new.media) (left new.media (moment new.media)) pools) → IfErr r (λ e. e ≢ DeviceFault → StaysStill moment seen left faults old new)
         → (IsErrOf r DeviceFault → (new.failed ≡ true) × ((old.failed ≡ true) ⊎ Rose (faults old.media) (faults new.media))) → OnOk r ((new.failed ≡ false) × (faults new.media ≡ faults old.media))
-        → new.geometry ≡ old.geometry → faults old.media ≤ faults new.media → faults new.media ≤ faults old.media + 1 → MakesFewCalls old.geometry (store_of (seen old.media)) cs (moment old.media) (moment new.media) → EndsAt old new pools r
+        → new.geometry ≡ old.geometry → faults old.media ≤ faults new.media → faults new.media ≤ faults old.media + 1 → MakesFew old new → EndsAt old new pools r
     ends_of old new pools r going applies applied settled unmoved fault quiet geometry more one few = record {
       any_moment = applies going;
       applied = applied;
@@ -156,7 +160,7 @@ module _ {M : Type 0} (moment : M → ℕ) (seen : M → Tier → List ℕ) (lef
           geometry = looks.geometry ∙ ends.geometry;
           more_faults = (let a = ends.more_faults in let b = looks.more_faults in omega (arith, a, b));
           one_fault = (let a = ends.quiet.1 in let b = looks.one_fault in omega (arith, a, b));
-          at_most = few_then old mid new ends.at_most looks.unmoved;
+          at_most = few_on old mid new ends.any_moment.later ends.at_most looks.unmoved;
         }
 
     -- ---- what is in memory

@@ -6,6 +6,7 @@ pub mod Naming
 pub mod Running
 pub mod Moving
 pub mod Asking
+pub mod Staying
 pub mod Applying
 -- Passed on to the crates above, which so need not list those below.
 pub use Rattle.area_apply.specs.Applying as ChangeApplying

@@ -111,7 +111,7 @@ pub fn make_change<M: Media>(
     ensures no_block { IsErrOf result NoBlock → (bs : List (ℕ × ℕ)) × AreWritten journal.old.geometry (store_of (M.seen journal.old.media)) (changes_of change.now) bs × HasTooFewData journal.old.geometry (store_of (M.seen journal.old.media)) (length bs) }
     ensures never { ((bs : List (ℕ × ℕ)) → AreWritten journal.old.geometry (store_of (M.seen journal.old.media)) (changes_of change.now) bs → length bs ≤ SPARE_BLOCKS) → IsErrOf result NoBlock → ⊥ }
     ensures applies { AppliesOrStays M.moment M.seen M.left M.faults journal.old journal.new result }
-    ensures at_most { MakesFewCalls journal.old.geometry (store_of (M.seen journal.old.media)) (changes_of change.now) (M.moment journal.old.media) (M.moment journal.new.media) }
+    ensures at_most { MakesFewCalls journal.old.geometry (store_of (M.seen journal.old.media)) (changes_of change.now) (M.moment journal.old.media) (M.moment journal.new.media) (M.left journal.old.media) (M.left journal.new.media) }
 {
     if journal.has_failed() {
         return Err(ApplyError::DeviceFault);

@@ -240,8 +240,8 @@ impl<M: Media> Shared<M> {
     }
 
     /// Changes the graph, with new marks, in one batch: what the change puts into files goes into data blocks of its own first, the first that are free, fastest tier first, with one
-    /// write for each run of them and then one fence for each tier that was written; then one batch of the journal writes all else. Blocks that the change does not write stay where
-    /// they lie. A stop at any moment leaves the graph and the marks from before, or the graph after the change and the new marks. Each inode that is written tells the number of
+    /// write for each run of them and then one fence for each tier that was written, in the same order; then one batch of the journal writes all else. Data blocks that the change does
+    /// not write stay where they lie. A stop at any moment leaves the graph and the marks from before, or the graph after the change and the new marks. Each inode that is written tells the number of
     /// digests of the marks as its touch number. The change has to keep to the limits, and the graph after it to the units.
     ///
     /// `NoBlock` where fewer data blocks are free than the change writes, which is never so where it writes no more than the format spares. `Memory` where there was none, before
@@ -263,8 +263,8 @@ impl<M: Media> Shared<M> {
         ensures no_block { IsErrOf result errors.NoBlock → (bs : List (ℕ × ℕ)) × AreWritten self.old.geometry (store_of (M.seen self.old.media)) (changes_of change.now) bs × HasTooFewData self.old.geometry (store_of (M.seen self.old.media)) (length bs) }
         ensures never { ((bs : List (ℕ × ℕ)) → AreWritten self.old.geometry (store_of (M.seen self.old.media)) (changes_of change.now) bs → length bs ≤ SPARE_BLOCKS) → IsErrOf result errors.NoBlock → ⊥ }
         ensures applies { AppliesOrStays M.moment M.seen M.left M.faults self.old self.new result }
-        // A write for each run of data blocks that is taken, a fence for each tier that is written, and the batch; what is read is not counted.
-        ensures at_most { MakesFewCalls self.old.geometry (store_of (M.seen self.old.media)) (changes_of change.now) (M.moment self.old.media) (M.moment self.new.media) }
+        // A write for each run of data blocks that is taken, fastest tier first, a fence for each tier that is written, in the same order, and the batch; what is read is not counted.
+        ensures at_most { MakesFewCalls self.old.geometry (store_of (M.seen self.old.media)) (changes_of change.now) (M.moment self.old.media) (M.moment self.new.media) (M.left self.old.media) (M.left self.new.media) }
     {
         let alloc = self.alloc;
         make_change(

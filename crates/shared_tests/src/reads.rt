@@ -94,6 +94,7 @@ fn refusal(alloc: Global) -> Result<Option<AreaError>, AllocError> {
     let media = world.into_media(alloc)?;
     match opened(alloc, media) {
         Ok(_) => Ok(None),
+        Err(AreaError::Memory) => Err(AllocError),
         Err(error) => Ok(Some(error)),
     }
 }

@@ -47,6 +47,8 @@ fn stopped<C: Change>(
     let stops = media.is_stopped();
     match media.rest() {
         Ok(rest) if made == Some(!stops) => Ok((!stops, change.left(alloc, rest)?)),
+        // A medium that has not stopped fails where it has no memory to keep a call.
+        Ok(_) if made == Some(false) => Err(AreaError::DeviceFault),
         Ok(_) => Ok((false, Left::Wrong)),
         Err(_) => Err(AreaError::Memory),
     }

@@ -5,7 +5,7 @@ use Rattle.graph_change.specs.View.{changes_of}
 use Rattle.area_image.specs.Store.{Store, store_of}
 use Rattle.change_plan.specs.PoolsValue.{PoolsView}
 use Rattle.change_plan.specs.Taking.{WasUndone}
-use Rattle.change_plan.specs.Writing.{calls_for}
+use Rattle.change_plan.specs.Writing.{TakenInTurn, calls_for}
 use Rattle.change_plan.specs.Rewrite.{Rewrite}
 use Rattle.change_plan.specs.Plan.{IsPlan}
 use Rattle.change_plan.specs.Done.{IsCarriedOut}
@@ -49,7 +49,8 @@ returns-in-Ok-clause-ends g c =
     let done : (x : Store) → IsCarriedOut old.geometry s c.whole_plan.result x → IsAppliedStore old.geometry s cs v x =
     λ x out. c.carried_out_change_is_made.ensures old.geometry s cs c.args.plan c.args.taken v x allowed c.requires.opens.spelled c.requires.can c.requires.whole c.requires.first (subst (λ (r : Rewrite). IsCarriedOut old.geometry s r x) c.whole_plan.ensures out) in
     let got = c.whole_change_lies_in_its_places.ensures.got old.geometry s cs v.digests c.args.plan c.args.taken (Some v) c.requires.whole c.requires.first in
-    let few = few_calls old.geometry s cs v c.args.plan c.args.taken c.args.pools.now (m.moment old.media) (m.moment new.media) c.requires.whole c.requires.took got (subst (λ (r : Rewrite). m.moment new.media ≤ m.moment old.media + calls_for r.taken + min (length r.slots.items) 32 + length r.nodes + 8) c.whole_plan.ensures c.carry_out.ensures.at_most) in
+    let few = few_calls old.geometry s cs v c.args.plan c.args.taken c.args.pools.now (m.moment old.media) (m.moment new.media) (m.left old.media) (m.left new.media) c.requires.whole c.requires.took got (subst (λ (r : Rewrite). m.moment new.media ≤ m.moment old.media + calls_for r.taken + min (length r.slots.items) 32 + length r.nodes + 8) c.whole_plan.ensures c.carry_out.ensures.at_most)
+    (subst (λ (r : Rewrite). TakenInTurn r.taken (m.moment old.media) (m.moment new.media) (m.left old.media) (m.left new.media)) c.whole_plan.ensures c.carry_out.ensures.turn) in
     let settled : IsSettled old.geometry (m.seen new.media) (m.left new.media (m.moment new.media)) pools = record {
       opens = (done (store_of (m.seen new.media)) c.in-Ok.ensures.done).opens;
       rests = c.in-Ok.ensures.rests;
@@ -72,7 +73,8 @@ returns-in-Err-clause-ends g c =
     let done : (x : Store) → IsCarriedOut old.geometry s c.whole_plan.result x → IsAppliedStore old.geometry s cs v x =
     λ x out. c.carried_out_change_is_made.ensures old.geometry s cs c.args.plan c.args.taken v x allowed c.requires.opens.spelled c.requires.can c.requires.whole c.requires.first (subst (λ (r : Rewrite). IsCarriedOut old.geometry s r x) c.whole_plan.ensures out) in
     let got = c.whole_change_lies_in_its_places.ensures.got old.geometry s cs v.digests c.args.plan c.args.taken (Some v) c.requires.whole c.requires.first in
-    let few = few_calls old.geometry s cs v c.args.plan c.args.taken c.args.pools.now (m.moment old.media) (m.moment new.media) c.requires.whole c.requires.took got (subst (λ (r : Rewrite). m.moment new.media ≤ m.moment old.media + calls_for r.taken + min (length r.slots.items) 32 + length r.nodes + 8) c.whole_plan.ensures c.carry_out.ensures.at_most) in
+    let few = few_calls old.geometry s cs v c.args.plan c.args.taken c.args.pools.now (m.moment old.media) (m.moment new.media) (m.left old.media) (m.left new.media) c.requires.whole c.requires.took got (subst (λ (r : Rewrite). m.moment new.media ≤ m.moment old.media + calls_for r.taken + min (length r.slots.items) 32 + length r.nodes + 8) c.whole_plan.ensures c.carry_out.ensures.at_most)
+    (subst (λ (r : Rewrite). TakenInTurn r.taken (m.moment old.media) (m.moment new.media) (m.left old.media) (m.left new.media)) c.whole_plan.ensures c.carry_out.ensures.turn) in
     let rests : Rests m.moment m.seen m.left old.geometry old.media = record { sizes = c.left_now.ensures.sizes c.requires.going; journal = c.left_now.ensures.journal c.requires.going; rest = c.requires.rests } in
     let took = c.requires.took in
     let before : IsSettled old.geometry (m.seen old.media) (m.left old.media (m.moment old.media)) took.before = record { opens = c.requires.opens; rests = c.requires.rests; ranges = took.ranges; free = took.free } in

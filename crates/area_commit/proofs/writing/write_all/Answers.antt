@@ -5,6 +5,7 @@ use Rattle.area_image.specs.Store.{Store, store_of}
 use Rattle.area_image.proofs.Looked.{carried}
 use Rattle.area_batch.specs.declared.slots.ChangedSlot.{ChangedSlot}
 use Rattle.area_batch.specs.Slots.{RiseIn}
+use Rattle.free_pools.proofs.Turns.{no_turn, turn_behind}
 use Rattle.area_commit.specs.Plan.{IsPlan}
 use Rattle.area_commit.proofs.Read.{while_read, then_written, then_done}
 use Rattle.area_commit.proofs.writing.write_all.Goals as goal
@@ -48,3 +49,32 @@ returns-in_err-batch-clause-any_moment g c =
     let m = g.M.Media in
     while_read m.moment m.seen m.left m.faults g.met.M.Media.sized c.args.plan.now c.args.journal.now c.batch_of.new.journal c.batch_of.result c.batch_of.ensures.looks
     (record { sizes = c.left_now.ensures.sizes c.requires.going; journal = c.left_now.ensures.journal c.requires.going; rest = c.requires.rests })
+
+pub returns-in-Ok-clause-turn : goal.returns-in-Ok-clause-turn
+returns-in-Ok-clause-turn g c =
+    let m = g.M.Media in
+    let old = c.args.journal.now.media in
+    let mid = c.batch_of.new.journal.media in
+    let new = c.write_plan.new.journal.media in
+    let taken = c.args.plan.now.taken in
+    let un = c.batch_of.ensures.looks.unmoved in
+    turn_behind taken.fast.items taken.block.items taken.slow.items (m.moment old) (m.moment mid) (m.moment new) (m.left old) (m.left mid) (m.left new) un.clock un.past c.write_plan.ensures.turn
+
+pub returns-clause-turn : goal.returns-clause-turn
+returns-clause-turn g c =
+    let m = g.M.Media in
+    let old = c.args.journal.now.media in
+    let mid = c.batch_of.new.journal.media in
+    let new = c.write_plan.new.journal.media in
+    let taken = c.args.plan.now.taken in
+    let un = c.batch_of.ensures.looks.unmoved in
+    turn_behind taken.fast.items taken.block.items taken.slow.items (m.moment old) (m.moment mid) (m.moment new) (m.left old) (m.left mid) (m.left new) un.clock un.past c.write_plan.ensures.turn
+
+pub returns-in_err-batch-clause-turn : goal.returns-in_err-batch-clause-turn
+returns-in_err-batch-clause-turn g c =
+    let m = g.M.Media in
+    let old = c.args.journal.now.media in
+    let new = c.batch_of.new.journal.media in
+    let taken = c.args.plan.now.taken in
+    let un = c.batch_of.ensures.looks.unmoved in
+    no_turn taken.fast.items taken.block.items taken.slow.items (m.moment old) (m.moment new) (m.left old) (m.left new) (omega (arith, un.clock)) un.past

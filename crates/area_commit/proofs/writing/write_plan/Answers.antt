@@ -1,7 +1,7 @@
 use Rattle.std.proofs.Common.{◌≡◌, ◌≢◌, ◌<◌, inl, inr, ℕ, List, length, sym, ap, subst, ◌∙◌, arith}
 use Rattle.std.proofs.lemmas.Bool.{cases_lt}
 use Rattle.tier_device.specs.declared.media.Tier.{Tier}
-use Rattle.tier_device.specs.declared.media.Tier.TheVariants.{Fast}
+use Rattle.tier_device.specs.declared.media.Tier.TheVariants.{Fast, Block}
 use Rattle.tier_device.specs.Media.{AtRest}
 use Rattle.layout.specs.Places.{Sizes}
 use Rattle.batch_journal.specs.Blocks.{AreJournaled}
@@ -13,6 +13,7 @@ use Rattle.batch_journal.proofs.Views.{which}
 use Rattle.area_image.specs.Store.{store_of}
 use Rattle.free_pools.specs.Taking.{runs_of, taken_data}
 use Rattle.free_pools.specs.Writing.{HoldData, IsLooseLeft}
+use Rattle.free_pools.proofs.Turns.{turn_then}
 use Rattle.area_commit.proofs.Course.{data_written, others_rest, done, all_written}
 use Rattle.area_commit.proofs.Moments.{rest_loose}
 use Rattle.area_commit.proofs.writing.write_plan.Goals as goal
@@ -96,3 +97,14 @@ returns-clause-rests g c =
         | inr none ↦ subst (λ (v : JournalView _). AtRest (m.seen v.media) (m.left v.media (m.moment v.media)) Fast) (sym (c.commit.ensures.none (omega (arith, none)))) (rest_mid g c Fast)
       ])
     ]) c.commit.ensures.durable c.commit.ensures.others
+
+pub returns-clause-turn : goal.returns-clause-turn
+returns-clause-turn g c =
+    let m = g.M.Media in
+    let old = c.args.journal.now.media in
+    let mid = c.write_data.new.journal.media in
+    let new = c.commit.new.self.media in
+    let taken = c.args.plan.now.taken in
+    let all = c.in_ok-write_data.ensures.calls in
+    turn_then taken.fast.items taken.block.items taken.slow.items (m.moment old) (m.moment mid) (m.moment new) (m.left old) (m.left mid) (m.left new) (m.seen mid) (omega (arith, all))
+    (c.in_ok-write_data.ensures.rests Fast) (c.in_ok-write_data.ensures.rests Block) (since g c).past c.write_data.ensures.turn

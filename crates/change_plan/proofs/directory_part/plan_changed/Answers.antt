@@ -1,11 +1,13 @@
-use Rattle.std.proofs.Common.{◌≡◌, ◌∙◌, inr, ℕ, List, Some, ◌++◌, take, length, refl, sym, ap, subst, arith}
+use Rattle.std.proofs.Common.{◌≡◌, ◌∙◌, inr, ℕ, List, Option, Some, ◌++◌, take, length, refl, sym, ap, subst, arith}
 use Rattle.std.proofs.lemmas.List.{length-drop}
+use Rattle.file_graph.specs.declared.effect.Kind.{Kind}
 use Rattle.file_graph.specs.declared.effect.Kind.TheVariants as kind
 use Rattle.graph_change.specs.View.{change_of}
 use Rattle.block_alloc.specs.Runs.{blocks_of}
 use Rattle.area_image.specs.Store.{Store, store_of}
 use Rattle.directory_plan.specs.Spare.{spares_for}
 use Rattle.change_plan.specs.Directory.{IsReadyToWrite}
+use Rattle.change_plan.specs.Next.{nodes_left}
 use Rattle.change_plan.proofs.NextFits.{nodes_end, count_few, count_free, count_fits}
 use Rattle.change_plan.proofs.directory_part.plan_changed.Goals as goal
 
@@ -58,6 +60,6 @@ returns-in-Ok-plan_over_spares-clause-planned g c places =
     record {
       part = c.in-Ok-plan_over_spares.ensures.part places c.args.taken.now c.take_spares.new.taken nodes;
       wants = inr ((λ file. absurd (let e : Some kind.File ≡ Some kind.Directory = sym file ∙ from.starts.kind_is in cc)), refl);
-      images = omega (arith, few, written);
+      images = (let left = ap (λ (k : Option Kind). nodes_left k change) from.starts.kind_is in omega (arith, left, few, written));
       free = omega (arith, left, count);
     }

@@ -10,7 +10,7 @@ slice_bounds-place_file-end c =
     let was = c.requires.started in
     let numbers = c.in_ok-numbers.numbers in
     let count : c.len-count.result ≡ length numbers.items = c.len-count.ensures ∙ long numbers in
-    let few : c.len-count.result ≤ length c.args.places.now = was.3.enough c.len-count.result (inl (was.2.kind_is, numbers.items, c.in_ok-numbers.ensures, sym count)) in
+    let few : c.len-count.result ≤ length c.args.places.now = was.3.enough c.len-count.result (inl (was.2.kind_is, numbers.items, c.in_ok-numbers.ensures.numbers, sym count)) in
     sym (length-take-le c.len-count.result c.args.places.now few)
 
 pub place_file-requires-clause-enough : goal.place_file-requires-clause-enough
@@ -18,7 +18,7 @@ place_file-requires-clause-enough c =
     let was = c.requires.started in
     let numbers = c.in_ok-numbers.numbers in
     let count : c.len-count.result ≡ length numbers.items = c.len-count.ensures ∙ long numbers in
-    let few : c.len-count.result ≤ length c.args.places.now = was.3.enough c.len-count.result (inl (was.2.kind_is, numbers.items, c.in_ok-numbers.ensures, sym count)) in
+    let few : c.len-count.result ≤ length c.args.places.now = was.3.enough c.len-count.result (inl (was.2.kind_is, numbers.items, c.in_ok-numbers.ensures.numbers, sym count)) in
     let first = length-take-le c.len-count.result c.args.places.now few in
     omega (arith, ap length c.deref.ensures.value, first, count)
 
@@ -29,10 +29,10 @@ returns c g s start has =
     let places = c.args.places.now in
     let change = change_of c.args.change.now in
     let count : c.len-count.result ≡ length items = c.len-count.ensures ∙ long numbers in
-    let few : length items ≤ length places = has.enough (length items) (inl (start.kind_is, items, c.in_ok-numbers.ensures, refl)) in
+    let few : length items ≤ length places = has.enough (length items) (inl (start.kind_is, items, c.in_ok-numbers.ensures.numbers, refl)) in
     let placed = c.in_ok-file.ensures g s start in
     record {
-      numbers = c.in_ok-numbers.ensures;
+      numbers = c.in_ok-numbers.ensures.numbers;
       few = few;
       free = first_free g s places (length items) few has.free;
       placed = subst (λ (ns : List ℕ). IsPlacedFile g s change c.args.inode ns (take (length items) places) c.in_ok-file.file) c.deref.ensures.value (subst (λ (n : ℕ). IsPlacedFile g s change c.args.inode c.deref.result.now (take n places) c.in_ok-file.file) count placed);

@@ -1,9 +1,10 @@
-use Rattle.std.proofs.Common.{◌≡◌, ◌+◌, ◌*◌, ◌∙◌, inl, ℕ, length, refl, sym, subst, arith}
+use Rattle.std.proofs.Common.{◌≡◌, ◌+◌, ◌*◌, ◌∙◌, inl, ℕ, length, Option, refl, sym, ap, subst, arith}
 use Rattle.std.specs.FinMap as fin
+use Rattle.file_graph.specs.declared.effect.Kind.{Kind}
 use Rattle.graph_change.specs.View.{change_of}
 use Rattle.area_image.specs.Store.{Store, store_of}
 use Rattle.change_plan.specs.Adding.{AddsPart}
-use Rattle.change_plan.specs.Next.{nodes_for}
+use Rattle.change_plan.specs.Next.{nodes_for, nodes_left}
 use Rattle.change_plan.proofs.PlansFile.{long}
 use Rattle.change_plan.proofs.file_part.plan_started.Goals as goal
 
@@ -31,6 +32,6 @@ returns-in-Ok-plan_written-clause-planned g c =
     record {
       part = subst (λ (n : ℕ). AddsPart old.geometry s change c.args.touch c.args.inode c.args.places.now n c.args.taken.now c.plan_written.new.taken c.args.plan.now c.plan_written.new.plan) (sym count) (c.in-Ok-plan_written.ensures.part c.args.places.now ready);
       wants = inl (c.requires.started.kind_is, w.numbers.items, ready.numbers, sym count);
-      images = omega (arith, most, images);
+      images = (let left = ap (λ (k : Option Kind). nodes_left k change) c.requires.started.kind_is in omega (arith, left, images));
       free = omega (arith, most, free);
     }

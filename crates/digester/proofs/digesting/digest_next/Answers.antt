@@ -9,7 +9,7 @@ use Rattle.shared_area.proofs.Looked.{carried}
 use Rattle.digester.specs.Digesting.{IsGoodRun}
 use Rattle.digester.specs.Marking.{mark_after}
 use Rattle.digester.specs.SealedLog.{undone, mark_then}
-use Rattle.digester.proofs.Composed.{lent, lent_tells, its_spelled, its_good_run, told_bad, bad_within, stays_open, digested_at, digests_at, stands_at, change_refused, few_behind}
+use Rattle.digester.proofs.Composed.{lent, lent_tells, its_spelled, its_good_run, told_bad, bad_within, stays_open, digested_at, digests_at, stands_at, change_refused, few_looked}
 use Rattle.digester.proofs.digesting.digest_next.Goals as goal
 
 pub test_run-requires-clause-spelled : goal.test_run-requires-clause-spelled
@@ -141,12 +141,12 @@ returns-in-Err-clause-any_moment g c going =
 pub returns-in-Ok-clause-at_most : goal.returns-in-Ok-clause-at_most
 returns-in-Ok-clause-at_most g c =
     let m = g.M.Media in
-    few_behind m.moment m.seen m.left m.faults c.args.area.now c.test_run.new.area c.in-Ok-AllGood.field-0 (changes_of c.args.chunk.now.change) (m.moment c.apply_run.new.area.media) c.in-Ok-AllGood.ensures.looks c.apply_run.ensures.at_most
+    few_looked m.moment m.seen m.left m.faults c.args.area.now c.test_run.new.area c.apply_run.new.area c.in-Ok-AllGood.field-0 (changes_of c.args.chunk.now.change) c.in-Ok-AllGood.ensures.looks c.apply_run.ensures.at_most
 
 pub returns-in-Err-apply_run-clause-at_most : goal.returns-in-Err-apply_run-clause-at_most
 returns-in-Err-apply_run-clause-at_most g c =
     let m = g.M.Media in
-    few_behind m.moment m.seen m.left m.faults c.args.area.now c.test_run.new.area c.in-Ok-AllGood.field-0 (changes_of c.args.chunk.now.change) (m.moment c.apply_run.new.area.media) c.in-Ok-AllGood.ensures.looks c.apply_run.ensures.at_most
+    few_looked m.moment m.seen m.left m.faults c.args.area.now c.test_run.new.area c.apply_run.new.area c.in-Ok-AllGood.field-0 (changes_of c.args.chunk.now.change) c.in-Ok-AllGood.ensures.looks c.apply_run.ensures.at_most
 
 pub returns-in-Ok-FirstBad-clause-at_most : goal.returns-in-Ok-FirstBad-clause-at_most
 returns-in-Ok-FirstBad-clause-at_most g c = inl (let clock = c.in-Ok-FirstBad.ensures.looks.unmoved.clock in omega (arith, clock))

@@ -9,6 +9,7 @@ use Rattle.batch_journal.proofs.Courses.{tiers_same}
 use Rattle.free_pools.specs.Writing.{HoldParts, part_in}
 use Rattle.free_pools.proofs.Courses.{loose_next}
 use Rattle.free_pools.proofs.Stored.{hold_data}
+use Rattle.free_pools.proofs.Turns.{turn_fenced}
 use Rattle.free_pools.proofs.writing.write_and_fence.Goals as goal
 
 pub returns-in_err-fence_all-clause-loose : goal.returns-in_err-fence_all-clause-loose
@@ -55,3 +56,19 @@ returns-clause-keeps_rest g c t rest =
     written Fast some = c.in_ok-fence_all.ensures.fast some
     written Block some = c.in_ok-fence_all.ensures.block some
     written Slow some = c.in_ok-fence_all.ensures.slow some
+
+pub returns-in_err-fence_all-clause-turn : goal.returns-in_err-fence_all-clause-turn
+returns-in_err-fence_all-clause-turn g c =
+    let m = g.M.Media in
+    let old = c.args.journal.now.media in
+    let one = c.write_all.new.journal.media in
+    let new = c.fence_all.new.journal.media in
+    turn_fenced c.args.fast.now c.args.block.now c.args.slow.now (m.moment old) (m.moment one) (m.moment new) (m.left old) (m.left one) (m.left new) c.write_all.ensures.turn c.in_ok-write_all.ensures.calls c.fence_all.ensures.turn
+
+pub returns-clause-turn : goal.returns-clause-turn
+returns-clause-turn g c =
+    let m = g.M.Media in
+    let old = c.args.journal.now.media in
+    let one = c.write_all.new.journal.media in
+    let new = c.fence_all.new.journal.media in
+    turn_fenced c.args.fast.now c.args.block.now c.args.slow.now (m.moment old) (m.moment one) (m.moment new) (m.left old) (m.left one) (m.left new) c.write_all.ensures.turn c.in_ok-write_all.ensures.calls c.fence_all.ensures.turn

@@ -1,11 +1,12 @@
-use Rattle.std.proofs.Common.{List, sym, subst}
+use Rattle.std.proofs.Common.{List, sym, subst, arith}
 use Rattle.tier_device.specs.declared.media.Tier.TheVariants.{Fast, Block, Slow}
 use Rattle.layout.specs.Places.{data_first, tier_blocks}
 use Rattle.block_alloc.specs.declared.runs.Run.{Run}
 use Rattle.block_alloc.specs.Runs.{AreNormalRuns}
 use Rattle.area_image.specs.Store.{store_of}
-use Rattle.free_pools.specs.Writing.{AreFreeIn, StaysLoose}
+use Rattle.free_pools.specs.Writing.{AreFreeIn, StaysLoose, GoesInTurn}
 use Rattle.free_pools.proofs.Courses.{loose_start, loose_seen, loose_after}
+use Rattle.free_pools.proofs.Turns.{no_turn}
 use Rattle.free_pools.proofs.writing.write_data.Given.{Over}
 use Rattle.free_pools.proofs.writing.write_data.Goals as goal
 
@@ -51,3 +52,21 @@ returns-clause-left_after g c loose =
     let old = c.args.journal.now in
     let new = c.write_and_fence.new.journal in
     loose_after old.geometry (store_of (m.seen old.media)) (m.moment old.media) (m.moment new.media) (m.left old.media) (m.left new.media) (m.seen new.media) (g.met.M.Media.seen_now new.media) (course g c) loose
+
+pub returns-then-has_failed-clause-turn : goal.returns-then-has_failed-clause-turn
+returns-then-has_failed-clause-turn g c =
+    let m = g.M.Media in
+    let old = c.args.journal.now.media in
+    let taken = c.args.taken.now in
+    no_turn taken.fast.items taken.block.items taken.slow.items (m.moment old) (m.moment old) (m.left old) (m.left old) (omega arith) (λ n t x le l. l)
+
+pub returns-clause-turn : goal.returns-clause-turn
+returns-clause-turn g c =
+    let m = g.M.Media in
+    let old = c.args.journal.now.media in
+    let new = c.write_and_fence.new.journal.media in
+    let taken = c.args.taken.now in
+    let Goes : List Run → List Run → List Run → Type 0 = λ fast block slow. GoesInTurn fast block slow (m.moment old) (m.moment new) (m.left old) (m.left new) in
+    subst (λ (fast : List Run). Goes fast taken.block.items taken.slow.items) c.deref.ensures.value (
+    subst (λ (block : List Run). Goes c.deref.result.now block taken.slow.items) c.deref-2.ensures.value (
+    subst (λ (slow : List Run). Goes c.deref.result.now c.deref-2.result.now slow) c.deref-3.ensures.value c.write_and_fence.ensures.turn))

@@ -5,7 +5,7 @@ use Rattle.tier_device.specs.declared.media.Tier.{Tier}
 use Rattle.tier_device.specs.Media.{AtRest, overwritten, Puts}
 use Rattle.block_alloc.specs.Runs.{run_blocks}
 use Rattle.batch_journal.specs.Blocks.{block_of}
-use Rattle.batch_journal.proofs.Courses.{on_ok}
+use Rattle.batch_journal.proofs.Courses.{on_ok, weaker}
 use Rattle.area_image.specs.Reads.{IsFreeRun}
 use Rattle.free_pools.proofs.Courses.{loose_write}
 use Rattle.free_pools.proofs.Held.{in_range, put_holds, put_keeps}
@@ -55,3 +55,6 @@ returns-clause-keeps_rest g c =
     let since = c.write.ensures.any_moment c.requires.going in
     on_ok c.write.result (λ (put : Puts tier (overwritten (m.seen old.media tier) (4096 * c.args.run.first) c.args.bytes.now) (m.seen old.media) (m.seen new.media)) (t : Tier) (other : t ≢ tier) (rest : AtRest (m.seen old.media) (m.left old.media (m.moment old.media)) t) (x : List ℕ) (l : m.left new.media (m.moment new.media) t x).
     rest x (since.others (m.moment new.media) t x other since.later (omega arith) l) ∙ sym (put.others t other)) c.write.ensures.written
+
+pub returns-clause-turn : goal.returns-clause-turn
+returns-clause-turn g c = weaker (c.write.ensures.any_moment c.requires.going) (λ x l. tt)

@@ -5,6 +5,7 @@ use Rattle.layout.specs.Places.{Sizes, data_first, tier_blocks}
 use Rattle.block_alloc.specs.declared.runs.Run.{Run}
 use Rattle.block_alloc.specs.Runs.{run_blocks}
 use Rattle.batch_journal.specs.Blocks.{block_of}
+use Rattle.batch_journal.proofs.Courses.{and_then, weaker, no_call}
 use Rattle.area_image.specs.Reads.{Free}
 use Rattle.free_pools.specs.Writing.{AreFreeIn, StaysLoose}
 use Rattle.free_pools.proofs.Courses.{loose_start, loose_then}
@@ -46,6 +47,7 @@ runs-init g c =
     let old = c.args.journal.now in
     record {
       loose = λ s free. loose_start old.geometry s (m.moment old.media) (m.left old.media);
+      turn = weaker (no_call c.args.tier (m.moment old.media) (m.left old.media)) (λ x l. tt);
       at_is = refl;
       written = refl;
       others = λ t other. refl;
@@ -69,6 +71,9 @@ returns-in_err-write_run-clause-loose g c s free =
     let step = subst (λ (x : Sizes). AreFreeIn x s tier (get_or runs i none ∷ []) → StaysLoose x s (m.moment mid.media) (m.moment new.media) (m.left mid.media) (m.left new.media)) c.runs.invariant.geometry (c.write_run.ensures.loose s) in
     loose_then old.geometry s (m.moment old.media) (m.moment mid.media) (m.moment new.media) (m.left old.media) (m.left mid.media) (m.left new.media) (c.runs.invariant.loose s free) (step (one_run (λ k. Free old.geometry s tier k) runs i none c.runs-test.true free))
 
+pub returns-in_err-write_run-clause-turn : goal.returns-in_err-write_run-clause-turn
+returns-in_err-write_run-clause-turn g c = and_then c.runs.invariant.turn c.write_run.ensures.turn (λ x l. tt) (λ x l. tt)
+
 pub runs-preserved : goal.runs-preserved
 runs-preserved g c =
     let m = g.M.Media in
@@ -88,6 +93,7 @@ runs-preserved g c =
       loose = λ s free.
           (let step = subst (λ (x : Sizes). AreFreeIn x s tier (run ∷ []) → StaysLoose x s (m.moment mid.media) (m.moment new.media) (m.left mid.media) (m.left new.media)) c.runs.invariant.geometry (c.write_run.ensures.loose s) in
           loose_then old.geometry s (m.moment old.media) (m.moment mid.media) (m.moment new.media) (m.left old.media) (m.left mid.media) (m.left new.media) (c.runs.invariant.loose s free) (step (one_run (λ k. Free old.geometry s tier k) runs i none c.runs-test.true free)));
+      turn = and_then c.runs.invariant.turn c.write_run.ensures.turn (λ x l. tt) (λ x l. tt);
       at_is = omega (arith, this_more low end runs i none c.runs-test.true c.requires.place, c.runs.invariant.at_is);
       written = holds_more low end runs i none c.runs-test.true c.requires.place (block_of (m.seen mid.media tier)) (block_of (m.seen new.media tier)) c.args.«data».now c.runs.at size c.runs.invariant.written (λ k below. c.in_ok-write_run.ensures.kept k (inl below)) written;
       others = λ t other. c.in_ok-write_run.ensures.others t other ∙ c.runs.invariant.others t other;

@@ -5,7 +5,7 @@ use Rattle.block_alloc.specs.Runs.{blocks_of}
 use Rattle.batch_journal.specs.Blocks.{block_of}
 use Rattle.batch_journal.specs.Course.{SameLengths}
 use Rattle.area_image.specs.Store.{Store}
-use Rattle.free_pools.specs.Writing.{AreFreeIn, StaysLoose, RestsBut}
+use Rattle.free_pools.specs.Writing.{AreFreeIn, StaysLoose, RestsBut, WritesIn}
 use Rattle.free_pools.proofs.writing.write_runs.Given as goal
 
 -- the first runs are written
@@ -16,6 +16,7 @@ invariant-runs g l =
     let new = l.journal in
     record {
       loose : (s : Store) → AreFreeIn old.geometry s l.tier l.runs → StaysLoose old.geometry s (m.moment old.media) (m.moment new.media) (m.left old.media) (m.left new.media);
+      turn : WritesIn l.tier (m.moment old.media) (m.moment new.media) (m.left old.media) (m.left new.media);
       at_is : l.at ≡ 4096 * length (blocks_of (take l.place l.runs));
       written : flat_map (block_of (m.seen new.media l.tier)) (blocks_of (take l.place l.runs)) ≡ take l.at l.«data»;
       others : (t : Tier) → t ≢ l.tier → m.seen new.media t ≡ m.seen old.media t;

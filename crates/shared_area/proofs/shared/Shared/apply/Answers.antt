@@ -60,4 +60,5 @@ returns-clause-applies g c =
 pub returns-clause-at_most : goal.returns-clause-at_most
 returns-clause-at_most g c =
     let m = g.M.Media in
-    subst (λ (v : JournalView _). MakesFewCalls v.geometry (store_of (m.seen v.media)) (changes_of c.args.change.now) (m.moment v.media) (m.moment c.make_change.new.journal.media)) c.self.view_is c.make_change.ensures.at_most
+    let new = c.make_change.new.journal in
+    subst (λ (v : JournalView _). MakesFewCalls v.geometry (store_of (m.seen v.media)) (changes_of c.args.change.now) (m.moment v.media) (m.moment new.media) (m.left v.media) (m.left new.media)) c.self.view_is c.make_change.ensures.at_most
