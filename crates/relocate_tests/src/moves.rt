@@ -389,6 +389,7 @@ fn refused_moves_change_nothing(rt: HostRuntime) -> Result<(), Fail> {
 // ---- moves that are cut off
 
 // A row that is cut off.
+#[derive(Drop)]
 struct Course {
     row: Row,
 }
