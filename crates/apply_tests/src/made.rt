@@ -22,7 +22,7 @@ pub struct Answered<M> {
 }
 
 // What is answered to a change over an opened area, and what the area tells then.
-fn answered<M: Media + Drop>(
+fn answer_and_lines<M: Media + Drop>(
     alloc: Global,
     area: &mut Shared<M>,
     steps: &[Step<'_>],
@@ -48,7 +48,7 @@ pub fn change_of<M: Media + Drop>(
     requires { (t : Tier) → AtRest (M.seen media) (M.left media (M.moment media)) t }
 {
     let mut area = opened(alloc, media)?;
-    let (answer, live) = answered(alloc, &mut area, steps, number)?;
+    let (answer, live) = answer_and_lines(alloc, &mut area, steps, number)?;
     Ok(Answered {
         answer,
         live,
