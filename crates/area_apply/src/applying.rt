@@ -1,16 +1,18 @@
 // A change of the graph is made on the shared media.
-ghost use Rattle.std.specs.Prelude.{◌≡◌, ◌≢◌, ◌≤◌, ◌<◌, ◌+◌, ◌⊎◌, ℕ, List, [], true, false, length, Err, OnOk, OnErr, IfErr, IsErrOf};
+ghost use Rattle.std.specs.Prelude.{◌≡◌, ◌≢◌, ◌≤◌, ◌<◌, ◌+◌, ◌⊎◌, ℕ, List, [], true, false, length, Err, OnOk, OnErr, IfErr, IfOk, IsErrOf};
 ghost use Rattle.file_graph.specs.Units.{charge};
 ghost use Rattle.std.specs.FinMap as fin;
 ghost use Rattle.graph_change.specs.Bounds.{AreBounded};
 ghost use Rattle.graph_change.specs.Change.{changed};
 ghost use Rattle.graph_change.specs.Tidy.{AreTidyChanges};
 ghost use Rattle.graph_change.specs.View.{changes_of};
+ghost use Rattle.tier_device.specs.declared.media.Tier.{Tier};
 ghost use Rattle.tier_device.specs.Media.{Rose};
 ghost use Rattle.layout.specs.Marks.{fits_marks};
 ghost use Rattle.area_image.specs.Store.{store_of, graph};
 ghost use Rattle.change_plan.specs.PoolsValue.{PoolsView, free_data, AreInOrder};
-ghost use Rattle.change_plan.specs.Taking.{WereTaken, CanUndo, SameFree, taken_data};
+ghost use Rattle.change_plan.specs.Placed.{EndsFit};
+ghost use Rattle.change_plan.specs.Taking.{runs_of, WereTaken, CanUndo, SameFree, taken_data};
 ghost use Rattle.change_plan.specs.Planned.{pairs_of};
 ghost use Rattle.change_plan.specs.Settled.{IsSettled, StaysStill};
 ghost use Rattle.area_apply.specs.Applying.{CanApply, IsAppliedStore, Applies, Ends, MakesFewCalls};
@@ -31,25 +33,46 @@ use change_plan::{
     taken_places, wanted_blocks_are_written,
 };
 use graph_change::GraphChange;
-use layout::Marks;
-use std::alloc::Global;
+use layout::{BLOCK, Marks};
+use std::alloc::{AllocError, Global};
 use tier_device::{Media, Tier};
 
-// Before the first inode nothing is planned.
-fn nothing_planned(alloc: Global) -> PartialPlan
-    ensures { PlansNothing result }
+// Room for the bytes of so many data blocks.
+fn room_for(alloc: Global, blocks: usize) -> Result<Vec<u8>, AllocError>
+    ensures { IfOk result (λ bytes. bytes.items ≡ []) }
 {
-    PartialPlan {
+    match blocks.checked_mul(BLOCK) {
+        Some(size) => Vec::with_capacity(alloc, size),
+        None => Err(AllocError),
+    }
+}
+
+// Before the first inode nothing is planned. There is room for the bytes of all data blocks, so that none are moved when others come behind them.
+fn nothing_planned(alloc: Global, blocks: usize) -> Result<PartialPlan, AllocError>
+    ensures { IfOk result (λ plan. PlansNothing plan) }
+{
+    Ok(PartialPlan {
         slots: Vec::new(alloc),
         nodes: NodeImages::new(alloc),
-        bytes: Vec::new(alloc),
+        bytes: room_for(alloc, blocks)?,
         lost: Lost {
             nodes: Vec::new(alloc),
             fast: Vec::new(alloc),
             block: Vec::new(alloc),
             slow: Vec::new(alloc),
         },
-    }
+    })
+}
+
+// Lists the places of the data blocks that were taken, for a plan in which nothing stands yet.
+fn start_plan(alloc: Global, taken: &Taken) -> Result<(Vec<Place>, PartialPlan), AllocError>
+    requires { (t : Tier) → EndsFit (runs_of taken.now t) }
+    ensures places { IfOk result (λ start. pairs_of start.0.items ≡ taken_data taken.now) }
+    ensures nothing { IfOk result (λ start. PlansNothing start.1) }
+{
+    let places = taken_places(alloc, taken)?;
+    let plan = nothing_planned(alloc, places.len())?;
+    Ok((places, plan))
 }
 
 // Plans a change over the data blocks that were taken for it, whose places these are, and carries it out.
@@ -61,6 +84,7 @@ fn plan_and_write<M: Media>(
     marks: Marks,
     places: &[Place],
     taken: Taken,
+    plan: PartialPlan,
 ) -> Result<(), ApplyError>
     requires going { journal.old.failed ≡ false }
     requires can { CanApply journal.old.geometry (store_of (M.seen journal.old.media)) (changes_of change.now) marks }
@@ -70,6 +94,7 @@ fn plan_and_write<M: Media>(
     requires no_nodes { taken.nodes.items ≡ [] }
     requires nodes { 255 ≤ length pools.old.nodes.free }
     requires places { pairs_of places.now ≡ taken_data taken }
+    requires nothing { PlansNothing plan }
     requires wants { WantsBlocks journal.old.geometry (store_of (M.seen journal.old.media)) (changes_of change.now) (length places.now) }
     ensures ends { Ends M.moment M.seen M.left M.faults (changes_of change.now) marks journal.old journal.new pools.new result }
     ensures same { (before : PoolsView) → AreInOrder before → WereTaken before pools.old taken → OnErr result (SameFree before pools.new) }
@@ -78,7 +103,7 @@ fn plan_and_write<M: Media>(
     journal.left_now();
     let _units = journal.geometry().units();
     let mut taken = taken;
-    let mut plan = nothing_planned(alloc);
+    let mut plan = plan;
     match plan_changes(
         alloc,
         journal,
@@ -120,8 +145,10 @@ fn place_and_write<M: Media>(
 {
     journal.left_now();
     let _units = journal.geometry().units();
-    match taken_places(alloc, &taken) {
-        Ok(places) => plan_and_write(alloc, journal, pools, change, marks, &places, taken),
+    match start_plan(alloc, &taken) {
+        Ok((places, plan)) => {
+            plan_and_write(alloc, journal, pools, change, marks, &places, taken, plan)
+        }
         Err(_) => {
             pools.undo(taken);
             Err(ApplyError::Memory)

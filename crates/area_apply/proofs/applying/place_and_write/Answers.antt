@@ -14,19 +14,19 @@ use Rattle.area_apply.proofs.Ending.{memory_fault, still_self, ends_refused}
 use Rattle.area_apply.proofs.Pooled.{settled_same, taken_ends, count_places}
 use Rattle.area_apply.proofs.applying.place_and_write.Goals as goal
 
-pub taken_places-requires : goal.taken_places-requires
-taken_places-requires g c =
+pub start_plan-requires : goal.start_plan-requires
+start_plan-requires g c =
     let old = c.args.journal.now in
     let r = c.requires.taken in
     taken_ends old.geometry r.0 c.args.pools.now c.args.taken (subst IsAllowed c.geometry.ensures c.units-units.ensures.allowed) r.3.ranges r.2
 
 pub plan_and_write-requires-clause-places : goal.plan_and_write-requires-clause-places
-plan_and_write-requires-clause-places g c = subst (λ (ps : List Place). pairs_of ps ≡ taken_data c.args.taken) (sym c.deref.ensures.value) c.in-Ok.ensures
+plan_and_write-requires-clause-places g c = subst (λ (ps : List Place). pairs_of ps ≡ taken_data c.args.taken) (sym c.deref.ensures.value) c.in-Ok.ensures.places
 
 pub plan_and_write-requires-clause-wants : goal.plan_and_write-requires-clause-wants
 plan_and_write-requires-clause-wants g c =
     let old = c.args.journal.now in
-    subst (λ (n : ℕ). WantsBlocks old.geometry (store_of (g.M.Media.seen old.media)) (changes_of c.args.change.now) n) (sym (subst (λ (ps : List Place). length ps ≡ length (taken_data c.args.taken)) (sym c.deref.ensures.value) (count_places c.in-Ok.places.items c.args.taken c.in-Ok.ensures))) c.requires.wants
+    subst (λ (n : ℕ). WantsBlocks old.geometry (store_of (g.M.Media.seen old.media)) (changes_of c.args.change.now) n) (sym (subst (λ (ps : List Place). length ps ≡ length (taken_data c.args.taken)) (sym c.deref.ensures.value) (count_places c.in-Ok.places.items c.args.taken c.in-Ok.ensures.places))) c.requires.wants
 
 pub undo-requires : goal.undo-requires
 undo-requires g c = c.requires.undo
