@@ -87,7 +87,7 @@ pub fn digest_and_follow<M: Media>(
     ensures bad { IfErr result (IsToldBad area.old.geometry (store_of (M.seen area.old.media)) log.old chunk.now.count) }
     ensures refused { OnErr result ((book.new ≡ book.old) × (nodes.new ≡ nodes.old) × (log.new ≡ log.old)) }
     ensures digests { DigestsOrStays M.moment M.seen M.left M.faults area.old area.new result }
-    ensures at_most { MakesFewCalls area.old.geometry (store_of (M.seen area.old.media)) (changes_of chunk.now.change) (M.moment area.old.media) (M.moment area.new.media) }
+    ensures at_most { MakesFewCalls area.old.geometry (store_of (M.seen area.old.media)) (changes_of chunk.now.change) (M.moment area.old.media) (M.moment area.new.media) (M.left area.old.media) (M.left area.new.media) }
 {
     let first = log.done as usize;
     match digest_chunk(alloc, area, log, chunk) {

@@ -459,7 +459,7 @@ impl<M: Media> Kernel<M> {
         ensures refused { OnErr result ((self.new.book ≡ self.old.book) × (log.new ≡ log.old)) }
         ensures answers { Answers self.old.area.failed self.old self.new result (DigestsOrStays M.moment M.seen M.left M.faults self.old.area self.new.area) }
         // As many writes and fences as the change of the chunk makes, and none where it is not made; what is read is not counted.
-        ensures at_most { MakesFewCalls self.old.area.geometry (store_of (M.seen self.old.area.media)) (changes_of chunk.now.change) (M.moment self.old.area.media) (M.moment self.new.area.media) }
+        ensures at_most { MakesFewCalls self.old.area.geometry (store_of (M.seen self.old.area.media)) (changes_of chunk.now.change) (M.moment self.old.area.media) (M.moment self.new.area.media) (M.left self.old.area.media) (M.left self.new.area.media) }
         ensures opening { self.new.opening ≡ self.old.opening }
     {
         if self.area.has_failed() {
@@ -504,7 +504,7 @@ impl<M: Media> Kernel<M> {
         ensures book { self.new.book ≡ self.old.book }
         ensures answers { Answers self.old.area.failed self.old self.new result (ReclaimsOrStays M.moment M.seen M.left M.faults self.old.area self.new.area) }
         // As many writes and fences as the change that drops a node makes, and none where it is not made; what is read is not counted.
-        ensures at_most { MakesFewCalls self.old.area.geometry (store_of (M.seen self.old.area.media)) (coalesced (effect.Drop inode ∷ [])) (M.moment self.old.area.media) (M.moment self.new.area.media) }
+        ensures at_most { MakesFewCalls self.old.area.geometry (store_of (M.seen self.old.area.media)) (coalesced (effect.Drop inode ∷ [])) (M.moment self.old.area.media) (M.moment self.new.area.media) (M.left self.old.area.media) (M.left self.new.area.media) }
         ensures opening { self.new.opening ≡ self.old.opening }
     {
         if self.area.has_failed() {

@@ -89,7 +89,7 @@ fn drop_node<M: Media>(
     ensures dropped { OnOk result (IsReclaimed area.old.geometry (store_of (M.seen area.old.media)) inode (store_of (M.seen area.new.media))) }
     ensures only { IsErrOf result InUse → ⊥ }
     ensures stays { ReclaimsOrStays M.moment M.seen M.left M.faults area.old area.new result }
-    ensures at_most { MakesFewCalls area.old.geometry (store_of (M.seen area.old.media)) (coalesced (effect.Drop inode ∷ [])) (M.moment area.old.media) (M.moment area.new.media) }
+    ensures at_most { MakesFewCalls area.old.geometry (store_of (M.seen area.old.media)) (coalesced (effect.Drop inode ∷ [])) (M.moment area.old.media) (M.moment area.new.media) (M.left area.old.media) (M.left area.new.media) }
 {
     area.left_now();
     changes_are_the_effects();
@@ -111,7 +111,7 @@ fn drop_file<M: Media>(alloc: Global, area: &mut Shared<M>, inode: u32) -> Resul
     ensures dropped { OnOk result (IsReclaimed area.old.geometry (store_of (M.seen area.old.media)) inode (store_of (M.seen area.new.media))) }
     ensures only { IsErrOf result InUse → ⊥ }
     ensures stays { ReclaimsOrStays M.moment M.seen M.left M.faults area.old area.new result }
-    ensures at_most { MakesFewCalls area.old.geometry (store_of (M.seen area.old.media)) (coalesced (effect.Drop inode ∷ [])) (M.moment area.old.media) (M.moment area.new.media) }
+    ensures at_most { MakesFewCalls area.old.geometry (store_of (M.seen area.old.media)) (coalesced (effect.Drop inode ∷ [])) (M.moment area.old.media) (M.moment area.new.media) (M.left area.old.media) (M.left area.new.media) }
 {
     area.left_now();
     match dropping(alloc, inode) {
@@ -133,7 +133,7 @@ pub fn drop_nameless<M: Media>(
     ensures in_use { IsErrOf result InUse → IsNameless (graph area.old.geometry (store_of (M.seen area.old.media)) inode) → ⊥ }
     ensures memory { IsErrOf result Memory → WantsMemory area.old.geometry (store_of (M.seen area.old.media)) inode ⊎ IsNameless (graph area.old.geometry (store_of (M.seen area.old.media)) inode) }
     ensures stays { ReclaimsOrStays M.moment M.seen M.left M.faults area.old area.new result }
-    ensures at_most { MakesFewCalls area.old.geometry (store_of (M.seen area.old.media)) (coalesced (effect.Drop inode ∷ [])) (M.moment area.old.media) (M.moment area.new.media) }
+    ensures at_most { MakesFewCalls area.old.geometry (store_of (M.seen area.old.media)) (coalesced (effect.Drop inode ∷ [])) (M.moment area.old.media) (M.moment area.new.media) (M.left area.old.media) (M.left area.new.media) }
 {
     area.left_now();
     match area.node(inode) {

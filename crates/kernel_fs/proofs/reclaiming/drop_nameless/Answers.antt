@@ -4,7 +4,7 @@ use Rattle.std.proofs.lemmas.Bool.{false≢true}
 use Rattle.batch_journal.proofs.Courses.{any_ok}
 use Rattle.file_graph.specs.declared.effect.Effect.TheVariants as effect
 use Rattle.graph_change.specs.Change.{coalesced}
-use Rattle.digester.proofs.Composed.{few_behind}
+use Rattle.digester.proofs.Composed.{few_looked}
 use Rattle.call_effects.specs.NodeView.{NodeView, view_at}
 use Rattle.layout.specs.Places.{Sizes}
 use Rattle.shared_area.specs.Store.{Store, store_of, graph}
@@ -94,7 +94,7 @@ returns-in-Err-clause-memory g c = λ is. inl (c.in-Err.ensures.memory (told_mem
 pub returns-else-not-is_nameless-clause-at_most : goal.returns-else-not-is_nameless-clause-at_most
 returns-else-not-is_nameless-clause-at_most g c =
     let m = g.M.Media in
-    few_behind m.moment m.seen m.left m.faults c.args.area.now c.node.new.self c.in-Ok.found (coalesced (effect.Drop c.args.inode ∷ [])) (m.moment c.drop_file.new.area.media) c.in-Ok.ensures.looks c.drop_file.ensures.at_most
+    few_looked m.moment m.seen m.left m.faults c.args.area.now c.node.new.self c.drop_file.new.area c.in-Ok.found (coalesced (effect.Drop c.args.inode ∷ [])) c.in-Ok.ensures.looks c.drop_file.ensures.at_most
 
 pub returns-then-not-is_nameless-clause-at_most : goal.returns-then-not-is_nameless-clause-at_most
 returns-then-not-is_nameless-clause-at_most g c = inl (let clock = c.in-Ok.ensures.looks.unmoved.clock in omega (arith, clock))

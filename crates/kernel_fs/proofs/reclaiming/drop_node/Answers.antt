@@ -79,13 +79,13 @@ pub returns-in-Ok-clause-at_most : goal.returns-in-Ok-clause-at_most
 returns-in-Ok-clause-at_most g c =
     let m = g.M.Media in
     let old = c.args.area.now in
-    subst (λ (cs : Changes). MakesFewCalls old.geometry (store_of (m.seen old.media)) cs (m.moment old.media) (m.moment c.apply.new.self.media)) c.requires.change c.in-Ok.ensures.at_most
+    subst (λ (cs : Changes). MakesFewCalls old.geometry (store_of (m.seen old.media)) cs (m.moment old.media) (m.moment c.apply.new.self.media) (m.left old.media) (m.left c.apply.new.self.media)) c.requires.change c.in-Ok.ensures.at_most
 
 pub returns-in-Err-clause-at_most : goal.returns-in-Err-clause-at_most
 returns-in-Err-clause-at_most g c =
     let m = g.M.Media in
     let old = c.args.area.now in
-    subst (λ (cs : Changes). MakesFewCalls old.geometry (store_of (m.seen old.media)) cs (m.moment old.media) (m.moment c.apply.new.self.media)) c.requires.change c.in-Err.ensures.at_most
+    subst (λ (cs : Changes). MakesFewCalls old.geometry (store_of (m.seen old.media)) cs (m.moment old.media) (m.moment c.apply.new.self.media) (m.left old.media) (m.left c.apply.new.self.media)) c.requires.change c.in-Err.ensures.at_most
 
 pub returns-in-Err-clause-only : goal.returns-in-Err-clause-only
 returns-in-Err-clause-only g c = λ is. change_no_use c.in-Err.error c.apply_told.result c.apply_told.ensures is
