@@ -118,6 +118,21 @@ module _ {M : Type 0} (seen : M → Tier → List ℕ) (leases : TableId) where
         not_both : (b : Begun) → begun ≡ Some b → ⊥
         not_both b is = let clash : ◌≡◌ {A = Option Begun} None (Some b) = sym idle ∙ is in cc
 
+    -- the numbers that it was granted change
+    pub sound_numbers : (new : Held) (ns : List ℕ) → new ≡ record copies { numbers = ns } → IsSound seen leases pass log new begun answered kept
+    sound_numbers new ns is = subst (λ (h : Held). IsSound seen leases pass log h begun answered kept) (sym is)
+            (record {
+          table = s.table;
+          number = s.number;
+          written_is = s.written_is;
+          back = s.back;
+          begins = s.begins;
+          prepared = λ b some. let p = s.prepared b some in record { spelled = p.spelled; made = p.made; number = p.number; nodes = p.nodes };
+          room = s.room;
+          counts = s.counts;
+          failed = s.failed;
+        })
+
     -- a device call that changes no record
     pub sound_log : (new : LogView M) → written seen new ≡ written seen log → new.current.begun ≡ log.current.begun → is_some new.other ≡ is_some log.other → (now : Bool) → (now ≡ true → (new.failed ≡ true) × (is_some begun ≡ true))
         → IsSound seen leases pass new copies begun now kept

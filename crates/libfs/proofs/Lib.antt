@@ -3,3 +3,4 @@ pub mod Ready
 pub mod LogSteps
 pub mod Forgetting
 pub mod Agreeing
+pub mod Granted

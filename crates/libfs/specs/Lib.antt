@@ -7,3 +7,4 @@ pub mod Stepping
 pub mod Leasing
 pub mod HandingOver
 pub mod Opening
+pub mod Serving

@@ -1,0 +1,29 @@
+use Rattle.std.proofs.Common.{◌≡◌, ℕ, List, ap, sym, ◌∙◌, subst}
+use Rattle.std.specs.Prelude.{◌+◌, ◌||◌}
+use Rattle.file_graph.specs.Graph.{is_among}
+use Rattle.kernel_book.specs.Inodes.{has}
+use Rattle.kernel_book.specs.Steps.{grant}
+use Rattle.kernel_fs.specs.Standing.{IsKernelOf}
+use Rattle.libfs.specs.Serving.{HasRefilled}
+use Rattle.libfs.specs.View.{ClientView}
+use Rattle.libfs.proofs.Granted.{refilled}
+use Rattle.libfs.proofs.Kept.{sound_numbers}
+use Rattle.libfs.proofs.client.Client.refill.Goals as goal
+
+pub invariant_of-self : goal.invariant_of-self
+invariant_of-self g c =
+    let s = c.self.inside in
+    sound_numbers g.M.Media.seen s.leases s.pass s.log s.copies s.begun s.answered s.records c.self.invariant c.put_numbers.new.self c.add_all.new.numbers.items c.put_numbers.ensures
+
+pub returns-in-Ok-refill-clause-refilled : goal.returns-in-Ok-refill-clause-refilled
+returns-in-Ok-refill-clause-refilled g c =
+    let shared = g.S.Media.seen in
+    let s = c.self.inside in
+    let k = c.args.kernel.now in
+    let more = has c.in-Ok-refill.more in
+    let v : ClientView _ = record { pass = s.pass; log = s.log; copies = s.copies; pins = s.pins.items; spare = s.spare; begun = s.begun; answered = s.answered; sealed = s.records.away } in
+    subst (λ (w : ClientView _). HasRefilled shared k w c.args.units c.args.inodes (record v { spare = s.spare + c.args.units; copies = c.put_numbers.new.self }) c.refill.new.self) c.self.view_is
+    (refilled shared k c.refill.new.self v c.put_numbers.new.self c.add_all.new.numbers.items c.put_numbers.ensures c.args.units c.args.inodes more
+    (λ i. c.add_all.ensures i ∙ ap (λ (xs : List ℕ). is_among i xs || more i) (c.in-Ok.ensures.same ∙ sym (ap (λ (w : ClientView _). w.copies.numbers) c.self.view_is)))
+    c.in-Ok-refill.ensures.granted
+    (λ m is. subst (λ (n : ℕ). IsKernelOf shared c.refill.new.self (grant m n c.args.units more)) c.client.ensures.number (c.in-Ok-refill.ensures.step m is)))
