@@ -4,3 +4,4 @@ pub mod LogSteps
 pub mod Forgetting
 pub mod Agreeing
 pub mod Granted
+pub mod Behind

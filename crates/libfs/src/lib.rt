@@ -13,6 +13,7 @@
 mod begun;
 mod client;
 mod denying;
+mod fetching;
 mod granting;
 mod handing_over;
 mod laws;

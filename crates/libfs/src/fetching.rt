@@ -1,0 +1,91 @@
+//! Copies that a client fetches of the shared graph, with its own records laid over them.
+ghost use Rattle.std.specs.Prelude.{◌≡◌, ◌⊎◌, ◌==◌, true, false, None, Err, OnOk, OnErr, IfOk, IfErr};
+ghost use Rattle.lease_manager.specs.Words.{HasWord};
+ghost use Rattle.call_effects.specs.Known.{with_copy};
+ghost use Rattle.client_copies.specs.Forgotten.{without_blocks};
+ghost use Rattle.own_records.specs.After.{node_laid};
+ghost use Rattle.shared_area.specs.Looks.{Looks};
+ghost use Rattle.shared_area.specs.Parts.{IsNoDamage};
+ghost use Rattle.kernel_fs.specs.Answering.{OnRefusal};
+ghost use Rattle.libfs.specs.declared.denying.Denied.TheVariants as denied;
+ghost use Rattle.libfs.specs.Holding.{known_to};
+ghost use Rattle.libfs.specs.Serving.{HasFetched, asked, area_denied, behind};
+
+use crate::client::Client;
+use crate::denying::Denied;
+use kernel_fs::{AreaError, Fetched, Kernel, KernelError, Mark};
+use record_check::NodeSummary;
+use std::alloc::AllocError;
+use tier_device::Media;
+
+impl<M: Media> Client<M> {
+    /// Fetches a copy of what stands at an inode: the shared node, and over it the client's own records that are not digested there. What it knew of the inode before goes, its blocks too.
+    pub fn fetch<S: Media>(&mut self, kernel: &mut Kernel<S>, inode: u32) -> Result<(), Denied>
+        requires inode { HasWord inode }
+        requires idle { self.old.begun ≡ None }
+        ensures fetched { OnOk result (HasFetched M.seen S.seen kernel.old self.old inode self.new) }
+        ensures looks { kernel.old.area.failed ≡ false → Looks S.moment S.seen S.left S.faults kernel.old.area kernel.new.area (asked result) }
+        ensures failed { kernel.old.area.failed ≡ true → (result ≡ Err denied.KernelFailed) × (kernel.new ≡ kernel.old) }
+        ensures only { IfErr result (λ e. (e ≡ denied.KernelFailed) ⊎ (e ≡ denied.Device) ⊎ (e ≡ denied.Memory)) }
+        ensures refused { OnErr result (self.new ≡ self.old) }
+        ensures book { kernel.new.book ≡ kernel.old.book }
+    {
+        match kernel.fetch(self.pass.client(), inode) {
+            Ok(found) => self.put_copy(inode, found),
+            Err(error) => Err(area_denied(error)),
+        }
+    }
+
+    // Puts the copy of a shared node, with the own records behind its mark laid over it.
+    fn put_copy(&mut self, inode: u32, found: Fetched) -> Result<(), Denied>
+        requires inode { HasWord inode }
+        requires idle { self.old.begun ≡ None }
+        ensures known { OnOk result (known_to self.new ≡ with_copy (without_blocks (known_to self.old) inode) inode (node_laid (behind M.seen self.old found.mark) inode found.node)) }
+        ensures numbers { OnOk result (self.new.copies.numbers ≡ self.old.copies.numbers) }
+        ensures rest { OnOk result (self.new ≡ record self.old { copies = self.new.copies }) }
+        ensures refused { OnErr result (self.new ≡ self.old) }
+        ensures only { IfErr result (λ e. e ≡ denied.Memory) }
+    {
+        let Fetched { node, mark } = found;
+        match self.laid_over(mark, inode, node) {
+            Ok(view) => {
+                self.copies.put_view(inode, view);
+                Ok(())
+            }
+            Err(_) => Err(Denied::Memory),
+        }
+    }
+
+    // A shared node with the own records behind a mark laid over it.
+    fn laid_over(
+        &self,
+        mark: Mark,
+        inode: u32,
+        node: Option<NodeSummary>,
+    ) -> Result<Option<NodeSummary>, AllocError>
+        ensures { IfOk result (λ laid. laid ≡ node_laid (behind M.seen self.now mark) inode node) }
+    {
+        self.records
+            .node_after(self.is_current(mark), mark.done as usize, inode, node)
+    }
+
+    // Whether a mark is in the generation of the region that is written.
+    fn is_current(&self, mark: Mark) -> bool
+        ensures { result ≡ (mark.generation == self.now.log.generation) }
+    {
+        mark.generation == self.log.generation()
+    }
+}
+
+/// Why the kernel told nothing, as a client tells it.
+pub(crate) fn area_denied(error: KernelError<AreaError>) -> Denied
+    requires { OnRefusal error IsNoDamage }
+    ensures { result ≡ area_denied error }
+{
+    match error {
+        KernelError::Failed => Denied::KernelFailed,
+        KernelError::Refused(AreaError::DeviceFault) => Denied::Device,
+        KernelError::Refused(AreaError::Memory) => Denied::Memory,
+        KernelError::Refused(AreaError::Damaged { .. }) => unreachable!(),
+    }
+}
