@@ -1,5 +1,5 @@
 -- Numbers that a client is granted, and gives back.
-use Rattle.std.proofs.Common.{◌≡◌, ◌≢◌, inl, inr, ℕ, zero, suc, ◌+◌, ◌<◌, ◌≤◌, Bool, true, false, cond, List, [], ◌∷◌, ◌++◌, length, get_or, take, refl, ap, sym, ◌∙◌, arith}
+use Rattle.std.proofs.Common.{◌≡◌, ◌≢◌, inl, inr, ℕ, ◌+◌, ◌<◌, ◌≤◌, Bool, true, false, cond, List, [], ◌∷◌, ◌++◌, length, get_or, take, refl, ap, sym, ◌∙◌, arith}
 use Rattle.std.specs.Prelude.{◌==◌, ◌||◌, ◌&&◌, nat_le}
 use Rattle.std.proofs.lemmas.Bool.Decides.{eqb_tells, nat_tests}
 use Rattle.std.proofs.lemmas.List.Folds.{list_any-append, list_any_more}
@@ -87,18 +87,16 @@ all_of_them rows xs n i o done is = is ∙ elim (inode_tells i) [
 
 -- ---- the inodes among numbers
 
-
-
 same_test : (i n : ℕ) → (i == n) ≡ (n == i)
 same_test i n = elim (eqb_tells n i) [
   | inl same ↦ elim (eqb_tells i n) [
-      | inl also' ↦ also'.0 ∙ sym same.0
-      | inr off ↦ absurd (off.1 (sym same.1))
-    ]
+    | inl also' ↦ also'.0 ∙ sym same.0
+    | inr off ↦ absurd (off.1 (sym same.1))
+  ]
   | inr off ↦ elim (eqb_tells i n) [
-      | inl same ↦ absurd (off.1 (sym same.1))
-      | inr off' ↦ off'.0 ∙ sym off.0
-    ]
+    | inl same ↦ absurd (off.1 (sym same.1))
+    | inr off' ↦ off'.0 ∙ sym off.0
+  ]
 ]
 
 turned_or : (a b : Bool) → (a || b) ≡ (b || a)

@@ -121,7 +121,7 @@ module _ {M : Type 0} (seen : M → Tier → List ℕ) (leases : TableId) where
     -- the numbers that it was granted change
     pub sound_numbers : (new : Held) (ns : List ℕ) → new ≡ record copies { numbers = ns } → IsSound seen leases pass log new begun answered kept
     sound_numbers new ns is = subst (λ (h : Held). IsSound seen leases pass log h begun answered kept) (sym is)
-            (record {
+        (record {
           table = s.table;
           number = s.number;
           written_is = s.written_is;

@@ -1,32 +1,24 @@
 -- What a client has once the kernel served it.
-use Rattle.std.specs.Prelude.{◌≡◌, ◌⊎◌, ℕ, ◌+◌, ◌<◌, ◌≤◌, ◌==◌, ◌&&◌, ◌||◌, ◌++◌, not, drop, Bool, List, [], ◌∷◌, Option, Some, unwrap_or, Result, Ok, Err, if◌then◌else◌}
-use Rattle.std.specs.Prelude.{None}
+use Rattle.std.specs.Prelude.{◌≡◌, ℕ, ◌+◌, ◌==◌, ◌&&◌, ◌||◌, ◌++◌, not, drop, Bool, List, [], ◌∷◌, Result, Ok, Err, if◌then◌else◌}
 use Rattle.std.specs.List.{filter}
 use Rattle.tier_device.specs.declared.media.Tier.{Tier}
-use Rattle.posix_calls.specs.declared.limits.TheConstants.{MAX_INODE}
 use Rattle.file_graph.specs.Graph.{Graph, is_among}
 use Rattle.file_graph.specs.Numbers.{is_inode}
 use Rattle.log_record.specs.declared.format.Record.{Record}
-use Rattle.call_effects.specs.Blocks.{block_of}
 use Rattle.call_effects.specs.Known.{Knowledge, with_copy}
 use Rattle.call_effects.specs.NodeView.{view_at}
 use Rattle.layout.specs.declared.marks.Mark.{Mark}
-use Rattle.lease_manager.specs.Words.{HasWord}
 use Rattle.lease_manager.specs.Passes.{client_of}
 use Rattle.kernel_book.specs.Book.{is_free}
 use Rattle.kernel_book.specs.Free.{AreLowest}
-use Rattle.kernel_book.specs.Inodes.{IsInode}
 use Rattle.kernel_book.specs.Nodes.{nodes_in}
 use Rattle.kernel_book.specs.Steps.{grant as granted, take_back as taken_back}
 use Rattle.kernel_book.specs.declared.error.RefillError.{RefillError}
 use Rattle.kernel_book.specs.declared.error.RefillError.TheVariants as refills
-use Rattle.own_records.specs.After.{block_laid, bytes_at, node_laid}
+use Rattle.own_records.specs.After.{node_laid}
 use Rattle.client_log.specs.View.{written}
 use Rattle.client_copies.specs.Forgotten.{without_blocks}
-use Rattle.client_copies.specs.Put.{IsBlockLong}
-use Rattle.client_plan.specs.declared.need.Need.{Need}
-use Rattle.client_plan.specs.declared.need.Need.TheVariants as needs
-use Rattle.world_facts.specs.Machine.{Machine, book_pin, unbook_pin}
+use Rattle.world_facts.specs.Machine.{Machine}
 use Rattle.kernel_fs.specs.KernelView.{KernelView}
 use Rattle.kernel_fs.specs.Standing.{IsKernelOf, IsMarkIn}
 use Rattle.kernel_fs.specs.declared.error.KernelError.{KernelError}
@@ -40,17 +32,6 @@ use Rattle.libfs.specs.View.{ClientView}
 use Rattle.libfs.specs.Holding.{known_to}
 
 -- ---- what is asked of the kernel
-
--- The kernel serves all that a client may lack but a lease, which the client takes itself, and room in its region; no call is begun meanwhile where copies come.
-abbrev pub IsServable : {M : Type 0} → ClientView M → Need → Type 0
-IsServable v (needs.View i) = HasWord i × (v.begun ≡ None)
-IsServable v (needs.Blocks i first count) = HasWord i × (v.begun ≡ None) × (first + count < 4294967296)
-IsServable v (needs.Inodes n) = Unit {0}
-IsServable v (needs.Units n) = v.spare + n < 4294967296
-IsServable v (needs.Pin i) = IsInode i
-IsServable v (needs.Unpin i) = Unit {0}
-IsServable v (needs.Lease i mode) = ⊥
-IsServable v needs.Room = ⊥
 
 -- what was asked of the kernel's area, as the client answers it
 abbrev pub asked : Result (Unit {0}) Denied → Result (Unit {0}) AreaError
@@ -82,21 +63,6 @@ pub record HasFetched {M S : Type 0} (seen : M → Tier → List ℕ) (shared : 
   pub knows_then : known_to new ≡ with_copy (without_blocks (known_to old) i) i (node_laid (behind seen old mark) i (view_at (shared_by shared k) i))
   pub numbers : new.copies.numbers ≡ old.copies.numbers
   pub rest : new ≡ record old { copies = new.copies }
-
--- a block of a file, as the client has it behind a mark: that of the kernel's graph, with its own records laid over it; none where no file stands then
-abbrev pub block_behind : {M S : Type 0} → (M → Tier → List ℕ) → (S → Tier → List ℕ) → KernelView S → ClientView M → Mark → ℕ → ℕ → Option (List ℕ)
-block_behind seen shared k v mark i b = block_laid (behind seen v mark) i b (Some (block_of b (bytes_at (shared_by shared k) i)))
-
--- It has some of these blocks of a file, and no others that it had not before.
-pub record HasFetchedBlocks {M S : Type 0} (seen : M → Tier → List ℕ) (shared : S → Tier → List ℕ) (k : KernelView S) (old : ClientView M) (i first count : ℕ) (new : ClientView M) : Type 0 where
-  pub no_more : (mark : Mark) → IsMarkIn (store_of (shared k.area.media)) (client_of old.pass) mark → (j b : ℕ) (bytes : List ℕ) → (known_to new).blocks j b ≡ Some bytes
-      → ((known_to old).blocks j b ≡ Some bytes) ⊎ ((j ≡ i) × (first ≤ b) × (b < first + count) × (block_behind seen shared k old mark i b ≡ Some bytes))
-  pub rest : new ≡ record old { copies = record old.copies { blocks = new.copies.blocks } }
-
--- It has each of them that is as long as its copy of the file tells, where they are no more than it keeps.
-abbrev pub HasThem : {M S : Type 0} → (M → Tier → List ℕ) → (S → Tier → List ℕ) → KernelView S → ClientView M → ℕ → ℕ → ℕ → ClientView M → Type 0
-HasThem seen shared k old i first count new = count ≤ 256 → (b : ℕ) (bytes : List ℕ) (mark : Mark) → first ≤ b → b < first + count → IsMarkIn (store_of (shared k.area.media)) (client_of old.pass) mark
-    → block_behind seen shared k old mark i b ≡ Some bytes → IsBlockLong (known_to old) i b bytes → (known_to new).blocks i b ≡ Some bytes
 
 -- ---- units, numbers and pins
 
@@ -135,21 +101,3 @@ pub record HasGivenBack {M S : Type 0} (shared : S → Tier → List ℕ) (k : K
   pub numbers : new.copies.numbers ≡ []
   pub rest : new ≡ record old { spare = new.spare; copies = record old.copies { numbers = new.copies.numbers } }
   pub step : (m : Machine) → IsKernelOf shared k m → IsKernelOf shared after (taken_back m (client_of old.pass) old.spare (inodes_granted (known_to old)))
-
--- ---- any need
-
--- It was served what it needed.
-abbrev pub HasServed : {M S : Type 0} → (M → Tier → List ℕ) → (S → Tier → List ℕ) → KernelView S → ClientView M → Need → ClientView M → KernelView S → Type 0
-HasServed seen shared k old (needs.View i) new after = HasFetched seen shared k old i new
-HasServed seen shared k old (needs.Blocks i first count) new after = HasFetchedBlocks seen shared k old i first count new × HasThem seen shared k old i first count new
-HasServed seen shared k old (needs.Inodes n) new after = HasRefilled shared k old 0 n new after
-HasServed seen shared k old (needs.Units n) new after = HasRefilled shared k old n 0 new after
-HasServed seen shared k old (needs.Pin i) new after = (new ≡ record old { pins = pinned old.pins i }) × ((m : Machine) → IsKernelOf shared k m → IsKernelOf shared after (book_pin m (client_of old.pass) i))
-HasServed seen shared k old (needs.Unpin i) new after = (new ≡ record old { pins = unpinned old.pins i }) × ((m : Machine) → IsKernelOf shared k m → IsKernelOf shared after (unbook_pin m (client_of old.pass) i))
-HasServed seen shared k old (needs.Lease i mode) new after = ⊥
-HasServed seen shared k old needs.Room new after = ⊥
-
--- It was not: nothing has changed of it, but for blocks that had come.
-abbrev pub HasNotServed : {M S : Type 0} → (M → Tier → List ℕ) → (S → Tier → List ℕ) → KernelView S → ClientView M → Need → ClientView M → Type 0
-HasNotServed seen shared k old (needs.Blocks i first count) new = HasFetchedBlocks seen shared k old i first count new
-HasNotServed seen shared k old _ new = new ≡ old

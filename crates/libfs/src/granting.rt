@@ -73,7 +73,11 @@ impl<M: Media> Client<M> {
     }
 
     /// Gives back the units and the numbers that it has not used.
-    pub fn give_back<S: Media>(&mut self, alloc: Global, kernel: &mut Kernel<S>) -> Result<(), Denied>
+    pub fn give_back<S: Media>(
+        &mut self,
+        alloc: Global,
+        kernel: &mut Kernel<S>,
+    ) -> Result<(), Denied>
         ensures given { OnOk result (HasGivenBack S.seen kernel.old self.old self.new kernel.new) }
         ensures going { OnOk result (kernel.old.area.failed ≡ false) }
         ensures failed { OnErr result (kernel.old.area.failed ≡ true) }

@@ -7,6 +7,9 @@
 //! The records that are not digested stay in memory beside the log: those of the current region and those of the region that is away. The pass counts on each inode how many of them
 //! touch it, so no lease goes while a record on its inode is not digested.
 //!
+//! What it lacks beside leases and room it asks of the kernel: copies of nodes, over which it lays its own records that are not digested, units, numbers for new nodes, and pins. Each is one call
+//! of the kernel, and one step of its machine.
+//!
 //! That what a client answers is a step of the file tree, in every whole that agrees with what it knows, is told by the laws.
 #![tactic(auto)]
 

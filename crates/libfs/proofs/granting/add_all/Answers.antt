@@ -1,4 +1,4 @@
-use Rattle.std.proofs.Common.{ℕ, arith}
+use Rattle.std.proofs.Common.{arith}
 use Rattle.file_graph.specs.Graph.{is_among}
 use Rattle.libfs.proofs.Granted.{all_of_them, next_one, none_yet}
 use Rattle.libfs.proofs.granting.add_all.Goals as goal

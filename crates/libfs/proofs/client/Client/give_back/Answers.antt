@@ -27,5 +27,5 @@ returns-in-Ok-clause-given g c =
     subst (λ (w : ClientView _). HasGivenBack shared k w (record v { spare = 0; copies = c.put_numbers.new.self }) c.give_back.new.self) c.self.view_is
     (given_back shared k c.give_back.new.self v c.put_numbers.new.self c.new.result.items c.put_numbers.ensures c.new.ensures.items
     (λ m is.
-        subst (λ (f : ℕ → Bool). IsKernelOf shared c.give_back.new.self (take_back m (client_of s.pass) s.spare f)) these
-        (subst (λ (n : ℕ). IsKernelOf shared c.give_back.new.self (take_back m n s.spare (has c.set_of-numbers.result))) c.client.ensures.number (c.in-Ok.ensures.step m is))))
+    subst (λ (f : ℕ → Bool). IsKernelOf shared c.give_back.new.self (take_back m (client_of s.pass) s.spare f)) these
+    (subst (λ (n : ℕ). IsKernelOf shared c.give_back.new.self (take_back m n s.spare (has c.set_of-numbers.result))) c.client.ensures.number (c.in-Ok.ensures.step m is))))

@@ -1,4 +1,4 @@
-use Rattle.std.proofs.Common.{◌≡◌, ℕ, List, ap, sym, ◌∙◌, subst}
+use Rattle.std.proofs.Common.{ℕ, List, ap, sym, ◌∙◌, subst}
 use Rattle.std.specs.Prelude.{◌+◌, ◌||◌}
 use Rattle.file_graph.specs.Graph.{is_among}
 use Rattle.kernel_book.specs.Inodes.{has}
