@@ -4,12 +4,13 @@ use Rattle.std.specs.Prelude.{◌&&◌, nat_le, is_some, IsSome, option_map}
 use Rattle.std.proofs.lemmas.Bool.{and_parts, eqb-true, leb-true}
 use Rattle.posix_calls.specs.declared.call.Call.{Call}
 use Rattle.posix_calls.specs.declared.call.Reply.{Reply}
+use Rattle.posix_calls.specs.declared.descriptor.Descriptor.{Descriptor}
 use Rattle.posix_calls.specs.declared.operation.Operation.{Operation}
 use Rattle.posix_calls.specs.declared.operation.Operation.TheVariants.{Tell, NewDir, NewFile, OpenFile, CloseFile, Write, Resize, RemoveDir, AddName, DropName, Move}
 use Rattle.posix_calls.specs.Tree.{Own, Descriptors, with_own}
 use Rattle.posix_calls.specs.Query.{Gives, Known, run_part}
 use Rattle.posix_calls.specs.Decide.{decide}
-use Rattle.posix_calls.specs.Operations.{makes, reply_of, own_after, Step}
+use Rattle.posix_calls.specs.Operations.{makes, opens, reply_of, own_after, Step}
 use Rattle.posix_calls.proofs.Steps.{with_same}
 use Rattle.file_graph.specs.Graph.{Graph, is_among, touches, after_effects}
 use Rattle.file_graph.specs.Units.{growth}
@@ -20,7 +21,7 @@ use Rattle.call_effects.specs.Changed.{changes}
 use Rattle.call_effects.specs.Effects.{recounted, effects_by}
 use Rattle.call_effects.specs.Known.{Knowledge, Agrees, IsPlanned, part_of}
 use Rattle.call_effects.specs.NodeView.{NodeView, view_seen}
-use Rattle.call_effects.specs.Records.{names_if, effects_asked}
+use Rattle.call_effects.specs.Records.{names_if}
 use Rattle.call_effects.specs.Wholes.{IsSound, state_of}
 use Rattle.call_effects.proofs.KnownAsking.{bind_known, result_is}
 use Rattle.call_effects.proofs.KnownSteps.{planned_step, planned_sound, refused_step}
@@ -30,11 +31,10 @@ use Rattle.call_effects.proofs.Unchanged.{nothing_asked}
 use Rattle.client_plan.specs.declared.outcome.DescriptorChange.{DescriptorChange}
 use Rattle.client_plan.specs.declared.outcome.Outcome.{Outcome}
 use Rattle.client_plan.specs.declared.outcome.Outcome.TheVariants as outcomes
-use Rattle.client_plan.specs.Course.{Goes}
 use Rattle.client_plan.specs.Holdings.{Holdings}
 use Rattle.client_plan.specs.Lacking.{is_record}
-use Rattle.client_plan.specs.Planned.{answered, course, outcome, made_by, change_of, own_changed}
-use Rattle.client_plan.specs.Steps.{IsOf, IsReady}
+use Rattle.client_plan.specs.Planned.{answered, outcome, made_by, change_of, own_changed}
+use Rattle.client_plan.specs.Steps.{IsAnswered, IsOf, IsReady, IsRefused}
 use Rattle.client_plan.proofs.Ends.{LogGoes, OperationGoes, course_goes, course_refuses}
 use Rattle.client_plan.proofs.Outcomes.{Answer, Error, Told, ends, reply_is, log_is}
 use Rattle.client_plan.proofs.Spelled.{record_from}
@@ -121,6 +121,35 @@ module _ (k : Knowledge) (h : Holdings) (of : IsOf k h) (call : Call) where
         | inr told ↦ absurd (let clash : outcomes.Log entry reply made change ≡ answered at.2.new at.0 = told.1 in cc)
       ]
 
+  -- ---- a call that is answered
+
+  told_ready : (reply : Reply) (change : Option DescriptorChange) (operation : Operation) (new : ℕ) → IsPlanned k call new operation [] → ((what : ℕ × Descriptor) → opens new operation ≡ Some what → is_among what.1.inode h.pins ≡ true) → outcomes.Reply reply change ≡ answered new operation → IsAnswered k h call reply change
+  told_ready reply change operation new plan pinned is = record {
+    operation = operation;
+    new = new;
+    planned = plan;
+    pinned = pinned;
+    told = (let told : reply ≡ reply_of operation = cc in told);
+    opens = (let opened : change ≡ change_of new operation = cc in opened);
+  }
+
+  by_answer : (reply : Reply) (change : Option DescriptorChange) → Answer (part_of k) h call reply change → IsRefused k call reply change ⊎ IsAnswered k h call reply change
+  by_answer reply change (Error r is told none) = inl (record {
+    errno = r;
+    comes = subst (λ own. run_part (part_of k) (decide own call) ≡ Known (Err r)) of.own (course_refuses (part_of k) h r call refl is);
+    told = told;
+    none = none;
+  })
+  by_answer reply change (Told o is e) =
+      let at = course_goes (part_of k) h call o is in
+      elim (ends (part_of k) h at.0 o at.2) [
+        | inl log ↦ absurd (let clash : outcomes.Reply reply change ≡ outcomes.Log log.change (reply_of at.0) (made_by at.2.new at.0) (change_of at.2.new at.0) = sym e ∙ log.is in cc)
+        | inr told ↦ inr (told_ready reply change at.0 at.2.new (quiet at.0 at.1 o at.2 told.0) at.2.pinned (sym e ∙ told.1))
+      ]
+
+  pub answered_ready : (reply : Reply) (change : Option DescriptorChange) → outcome (part_of k) h call ≡ outcomes.Reply reply change → IsRefused k call reply change ⊎ IsAnswered k h call reply change
+  answered_ready reply change e = by_answer reply change (reply_is (part_of k) h call reply change e)
+
   module _ (g : Graph) (held : Descriptors) (sound : IsSound g held) (agrees : Agrees k g held) where
     -- the client's descriptors are those that it has
     same_held : with_own held k.client k.own ≡ held
@@ -145,25 +174,20 @@ module _ (k : Knowledge) (h : Holdings) (of : IsOf k h) (call : Call) where
 
     -- ---- a call that is answered
 
-    told_step : (reply : Reply) (change : Option DescriptorChange) (operation : Operation) (new : ℕ) → IsPlanned k call new operation [] → outcomes.Reply reply change ≡ answered new operation → Step (state_of g held) k.client call reply (state_of g (with_own held k.client (own_changed k.own change)))
-    told_step reply change operation new plan is =
-        let told : reply_of operation ≡ reply = cc in
-        let opens : change_of new operation ≡ change = cc in
-        let own = own_is new k.own operation ∙ ap (own_changed k.own) opens in
-        subst (λ (x : Own). Step (state_of g held) k.client call reply (state_of g (with_own held k.client x))) own (subst (λ x. Step (state_of g held) k.client call x (state_of g (with_own held k.client (own_after new k.own operation)))) told (planned_step k g held sound agrees call new operation [] plan))
+    own_told : (reply : Reply) (change : Option DescriptorChange) (a : IsAnswered k h call reply change) → own_after a.new k.own a.operation ≡ own_changed k.own change
+    own_told reply change a = own_is a.new k.own a.operation ∙ ap (own_changed k.own) (sym a.opens)
 
-    by_answer : (reply : Reply) (change : Option DescriptorChange) → Answer (part_of k) h call reply change → Step (state_of g held) k.client call reply (state_of g (with_own held k.client (own_changed k.own change)))
-    by_answer reply change (Error r is told none) =
-        let known : run_part (part_of k) (decide k.own call) ≡ Known (Err r) = subst (λ own. run_part (part_of k) (decide own call) ≡ Known (Err r)) of.own (course_refuses (part_of k) h r call refl is) in
-        let own : k.own ≡ own_changed k.own change = ap (own_changed k.own) (sym none) in
-        let at : Step (state_of g held) k.client call reply (state_of g held) = subst (λ x. Step (state_of g held) k.client call x (state_of g held)) (sym told) (refused_step k g held sound agrees call r known) in
-        subst (λ (d : Descriptors). Step (state_of g held) k.client call reply (state_of g d)) (sym same_held ∙ ap (λ (x : Own). with_own held k.client x) own) at
-    by_answer reply change (Told o is e) =
-        let at = course_goes (part_of k) h call o is in
-        elim (ends (part_of k) h at.0 o at.2) [
-          | inl log ↦ absurd (let clash : outcomes.Reply reply change ≡ outcomes.Log log.change (reply_of at.0) (made_by at.2.new at.0) (change_of at.2.new at.0) = sym e ∙ log.is in cc)
-          | inr told ↦ told_step reply change at.0 at.2.new (quiet at.0 at.1 o at.2 told.0) (sym e ∙ told.1)
-        ]
+    held_refused : (reply : Reply) (change : Option DescriptorChange) (r : IsRefused k call reply change) → held ≡ with_own held k.client (own_changed k.own change)
+    held_refused reply change r = sym same_held ∙ ap (λ (x : Option DescriptorChange). with_own held k.client (own_changed k.own x)) (sym r.none)
 
     pub answered_step : (reply : Reply) (change : Option DescriptorChange) → outcome (part_of k) h call ≡ outcomes.Reply reply change → Step (state_of g held) k.client call reply (state_of g (with_own held k.client (own_changed k.own change)))
-    answered_step reply change e = by_answer reply change (reply_is (part_of k) h call reply change e)
+    answered_step reply change e = elim (answered_ready reply change e) [
+      | inl r ↦ subst (λ (d : Descriptors). Step (state_of g held) k.client call reply (state_of g d)) (held_refused reply change r) (subst (λ x. Step (state_of g held) k.client call x (state_of g held)) (sym r.told) (refused_step k g held sound agrees call r.errno r.comes))
+      | inr a ↦ subst (λ (x : Own). Step (state_of g held) k.client call reply (state_of g (with_own held k.client x))) (own_told reply change a) (subst (λ x. Step (state_of g held) k.client call x (state_of g (with_own held k.client (own_after a.new k.own a.operation)))) (sym a.told) (planned_step k g held sound agrees call a.new a.operation [] a.planned))
+    ]
+
+    pub answered_sound : (reply : Reply) (change : Option DescriptorChange) → outcome (part_of k) h call ≡ outcomes.Reply reply change → IsSound g (with_own held k.client (own_changed k.own change))
+    answered_sound reply change e = elim (answered_ready reply change e) [
+      | inl r ↦ subst (λ (d : Descriptors). IsSound g d) (held_refused reply change r) sound
+      | inr a ↦ subst (λ (x : Own). IsSound g (with_own held k.client x)) (own_told reply change a) (planned_sound k g held sound agrees call a.new a.operation [] a.planned)
+    ]

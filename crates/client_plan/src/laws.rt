@@ -1,6 +1,6 @@
 //! What holds of every client and every call.
 
-ghost use Rattle.std.specs.Prelude.{◌≡◌, ◌≢◌, ◌<◌, ◌≤◌, ℕ, List, Option, Some};
+ghost use Rattle.std.specs.Prelude.{◌≡◌, ◌≢◌, ◌⊎◌, ◌<◌, ◌≤◌, ℕ, List, Option, Some};
 ghost use Rattle.posix_calls.specs.Tree.{Descriptors, with_own};
 ghost use Rattle.posix_calls.specs.Query.{Part};
 ghost use Rattle.posix_calls.specs.Operations.{Step};
@@ -20,7 +20,7 @@ ghost use Rattle.client_plan.specs.declared.outcome.Outcome.TheVariants as outco
 ghost use Rattle.client_plan.specs.Holdings.{Holdings};
 ghost use Rattle.client_plan.specs.Planned.{outcome, own_changed};
 ghost use Rattle.client_plan.specs.Served.{IsLacking, without_pin, with_pin, with_lease, with_number, with_units};
-ghost use Rattle.client_plan.specs.Steps.{IsOf, IsReady};
+ghost use Rattle.client_plan.specs.Steps.{IsAnswered, IsOf, IsReady, IsRefused};
 
 /// What a call is told to need the client lacks. So once it is served, the same call needs it no longer: not a pin that was given back, a lease
 /// that was taken, a copy or blocks that came, a number, units, however few were lacking, or a pin that was set.
@@ -35,10 +35,13 @@ pub fn served_need_is_lacking_no_longer()
     ensures pin { (p : Part) (h : Holdings) (call : Call) (i : ℕ) → outcome p (with_pin h i) call ≢ outcomes.Need (Pin i) }
 {}
 
-/// A call that is answered without a record is one step of the file tree, in every sound whole that agrees with what the client knows: the tree
-/// is answered so, nothing in the whole changes, and the client's descriptors are those after the step.
+/// A call that is answered without a record is refused by what the client knows, or comes to an operation without effects, and what that opens is
+/// pinned. It is one step of the file tree, in every sound whole that agrees with what the client knows: the tree is answered so, nothing in the
+/// whole changes, and the client's descriptors are those after the step, with which the whole is sound again.
 pub fn answered_call_is_a_step()
-    ensures { (k : Knowledge) (g : Graph) (held : Descriptors) (h : Holdings) (call : Call) (reply : Reply) (change : Option DescriptorChange) → IsSound g held → Agrees k g held → IsOf k h → outcome (part_of k) h call ≡ outcomes.Reply reply change → Step (state_of g held) k.client call reply (state_of g (with_own held k.client (own_changed k.own change))) }
+    ensures ready { (k : Knowledge) (h : Holdings) (call : Call) (reply : Reply) (change : Option DescriptorChange) → IsOf k h → outcome (part_of k) h call ≡ outcomes.Reply reply change → IsRefused k call reply change ⊎ IsAnswered k h call reply change }
+    ensures sound { (k : Knowledge) (g : Graph) (held : Descriptors) (h : Holdings) (call : Call) (reply : Reply) (change : Option DescriptorChange) → IsSound g held → Agrees k g held → IsOf k h → outcome (part_of k) h call ≡ outcomes.Reply reply change → IsSound g (with_own held k.client (own_changed k.own change)) }
+    ensures step { (k : Knowledge) (g : Graph) (held : Descriptors) (h : Holdings) (call : Call) (reply : Reply) (change : Option DescriptorChange) → IsSound g held → Agrees k g held → IsOf k h → outcome (part_of k) h call ≡ outcomes.Reply reply change → Step (state_of g held) k.client call reply (state_of g (with_own held k.client (own_changed k.own change))) }
 {}
 
 /// A call that comes to a record has all that it needs as the record is begun. In every sound whole that agrees with what the client knows its
