@@ -9,6 +9,7 @@ use Rattle.posix_calls.specs.declared.errno.Errno.TheVariants.{NoMemory}
 use Rattle.file_graph.specs.Numbers.{is_inode}
 use Rattle.log_record.specs.Grammar.{IsRecord, spelling}
 use Rattle.log_record.specs.declared.format.Record.{Record}
+use Rattle.update_log.specs.declared.stage.Stage.TheVariants as stages
 use Rattle.call_effects.specs.Known.{part_of}
 use Rattle.client_plan.specs.declared.outcome.DescriptorChange.{DescriptorChange}
 use Rattle.client_plan.specs.declared.outcome.Outcome.{Outcome}
@@ -59,6 +60,9 @@ pub record HasBegun {M : Type 0} (seen : M → Tier → List ℕ) (old : ClientV
   pub reply_is : begun.reply ≡ reply
   pub turn : turn_of seen new.log ≡ record_begun (turn_of seen old.log) entry
   pub log : new.log ≡ record old.log { current = new.log.current }
+  -- no device call of the append is made yet
+  pub stage : new.log.current.stage ≡ stages.Begun
+  pub end : new.log.current.end ≡ old.log.current.end
   pub media : new.log.current.media ≡ old.log.current.media
   pub noted : HasNoted old.pass entry.effects new.pass
   pub paid : new.spare + entry.units ≡ old.spare

@@ -1,10 +1,14 @@
-ghost use Rattle.std.specs.Prelude.{◌≡◌, ◌≢◌, ◌<◌, ◌≤◌, ℕ, ◌++◌, [], true, false, Some, None, IfOk, IfErr, is_some, length};
+ghost use Rattle.std.specs.Prelude.{◌≡◌, ◌≢◌, ◌<◌, ◌≤◌, ℕ, ◌++◌, List, [], true, false, Some, None, IfOk, IfErr, IfSome, is_some, length};
 ghost use Rattle.file_graph.specs.Graph.{is_among};
+ghost use Rattle.update_log.specs.Counting.{next_generation};
+ghost use Rattle.update_log.specs.Frames.{end_behind};
+ghost use Rattle.update_log.specs.View.{records_of as records_in};
 ghost use Rattle.lease_manager.specs.declared.view.LeaseMode.TheVariants.{Writing, Trying};
 ghost use Rattle.lease_manager.specs.Words.{HasWord, IsClient};
 ghost use Rattle.lease_manager.specs.Passes.{client_of, lease_of, records_of};
 ghost use Rattle.posix_calls.specs.Tree.{has_open};
-ghost use Rattle.client_log.specs.Regions.{in_turn};
+ghost use Rattle.client_log.specs.Counts.{AreLeft, CountOf};
+ghost use Rattle.client_log.specs.Regions.{IsWiped, in_turn};
 ghost use Rattle.client_log.specs.View.{written};
 ghost use Rattle.libfs.specs.View.{begun_record, is_pending, own_records};
 ghost use Rattle.client_leases.specs.Counted.{Counts, touching};
@@ -164,13 +168,28 @@ impl<M: Media> Client<M> {
     }
 
     /// What holds of a client: what it has begun is begun in its log, its pass counts just its records that are not digested, and each inode that one of them touches it holds for
-    /// writing.
+    /// writing. Where both regions are here none of its records is away, and only where a device has failed a call is answered whose record stays begun.
     pub fn own_records_are_held(&self)
         ensures begins { begun_record self.now.begun ≡ self.now.log.current.begun }
         ensures counts { Counts self.now.pass (own_records M.seen self.now) }
         ensures held { (i : ℕ) → HasWord i → 0 < touching (own_records M.seen self.now) i → lease_of self.now.pass i ≡ Writing }
+        ensures back { is_some self.now.log.other ≡ true → self.now.sealed ≡ [] }
+        ensures failed { self.now.answered ≡ true → (self.now.log.failed ≡ true) × (is_some self.now.begun ≡ true) }
     {
         self.pass.counts_held();
+    }
+
+    /// What a stop may leave now, between two calls: of what the regions hold that are here, just the records of the client's log count, with the begun one or without. And which of them are
+    /// wiped, as a log that is opened asks for.
+    pub fn left_now(&self)
+        // The next record's gate stands behind the records of the current region.
+        ensures end { self.now.log.current.end ≡ end_behind (records_in M.seen self.now.log.current) }
+
+        ensures current_wiped { self.now.log.failed ≡ false → self.now.log.ready ≡ true → self.now.log.current.begun ≡ None → written M.seen self.now.log ≡ [] → IsWiped M.seen self.now.log.generation self.now.log.current }
+        ensures other_wiped { self.now.log.clean ≡ true → IfSome self.now.log.other (IsWiped M.seen (next_generation self.now.log.generation)) }
+        ensures counts { (regions : ℕ → List ℕ) → AreLeft M.moment M.left self.now.log self.now.log regions → CountOf self.now.log.generation (is_some self.now.log.other) (written M.seen self.now.log) self.now.log.current.begun regions }
+    {
+        self.log.left_now();
     }
 
     /// The pass and the regions that are here, to which the client makes no call any more.

@@ -28,7 +28,7 @@ pub struct Sealed<M: Media> {
     /// The client's number, from 1 to 8.
     pub client: u32,
     pub over: HandedOver<M>,
-    /// The inodes, rising, that the client held for writing then. So it does until it takes the region back.
+    /// The inodes, rising, that the client held for writing then. Those that a record of the region touches it holds until it takes the region back; the others it may give before.
     pub held: Vec<u32>,
     /// How many records the region has.
     pub count: usize,
@@ -125,6 +125,7 @@ impl<M: Media> Client<M> {
         ensures current { self.old.log.failed ≡ false → self.old.log.ready ≡ false → WipesCurrent M.seen M.moment M.left M.faults self.old.log self.new.log result }
         ensures other { self.old.log.failed ≡ false → self.old.log.ready ≡ true → self.old.log.clean ≡ false → (r : RegionView M) → self.old.log.other ≡ Some r → WipesOther M.seen M.moment M.left M.faults r self.old.log self.new.log result }
         ensures idle { (result ≡ Ok None) ↔ ((self.old.log.failed ≡ false) × (self.old.log.ready ≡ true) × ((self.old.log.clean ≡ true) ⊎ (self.old.log.other ≡ None))) }
+        ensures nothing { self.old.log.failed ≡ false → self.old.log.ready ≡ true → ((self.old.log.clean ≡ true) ⊎ (self.old.log.other ≡ None)) → (result ≡ Ok None) × (self.new ≡ self.old) }
 
         // The last call is the machine's step, and before it nothing changes there.
         ensures may_other { IfOk result (λ p. p ≢ None → self.old.log.ready ≡ true → (turn_of M.seen self.old.log).other ≡ Back) }

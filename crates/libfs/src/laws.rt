@@ -1,17 +1,18 @@
 //! What holds of every client and every call.
-ghost use Rattle.std.specs.Prelude.{◌≡◌, ℕ, Option};
+ghost use Rattle.std.specs.Prelude.{◌≡◌, ◌⊎◌, ℕ, Option};
 ghost use Rattle.posix_calls.specs.Tree.{Descriptors, with_own};
 ghost use Rattle.posix_calls.specs.Operations.{Step};
 ghost use Rattle.posix_calls.specs.declared.call.Call.{Call};
 ghost use Rattle.posix_calls.specs.declared.call.Reply.{Reply};
 ghost use Rattle.file_graph.specs.Graph.{Graph, after_effects};
+ghost use Rattle.file_graph.specs.Units.{growth};
 ghost use Rattle.log_record.specs.declared.format.Record.{Record};
 ghost use Rattle.call_effects.specs.Known.{Agrees};
 ghost use Rattle.call_effects.specs.Wholes.{IsSound, state_of};
 ghost use Rattle.client_plan.specs.declared.outcome.DescriptorChange.{DescriptorChange};
 ghost use Rattle.client_plan.specs.declared.outcome.Outcome.TheVariants as outcomes;
 ghost use Rattle.client_plan.specs.Planned.{own_changed};
-ghost use Rattle.client_plan.specs.Steps.{IsOf};
+ghost use Rattle.client_plan.specs.Steps.{IsAnswered, IsOf, IsReady, IsRefused};
 ghost use Rattle.client_copies.specs.Logged.{knows_logged, with_change};
 ghost use Rattle.libfs.specs.View.{ClientView};
 ghost use Rattle.libfs.specs.Holding.{holdings_of, known_to, outcome_for};
@@ -21,9 +22,14 @@ use client_plan::{answered_call_is_a_step, logged_call_is_a_step};
 use tier_device::Media;
 
 /// A call that a client answers at once is one step of the file tree, in every sound whole that agrees with what the client knows; nothing in the whole changes but the client's descriptor, if
-/// one does, and what the client knows then agrees with the whole as before.
+/// one does, and with that the whole is sound and agrees with what the client knows as before. By what the client knows the call is refused, or comes to an operation without effects, and what that
+/// opens is pinned.
 pub fn answered_start_is_a_step<M: Media>()
     ensures has { (v : ClientView M) → IsOf (known_to v) (holdings_of M.seen v) }
+    ensures ready { (v : ClientView M) (call : Call) (reply : Reply) (change : Option DescriptorChange) → outcome_for M.seen v call ≡ outcomes.Reply reply change
+        → IsRefused (known_to v) call reply change ⊎ IsAnswered (known_to v) (holdings_of M.seen v) call reply change }
+    ensures sound { (v : ClientView M) (g : Graph) (held : Descriptors) (call : Call) (reply : Reply) (change : Option DescriptorChange) → IsSound g held → Agrees (known_to v) g held → outcome_for M.seen v call ≡ outcomes.Reply reply change
+        → IsSound g (with_own held (known_to v).client (own_changed (known_to v).own change)) }
     ensures step { (v : ClientView M) (g : Graph) (held : Descriptors) (call : Call) (reply : Reply) (change : Option DescriptorChange) → IsSound g held → Agrees (known_to v) g held → outcome_for M.seen v call ≡ outcomes.Reply reply change
         → Step (state_of g held) (known_to v).client call reply (state_of g (with_own held (known_to v).client (own_changed (known_to v).own change))) }
     ensures agrees { (v : ClientView M) (g : Graph) (held : Descriptors) (change : Option DescriptorChange) → Agrees (known_to v) g held
@@ -33,8 +39,12 @@ pub fn answered_start_is_a_step<M: Media>()
 }
 
 /// A call of which a record is begun is one step of the file tree, in every sound whole that agrees with what the client knows: to the whole after the record's effects, which is sound. What the
-/// client knows once it is answered agrees with that.
+/// client knows once it is answered agrees with that. The call has all that it needs as its record is begun, and the whole grows by the record's units.
 pub fn begun_record_is_a_step<M: Media>()
+    ensures ready { (v : ClientView M) (call : Call) (entry : Record) (reply : Reply) (made : Option ℕ) (change : Option DescriptorChange) → outcome_for M.seen v call ≡ outcomes.Log entry reply made change
+        → IsReady (known_to v) (holdings_of M.seen v) call entry reply made change }
+    ensures growth { (v : ClientView M) (g : Graph) (held : Descriptors) (call : Call) (entry : Record) (reply : Reply) (made : Option ℕ) (change : Option DescriptorChange) → IsSound g held → Agrees (known_to v) g held → outcome_for M.seen v call ≡ outcomes.Log entry reply made change
+        → growth g entry.effects ≡ entry.units }
     ensures step { (v : ClientView M) (g : Graph) (held : Descriptors) (call : Call) (entry : Record) (reply : Reply) (made : Option ℕ) (change : Option DescriptorChange) → IsSound g held → Agrees (known_to v) g held → outcome_for M.seen v call ≡ outcomes.Log entry reply made change
         → Step (state_of g held) (known_to v).client call reply (state_of (after_effects g entry.effects) (with_own held (known_to v).client (own_changed (known_to v).own change))) }
     ensures sound { (v : ClientView M) (g : Graph) (held : Descriptors) (call : Call) (entry : Record) (reply : Reply) (made : Option ℕ) (change : Option DescriptorChange) → IsSound g held → Agrees (known_to v) g held → outcome_for M.seen v call ≡ outcomes.Log entry reply made change

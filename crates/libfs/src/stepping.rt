@@ -1,7 +1,8 @@
 ghost use Rattle.std.specs.Prelude.{◌≡◌, ℕ, List, true, false, IfSome, is_some};
-ghost use Rattle.update_log.specs.Stage.{progress};
+ghost use Rattle.update_log.specs.Stage.{next, progress};
 ghost use Rattle.update_log.specs.Calls.{ShowsCall};
 ghost use Rattle.update_log.specs.declared.stage.Progress.TheVariants.{Going, Appended};
+ghost use Rattle.update_log.specs.declared.stage.Stage.TheVariants as stages;
 ghost use Rattle.client_log.specs.Calls.{IsMovedOnce};
 ghost use Rattle.client_log.specs.Counts.{AreLeft, CountOf};
 ghost use Rattle.client_log.specs.View.{written};
@@ -30,6 +31,8 @@ impl<M: Media> Client<M> {
         // What the device call does, and that it is one; a log that has failed before makes none.
         ensures shown { self.new.log.failed ≡ false → ShowsCall self.old.log.current.stage self.old.log.current.end self.old.log.current.begun (M.seen self.old.log.current.media) (M.seen self.new.log.current.media) }
         ensures moved { self.old.log.failed ≡ false → IsMovedOnce M.moment M.left M.faults self.old.log.current self.new.log.current (call_answer self.new.log.failed) }
+        ensures stage { self.new.log.failed ≡ false → self.new.log.current.stage ≡ next self.old.log.current.stage }
+        ensures stage_failed { self.old.log.failed ≡ false → self.new.log.failed ≡ true → self.new.log.current.stage ≡ stages.Failed }
         ensures rest { self.new.log ≡ record self.old.log { current = self.new.log.current; failed = self.new.log.failed } }
         ensures stays_failed { self.old.log.failed ≡ true → self.new.log ≡ self.old.log }
     {

@@ -2,6 +2,12 @@ use Rattle.libfs.specs.Holding.{holdings_of, known_to}
 use Rattle.libfs.proofs.Ready.{has_of}
 use Rattle.libfs.proofs.laws.begun_record_is_a_step.Goals as goal
 
+pub returns-clause-ready : goal.returns-clause-ready
+returns-clause-ready g c = λ v call entry reply made change is. c.logged_call_is_a_step.ensures.ready (known_to v) (holdings_of g.M.Media.seen v) call entry reply made change (has_of g.M.Media.seen v) is
+
+pub returns-clause-growth : goal.returns-clause-growth
+returns-clause-growth g c = λ v whole held call entry reply made change sound agrees is. c.logged_call_is_a_step.ensures.growth (known_to v) whole held (holdings_of g.M.Media.seen v) call entry reply made change sound agrees (has_of g.M.Media.seen v) is
+
 pub returns-clause-step : goal.returns-clause-step
 returns-clause-step g c = λ v whole held call entry reply made change sound agrees is. c.logged_call_is_a_step.ensures.step (known_to v) whole held (holdings_of g.M.Media.seen v) call entry reply made change sound agrees (has_of g.M.Media.seen v) is
 
