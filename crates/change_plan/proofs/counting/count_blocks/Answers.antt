@@ -82,11 +82,15 @@ returns-in-Err-clause-memory g c is =
     let counted = subst (λ (es : List (ℕ × NodeChange)). Counted old.geometry s cs c.nodes.count (seen_as change_of es)) c.in-Some.ensures.steps c.nodes.invariant.counted in
     let at = counted.inside e (cons_here e rest e refl) in
     let here : e.1 ≡ change_at cs e.0 = sym (change_here cs e at) in
-    let block = c.in-Err.ensures.memory is in
-    (e.0, block.1, has_here cs e at, record {
-      is_file = subst (λ (d : Change). LeavesFile old.geometry s d e.0) here (carried_back m.moment m.seen m.left m.faults (λ h t. LeavesFile h t e.1 e.0) old c.nodes.journal looked c.nodes.invariant.looks block.0);
-      writes = subst (λ (d : Change). writes_block d block.1 ≡ true) here block.2;
-    })
+    let block = c.in-Err.ensures.memory is in (
+      e.0,
+      block.1,
+      has_here cs e at,
+      record {
+        is_file = subst (λ (d : Change). LeavesFile old.geometry s d e.0) here (carried_back m.moment m.seen m.left m.faults (λ h t. LeavesFile h t e.1 e.0) old c.nodes.journal looked c.nodes.invariant.looks block.0);
+        writes = subst (λ (d : Change). writes_block d block.1 ≡ true) here block.2;
+      },
+    )
 
 pub returns-clause-looks : goal.returns-clause-looks
 returns-clause-looks g c =
