@@ -26,24 +26,7 @@ const ENTRIES: usize = 40;
 /// The blocks that they are written with: one of inodes, the one that lists the root's blocks, one of entries, and the marks.
 const ENTRY_BLOCKS: usize = 4;
 
-// The least time of a change, with copies in turn with it. Each time another change takes it back.
-fn turns(
-    desk: &mut Desk<'_>,
-    area: &mut Shared<RamMedia>,
-    copies: &mut Copies,
-    there: &[Step<'_>],
-    back: &[Step<'_>],
-) -> Result<u128, Failure> {
-    let mut best = u128::MAX;
-    for _ in 0..TURNS {
-        best = best.min(change(desk, area, there)?);
-        copies.time(desk);
-        let _back = change(desk, area, back)?;
-    }
-    Ok(best)
-}
-
-// The same beside the least time of a copy of so many blocks.
+// The least time of a change, beside that of a copy of so many blocks. Each time another change takes it back.
 fn best_of(
     desk: &mut Desk<'_>,
     there: &[Step<'_>],
@@ -52,7 +35,12 @@ fn best_of(
 ) -> Result<(u128, u128), Failure> {
     let mut area = with_two_files(desk)?;
     let mut copies = Copies::new(desk.alloc(), blocks)?;
-    let best = turns(desk, &mut area, &mut copies, there, back)?;
+    let mut best = u128::MAX;
+    for _ in 0..TURNS {
+        best = best.min(change(desk, &mut area, there)?);
+        copies.time(desk);
+        let _back = change(desk, &mut area, back)?;
+    }
     Ok((best, copies.least()?))
 }
 

@@ -90,35 +90,17 @@ fn one_turn(
     Ok(best.least(times, taken))
 }
 
-// The least times, with copies in turn with the digests.
-fn turns(
-    desk: &mut Desk<'_>,
-    area: &mut Shared<RamMedia>,
-    copies: &mut Copies,
-    count: u64,
-    blocks: u64,
-) -> Result<Taken, Failure> {
-    let mut best = MOST;
-    for _ in 0..TURNS {
-        best = one_turn(desk, area, best, count, blocks)?;
-        copies.time(desk);
-    }
-    Ok(best)
-}
-
-// An area with the files that are written.
-fn with_files(desk: &mut Desk<'_>) -> Result<Shared<RamMedia>, Failure> {
+// Beside the least time of a copy of the blocks.
+fn best_of(desk: &mut Desk<'_>, count: u64, blocks: u64) -> Result<(Taken, u128), Failure> {
     let mut area = empty(desk.alloc())?;
     let made = record(desk.alloc(), MAKING)?;
     let _times = digest_all(desk, &mut area, made)?;
-    Ok(area)
-}
-
-// The least times beside that of a copy of the blocks.
-fn best_of(desk: &mut Desk<'_>, count: u64, blocks: u64) -> Result<(Taken, u128), Failure> {
-    let mut area = with_files(desk)?;
     let mut copies = Copies::new(desk.alloc(), blocks as usize)?;
-    let best = turns(desk, &mut area, &mut copies, count, blocks)?;
+    let mut best = MOST;
+    for _ in 0..TURNS {
+        best = one_turn(desk, &mut area, best, count, blocks)?;
+        copies.time(desk);
+    }
     Ok((best, copies.least()?))
 }
 

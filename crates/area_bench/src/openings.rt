@@ -66,13 +66,10 @@ fn blocks_in(area: &Shared<RamMedia>) -> usize {
     faster.saturating_add(size_of(&geometry, Tier::Slow)) / BLOCK
 }
 
-// The least time in which the media are opened, with copies in turn with it.
-fn turns(
-    desk: &mut Desk<'_>,
-    first: Shared<RamMedia>,
-    copies: &mut Copies,
-) -> Result<u128, Failure> {
+// The least time in which the media are opened, beside that of a copy of all their bytes.
+fn best_of(desk: &mut Desk<'_>, first: Shared<RamMedia>) -> Result<(u128, u128), Failure> {
     let mut area = first;
+    let mut copies = Copies::new(desk.alloc(), blocks_in(&area))?;
     let mut best = u128::MAX;
     for _ in 0..TURNS {
         let (time, again) = reopened(desk, area)?;
@@ -80,13 +77,6 @@ fn turns(
         best = best.min(time);
         copies.time(desk);
     }
-    Ok(best)
-}
-
-// The same beside the least time of a copy of all their bytes.
-fn best_of(desk: &mut Desk<'_>, first: Shared<RamMedia>) -> Result<(u128, u128), Failure> {
-    let mut copies = Copies::new(desk.alloc(), blocks_in(&first))?;
-    let best = turns(desk, first, &mut copies)?;
     Ok((best, copies.least()?))
 }
 
