@@ -3,7 +3,7 @@
 use crate::made::{enter, leave};
 use file_graph::{Effect, Kind, PlainGraph};
 use graph_change::{BlockChange, GraphChange, NodeBase, NodeChange, NodeLength};
-use posix_calls::{Bytes, UNIT_BYTES};
+use posix_calls::{SharedBytes, UNIT_BYTES};
 use std::alloc::{AllocError, Global};
 use std::io::{self, Write};
 
@@ -79,7 +79,7 @@ fn put_block(
     graph.apply(&Effect::Bytes {
         inode,
         at: start,
-        bytes: Bytes::copy_of(alloc, new.get(..count).unwrap_or(&[]))?,
+        bytes: SharedBytes::copy_of(alloc, new.get(..count).unwrap_or(&[]))?,
     })
 }
 

@@ -2,7 +2,7 @@
 
 use file_graph::{Effect, Effects, Kind};
 use log_record::Record;
-use posix_calls::{Bytes, Name};
+use posix_calls::{Name, SharedBytes};
 use std::alloc::{AllocError, Global};
 
 pub fn name_of(alloc: Global, text: &[u8]) -> Result<Name, AllocError> {
@@ -43,7 +43,7 @@ pub fn fill(
     Ok(Effect::Bytes {
         inode,
         at,
-        bytes: Bytes::from_vec(vec![in alloc; byte; count]?),
+        bytes: SharedBytes::from_vec(vec![in alloc; byte; count]?)?,
     })
 }
 

@@ -9,7 +9,7 @@ use crate::replayed::Replayed;
 use digest_plan::{Found, next_run, test_records};
 use file_graph::{Effect, Effects, Kind};
 use log_record::Record;
-use posix_calls::{Bytes, Name};
+use posix_calls::{Name, SharedBytes};
 use std::alloc::{AllocError, Global};
 use std::test::Fail;
 
@@ -27,7 +27,7 @@ fn byte(alloc: Global, inode: u32, at: u64) -> Result<Effect, AllocError> {
     Ok(Effect::Bytes {
         inode,
         at,
-        bytes: Bytes::from_vec(vec![in alloc; 7u8; 1]?),
+        bytes: SharedBytes::from_vec(vec![in alloc; 7u8; 1]?)?,
     })
 }
 

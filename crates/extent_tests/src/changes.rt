@@ -1,6 +1,6 @@
 use file_graph::{Effect, Kind};
 use graph_change::{BlockChange, GraphChange, NodeBase, NodeLength};
-use posix_calls::{Bytes, Name};
+use posix_calls::{Name, SharedBytes};
 use std::alloc::{AllocError, Global};
 use std::test::Fail;
 
@@ -47,7 +47,7 @@ fn add_file(alloc: Global, change: &mut GraphChange) -> Result<(), AllocError> {
         &Effect::Bytes {
             inode: 2,
             at: 4_095,
-            bytes: Bytes::copy_of(alloc, b"xyz")?,
+            bytes: SharedBytes::copy_of(alloc, b"xyz")?,
         },
     )?;
     change.add(

@@ -2,7 +2,7 @@ ghost use Rattle.std.specs.Prelude.{◌≡◌, ◌==◌, [], ◌∷◌, length};
 ghost use Rattle.file_graph.specs.Graph.{subjects};
 ghost use Rattle.file_graph.specs.Subject.{subject};
 
-use posix_calls::{Bytes, Name};
+use posix_calls::{Name, SharedBytes};
 use std::marker::Model;
 
 /// What a node is.
@@ -91,7 +91,7 @@ pub enum Effect {
     Bytes {
         inode: u32,
         at: u64,
-        bytes: Bytes,
+        bytes: SharedBytes,
     },
     /// No node.
     Drop {

@@ -8,7 +8,7 @@ use anyhow::{Result, bail};
 use file_graph::{Effect, Effects};
 use log_record::Record;
 use long_media::{FileMedia, Sizes};
-use posix_calls::Bytes;
+use posix_calls::SharedBytes;
 use std::alloc::Global;
 use std::fs;
 use update_log::{REGION_SIZE, Region, Stage};
@@ -99,7 +99,7 @@ fn append_one(alloc: Global, region: &mut Region<FileMedia>, number: u64) -> Res
 
 // The record that writes a byte at so large an offset.
 fn record(alloc: Global, number: u64) -> Result<Record> {
-    let bytes = Bytes::from_vec(vec![in alloc; 0x61u8; 1]?);
+    let bytes = SharedBytes::from_vec(vec![in alloc; 0x61u8; 1]?)?;
     let mut effects = Vec::new(alloc);
     effects.push(Effect::Bytes {
         inode: INODE,

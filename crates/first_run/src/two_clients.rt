@@ -17,7 +17,8 @@ use file_graph::{Effect, Kind, PlainGraph};
 use graph_answers::GraphAnswers;
 use log_record::Record;
 use posix_calls::{
-    Bytes, Call, DecideError, Descriptor, Name, Operation, OwnDescriptors, ROOT, Reply, decide,
+    Bytes, Call, DecideError, Descriptor, Name, Operation, OwnDescriptors, ROOT, Reply,
+    SharedBytes, decide,
 };
 use std::alloc::Global;
 use workload_cli::RunError;
@@ -94,7 +95,7 @@ pub fn first_call(alloc: Global) -> Result<Call, RunError>
     Ok(Call::Pwrite {
         descriptor: 0,
         at: 0,
-        bytes: Bytes::copy_of(alloc, b"aaaa")?,
+        bytes: SharedBytes::copy_of(alloc, b"aaaa")?,
     })
 }
 

@@ -4,7 +4,7 @@ use crate::failure::Failure;
 use crate::regions::{Over, Work, append, fill_all};
 use file_graph::{Effect, Effects};
 use log_record::Record;
-use posix_calls::Bytes;
+use posix_calls::SharedBytes;
 use std::alloc::{AllocError, Global};
 use tier_device::Media;
 use update_log::{REGION_SIZE, Region, RegionError};
@@ -105,7 +105,7 @@ fn count_at_end(count: u64, error: RegionError) -> Result<u64, Failure> {
 
 // The record of a write of so many bytes.
 fn write_of(alloc: Global, bytes: usize) -> Result<Record, Failure> {
-    let bytes = Bytes::from_vec(bytes_of(alloc, 0x61, bytes)?);
+    let bytes = SharedBytes::from_vec(bytes_of(alloc, 0x61, bytes)?)?;
     let effects = [Effect::Bytes {
         inode: 2,
         at: 0,

@@ -7,7 +7,9 @@ use file_graph::{Effect, Kind, PlainGraph};
 use graph_answers::GraphAnswers;
 use layout::BLOCK;
 use log_record::Record;
-use posix_calls::{Bytes, Call, Descriptor, Name, Operation, OwnDescriptors, ROOT, decide};
+use posix_calls::{
+    Bytes, Call, Descriptor, Name, Operation, OwnDescriptors, ROOT, SharedBytes, decide,
+};
 use std::alloc::{AllocError, Global};
 use tier_device::Media;
 use update_log::Region;
@@ -113,7 +115,7 @@ impl Timed {
 }
 
 fn timed_calls(alloc: Global) -> Result<Vec<Timed>, AllocError> {
-    let bytes = Bytes::from_vec(bytes_of(alloc, 0x61, BLOCK)?);
+    let bytes = SharedBytes::from_vec(bytes_of(alloc, 0x61, BLOCK)?)?;
     let made = Bytes::copy_of(alloc, b"/a")?;
     let removed = Bytes::copy_of(alloc, b"/a")?;
     all_timed(alloc, bytes, made, removed)
@@ -121,7 +123,7 @@ fn timed_calls(alloc: Global) -> Result<Vec<Timed>, AllocError> {
 
 fn all_timed(
     alloc: Global,
-    bytes: Bytes,
+    bytes: SharedBytes,
     made: Bytes,
     removed: Bytes,
 ) -> Result<Vec<Timed>, AllocError> {
@@ -140,7 +142,7 @@ fn name_of(call: &Call) -> &'static str {
     }
 }
 
-fn write_of(bytes: Bytes) -> Call {
+fn write_of(bytes: SharedBytes) -> Call {
     Call::Pwrite {
         descriptor: 0,
         at: 0,

@@ -4,7 +4,7 @@ ghost use Rattle.log_record.specs.Grammar.{fits, is_write};
 
 use crate::format::RecordError;
 use file_graph::{Effect, Kind, is_inode};
-use posix_calls::{Bytes, MAX_FILE, MAX_NAMES, MAX_TRANSFER, Name};
+use posix_calls::{MAX_FILE, MAX_NAMES, MAX_TRANSFER, Name, SharedBytes};
 use std::alloc::Global;
 
 /// An effect whose name or bytes lie elsewhere.
@@ -93,7 +93,7 @@ impl EffectRef<'_> {
             EffectRef::Names { inode, names } => Ok(Effect::Names { inode, names }),
             EffectRef::Size { inode, size } => Ok(Effect::Size { inode, size }),
             EffectRef::Bytes { inode, at, bytes } => {
-                let bytes = Bytes::copy_of(alloc, bytes)?;
+                let bytes = SharedBytes::copy_of(alloc, bytes)?;
                 Ok(Effect::Bytes { inode, at, bytes })
             }
             EffectRef::Drop { inode } => Ok(Effect::Drop { inode }),

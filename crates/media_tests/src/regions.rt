@@ -7,7 +7,7 @@ ghost use Rattle.tier_device.specs.Memory.{IsAtRest};
 use crate::doubles::{Hurt, SetupError};
 use file_graph::{Effect, Effects};
 use log_record::Record;
-use posix_calls::Bytes;
+use posix_calls::SharedBytes;
 use std::alloc::{AllocError, Global};
 use std::test::Fail;
 use tier_device::{FaultMedia, Fill, Media, MemMedia, StopMedia, Trip};
@@ -33,7 +33,7 @@ fn reopened<M: Media + Drop>(alloc: Global, media: M) -> Result<Region<M>, Setup
 
 // The record of a write of so many bytes.
 fn write(alloc: Global, count: usize) -> Result<Record, AllocError> {
-    let bytes = Bytes::from_vec(vec![in alloc; 7u8; count]?);
+    let bytes = SharedBytes::from_vec(vec![in alloc; 7u8; count]?)?;
     let effects = [Effect::Bytes {
         inode: 2,
         at: 0,

@@ -1,6 +1,7 @@
 use crate::bytes::Bytes;
 use crate::errno::Errno;
 use crate::names::Names;
+use crate::shared_bytes::SharedBytes;
 
 /// How a file is opened.
 #[derive(Clone, Copy)]
@@ -40,7 +41,7 @@ pub enum Call {
     Pwrite {
         descriptor: u32,
         at: u64,
-        bytes: Bytes,
+        bytes: SharedBytes,
     },
     /// Cuts a file to a length, or grows it to that; what is grown reads as zero.
     Truncate {

@@ -47,7 +47,7 @@ pub fn decide<T: TreeAnswers>(
             descriptor,
             at,
             bytes,
-        } => pwrite(alloc, own, *descriptor, *at, bytes.as_slice()),
+        } => pwrite(own, *descriptor, *at, bytes),
         Call::Truncate { path, len } => truncate(alloc, tree, path.as_slice(), *len),
         Call::Mkdir { path } => mkdir(alloc, tree, path.as_slice()),
         Call::Rmdir { path } => rmdir(alloc, tree, path.as_slice()),

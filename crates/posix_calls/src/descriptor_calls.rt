@@ -18,6 +18,7 @@ use crate::limits::{MAX_FILE, MAX_TRANSFER, UNIT_BYTES};
 use crate::operation::{DecideError, Missing, Operation};
 use crate::own::OwnDescriptors;
 use crate::path::Path;
+use crate::shared_bytes::SharedBytes;
 use crate::tree_answers::{TreeAnswers, known};
 use crate::walk::{Landing, kind_at, location, prefix, read_path, refuse_if};
 use std::alloc::Global;
@@ -228,24 +229,24 @@ fn blocks_missing(inode: u32, at: u64, count: u64) -> Missing
 }
 
 pub(crate) fn pwrite(
-    alloc: Global,
     own: &OwnDescriptors,
     number: u32,
     at: u64,
-    bytes: &[u8],
+    bytes: &SharedBytes,
 ) -> Result<Operation, DecideError>
     ensures tells { (p : Part) → Tells p (pwrite (own_of own.now) number at bytes.now) result }
     ensures memory { result ≡ Err Memory → writes_bytes (own_of own.now number) at bytes.now ≡ true }
 {
     let inode = writable_inode(own, number)?;
-    refuse_if(bytes.len() > MAX_TRANSFER, Errno::Invalid)?;
-    if bytes.is_empty() {
+    let len = bytes.len();
+    refuse_if(len > MAX_TRANSFER, Errno::Invalid)?;
+    if len == 0 {
         return Ok(Operation::Tell {
             answer: Reply::Wrote { count: 0 },
         });
     }
-    refuse_if(ends_behind(at, bytes.len()), Errno::FileTooBig)?;
-    let bytes = Bytes::copy_of(alloc, bytes)?;
+    refuse_if(ends_behind(at, len), Errno::FileTooBig)?;
+    let bytes = bytes.share()?;
     Ok(Operation::Write { inode, at, bytes })
 }
 

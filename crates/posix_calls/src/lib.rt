@@ -1,6 +1,6 @@
 //! The calls of the file system and what they are answered: the words that all the crates above have in common.
 //!
-//! `Bytes` and `Name` are what a call carries, `Call` and `Reply` are what is asked and answered, and `Errno` is why a call
+//! `Bytes`, `SharedBytes` and `Name` are what a call carries, `Call` and `Reply` are what is asked and answered, and `Errno` is why a call
 //! was refused. `Path::read` reads a path. Contracts see bytes, names and paths as lists, so two calls are equal exactly where
 //! they say the same.
 //!
@@ -26,6 +26,7 @@ mod numbers;
 mod operation;
 mod own;
 mod path;
+mod shared_bytes;
 mod tell_calls;
 mod tree_answers;
 mod two_path_calls;
@@ -51,4 +52,5 @@ pub use numbers::profile_has_its_limits;
 pub use operation::{DecideError, Description, Location, Missing, Operation, Replaced};
 pub use own::OwnDescriptors;
 pub use path::Path;
+pub use shared_bytes::SharedBytes;
 pub use tree_answers::{NamedInode, TreeAnswers, known};

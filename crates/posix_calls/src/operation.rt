@@ -1,11 +1,11 @@
 ghost use Rattle.std.specs.Prelude.{◌≡◌, None, Some, if◌then◌else◌};
 ghost use Rattle.posix_calls.specs.Operations.{IsInRange, makes, only_tells, opens, reply_of};
 
-use crate::bytes::Bytes;
 use crate::call::Reply;
 use crate::descriptor::Descriptor;
 use crate::errno::Errno;
 use crate::name::Name;
+use crate::shared_bytes::SharedBytes;
 
 /// A name in a directory.
 #[derive(Drop)]
@@ -61,7 +61,7 @@ pub enum Operation {
     Write {
         inode: u32,
         at: u64,
-        bytes: Bytes,
+        bytes: SharedBytes,
     },
     /// A file of another length is cut or grown to this one.
     Resize {

@@ -1,5 +1,5 @@
 use file_graph::{Effect, Kind, PlainGraph};
-use posix_calls::{Bytes, Name, ROOT};
+use posix_calls::{Name, ROOT, SharedBytes};
 use std::alloc::Global;
 use std::io::{self, ErrorKind, Write};
 use std::test::Fail;
@@ -144,7 +144,7 @@ fn writing(alloc: Global, inode: u32, at: u32, text: &str) -> io::Result<Effect>
     Ok(Effect::Bytes {
         inode,
         at: u64::from(at),
-        bytes: Bytes::copy_of(alloc, text.as_bytes())?,
+        bytes: SharedBytes::copy_of(alloc, text.as_bytes())?,
     })
 }
 

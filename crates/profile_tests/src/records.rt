@@ -52,11 +52,11 @@ const SPELLED: [(&[u8], &str); 7] = [
     ),
     (
         &PWRITE,
-        "1 [Bytes { inode: 9, at: 258, bytes: Bytes { bytes: [120, 121] } }]",
+        "1 [Bytes { inode: 9, at: 258, bytes: SharedBytes { bytes: [120, 121] } }]",
     ),
     (
         &LAST,
-        "1 [Bytes { inode: 9, at: 1048574, bytes: Bytes { bytes: [120, 121] } }]",
+        "1 [Bytes { inode: 9, at: 1048574, bytes: SharedBytes { bytes: [120, 121] } }]",
     ),
     (&DROP, "1 [Drop { inode: 3 }]"),
     (&SIZE, "0 [Size { inode: 2, size: 1048576 }]"),
@@ -71,7 +71,7 @@ const SPELLED: [(&[u8], &str); 7] = [
         Leave { directory: 1, name: Name { bytes: [98, 99] } }, \
         Names { inode: 2, names: 1 }, \
         Size { inode: 2, size: 300 }, \
-        Bytes { inode: 2, at: 4, bytes: Bytes { bytes: [120, 121] } }, \
+        Bytes { inode: 2, at: 4, bytes: SharedBytes { bytes: [120, 121] } }, \
         Drop { inode: 3 }]",
     ),
 ];

@@ -6,7 +6,7 @@ ghost use Rattle.std.specs.List.Sorted.{IsNonDecreasing};
 use file_graph::{Child, Effect, Effects, Kind};
 use log_record::Record;
 use node_bodies::NameMap;
-use posix_calls::{Bytes, Name};
+use posix_calls::{Name, SharedBytes};
 use record_check::{NodeSummary, RecordCheck, Verdict};
 use std::alloc::{AllocError, Global};
 
@@ -104,7 +104,7 @@ pub fn byte(alloc: Global, inode: u32, at: u64) -> Result<Effect, AllocError> {
     Ok(Effect::Bytes {
         inode,
         at,
-        bytes: Bytes::from_vec(vec![in alloc; 7u8; 1]?),
+        bytes: SharedBytes::from_vec(vec![in alloc; 7u8; 1]?)?,
     })
 }
 

@@ -10,7 +10,7 @@ use crate::flags::flags_of;
 use crate::number::{client_of, descriptor_of, number_of};
 use crate::path_text::PathText;
 use crate::words::{cut, one_word, three_words, two_words};
-use posix_calls::{Call, Flags};
+use posix_calls::{Call, Flags, SharedBytes};
 use std::alloc::{AllocError, Global};
 
 /// What a line of a script is.
@@ -251,7 +251,7 @@ impl CallText<'_> {
                 at,
                 data,
             } => {
-                let bytes = data.to_bytes(alloc)?;
+                let bytes = SharedBytes::from_vec(data.to_bytes(alloc)?.into_vec())?;
                 Ok(Call::Pwrite {
                     descriptor,
                     at,

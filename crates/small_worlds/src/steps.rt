@@ -5,7 +5,7 @@ ghost use Rattle.log_record.specs.Grammar.{IsRecord};
 
 use file_graph::{Effect, Effects, Kind};
 use log_record::Record;
-use posix_calls::{Bytes, Name};
+use posix_calls::{Name, SharedBytes};
 use std::alloc::{AllocError, Global};
 
 /// One effect on an inode. `Bytes` is so many of one value, from a byte on.
@@ -45,7 +45,7 @@ fn effect_of(alloc: Global, step: Step<'_>) -> Result<Effect, AllocError> {
         Step::Bytes(inode, at, byte, count) => Effect::Bytes {
             inode,
             at,
-            bytes: Bytes::from_vec(vec![in alloc; byte; count]?),
+            bytes: SharedBytes::from_vec(vec![in alloc; byte; count]?)?,
         },
         Step::Drop(inode) => Effect::Drop { inode },
     })

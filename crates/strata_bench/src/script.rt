@@ -1,7 +1,7 @@
 // How many calls a second a file tree in memory answers.
 use layer_bench::{Desk, Failure, Sum, bytes_of, keep_room};
 use plain_tree::PlainTree;
-use posix_calls::{Bytes, Call, Flags, Reply, UNIT_BYTES};
+use posix_calls::{Bytes, Call, Flags, Reply, SharedBytes, UNIT_BYTES};
 use std::alloc::{AllocError, Global};
 
 const DIRECTORIES: u32 = 20;
@@ -107,13 +107,13 @@ fn make_directories(desk: &mut Desk<'_>, tree: &mut Tree) -> Result<(), AllocErr
 
 // Makes each file and writes its bytes.
 fn time_writes(desk: &mut Desk<'_>, tree: &mut Tree) -> Result<(), AllocError> {
-    let bytes = Bytes::from_vec(bytes_of(desk.alloc(), 0x61, BLOCK)?);
+    let bytes = SharedBytes::from_vec(bytes_of(desk.alloc(), 0x61, BLOCK)?)?;
     let sums = time_uses(desk, tree, MAKE, write_of(bytes))?;
     tell(desk, "pwrite of 4 KiB", sums.uses);
     Ok(())
 }
 
-fn write_of(bytes: Bytes) -> Call {
+fn write_of(bytes: SharedBytes) -> Call {
     Call::Pwrite {
         descriptor: 0,
         at: 0,
