@@ -1,6 +1,7 @@
 pub mod Blocks
 pub mod Bounding
 pub mod Bytes
+pub mod Changed
 pub mod Ends
 pub mod Entries
 pub mod Law
@@ -11,5 +12,6 @@ pub mod Nodes
 pub mod Overs
 pub mod Patches
 pub mod Pieces
+pub mod Runs
 pub mod Tidying
 pub mod Touched

@@ -2,7 +2,6 @@
 use Rattle.std.proofs.Common.{◌≡◌, inl, inr, ℕ, List, [], ◌∷◌, Bool, true, false, Option, Some, None, refl, sym, ap, ◌∙◌, cond, subst}
 use Rattle.std.proofs.lemmas.Bool.Decides.{eqb_tells}
 use Rattle.std.specs.Prelude.{option_map, unwrap_or, IsSome}
-use Rattle.std.specs.Option.{UnwrapsOrElse}
 use Rattle.std.specs.Ordering.{nat_cmp, is_eq, eq_by_cmp}
 use Rattle.std.specs.Cmp.{nat_cmp_total, eq_by_cmp_equiv}
 use Rattle.std.specs.Map.{lookup}
@@ -67,6 +66,17 @@ pub put_lent : {X Y : Type 0} (f : X → Y) (old : BTreeMap ℕ X) (lent new : L
 put_lent f old lent new i x y updates same is = ap (map_of f) is ∙ put_in f old lent i x y same updates
 
 -- what stands at a place, which is made first if nothing does
-pub stood_or_made : {X Y : Type 0} (f : X → Y) (m : BTreeMap ℕ X) (i : ℕ) (o : Option X) (x : X) (none : Y) (Made : X → Type 0) → o ≡ get nat_cmp m i → UnwrapsOrElse o Made x → (Made x → f x ≡ none) → f x ≡ unwrap_or (fin.get (map_of f m.entries) i) none
-stood_or_made f m i None x none Made is made new = new made ∙ sym (was_there f m i None none (sym is))
-stood_or_made f m i (Some y) x none Made is same new = ap f same ∙ sym (was_there f m i (Some y) none (sym is))
+pub stood_or_new : {X Y : Type 0} (f : X → Y) (m : BTreeMap ℕ X) (i : ℕ) (o : Option X) (x d : X) (none : Y) → o ≡ get nat_cmp m i → x ≡ unwrap_or o d → f d ≡ none → f x ≡ unwrap_or (fin.get (map_of f m.entries) i) none
+stood_or_new f m i None x d none is at new = ap f at ∙ new ∙ sym (was_there f m i None none (sym is))
+stood_or_new f m i (Some y) x d none is at new = ap f at ∙ sym (was_there f m i (Some y) none (sym is))
+
+-- where it stood, what says the same changes nothing
+pub stood_same : {X Y : Type 0} (f : X → Y) (m : BTreeMap ℕ X) (i : ℕ) (o : Option X) (x d w : X) → o ≡ get nat_cmp m i → x ≡ unwrap_or o d → w ≡ x → (x ≡ d → ⊥) → fin.insert (map_of f m.entries) i (f w) ≡ map_of f m.entries
+stood_same f m i None x d w is at same stood = absurd (stood at)
+stood_same f m i (Some y) x d w is at same stood =
+    let there : fin.get (map_of f m.entries) i ≡ Some (f w) = value_at f m i ∙ ap (option_map f) (sym is) ∙ ap (λ z. Some (f z)) (sym (same ∙ at)) in
+    fin.same_map nat_cmp_total fin.nat_cmp-IsAntisymmetric _ _ (λ q.
+    get_put (map_of f m.entries) i (f w) q ∙ elim (eqb_tells q i) [
+      | inl here ↦ ap (λ t. cond t (Some (f w)) (fin.get (map_of f m.entries) q)) here.0 ∙ sym (ap (fin.get (map_of f m.entries)) here.1 ∙ there)
+      | inr off ↦ ap (λ t. cond t (Some (f w)) (fin.get (map_of f m.entries) q)) off.0
+    ])

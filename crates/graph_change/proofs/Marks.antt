@@ -1,9 +1,9 @@
 -- Marks of bytes that are put into a block, and how many of them are set.
 use Rattle.std.proofs.Common.{◌≡◌, ◌↔◌, inl, inr, if◌then◌else◌, ◌≤◌, ◌<◌, ◌+◌, ◌-◌, ◌*◌, ℕ, zero, suc, Bool, true, false, cond, List, [], ◌∷◌, ◌++◌, length, get_or, take, drop, refl, ap, sym, subst, ◌∙◌, arith, Some, None, Option}
-use Rattle.std.specs.Prelude.{replicate, map, nat_le, nat_lt, ◌&&◌, ◌==◌, IsTrue, IsSome, unwrap_or, vec_capacity}
+use Rattle.std.specs.Prelude.{replicate, map, nat_le, nat_lt, ◌&&◌, ◌==◌, IsSome, unwrap_or, vec_capacity}
 use Rattle.std.specs.Global.{Vec}
 use Rattle.std.specs.List.{count_by, sum_by}
-use Rattle.std.proofs.lemmas.Bool.{and_from, le-leb, cond-true, cond-false, eq-eqb, eqb-true, false≢true}
+use Rattle.std.proofs.lemmas.Bool.{and_from, le-leb, cond-true, cond-false, false≢true}
 use Rattle.std.proofs.lemmas.Bool.Decides.{eqb_tells, leb_tells}
 use Rattle.std.proofs.lemmas.Grind.{common_steps}
 use Rattle.std.proofs.lemmas.List.{append-nil, drop-drop, length-append, drop-append-le, drop-map, drop-replicate, drop_all, ext_get_or, get_or-replicate, get_or_past, length-drop, length-map, length-replicate, length-take-le, map-append, take-append-le, take-map, take_all}
@@ -210,7 +210,7 @@ spread_bytes old new n there made is =
 marked : (bytes : List ℕ) (marks : List Bool) (p : ℕ) → get_or marks p false ≡ true → patch_of (bytes, marks) p ≡ Some (get_or bytes p 0)
 marked bytes marks p set = cond-true (get_or marks p false) _ _ set
 
-empty : (o : Option ℕ) → o ≡ None → IsSome o → ⊥
+pub empty : (o : Option ℕ) → o ≡ None → IsSome o → ⊥
 empty o none some = cc
 
 put_there : (bytes : List ℕ) (marks : List Bool) (p : ℕ) (b : Bool) → get_or marks p false ≡ b → IsSome (patch_of (bytes, marks) p) → get_or marks p false ≡ true
@@ -232,9 +232,6 @@ whole_by_count slots n kept = (there, back)
         let ms = marks_in n (kept_marks slots.items) in
         let long = kept.long in
         sym kept.counted ∙ each_set ms (λ p lt. put_there (bytes_in slots.items) ms p (get_or ms p false) refl (whole p (omega (arith, lt, long)))) ∙ long
-
-pub whole_told : (slots : Vec ℕ) (n : ℕ) → IsKept slots n → IsTrue (n == UNIT_BYTES) ↔ IsWhole (patch_of (bytes_in slots.items, marks_in n (kept_marks slots.items)))
-whole_told slots n kept = let told = whole_by_count slots n kept in (λ is. told.0 (eqb-true n UNIT_BYTES is), λ whole. eq-eqb n UNIT_BYTES (told.1 whole))
 
 -- where so many bytes are put as a block has, each is put at its place
 pub whole_byte : (bytes : List ℕ) (marks : List Bool) (n p : ℕ) → n ≡ UNIT_BYTES → p < UNIT_BYTES → patch_of (bytes, marks_in n marks) p ≡ Some (get_or bytes p 0)

@@ -1,18 +1,17 @@
 -- Bytes that are put into the blocks of a file one part after the other, each into one block.
 use Rattle.std.proofs.Common.{◌≡◌, ◌≢◌, ◌⊎◌, inl, inr, ℕ, zero, suc, ◌+◌, ◌-◌, ◌*◌, ◌/◌, ◌%◌, ◌<◌, ◌≤◌, if◌then◌else◌, cond, Bool, true, false, List, [], ◌∷◌, length, get_or, take, drop, refl, Some, Option, ap, sym, subst, ◌∙◌, arith}
-use Rattle.std.specs.Prelude.{nat_lt, nat_le, nat_eq, ◌&&◌, ◌||◌, not, unwrap_or, is_some}
+use Rattle.std.specs.Prelude.{nat_lt, nat_le, nat_eq, ◌&&◌, ◌||◌, unwrap_or}
 use Rattle.std.specs.List.{range_with_len, list_any}
 use Rattle.std.specs.Cmp.{nat_cmp_total}
 use Rattle.std.specs.FinMap as fin
-use Rattle.std.proofs.lemmas.Bool.{cases_lt, false≢true}
+use Rattle.std.proofs.lemmas.Bool.{cases_lt}
 use Rattle.std.proofs.lemmas.List.{take_all}
 use Rattle.std.proofs.lemmas.Bool.Decides.{eqb_tells, nat_tests}
 use Rattle.std.proofs.lemmas.Grind.{common_steps}
 use Rattle.posix_calls.specs.declared.limits.TheConstants.{UNIT_BYTES}
 use Rattle.graph_change.specs.Bytes.{in_run}
 use Rattle.graph_change.specs.Change.{Patch, Patches, blank, patch_at, span, put_patch, over_patch, put_block, put_blocks}
-use Rattle.graph_change.specs.Memory.{lacks_one}
-use Rattle.graph_change.proofs.Blocks.{get_put, value_put, either, any_range, in_span}
+use Rattle.graph_change.proofs.Blocks.{get_put, value_put, either, any_range}
 
 -- a block with its part of the first bytes that are put at an offset of the file
 abbrev pub so_far : ℕ → ℕ → List ℕ → ℕ → Patch → Patch
@@ -59,19 +58,12 @@ all_put at bytes old now put = fin.same_map nat_cmp_total fin.nat_cmp-IsAntisymm
 pub none_yet : (at : ℕ) (bytes : List ℕ) (old : Patches) → PutSoFar at 0 bytes old old
 none_yet at bytes old b = refl
 
--- a block that was there still is
-pub still_there : (at done b : ℕ) (bytes : List ℕ) (old now : Patches) → PutSoFar at done bytes old now → fin.contains_key old b ≡ true → fin.contains_key now b ≡ true
-still_there at done b bytes old now put there = ap is_some (put b) ∙ elim (either (list_any (nat_eq b) (span at done))) [
-  | inl on ↦ ap (λ t. is_some (cond t (Some (so_far at done bytes b (patch_at old b))) (fin.get old b))) on
-  | inr off ↦ ap (λ t. is_some (cond t (Some (so_far at done bytes b (patch_at old b))) (fin.get old b))) off ∙ there
-]
-
 -- ---- which blocks so many bytes lie in
 
 abbrev lies_in : ℕ → ℕ → ℕ → Bool
 lies_in at n b = nat_lt 0 n && (nat_le (at / UNIT_BYTES) b && nat_le b ((at + n - 1) / UNIT_BYTES))
 
-any_outside : (k a j : ℕ) → (j < a) ⊎ (a + k ≤ j) → list_any (nat_eq j) (range_with_len a k) ≡ false
+pub any_outside : (k a j : ℕ) → (j < a) ⊎ (a + k ≤ j) → list_any (nat_eq j) (range_with_len a k) ≡ false
 any_outside zero a j out = refl
 any_outside (suc k) a j out =
     elim (eqb_tells j a) [
@@ -118,10 +110,10 @@ block_so_far at done bytes old now b p put =
         let z : (nat_lt p UNIT_BYTES && in_run at done (UNIT_BYTES * b + p)) ≡ false = grind (arith, nat_tests, out) in
         ap (λ t. cond t (Some (get_or bytes (UNIT_BYTES * b + p - at) 0)) (old p)) z
 
-piece_byte : (count done k : ℕ) (bytes : List ℕ) → k < count → get_or (take count (drop done bytes)) k 0 ≡ get_or bytes (done + k) 0
+pub piece_byte : (count done k : ℕ) (bytes : List ℕ) → k < count → get_or (take count (drop done bytes)) k 0 ≡ get_or bytes (done + k) 0
 piece_byte count done k bytes h = grind (arith, common_steps)
 
-piece_length : (count done : ℕ) (bytes : List ℕ) → done + count ≤ length bytes → length (take count (drop done bytes)) ≡ count
+pub piece_length : (count done : ℕ) (bytes : List ℕ) → done + count ≤ length bytes → length (take count (drop done bytes)) ≡ count
 piece_length count done bytes h = grind (arith, common_steps)
 
 -- the block that the part is put into
@@ -201,17 +193,3 @@ in_one_block at place bytes old is some within =
     ∙ sym (ap (λ k. fin.insert old (k / UNIT_BYTES) (put_patch (k % UNIT_BYTES) (take n (drop 0 bytes)) (patch_at old (k / UNIT_BYTES)))) here
     ∙ ap (λ xs. fin.insert old (at / UNIT_BYTES) (put_patch (at % UNIT_BYTES) xs (patch_at old (at / UNIT_BYTES)))) all)
     ∙ all_put at bytes old new (subst (λ k. PutSoFar at k bytes old new) nothing (one_part at 0 n bytes old old some (omega arith) (omega (arith, is, within)) (none_yet at bytes old)))
-
-any_of : (p : ℕ → Bool) (xs : List ℕ) (b : ℕ) → list_any (nat_eq b) xs ≡ true → p b ≡ true → list_any p xs ≡ true
-any_of p [] b there is = absurd (false≢true there)
-any_of p (x ∷ xs) b there is = elim (eqb_tells b x) [
-  | inl here ↦ ap (λ t. t || list_any p xs) (ap p (sym here.1) ∙ is)
-  | inr off ↦ or_right (p x) (list_any p xs) (any_of p xs b (sym (ap (λ t. t || list_any (nat_eq b) xs) off.0) ∙ there) is)
-] where
-  or_right : (s t : Bool) → t ≡ true → (s || t) ≡ true
-  or_right true t h = refl
-  or_right false t h = h
-
--- and that one is not there
-pub one_lacks : (at : ℕ) (bytes : List ℕ) (old : Patches) → 0 < length bytes → fin.contains_key old (at / UNIT_BYTES) ≡ false → lacks_one (span at (length bytes)) old ≡ true
-one_lacks at bytes old some absent = any_of (λ b. not (fin.contains_key old b)) (span at (length bytes)) (at / UNIT_BYTES) (in_span at (length bytes) at (omega arith) (omega (arith, some))) (ap not absent)

@@ -1,8 +1,10 @@
 pub mod Bounds
 pub mod Bytes
 pub mod Change
+pub mod Changed
 pub mod Kept
 pub mod Memory
 pub mod Net
+pub mod Runs
 pub mod Tidy
 pub mod View

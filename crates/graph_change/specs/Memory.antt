@@ -1,18 +1,14 @@
 -- Which effects want memory, and blocks that are made before bytes are put into them.
-use Rattle.std.specs.Prelude.{◌≡◌, ℕ, ◌+◌, ◌^◌, Bool, true, false, not, ◌||◌, List, length, None, nat_eq, nat_le}
+use Rattle.std.specs.Prelude.{◌≡◌, ℕ, Bool, true, false, not, ◌||◌, List, length, None, nat_eq, nat_lt}
 use Rattle.std.specs.List.{list_any}
 use Rattle.std.specs.FinMap as fin
 use Rattle.file_graph.specs.declared.effect.Effect.{Effect}
 use Rattle.file_graph.specs.declared.effect.Effect.TheVariants as effect
-use Rattle.graph_change.specs.Change.{Patches, Change, Changes, patch_at, change_at, span, subject}
+use Rattle.graph_change.specs.Change.{Patches, Change, Changes, patch_at, change_at, subject}
 
 -- whether nothing was put yet into one of these blocks
 abbrev pub lacks_one : List ℕ → Patches → Bool
 lacks_one bs ps = list_any (λ b. not (fin.contains_key ps b)) bs
-
--- whether so many bytes that are put at an offset want memory; where they end past all numbers there is none
-abbrev pub write_takes_memory : ℕ → ℕ → Patches → Bool
-write_takes_memory at count ps = nat_le (2 ^ 64) (at + count) || lacks_one (span at count) ps
 
 -- whether an effect that is added to the change of its inode wants memory
 abbrev pub takes_memory : Effect → Change → Bool
@@ -21,7 +17,7 @@ takes_memory (effect.Enter d i kind name) c = true
 takes_memory (effect.Leave d name) c = true
 takes_memory (effect.Names i n) c = false
 takes_memory (effect.Size i size) c = false
-takes_memory (effect.Bytes i at bytes) c = write_takes_memory at (length bytes) c.patches
+takes_memory (effect.Bytes i at bytes) c = nat_lt 0 (length bytes)
 takes_memory (effect.Drop i) c = false
 
 -- whether an effect that is added to the changes of many inodes does: the first on its inode does

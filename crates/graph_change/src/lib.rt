@@ -5,16 +5,23 @@
 //! coalesces effects makes one, and whoever keeps a graph on media applies one; what it makes of a graph is a definition
 //! (`changed` in `specs/Change.antt`), and `changes_are_the_effects` says that this is what the effects make of it.
 //!
+//! The bytes of a write are not copied: each block that they lie in has a share of them, which is given up where later bytes go over all of it. Only where bytes
+//! are put over some of those of a block has it bytes of its own.
+//!
 //! An effect on the entries of two directories at once (an exchange of two entries) is no change of single inodes. It would stand
 //! between two changes: what makes nodes and enters names can be done before it, and the rest of a change after it.
 #![tactic(auto)]
 
 mod block_change;
+mod changed_blocks;
 mod graph_change;
+mod kept;
 mod laws;
 mod made_blocks;
 mod node_change;
+mod own_block;
 mod parts;
+mod shared_part;
 
 pub use block_change::BlockChange;
 pub use graph_change::GraphChange;
@@ -24,3 +31,4 @@ pub use laws::{
 };
 pub use node_change::NodeChange;
 pub use parts::{NodeBase, NodeLength};
+pub use shared_part::SharedPart;

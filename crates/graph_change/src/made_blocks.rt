@@ -24,7 +24,7 @@ pub fn make_blocks(
     ensures memory { OnErr result (lacks_one (range_with_len first (end - first)) (patches_of blocks.old) ≡ true) }
 {
     let mut made = Vec::new(alloc);
-    match make_each(alloc, blocks, &mut made, first, end) {
+    match make_each(blocks, &mut made, first, end) {
         Ok(()) => Ok(()),
         Err(error) => {
             drop_blocks(blocks, &made);
@@ -35,7 +35,6 @@ pub fn make_blocks(
 
 // Makes the blocks one after the other, and keeps the numbers of those that were not there.
 fn make_each(
-    alloc: Global,
     blocks: &mut BTreeMap<u64, BlockChange>,
     made: &mut Vec<u64>,
     first: u64,
@@ -48,14 +47,13 @@ fn make_each(
     ensures memory { OnErr result (lacks_one (range_with_len first (end - first)) (patches_of blocks.old) ≡ true) }
 {
     for number in first..end {
-        make_block(alloc, blocks, made, number)?;
+        make_block(blocks, made, number)?;
     }
     Ok(())
 }
 
 // Makes a block if it is not there, and keeps its number then.
 fn make_block(
-    alloc: Global,
     blocks: &mut BTreeMap<u64, BlockChange>,
     made: &mut Vec<u64>,
     number: u64,
@@ -70,8 +68,7 @@ fn make_block(
         return Ok(());
     }
     made.push(number)?;
-    let new = BlockChange::new(alloc)?;
-    blocks.insert(number, new)?;
+    blocks.insert(number, BlockChange::new())?;
     Ok(())
 }
 

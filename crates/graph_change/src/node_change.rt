@@ -6,15 +6,17 @@ ghost use Rattle.std.specs.FinMap as fin;
 ghost use Rattle.graph_change.specs.Bytes.{grown_to};
 ghost use Rattle.posix_calls.specs.declared.limits.TheConstants.{UNIT_BYTES};
 ghost use Rattle.graph_change.specs.Change.{new_change, change_after, patch_at, put_patch, put_blocks, span, cut_last, cut_patches};
-ghost use Rattle.graph_change.specs.Memory.{lacks_one, write_takes_memory, takes_memory};
+ghost use Rattle.graph_change.specs.Memory.{takes_memory};
 ghost use Rattle.graph_change.specs.View.{base_of, new_length, patches_of, change_of};
 
 use crate::block_change::BlockChange;
+use crate::changed_blocks::{changed_blocks, set_blocks};
 use crate::made_blocks::make_blocks;
 use crate::parts::{NodeBase, NodeLength};
+use crate::shared_part::SharedPart;
 use file_graph::{Effect, Kind};
 use node_bodies::NameMap;
-use posix_calls::UNIT_BYTES;
+use posix_calls::{SharedBytes, UNIT_BYTES};
 use std::alloc::{AllocError, Global};
 use std::collections::BTreeMap;
 
@@ -46,8 +48,8 @@ impl NodeChange {
         }
     }
 
-    /// Adds an effect, which is one on this inode, behind those that are in it. It wants memory for the name of an entry and for a block into which nothing was put yet;
-    /// a write that would end past all numbers finds none. Where there is none for it, the change stays as it was.
+    /// Adds an effect, which is one on this inode, behind those that are in it. It wants memory for the name of an entry and for a write of at least one byte;
+    /// one that would end past all numbers finds none. Where there is none for it, the change stays as it was.
     pub fn add(&mut self, alloc: Global, effect: &Effect) -> Result<(), AllocError>
         ensures change { OnOk result (change_of self.new ≡ change_after effect.now (change_of self.old)) }
         ensures refused { OnErr result (change_of self.new ≡ change_of self.old) }
@@ -79,7 +81,7 @@ impl NodeChange {
                 &mut self.length,
                 &mut self.blocks,
                 *at,
-                bytes.as_slice(),
+                bytes,
             ),
             Effect::Drop { .. } => {
                 *self = NodeChange::new(alloc, NodeBase::Gone);
@@ -95,46 +97,42 @@ fn write(
     len: &mut NodeLength,
     blocks: &mut BTreeMap<u64, BlockChange>,
     at: u64,
-    bytes: &[u8],
+    bytes: &SharedBytes,
 ) -> Result<(), AllocError>
     ensures length { OnOk result (new_length len.new ≡ grown_to (at + length bytes.now) (new_length len.old)) }
     ensures blocks { OnOk result (patches_of blocks.new ≡ put_blocks at bytes.now (span at (length bytes.now)) (patches_of blocks.old)) }
     ensures same_length { OnErr result (new_length len.new ≡ new_length len.old) }
     ensures same_blocks { OnErr result (patches_of blocks.new ≡ patches_of blocks.old) }
-    ensures memory { OnErr result (write_takes_memory at (length bytes.now) (patches_of blocks.old) ≡ true) }
+    ensures memory { OnErr result (0 < length bytes.now) }
 {
     let Some(end) = at.checked_add(bytes.len() as u64) else {
         return Err(AllocError);
     };
-    put_bytes(alloc, blocks, at, bytes)?;
+    if at < end {
+        put_bytes(alloc, blocks, at, bytes)?;
+    }
     *len = len.grown(end);
     Ok(())
 }
 
-// Puts bytes into the blocks that they lie in. Where there is no memory for one of these, none changes.
+// Puts bytes, at least one, into the blocks that they lie in. Where there is no memory for one of these, none changes.
 fn put_bytes(
     alloc: Global,
     blocks: &mut BTreeMap<u64, BlockChange>,
     at: u64,
-    bytes: &[u8],
+    bytes: &SharedBytes,
 ) -> Result<(), AllocError>
-    requires { at + length bytes.now < 2 ^ 64 }
+    requires some { 0 < length bytes.now }
+    requires end { at + length bytes.now < 2 ^ 64 }
     ensures put { OnOk result (patches_of blocks.new ≡ put_blocks at bytes.now (span at (length bytes.now)) (patches_of blocks.old)) }
     ensures refused { OnErr result (patches_of blocks.new ≡ patches_of blocks.old) }
-    ensures memory { OnErr result (lacks_one (span at (length bytes.now)) (patches_of blocks.old) ≡ true) }
 {
     let place = (at % UNIT_BYTES as u64) as usize;
-    if !bytes.is_empty() && bytes.len() <= UNIT_BYTES as usize - place {
-        return put_in_one(alloc, blocks, at / UNIT_BYTES as u64, place, bytes);
+    if bytes.len() <= UNIT_BYTES as usize - place {
+        let part = SharedPart::of(bytes, 0, bytes.len())?;
+        return put_in_one(alloc, blocks, at / UNIT_BYTES as u64, place, part);
     }
-    make_blocks(
-        alloc,
-        blocks,
-        at / UNIT_BYTES as u64,
-        span_end(at, bytes.len()),
-    )?;
-    put_parts(blocks, at, bytes);
-    Ok(())
+    put_in_several(alloc, blocks, at, bytes)
 }
 
 // Puts bytes into one block, which is made if it is not there: its place among the others is looked for but once.
@@ -143,64 +141,34 @@ fn put_in_one(
     blocks: &mut BTreeMap<u64, BlockChange>,
     block: u64,
     place: usize,
-    part: &[u8],
+    part: SharedPart,
 ) -> Result<(), AllocError>
-    requires { place + length part.now ≤ UNIT_BYTES }
-    ensures put { OnOk result (patches_of blocks.new ≡ fin.insert (patches_of blocks.old) block (put_patch place part.now (patch_at (patches_of blocks.old) block))) }
+    requires { place + length part ≤ UNIT_BYTES }
+    ensures put { OnOk result (patches_of blocks.new ≡ fin.insert (patches_of blocks.old) block (put_patch place part (patch_at (patches_of blocks.old) block))) }
     ensures refused { OnErr result (patches_of blocks.new ≡ patches_of blocks.old) }
-    ensures memory { OnErr result (fin.contains_key (patches_of blocks.old) block ≡ false) }
 {
-    let changed = blocks
-        .entry(block)?
-        .or_try_insert_with(|| BlockChange::new(alloc))?;
-    changed.put(place, part);
-    Ok(())
+    let changed = blocks.entry(block)?.or_insert(BlockChange::new());
+    changed.put(alloc, place, part)
 }
 
-// The number behind the last of the blocks that so many bytes from an offset on lie in.
-fn span_end(at: u64, count: usize) -> u64
-    requires { at + count < 2 ^ 64 }
-    ensures end { span at count ≡ range_with_len (at / UNIT_BYTES) (result - at / UNIT_BYTES) }
-    ensures order { at / UNIT_BYTES ≤ result }
-{
-    if count == 0 {
-        at / UNIT_BYTES as u64
-    } else {
-        (at + (count as u64 - 1)) / UNIT_BYTES as u64 + 1
-    }
-}
-
-// Puts bytes into the blocks that they lie in, one after the other, where all of these are there.
-fn put_parts(blocks: &mut BTreeMap<u64, BlockChange>, at: u64, bytes: &[u8])
+// Puts bytes, at least one, into the blocks that they lie in: what each of these becomes is made first, so that nothing wants memory once one of them is changed.
+fn put_in_several(
+    alloc: Global,
+    blocks: &mut BTreeMap<u64, BlockChange>,
+    at: u64,
+    bytes: &SharedBytes,
+) -> Result<(), AllocError>
+    requires some { 0 < length bytes.now }
     requires end { at + length bytes.now < 2 ^ 64 }
-    requires there { (b : ℕ) → list_any (nat_eq b) (span at (length bytes.now)) ≡ true → fin.contains_key (patches_of blocks.old) b ≡ true }
-    ensures { patches_of blocks.new ≡ put_blocks at bytes.now (span at (length bytes.now)) (patches_of blocks.old) }
+    ensures put { OnOk result (patches_of blocks.new ≡ put_blocks at bytes.now (span at (length bytes.now)) (patches_of blocks.old)) }
+    ensures refused { OnErr result (patches_of blocks.new ≡ patches_of blocks.old) }
 {
-    let mut done = 0;
-    while done < bytes.len() {
-        let start = at + done as u64;
-        let place = (start % UNIT_BYTES as u64) as usize;
-        let count = (UNIT_BYTES as usize - place).min(bytes.len() - done);
-        put_part(
-            blocks,
-            start / UNIT_BYTES as u64,
-            place,
-            &bytes[done..done + count],
-        );
-        done += count;
-    }
-}
-
-// Puts bytes into one block, which is there.
-fn put_part(blocks: &mut BTreeMap<u64, BlockChange>, block: u64, place: usize, part: &[u8])
-    requires within { place + length part.now ≤ UNIT_BYTES }
-    requires there { fin.contains_key (patches_of blocks.old) block ≡ true }
-    ensures { patches_of blocks.new ≡ fin.insert (patches_of blocks.old) block (put_patch place part.now (patch_at (patches_of blocks.old) block)) }
-{
-    let Some(there) = blocks.get_mut(&block) else {
-        unreachable!()
-    };
-    there.put(place, part);
+    let first = at / UNIT_BYTES as u64;
+    let end = (at + (bytes.len() as u64 - 1)) / UNIT_BYTES as u64 + 1;
+    let changed = changed_blocks(alloc, blocks, at, bytes, first, end)?;
+    make_blocks(alloc, blocks, first, end)?;
+    set_blocks(blocks, first, changed);
+    Ok(())
 }
 
 // Drops what is put behind a size.
