@@ -6,7 +6,7 @@ use Rattle.std.proofs.lemmas.Bool.{cases_Bool, cases_lt, eqb-true, eqb-false}
 use Rattle.std.proofs.lemmas.List.{length-take-le, length-append}
 use Rattle.std.proofs.lemmas.List.FromFn.{length-range_with_len}
 use Rattle.tier_device.specs.declared.media.Tier.{Tier}
-use Rattle.layout.specs.Places.{Sizes, data_first, tier_blocks}
+use Rattle.layout.specs.Places.{Sizes}
 use Rattle.block_alloc.specs.declared.runs.Run.{Run}
 use Rattle.block_alloc.specs.declared.error.AllocatorError.{AllocatorError}
 use Rattle.block_alloc.specs.declared.error.AllocatorError.TheVariants.{NoBlock}
@@ -19,7 +19,6 @@ use Rattle.area_commit.specs.MovableRun.{MovableRun}
 use Rattle.area_commit.specs.Placed.{EndsFit}
 use Rattle.area_commit.specs.Plan.{WereFree}
 use Rattle.area_relocate.specs.Made.{first_of, spare_count, IsSpareFor, IsTakenFor}
-use Rattle.area_relocate.specs.Moving.{AreLowestFree}
 
 -- ---- runs
 
