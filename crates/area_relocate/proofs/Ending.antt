@@ -27,7 +27,7 @@ use Rattle.area_commit.proofs.Course.{Rests}
 use Rattle.area_commit.proofs.Moments.{rest_loose}
 use Rattle.area_commit.specs.MovableRun.{MovableRun}
 use Rattle.area_relocate.specs.Made.{IsMovePlan, IsPlanOfMove}
-use Rattle.area_relocate.specs.Moving.{IsSettled, IsMovedStore, IsMovedOrNot, Moves, StaysStill, Ends}
+use Rattle.area_relocate.specs.Moving.{AreLowestFree, IsSettled, IsMovedStore, IsMovedOrNot, Moves, MovesInFewCalls, StaysStill, Ends}
 
 -- ---- answers
 
@@ -159,6 +159,21 @@ module _ {M : Type 0} (moment : M → ℕ) (seen : M → Tier → List ℕ) (lef
     abbrev MovesTo : JournalView M → JournalView M → Type 0
     MovesTo old new = Moves old.geometry (store_of (seen old.media)) i first count to (moment old.media) (moment new.media) (left old.media) (left new.media)
 
+    -- how many calls there are between them
+    abbrev FewTo : JournalView M → JournalView M → Type 0
+    FewTo old new = MovesInFewCalls old.geometry (store_of (seen old.media)) to count (moment old.media) (moment new.media)
+
+    few_still : (old new : JournalView M) → StillAt old new → FewTo old new
+    few_still old new still = inl (let clock = still.clock in omega (arith, clock))
+
+    few_on : (old mid new : JournalView M) → StillAt old mid → mid.geometry ≡ old.geometry → FewTo mid new → FewTo old new
+    few_on old mid new still geometry (inl none) = inl (let clock = still.clock in omega (arith, none, clock))
+    few_on old mid new still geometry (inr some) = inr (record {
+      runs = some.runs;
+      lowest = subst (λ (g : Sizes). AreLowestFree g (store_of (seen old.media)) to count some.runs) geometry (subst (λ (s : Store). AreLowestFree mid.geometry s to count some.runs) (ap store_of (tiers_same (seen old.media) (seen mid.media) still.reads)) some.lowest);
+      few = (let few = some.few in let clock = still.clock in omega (arith, few, clock));
+    })
+
     abbrev EndsAt : JournalView M → JournalView M → PoolsView → Result (Unit {0}) RelocateError → Type 0
     EndsAt old new pools r = Ends moment seen left faults i first count to old new pools r
 
@@ -181,7 +196,7 @@ module _ {M : Type 0} (moment : M → ℕ) (seen : M → Tier → List ℕ) (lef
 
     -- ---- refusals
 
-    pub ends_fault : (old new : JournalView M) (pools : PoolsView) → MovesTo old new → moment new.media ≤ moment old.media + count + 13 → (new.failed ≡ true) × Rose (faults old.media) (faults new.media) → new.geometry ≡ old.geometry → faults old.media ≤ faults new.media → faults new.media ≤ faults old.media + 1
+    pub ends_fault : (old new : JournalView M) (pools : PoolsView) → MovesTo old new → FewTo old new → (new.failed ≡ true) × Rose (faults old.media) (faults new.media) → new.geometry ≡ old.geometry → faults old.media ≤ faults new.media → faults new.media ≤ faults old.media + 1
         → EndsAt old new pools (Err errors.DeviceFault)
     ends_fault old new pools moves few fault geometry more one = record {
       any_moment = moves;
@@ -193,7 +208,7 @@ module _ {M : Type 0} (moment : M → ℕ) (seen : M → Tier → List ℕ) (lef
       geometry = geometry;
       more_faults = more;
       one_fault = one;
-      at_most = few;
+      few = few;
     }
 
     pub ends_refused : (old new : JournalView M) (pools : PoolsView) (e : RelocateError) → e ≢ errors.DeviceFault → Rests moment seen left old.geometry old.media → StillAt old new → new.geometry ≡ old.geometry → new.failed ≡ false → faults new.media ≡ faults old.media
@@ -208,7 +223,7 @@ module _ {M : Type 0} (moment : M → ℕ) (seen : M → Tier → List ℕ) (lef
       geometry = geometry;
       more_faults = omega (arith, quiet);
       one_fault = omega (arith, quiet);
-      at_most = (let clock = still.clock in omega (arith, clock));
+      few = few_still old new still;
     }
 
     failed_now : {A B C : Type 0} → A × (B ⊎ C) → (B → ⊥) → A × C
@@ -218,7 +233,7 @@ module _ {M : Type 0} (moment : M → ℕ) (seen : M → Tier → List ℕ) (lef
     pub ends_told : {T : Type 0} (old new : JournalView M) (pools : PoolsView) (e : AreaError) (f : RelocateError) → IsTold e f → Looks {T = T} moment seen left faults old new (Err e) → old.failed ≡ false → Rests moment seen left old.geometry old.media → SettledAt old pools
         → EndsAt old new pools (Err f)
     ends_told old new pools area.DeviceFault f is looks going rests settled = subst (λ (x : RelocateError). EndsAt old new pools (Err x)) (sym is) (
-        ends_fault old new pools (moves_still old new rests looks.unmoved) (let clock = looks.unmoved.clock in omega (arith, clock)) (failed_now (looks.fault refl) (λ was. true≢false (sym was ∙ going))) looks.geometry looks.more_faults looks.one_fault
+        ends_fault old new pools (moves_still old new rests looks.unmoved) (few_still old new looks.unmoved) (failed_now (looks.fault refl) (λ was. true≢false (sym was ∙ going))) looks.geometry looks.more_faults looks.one_fault
         )
     ends_told old new pools (area.Damaged w b) f is looks going rests settled = absurd is
     ends_told old new pools area.Memory f is looks going rests settled =
@@ -260,7 +275,7 @@ module _ {M : Type 0} (moment : M → ℕ) (seen : M → Tier → List ℕ) (lef
       geometry = ends.geometry ∙ geometry;
       more_faults = (let more = ends.more_faults in omega (arith, more, quiet));
       one_fault = (let one = ends.one_fault in omega (arith, one, quiet));
-      at_most = (let few = ends.at_most in let clock = still.clock in omega (arith, few, clock));
+      few = few_on old mid new still geometry ends.few;
     }
     ends_on old mid new pools (Err e) still geometry quiet ends = record {
       any_moment = moves_on old mid new still geometry ends.any_moment;
@@ -272,7 +287,7 @@ module _ {M : Type 0} (moment : M → ℕ) (seen : M → Tier → List ℕ) (lef
       geometry = ends.geometry ∙ geometry;
       more_faults = (let more = ends.more_faults in omega (arith, more, quiet));
       one_fault = (let one = ends.one_fault in omega (arith, one, quiet));
-      at_most = (let few = ends.at_most in let clock = still.clock in omega (arith, few, clock));
+      few = few_on old mid new still geometry ends.few;
     }
 
     -- ---- a plan that is carried out
@@ -289,7 +304,7 @@ module _ {M : Type 0} (moment : M → ℕ) (seen : M → Tier → List ℕ) (lef
             record { volume = at.volume; store = elim at.store [ inl loose ↦ inl loose | inr out ↦ inr (done (store_of content) out) ] };
       }
 
-      pub ends_done : (u : Unit {0}) (pools : PoolsView) → moment new.media ≤ moment old.media + count + 13 → IsCarriedOut old.geometry (store_of (seen old.media)) plan (store_of (seen new.media)) → SettledAt new pools → (new.failed ≡ false) × (faults new.media ≡ faults old.media) → new.geometry ≡ old.geometry → EndsAt old new pools (Ok u)
+      pub ends_done : (u : Unit {0}) (pools : PoolsView) → FewTo old new → IsCarriedOut old.geometry (store_of (seen old.media)) plan (store_of (seen new.media)) → SettledAt new pools → (new.failed ≡ false) × (faults new.media ≡ faults old.media) → new.geometry ≡ old.geometry → EndsAt old new pools (Ok u)
       ends_done u pools few out settled quiet geometry = record {
         any_moment = moves_all;
         moved = done (store_of (seen new.media)) out;
@@ -300,10 +315,10 @@ module _ {M : Type 0} (moment : M → ℕ) (seen : M → Tier → List ℕ) (lef
         geometry = geometry;
         more_faults = (let q = quiet.1 in omega (arith, q));
         one_fault = (let q = quiet.1 in omega (arith, q));
-        at_most = few;
+        few = few;
       }
 
-      pub ends_undone : (pools : PoolsView) (e : AreaError) (f : RelocateError) → moment new.media ≤ moment old.media + count + 13 → IsTold e f → (e ≡ area.DeviceFault → (new.failed ≡ true) × Rose (faults old.media) (faults new.media)) → (e ≡ area.Memory → Looks {T = Unit {0}} moment seen left faults old new (Err e)) → new.geometry ≡ old.geometry → faults old.media ≤ faults new.media
+      pub ends_undone : (pools : PoolsView) (e : AreaError) (f : RelocateError) → FewTo old new → IsTold e f → (e ≡ area.DeviceFault → (new.failed ≡ true) × Rose (faults old.media) (faults new.media)) → (e ≡ area.Memory → Looks {T = Unit {0}} moment seen left faults old new (Err e)) → new.geometry ≡ old.geometry → faults old.media ≤ faults new.media
           → faults new.media ≤ faults old.media + 1 → old.failed ≡ false → Rests moment seen left old.geometry old.media → SettledAt old pools → EndsAt old new pools (Err f)
       ends_undone pools area.DeviceFault f few is fault memory geometry more one going rests settled = subst (λ (x : RelocateError). EndsAt old new pools (Err x)) (sym is) (ends_fault old new pools moves_all few (fault refl) geometry more one)
       ends_undone pools (area.Damaged w b) f few is fault memory geometry more one going rests settled = absurd is

@@ -12,7 +12,7 @@ use Rattle.block_alloc.specs.declared.error.AllocatorError.{AllocatorError}
 use Rattle.block_alloc.specs.declared.error.AllocatorError.TheVariants.{NoBlock}
 use Rattle.block_alloc.specs.Runs.{run_blocks, blocks_of, AreNormalRuns}
 use Rattle.area_image.specs.Store.{Store, root_of}
-use Rattle.area_commit.specs.PoolsValue.{PoolsView, data_pool, HasRanges, AreFree}
+use Rattle.area_commit.specs.PoolsValue.{PoolsView, data_pool, AreInOrder, HasRanges, AreFree}
 use Rattle.area_commit.specs.Taken.{Taken}
 use Rattle.area_commit.specs.Taking.{runs_of, WereTaken}
 use Rattle.area_commit.specs.MovableRun.{MovableRun}
@@ -91,11 +91,15 @@ module _ (before left : PoolsView) (f : MovableRun) (to : Tier) where
   pub taken_for : TakenWereFree → (r : Result Taken AllocatorError) → IfOk r (λ taken. blocks_of taken.nodes.items ≡ take (spare_count (root_of f.slot to)) before.nodes.free)
       → IfOk r (λ taken. blocks_of (runs_of taken to) ≡ take f.run.count (data_pool before to).free) → IfOk r (λ taken. (t : Tier) → t ≢ to → blocks_of (runs_of taken t) ≡ []) → IfOk r (WereTaken before left)
       → (IsErrOf r NoBlock ↔ ((length before.nodes.free < spare_count (root_of f.slot to)) ⊎ (length (data_pool before to).free < f.run.count)))
-      → IfOk r (λ taken. (g : Sizes) (s : Store) → HasRanges g before → AreFree g s before → IsTakenFor g s f to taken)
-  taken_for law (Err e) nodes data' others were few = tt
-  taken_for law (Ok taken) nodes data' others were few = λ g s ranges free. record {
-    free = law g s before left taken ranges free were;
-    many = ap length data' ∙ length-take-le f.run.count (data_pool before to).free (enough taken few);
-    others = others;
-    spare = spare taken (enough_nodes taken few) nodes were;
-  }
+      → AreInOrder before → IfOk r (λ taken. (g : Sizes) (s : Store) → HasRanges g before → AreFree g s before → IsTakenFor g s f to taken)
+  taken_for law (Err e) nodes data' others were few order = tt
+  taken_for law (Ok taken) nodes data' others were few order = λ g s ranges free.
+      let many = ap length data' ∙ length-take-le f.run.count (data_pool before to).free (enough taken few) in
+      let was_free = law g s before left taken ranges free were in
+      record {
+        free = was_free;
+        many = many;
+        others = others;
+        lowest = record { pools = before; order = order; ranges = ranges; free = free; apart = was_free.apart to; many = many; lowest = data' };
+        spare = spare taken (enough_nodes taken few) nodes were;
+      }

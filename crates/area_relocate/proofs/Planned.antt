@@ -1,5 +1,5 @@
 -- The plan of a move, put together.
-use Rattle.std.proofs.Common.{◌≡◌, ◌≢◌, ◌≤◌, ◌<◌, ◌+◌, ◌∙◌, ℕ, List, [], ◌∷◌, None, length, sym, ap, subst, arith}
+use Rattle.std.proofs.Common.{◌≡◌, ◌≢◌, ◌≤◌, ◌<◌, inl, inr, ◌+◌, ◌∙◌, ℕ, List, [], ◌∷◌, None, length, sym, ap, subst, arith}
 use Rattle.std.specs.Prelude.{◌^◌, min}
 use Rattle.std.specs.List.{AllByRecursion}
 use Rattle.std.proofs.lemmas.List.{length-append}
@@ -22,6 +22,7 @@ use Rattle.area_commit.specs.declared.plan.Lost.{Lost}
 use Rattle.area_commit.specs.declared.plan.Rewrite.{Rewrite}
 use Rattle.area_commit.specs.Plan.{lost_in}
 use Rattle.area_relocate.specs.Made.{IsTakenFor, IsMade, IsReadyMove, IsMovePlan, IsPlanOfMove}
+use Rattle.area_relocate.specs.Moving.{AreLowestFree, MovesInFewCalls}
 use Rattle.area_relocate.proofs.Fresh.{no_blocks}
 
 -- each block of a tier has a number of 32 bits
@@ -51,7 +52,8 @@ module _ (g : Sizes) (s : Store) (i : ℕ) (to : Tier) (f : MovableRun) (bytes :
 
 -- ---- calls
 
-few_runs : (low end : ℕ) (rs : List Run) → AreNormalRuns low end rs → length rs ≤ length (blocks_of rs)
+-- each run has a block
+pub few_runs : (low end : ℕ) (rs : List Run) → AreNormalRuns low end rs → length rs ≤ length (blocks_of rs)
 few_runs low end [] normal = omega arith
 few_runs low end (r ∷ rs) normal = omega (arith, length-append (run_blocks r) (blocks_of rs), length-range_with_len r.first r.count, normal.1, few_runs (r.first + r.count + 1) end rs normal.3)
 
@@ -59,27 +61,28 @@ one_fence : (rs : List Run) → fences_of rs ≤ 1
 one_fence [] = omega arith
 one_fence (r ∷ rs) = omega arith
 
-calls_in : (low end n : ℕ) (rs : List Run) → AreNormalRuns low end rs → length (blocks_of rs) ≡ n → tier_calls rs ≤ n + 1
-calls_in low end n rs normal many = omega (arith, few_runs low end rs normal, one_fence rs, many)
-
 module _ (g : Sizes) (s : Store) (f : MovableRun) (to : Tier) (taken : Taken) (took : IsTakenFor g s f to taken) where
   none_in : (t : Tier) → t ≢ to → tier_calls (runs_of taken t) ≡ 0
   none_in t other = ap tier_calls (no_blocks (data_first g t) (tier_blocks g t) (runs_of taken t) (took.free.apart t) (took.others t other))
 
-  some_in : tier_calls (runs_of taken to) ≤ f.run.count + 1
-  some_in = calls_in (data_first g to) (tier_blocks g to) f.run.count (runs_of taken to) (took.free.apart to) took.many
+  some_in : tier_calls (runs_of taken to) ≤ length (runs_of taken to) + 1
+  some_in = omega (arith, one_fence (runs_of taken to))
 
 -- the device calls that write what was taken
-taken_calls : (g : Sizes) (s : Store) (f : MovableRun) (to : Tier) (taken : Taken) → IsTakenFor g s f to taken → calls_for taken ≤ f.run.count + 1
+taken_calls : (g : Sizes) (s : Store) (f : MovableRun) (to : Tier) (taken : Taken) → IsTakenFor g s f to taken → calls_for taken ≤ length (runs_of taken to) + 1
 taken_calls g s f tiers.Fast taken took = omega (arith, some_in g s f tiers.Fast taken took, none_in g s f tiers.Fast taken took tiers.Block (λ e. cc), none_in g s f tiers.Fast taken took tiers.Slow (λ e. cc))
 taken_calls g s f tiers.Block taken took = omega (arith, some_in g s f tiers.Block taken took, none_in g s f tiers.Block taken took tiers.Fast (λ e. cc), none_in g s f tiers.Block taken took tiers.Slow (λ e. cc))
 taken_calls g s f tiers.Slow taken took = omega (arith, some_in g s f tiers.Slow taken took, none_in g s f tiers.Slow taken took tiers.Fast (λ e. cc), none_in g s f tiers.Slow taken took tiers.Block (λ e. cc))
 
 -- and those that carry out the plan of a move
-pub plan_calls : (g : Sizes) (s : Store) (i first count : ℕ) (to : Tier) (plan : Rewrite) → IsPlanOfMove g s i first count to plan → calls_for plan.taken + min (length plan.slots.items) 32 + length plan.nodes ≤ count + 5
-plan_calls g s i first count to plan p =
-    let taken = taken_calls g s p.file to plan.taken p.is_plan.took in
-    let same = p.count_is in
-    let slots = ap length p.is_plan.made.slots_are in
-    let images = p.is_plan.made.images.few in
-    omega (arith, taken, same, slots, images)
+pub plan_calls : (g : Sizes) (s : Store) (i first count : ℕ) (to : Tier) (plan : Rewrite) → IsPlanOfMove g s i first count to plan → (before now : ℕ) → now ≤ before + calls_for plan.taken + min (length plan.slots.items) 32 + length plan.nodes + 8 → MovesInFewCalls g s to count before now
+plan_calls g s i first count to plan p before now most = inr (record {
+  runs = runs_of plan.taken to;
+  lowest = subst (λ (n : ℕ). AreLowestFree g s to n (runs_of plan.taken to)) p.count_is p.is_plan.took.lowest;
+  few = (let taken = taken_calls g s p.file to plan.taken p.is_plan.took in let slots = ap length p.is_plan.made.slots_are in let images = p.is_plan.made.images.few in omega (arith, most, taken, slots, images));
+})
+
+-- a run has no more runs of places than blocks
+pub few_calls : (g : Sizes) (s : Store) (to : Tier) (count before now : ℕ) → MovesInFewCalls g s to count before now → now ≤ before + count + 13
+few_calls g s to count before now (inl none) = omega (arith, none)
+few_calls g s to count before now (inr some) = (let runs = few_runs (data_first g to) (tier_blocks g to) some.runs some.lowest.apart in let many = some.lowest.many in let few = some.few in omega (arith, runs, many, few))

@@ -40,6 +40,7 @@ use Rattle.area_commit.specs.declared.plan.Rewrite.{Rewrite}
 use Rattle.area_commit.specs.Done.{IsCarriedOut}
 use Rattle.area_commit.specs.Plan.{IsPlanned, IsPlannedInode, is_changed}
 use Rattle.area_relocate.specs.Made.{IsMovePlan}
+use Rattle.area_relocate.specs.Moving.{LieInLowest}
 use Rattle.area_relocate.proofs.Basics.{some_block, list_some, roots_touch}
 use Rattle.area_relocate.proofs.Fitting.{node_within, slot_here, is_fit, old_data}
 use Rattle.area_relocate.proofs.Using.{changed_is, listed, uses, once, all, imaged, images, image_node, some_root, root_some, run_there}
@@ -167,6 +168,9 @@ module _ (g : Sizes) (s : Store) (i : ℕ) (to : Tier) (f : MovableRun) (x : Slo
       slot_is = p.made.slot_is ∙ ap (λ (y : Slot). with_roots (root_of x) y) (sym (slot_here g s i to f x m plan p));
       blocks = λ k lt. stays_block x (logical g s i k) (logical_by new m k) (block_same k);
     }
+
+    pub run_lies_lowest : ((t : Tier) (k : ℕ) → place g new i t k ≡ lies_at m t k) → LieInLowest g s new i f.run.first f.run.count to
+    run_lies_lowest places = record { runs = runs_of plan.taken to; lowest = p.took.lowest; lie = λ n lt. places to (f.run.first + n) ∙ run_there g s i to f x m plan p n lt }
 
     other_inode : (j : ℕ) → j ≢ i → is_changed plan.slots.items j ≡ false
     other_inode j other = subst (λ cs. is_changed cs j ≡ false) (sym p.made.slots_are) (or_from (i == j) false (elim (cases_Bool (i == j)) [ inl same ↦ absurd (other (sym (eqb-true i j same))) | inr differ ↦ differ ]) refl)

@@ -28,6 +28,7 @@ use Rattle.area_commit.specs.Placed.{ArePlaced}
 use Rattle.area_commit.specs.declared.plan.Lost.{Lost}
 use Rattle.area_commit.specs.declared.plan.Rewrite.{Rewrite}
 use Rattle.area_commit.specs.Plan.{WereFree, lost_in}
+use Rattle.area_relocate.specs.Moving.{AreLowestFree}
 
 -- ---- what is taken
 
@@ -44,11 +45,12 @@ IsSpareFor root nodes = ((root ≢ 0) × (nodes ≡ [])) ⊎ ((root ≡ 0) × (b
 abbrev pub spare_count : ℕ → ℕ
 spare_count root = if root == 0 then 1 else 0
 
--- Free blocks were taken: as many of the tier as the run has, none of another tier, and one to list extents where none does.
+-- Free blocks were taken: the lowest of the tier, as many as the run has, none of another tier, and one to list extents where none does.
 pub record IsTakenFor (g : Sizes) (s : Store) (f : MovableRun) (to : Tier) (taken : Taken) : Type 0 where
   pub free : WereFree g s taken
   pub many : length (blocks_of (runs_of taken to)) ≡ f.run.count
   pub others : (t : Tier) → t ≢ to → blocks_of (runs_of taken t) ≡ []
+  pub lowest : AreLowestFree g s to f.run.count (runs_of taken to)
   pub spare : IsSpareFor (root_of f.slot to) taken.nodes.items
 
 -- ---- what is made

@@ -1,18 +1,36 @@
 -- What a move leaves.
-use Rattle.std.specs.Prelude.{◌≡◌, ◌≢◌, ◌≤◌, ◌⊎◌, ◌+◌, ℕ, List, true, false, Result, OnOk, IfErr, IsErrOf}
+use Rattle.std.specs.Prelude.{◌≡◌, ◌≢◌, ◌≤◌, ◌<◌, ◌⊎◌, ◌+◌, ℕ, List, true, false, Some, length, take, get_or, Result, OnOk, IfErr, IsErrOf}
 use Rattle.tier_device.specs.declared.media.Tier.{Tier}
 use Rattle.tier_device.specs.Media.{Left, Rose}
-use Rattle.layout.specs.Places.{Sizes}
+use Rattle.layout.specs.Places.{Sizes, data_first, tier_blocks}
+use Rattle.block_alloc.specs.declared.runs.Run.{Run}
+use Rattle.block_alloc.specs.Runs.{blocks_of, AreNormalRuns}
 use Rattle.batch_journal.specs.View.{JournalView}
 use Rattle.batch_journal.specs.Volume.{IsVolume}
-use Rattle.area_image.specs.Store.{Store, store_of, graph, marks}
+use Rattle.area_image.specs.Store.{Store, store_of, place, graph, marks}
 use Rattle.area_image.specs.Reads.{Loose}
 use Rattle.area_image.specs.Spelled.{IsOpenable}
-use Rattle.area_commit.specs.PoolsValue.{PoolsView}
+use Rattle.area_commit.specs.PoolsValue.{PoolsView, data_pool, AreInOrder, HasRanges, AreFree}
 use Rattle.area_commit.specs.Moving.{IsMoved}
 use Rattle.area_commit.specs.RelocateError.{RelocateError}
 use Rattle.area_commit.specs.RelocateError.TheVariants.{DeviceFault}
 pub use Rattle.area_commit.specs.Settled.{IsSettled, StaysStill}
+
+-- These runs are the lowest blocks that are free in a tier, so many, and none of them touches the next.
+pub record AreLowestFree (g : Sizes) (s : Store) (t : Tier) (count : ℕ) (runs : List Run) : Type 0 where
+  pub pools : PoolsView
+  pub order : AreInOrder pools
+  pub ranges : HasRanges g pools
+  pub free : AreFree g s pools
+  pub apart : AreNormalRuns (data_first g t) (tier_blocks g t) runs
+  pub many : length (blocks_of runs) ≡ count
+  pub lowest : blocks_of runs ≡ take count (data_pool pools t).free
+
+-- The blocks of a run lie in the lowest blocks that were free in a tier, in their order.
+pub record LieInLowest (g : Sizes) (s new : Store) (i first count : ℕ) (to : Tier) : Type 0 where
+  pub runs : List Run
+  pub lowest : AreLowestFree g s to count runs
+  pub lie : (n : ℕ) → n < count → place g new i to (first + n) ≡ Some (get_or (blocks_of runs) n 0)
 
 -- A store in which the run is moved: it can be opened, and spells the same graph and marks.
 pub record IsMovedStore (g : Sizes) (s : Store) (i first count : ℕ) (to : Tier) (new : Store) : Type 0 where
@@ -20,6 +38,7 @@ pub record IsMovedStore (g : Sizes) (s : Store) (i first count : ℕ) (to : Tier
   pub same_graph : graph g new ≡ graph g s
   pub same_marks : marks new ≡ marks s
   pub moved : IsMoved g s new i first count to
+  pub lowest : LieInLowest g s new i first count to
 
 -- Contents from which a journal opens: a store that is as that one but for free blocks, or one in which the run is moved.
 pub record IsMovedOrNot (g : Sizes) (s : Store) (i first count : ℕ) (to : Tier) (content : Tier → List ℕ) : Type 0 where
@@ -33,6 +52,16 @@ pub record Moves (g : Sizes) (s : Store) (i first count : ℕ) (to : Tier) (befo
   pub kept : (m : ℕ) (t : Tier) (c : List ℕ) → m ≤ before → old m t c → new m t c
   pub any_moment : (m : ℕ) (content : Tier → List ℕ) → before ≤ m → m ≤ now → Left new m content → IsMovedOrNot g s i first count to content
 
+-- From one moment to another there are no more writes and fences than a move makes: one write for each run of the blocks that it goes to, a fence, and the batch.
+pub record MovesInCalls (g : Sizes) (s : Store) (to : Tier) (count before now : ℕ) : Type 0 where
+  pub runs : List Run
+  pub lowest : AreLowestFree g s to count runs
+  pub few : now ≤ before + length runs + 13
+
+-- There are no more than these, or none.
+abbrev pub MovesInFewCalls : Sizes → Store → Tier → (count before now : ℕ) → Type 0
+MovesInFewCalls g s to count before now = (now ≤ before) ⊎ MovesInCalls g s to count before now
+
 -- How a move ends: at each moment a stop leaves the run where it lay, or moved; after Ok it is moved; after a refusal beside a device fault nothing has moved; and all is settled
 -- where no device has failed.
 pub record Ends {M : Type 0} (moment : M → ℕ) (seen : M → Tier → List ℕ) (left : M → ℕ → Tier → List ℕ → Type 0) (faults : M → ℕ) (i first count : ℕ) (to : Tier) (old new : JournalView M) (pools : PoolsView) (result : Result (Unit {0}) RelocateError) : Type 0 where
@@ -45,4 +74,4 @@ pub record Ends {M : Type 0} (moment : M → ℕ) (seen : M → Tier → List �
   pub geometry : new.geometry ≡ old.geometry
   pub more_faults : faults old.media ≤ faults new.media
   pub one_fault : faults new.media ≤ faults old.media + 1
-  pub at_most : moment new.media ≤ moment old.media + count + 13
+  pub few : MovesInFewCalls old.geometry (store_of (seen old.media)) to count (moment old.media) (moment new.media)

@@ -7,7 +7,7 @@ ghost use Rattle.area_commit.specs.Taking.{SameFree};
 ghost use Rattle.area_commit.specs.Found.{HasFileRun};
 ghost use Rattle.area_commit.specs.Moving.{CanMove};
 ghost use Rattle.area_commit.specs.RelocateError.TheVariants.{DeviceFault, NotMapped, NoBlock, Memory};
-ghost use Rattle.area_relocate.specs.Moving.{IsSettled, IsMovedStore, Moves, StaysStill, Ends};
+ghost use Rattle.area_relocate.specs.Moving.{IsSettled, IsMovedStore, Moves, MovesInFewCalls, StaysStill, Ends};
 
 use crate::moving::move_run;
 use area_commit::{Pools, RelocateError, find_run, told};
@@ -81,7 +81,8 @@ pub fn relocate<M: Media>(
     ensures geometry { journal.new.geometry ≡ journal.old.geometry }
     ensures faults { M.faults journal.old.media ≤ M.faults journal.new.media }
     ensures one_fault { M.faults journal.new.media ≤ M.faults journal.old.media + 1 }
-    // A write for each run of blocks that is taken, a fence, and the batch; what is read is not counted.
+    // A write for each run of the blocks that it goes to, which are the lowest that are free in the tier, a fence, and the batch; what is read is not counted.
+    ensures few { MovesInFewCalls journal.old.geometry (store_of (M.seen journal.old.media)) to count (M.moment journal.old.media) (M.moment journal.new.media) }
     ensures at_most { M.moment journal.new.media ≤ M.moment journal.old.media + count + 13 }
 {
     if journal.has_failed() {

@@ -16,7 +16,7 @@ use Rattle.area_apply.specs.PoolsValue.{PoolsView}
 use Rattle.area_relocate.specs.RunMoving.{IsMoved}
 use Rattle.area_relocate.specs.RelocateError.{RelocateError}
 use Rattle.area_relocate.specs.RelocateError.TheVariants.{DeviceFault, NotMapped, NoBlock, Memory}
-use Rattle.area_relocate.specs.Moving.{IsSettled, IsMovedStore, Moves, StaysStill}
+use Rattle.area_relocate.specs.Moving.{LieInLowest, IsSettled, IsMovedStore, Moves, StaysStill}
 use Rattle.shared_area.specs.Ready.{IsReady, HasFree}
 use Rattle.shared_area.specs.Moving.{HasTooFew, HasEnough, StaysOpen, MovesOrStays}
 use Rattle.shared_area.proofs.Ready.{keeps_opens}
@@ -50,6 +50,10 @@ module _ (g : Sizes) (s : Store) (i first count : ℕ) (to : Tier) (new : Store)
   pub ok_moved : (r : Result (Unit {0}) RelocateError) → OnOk r (IsMovedStore g s i first count to new) → OnOk r (IsMoved g s new i first count to)
   ok_moved (Ok x) is = is.moved
   ok_moved (Err e) is = tt
+
+  pub ok_lowest : (r : Result (Unit {0}) RelocateError) → OnOk r (IsMovedStore g s i first count to new) → OnOk r (LieInLowest g s new i first count to)
+  ok_lowest (Ok u) moved = moved.lowest
+  ok_lowest (Err e) moved = tt
 
   pub ok_graph : (r : Result (Unit {0}) RelocateError) → OnOk r (IsMovedStore g s i first count to new) → OnOk r (graph g new ≡ graph g s)
   ok_graph (Ok x) is = is.same_graph

@@ -24,6 +24,7 @@ ghost use Rattle.area_image.specs.Map.{WantsMemory};
 ghost use Rattle.area_image.specs.declared.error.AreaError.TheVariants.{DeviceFault, Memory};
 ghost use Rattle.area_image.specs.Damage.{OnDamage};
 ghost use Rattle.area_relocate.specs.RunMoving.{CanMove, IsMoved};
+ghost use Rattle.area_relocate.specs.Moving.{LieInLowest, MovesInFewCalls};
 ghost use Rattle.area_relocate.specs.Found.{HasFileRun};
 ghost use Rattle.area_relocate.specs.RelocateError.TheVariants.{NotMapped, NoBlock, Memory as NoMemory};
 ghost use Rattle.area_apply.specs.Applying.{IsAppliedStore, MakesFewCalls};
@@ -197,9 +198,9 @@ impl<M: Media> Shared<M> {
         find_touch(&mut self.journal, inode)
     }
 
-    /// Moves a run of a file's logical blocks, `count` of them from block `first` on, to a tier that is slower than those in which they lie. Graph and marks stay: a stop at any
-    /// moment leaves the run where it lay, or all of it moved. The cost is one read for each block of the run, and a few calls besides; of writes and fences there are at most
-    /// one for each block of the run and 13 more.
+    /// Moves a run of a file's logical blocks, `count` of them from block `first` on, to a tier that is slower than those in which they lie, into its lowest data blocks that are
+    /// free. Graph and marks stay: a stop at any moment leaves the run where it lay, or all of it moved. The cost is one read for each block of the run, and a few calls besides;
+    /// of writes and fences there are at most one for each run of the blocks that it goes to and 13 more.
     ///
     /// `NotMapped` exactly where there is no file at the inode, the run has no block or more than 256, or some block of it lies in no tier that is faster than `to`; `NoBlock`
     /// exactly where the run could be moved, but fewer data blocks of `to` are free than it has. `Memory` where there was none, before the first write, and only where there is
@@ -215,6 +216,8 @@ impl<M: Media> Shared<M> {
         // At each moment a stop leaves contents that are opened with the same graph and marks, with the run where it lay, or moved.
         ensures any_moment { self.old.failed ≡ false → StaysOpen self.old.geometry (store_of (M.seen self.old.media)) inode first count to (M.moment self.old.media) (M.moment self.new.media) (M.left self.old.media) (M.left self.new.media) }
         ensures moved { OnOk result (IsMoved self.old.geometry (store_of (M.seen self.old.media)) (store_of (M.seen self.new.media)) inode first count to) }
+        // It lies in the lowest data blocks of the tier that were free, in their order.
+        ensures lowest { OnOk result (LieInLowest self.old.geometry (store_of (M.seen self.old.media)) (store_of (M.seen self.new.media)) inode first count to) }
         ensures same_graph { OnOk result (graph self.old.geometry (store_of (M.seen self.new.media)) ≡ graph self.old.geometry (store_of (M.seen self.old.media))) }
         ensures same_marks { OnOk result (marks_of (store_of (M.seen self.new.media)) ≡ marks_of (store_of (M.seen self.old.media))) }
 
@@ -223,7 +226,8 @@ impl<M: Media> Shared<M> {
         ensures can { OnOk result (CanMove self.old.geometry (store_of (M.seen self.old.media)) inode first count to × HasEnough self.old.geometry (store_of (M.seen self.old.media)) to count) }
         ensures memory { IsErrOf result NoMemory → HasFileRun self.old.geometry (store_of (M.seen self.old.media)) inode first count }
         ensures moves { MovesOrStays M.moment M.seen M.left M.faults self.old self.new result }
-        // A write for each run of blocks that is taken, a fence, and the batch; what is read is not counted.
+        // A write for each run of the blocks that it goes to, a fence, and the batch; what is read is not counted.
+        ensures few { MovesInFewCalls self.old.geometry (store_of (M.seen self.old.media)) to count (M.moment self.old.media) (M.moment self.new.media) }
         ensures at_most { M.moment self.new.media ≤ M.moment self.old.media + count + 13 }
     {
         let alloc = self.alloc;

@@ -8,7 +8,7 @@ use Rattle.area_commit.specs.Moved.{StaysInode}
 use Rattle.area_commit.specs.Plan.{is_changed}
 use Rattle.area_relocate.proofs.Fitting.{is_fit}
 use Rattle.area_relocate.proofs.Using.{changed_is, changed_here}
-use Rattle.area_relocate.proofs.Storing.{is_planned, written_moved, area_moved}
+use Rattle.area_relocate.proofs.Storing.{is_planned, written_moved, run_lies_lowest, area_moved}
 use Rattle.area_relocate.proofs.laws.carried_out_move_moves.Goals as goal
 
 pub returns : goal.returns
@@ -31,5 +31,6 @@ returns c g s i to f x m plan new allowed opens p out =
       };
       same_graph = same;
       same_marks = c.carried_out_marks.ensures.kept g s plan new out p.marks;
+      lowest = run_lies_lowest g s i to f x m plan p new out (λ t k. read.places g new i x m allowed p.file.number fit written t k);
       moved = area_moved g s i to f x m plan p new out (λ t k. read.places g new i x m allowed p.file.number fit written t k) (slot_as g new i x (read.slot_is g new i x m allowed p.file.number fit written)) (λ u other. c.rewritten_inodes_are_spelled.ensures.uses_stay g (is_changed plan.slots.items) s new rewrites u other);
     }

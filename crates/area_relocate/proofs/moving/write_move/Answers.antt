@@ -1,4 +1,4 @@
-use Rattle.std.proofs.Common.{ℕ, sym, ap, subst, arith}
+use Rattle.std.proofs.Common.{ℕ, sym, ap, subst}
 use Rattle.std.specs.Prelude.{Err}
 use Rattle.layout.specs.declared.slot.Slot.{Slot}
 use Rattle.layout.specs.Places.{Sizes, IsAllowed}
@@ -38,7 +38,7 @@ returns-in-Ok-clause-ends g c i first count to p =
       ranges = c.in-Ok.ensures.ranges;
       free = c.in-Ok.ensures.free;
     } in
-    ends_done m.moment m.seen m.left m.faults g.met.M.Media.sized i first count to old new c.args.plan done c.carry_out.ensures.any_moment tt pools (let plan_few = plan_calls old.geometry s i first count to c.args.plan p in let most = c.carry_out.ensures.at_most in omega (arith, plan_few, most)) c.in-Ok.ensures.done
+    ends_done m.moment m.seen m.left m.faults g.met.M.Media.sized i first count to old new c.args.plan done c.carry_out.ensures.any_moment tt pools (plan_calls old.geometry s i first count to c.args.plan p (m.moment old.media) (m.moment new.media) c.carry_out.ensures.at_most) c.in-Ok.ensures.done
     (subst (λ (h : Sizes). IsSettled h (m.seen new.media) (m.left new.media (m.moment new.media)) pools) (sym c.carry_out.ensures.geometry) settled) (c.in-Ok.ensures.going, c.in-Ok.ensures.quiet) c.carry_out.ensures.geometry
 
 pub returns-in-Err-clause-ends : goal.returns-in-Err-clause-ends
@@ -55,7 +55,7 @@ returns-in-Err-clause-ends g c i first count to p =
     let before : IsSettled old.geometry (m.seen old.media) (m.left old.media (m.moment old.media)) ready.before = record { opens = c.requires.opens; rests = c.requires.rests; ranges = ready.ranges; free = ready.free } in
     let settled = settled_undone old.geometry (m.seen old.media) (m.left old.media (m.moment old.media)) ready.before c.args.pools.now pools c.args.plan.taken ready.took c.in-Err.ensures.undone before in
     let out = c.in-Err.ensures in
-    ends_undone m.moment m.seen m.left m.faults g.met.M.Media.sized i first count to old new c.args.plan done c.carry_out.ensures.any_moment pools c.in-Err.error c.told.result (let plan_few = plan_calls old.geometry s i first count to c.args.plan p in let most = c.carry_out.ensures.at_most in omega (arith, plan_few, most)) c.told.ensures
+    ends_undone m.moment m.seen m.left m.faults g.met.M.Media.sized i first count to old new c.args.plan done c.carry_out.ensures.any_moment pools c.in-Err.error c.told.result (plan_calls old.geometry s i first count to c.args.plan p (m.moment old.media) (m.moment new.media) c.carry_out.ensures.at_most) c.told.ensures
     (λ is. out.fault (ap Err is)) (λ is. out.memory (ap Err is)) c.carry_out.ensures.geometry c.carry_out.ensures.faults c.carry_out.ensures.one_fault c.requires.going rests settled
 
 pub returns-in-Err-clause-only : goal.returns-in-Err-clause-only

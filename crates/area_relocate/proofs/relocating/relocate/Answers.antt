@@ -1,7 +1,9 @@
-use Rattle.std.proofs.Common.{◌∙◌, inl, inr, refl, sym}
+use Rattle.std.proofs.Common.{◌∙◌, inl, inr, refl, sym, arith}
 use Rattle.std.proofs.lemmas.Bool.{true≢false}
 use Rattle.area_commit.specs.RelocateError.TheVariants.{DeviceFault, NotMapped, NoBlock, Memory}
 use Rattle.area_relocate.proofs.Ending.{memory_fault, mapped_fault, block_fault, err_same}
+use Rattle.area_image.specs.Store.{store_of}
+use Rattle.area_relocate.proofs.Planned.{few_calls}
 use Rattle.area_relocate.proofs.Pooled.{same_self}
 use Rattle.area_relocate.proofs.relocating.relocate.Goals as goal
 
@@ -61,4 +63,12 @@ pub returns-clause-quiet : goal.returns-clause-quiet
 returns-clause-quiet g c = c.find_and_move.ensures.ends.quiet
 
 pub returns-clause-at_most : goal.returns-clause-at_most
-returns-clause-at_most g c = c.find_and_move.ensures.ends.at_most
+returns-clause-at_most g c =
+    let old = c.args.journal.now in
+    few_calls old.geometry (store_of (g.M.Media.seen old.media)) c.args.to c.args.count (g.M.Media.moment old.media) (g.M.Media.moment c.find_and_move.new.journal.media) c.find_and_move.ensures.ends.few
+
+pub returns-clause-few : goal.returns-clause-few
+returns-clause-few g c = c.find_and_move.ensures.ends.few
+
+pub returns-then-has_failed-clause-few : goal.returns-then-has_failed-clause-few
+returns-then-has_failed-clause-few g c = inl (omega arith)

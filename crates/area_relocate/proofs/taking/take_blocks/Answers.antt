@@ -14,7 +14,7 @@ returns-clause-taken c =
     let to = c.args.to in
     taken_for old c.take_in.new.self f to c.taken_blocks_were_free.ensures r (subst (λ n. IfOk r (λ taken. blocks_of taken.nodes.items ≡ take n old.nodes.free)) c.spare_count.ensures c.take_in.ensures.nodes)
     c.take_in.ensures.taken c.take_in.ensures.others c.take_in.ensures.fronts
-    (subst (λ n. IsErrOf r NoBlock ↔ ((length old.nodes.free < n) ⊎ (length (data_pool old to).free < f.run.count))) c.spare_count.ensures c.take_in.ensures.few)
+    (subst (λ n. IsErrOf r NoBlock ↔ ((length old.nodes.free < n) ⊎ (length (data_pool old to).free < f.run.count))) c.spare_count.ensures c.take_in.ensures.few) c.free-free.ensures.ordered
 
 pub returns-clause-few : goal.returns-clause-few
 returns-clause-few c =

@@ -4,10 +4,11 @@ use Rattle.batch_journal.specs.View.{JournalView}
 use Rattle.area_image.specs.Store.{store_of, graph, marks}
 use Rattle.area_apply.specs.PoolsValue.{data_pool}
 use Rattle.area_relocate.specs.RunMoving.{CanMove, IsMoved}
+use Rattle.area_relocate.specs.Moving.{LieInLowest, MovesInFewCalls}
 use Rattle.area_relocate.specs.RelocateError.TheVariants.{NoBlock}
 use Rattle.shared_area.specs.Moving.{HasTooFew, HasEnough, StaysOpen, MovesOrStays}
 use Rattle.shared_area.proofs.Counts.{data_count}
-use Rattle.shared_area.proofs.Moved.{ready_moved, stays_open, moves_or_stays, ok_moved, ok_graph, ok_marks, ok_enough, err_few}
+use Rattle.shared_area.proofs.Moved.{ready_moved, stays_open, moves_or_stays, ok_moved, ok_lowest, ok_graph, ok_marks, ok_enough, err_few}
 use Rattle.shared_area.proofs.shared.Shared.relocate.Goals as goal
 
 pub relocate-requires : goal.relocate-requires
@@ -37,6 +38,20 @@ returns-clause-moved g c =
     let left = store_of (m.seen c.relocate.new.journal.media) in
     subst (λ (v : JournalView _). OnOk c.relocate.result (IsMoved v.geometry (store_of (m.seen v.media)) left c.args.inode c.args.first c.args.count c.args.to)) c.self.view_is
     (ok_moved old.geometry (store_of (m.seen old.media)) c.args.inode c.args.first c.args.count c.args.to left c.relocate.result c.relocate.ensures.moved)
+
+pub returns-clause-lowest : goal.returns-clause-lowest
+returns-clause-lowest g c =
+    let m = g.M.Media in
+    let old = c.self.inside.journal in
+    let left = store_of (m.seen c.relocate.new.journal.media) in
+    subst (λ (v : JournalView _). OnOk c.relocate.result (LieInLowest v.geometry (store_of (m.seen v.media)) left c.args.inode c.args.first c.args.count c.args.to)) c.self.view_is
+    (ok_lowest old.geometry (store_of (m.seen old.media)) c.args.inode c.args.first c.args.count c.args.to left c.relocate.result c.relocate.ensures.moved)
+
+pub returns-clause-few : goal.returns-clause-few
+returns-clause-few g c =
+    let m = g.M.Media in
+    let new = c.relocate.new.journal in
+    subst (λ (v : JournalView _). MovesInFewCalls v.geometry (store_of (m.seen v.media)) c.args.to c.args.count (m.moment v.media) (m.moment new.media)) c.self.view_is c.relocate.ensures.few
 
 pub returns-clause-same_graph : goal.returns-clause-same_graph
 returns-clause-same_graph g c =
