@@ -16,7 +16,7 @@ use Rattle.client_copies.specs.Held.{Held, copy_at, size_known, kept_at, file_bl
 use Rattle.client_copies.specs.Put.{IsBlockLong}
 
 -- what was padded is cut again
-cut_padded : (unit left : ℕ) (bytes : List ℕ) → length bytes ≡ min unit left → take left (resized unit bytes) ≡ bytes
+pub cut_padded : (unit left : ℕ) (bytes : List ℕ) → length bytes ≡ min unit left → take left (resized unit bytes) ≡ bytes
 cut_padded unit left bytes long =
     let short : take unit bytes ≡ bytes = take_all unit bytes (omega (arith, long)) in
     ap (λ (xs : List ℕ). take left (xs ++ replicate (unit - length bytes) 0)) short ∙ elim (dec_le left (length bytes)) [
@@ -30,7 +30,7 @@ cut_padded unit left bytes long =
 kept_there : (bs : List Block) (i b : ℕ) (padded : List ℕ) → b < 4294967296 → kept_at (put i b padded bs) i b ≡ Some padded
 kept_there bs i b padded low = cond-true (nat_lt b 4294967296) (bytes_at i b (put i b padded bs)) None (lt-ltb b 4294967296 low) ∙ put_found bs i b padded
 
-by_size : (c : Option (Option NodeView)) (names size : ℕ) (bs : List Block) (i b : ℕ) → c ≡ Some (Some (FileView names size)) → block_by (size_known c) bs i b ≡ file_block size bs i b
+pub by_size : (c : Option (Option NodeView)) (names size : ℕ) (bs : List Block) (i b : ℕ) → c ≡ Some (Some (FileView names size)) → block_by (size_known c) bs i b ≡ file_block size bs i b
 by_size c names size bs i b is = ap (λ (d : Option (Option NodeView)). block_by (size_known d) bs i b) is
 
 pub block_there : (h : Held) (i b : ℕ) (bytes : List ℕ) → b < 4294967296 → IsBlockLong (knows h) i b bytes → block_known (record h { blocks = put i b (resized 4096 bytes) h.blocks }) i b ≡ Some bytes

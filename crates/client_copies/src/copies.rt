@@ -9,11 +9,11 @@ ghost use Rattle.posix_calls.specs.Content.{resized};
 ghost use Rattle.posix_calls.specs.declared.limits.TheConstants.{MAX_DESCRIPTORS};
 ghost use Rattle.posix_calls.specs.Own.{own_of};
 ghost use Rattle.posix_calls.specs.Tree.{set_own};
-ghost use Rattle.client_copies.specs.Held.{knows};
+ghost use Rattle.client_copies.specs.Held.{copy_at, knows, size_known};
 ghost use Rattle.client_copies.specs.Put.{IsBlockLong};
 ghost use Rattle.client_copies.specs.Forgotten.{with_descriptor, without_blocks, without_inode, without_granted};
 
-use crate::slots::{Slot, forget_slot, unknown_slots};
+use crate::slots::{Slot, forget_slot, size_at, unknown_slots};
 use block_cache::{BLOCK_SIZE, Blocks};
 use posix_calls::{Bytes, Descriptor, OwnDescriptors};
 use record_check::NodeSummary;
@@ -169,6 +169,13 @@ impl ClientCopies {
         ensures { own_of result.now ≡ (knows self.now).own }
     {
         &self.own
+    }
+
+    /// How many bytes a file has that there is a copy of.
+    pub fn size_of(&self, inode: u32) -> Option<u64>
+        ensures { result ≡ size_known (copy_at self.now.copies inode) }
+    {
+        size_at(&self.copies, inode)
     }
 
     /// The numbers for new nodes that were granted and are not used.

@@ -6,6 +6,7 @@ use Rattle.std.proofs.lemmas.Bool.{true≢false, false≢true}
 use Rattle.std.proofs.lemmas.List.Sums.{sum_by-append}
 use Rattle.atomic_table.specs.Seated.{TableId}
 use Rattle.tier_device.specs.declared.media.Tier.{Tier}
+use Rattle.block_cache.specs.Cached.{Block}
 use Rattle.log_record.specs.declared.format.Record.{Record}
 use Rattle.update_log.specs.Frames.{with_record}
 use Rattle.lease_manager.specs.Words.{HasWord}
@@ -121,6 +122,21 @@ module _ {M : Type 0} (seen : M → Tier → List ℕ) (leases : TableId) where
     -- the numbers that it was granted change
     pub sound_numbers : (new : Held) (ns : List ℕ) → new ≡ record copies { numbers = ns } → IsSound seen leases pass log new begun answered kept
     sound_numbers new ns is = subst (λ (h : Held). IsSound seen leases pass log h begun answered kept) (sym is)
+        (record {
+          table = s.table;
+          number = s.number;
+          written_is = s.written_is;
+          back = s.back;
+          begins = s.begins;
+          prepared = λ b some. let p = s.prepared b some in record { spelled = p.spelled; made = p.made; number = p.number; nodes = p.nodes };
+          room = s.room;
+          counts = s.counts;
+          failed = s.failed;
+        })
+
+    -- the blocks of files that it keeps change
+    pub sound_blocks : (new : Held) (bs : List Block) → new ≡ record copies { blocks = bs } → IsSound seen leases pass log new begun answered kept
+    sound_blocks new bs is = subst (λ (h : Held). IsSound seen leases pass log h begun answered kept) (sym is)
         (record {
           table = s.table;
           number = s.number;

@@ -5,3 +5,7 @@ pub mod Forgetting
 pub mod Agreeing
 pub mod Granted
 pub mod Behind
+pub mod FirstBlocks
+pub mod Lengths
+pub mod Fetched
+pub mod Served

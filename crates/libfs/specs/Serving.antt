@@ -1,28 +1,40 @@
 -- What a client has once the kernel served it.
-use Rattle.std.specs.Prelude.{◌≡◌, ℕ, ◌+◌, ◌==◌, ◌&&◌, ◌||◌, ◌++◌, not, drop, Bool, List, [], ◌∷◌, Result, Ok, Err, if◌then◌else◌}
+use Rattle.std.specs.Prelude.{◌≡◌, ◌⊎◌, ℕ, ◌+◌, ◌<◌, ◌≤◌, ◌==◌, ◌&&◌, ◌||◌, ◌++◌, not, drop, take, Bool, false, List, [], ◌∷◌, Option, Some, None, Result, Ok, Err, OnErr, if◌then◌else◌}
 use Rattle.std.specs.List.{filter}
 use Rattle.tier_device.specs.declared.media.Tier.{Tier}
+use Rattle.posix_calls.specs.Content.{resized}
 use Rattle.file_graph.specs.Graph.{Graph, is_among}
 use Rattle.file_graph.specs.Numbers.{is_inode}
+use Rattle.file_graph.specs.Units.{charge}
+use Rattle.block_cache.specs.Cached.{bytes_at as kept_bytes, put}
+use Rattle.block_cache.specs.declared.bytes.TheConstants.{BLOCK_SIZE}
+use Rattle.block_cache.specs.declared.blocks.TheConstants.{MOST_BLOCKS}
 use Rattle.log_record.specs.declared.format.Record.{Record}
+use Rattle.call_effects.specs.Blocks.{block_of}
 use Rattle.call_effects.specs.Known.{Knowledge, with_copy}
 use Rattle.call_effects.specs.NodeView.{view_at}
 use Rattle.layout.specs.declared.marks.Mark.{Mark}
+use Rattle.lease_manager.specs.Words.{HasWord}
 use Rattle.lease_manager.specs.Passes.{client_of}
-use Rattle.kernel_book.specs.Book.{is_free}
+use Rattle.kernel_book.specs.Book.{is_free, out_of}
 use Rattle.kernel_book.specs.Free.{AreLowest}
+use Rattle.kernel_book.specs.Inodes.{IsInode}
 use Rattle.kernel_book.specs.Nodes.{nodes_in}
 use Rattle.kernel_book.specs.Steps.{grant as granted, take_back as taken_back}
 use Rattle.kernel_book.specs.declared.error.RefillError.{RefillError}
 use Rattle.kernel_book.specs.declared.error.RefillError.TheVariants as refills
-use Rattle.own_records.specs.After.{node_laid}
+use Rattle.own_records.specs.After.{block_laid, bytes_at, node_laid}
 use Rattle.client_log.specs.View.{written}
 use Rattle.client_copies.specs.Forgotten.{without_blocks}
-use Rattle.world_facts.specs.Machine.{Machine}
+use Rattle.client_copies.specs.Put.{IsBlockLong}
+use Rattle.client_plan.specs.declared.need.Need.{Need}
+use Rattle.client_plan.specs.declared.need.Need.TheVariants as needs
+use Rattle.world_facts.specs.Machine.{Machine, book_pin, unbook_pin}
 use Rattle.kernel_fs.specs.KernelView.{KernelView}
 use Rattle.kernel_fs.specs.Standing.{IsKernelOf, IsMarkIn}
 use Rattle.kernel_fs.specs.declared.error.KernelError.{KernelError}
 use Rattle.kernel_fs.specs.declared.error.KernelError.TheVariants as kernel
+use Rattle.shared_area.specs.Looks.{Looks}
 use Rattle.shared_area.specs.Store.{store_of, graph}
 use Rattle.shared_area.specs.AreaError.{AreaError}
 use Rattle.shared_area.specs.AreaError.TheVariants as area
@@ -33,9 +45,20 @@ use Rattle.libfs.specs.Holding.{known_to}
 
 -- ---- what is asked of the kernel
 
+-- The kernel serves all that a client may lack but a lease, which the client takes itself, and room in its region. No call is begun meanwhile where a copy comes in the place of another.
+abbrev pub IsServable : {M : Type 0} → ClientView M → Need → Type 0
+IsServable v (needs.View i) = HasWord i × (v.begun ≡ None)
+IsServable v (needs.Blocks i first count) = first + count < 4294967296
+IsServable v (needs.Inodes n) = Unit {0}
+IsServable v (needs.Units n) = v.spare + n < 4294967296
+IsServable v (needs.Pin i) = IsInode i
+IsServable v (needs.Unpin i) = Unit {0}
+IsServable v (needs.Lease i mode) = ⊥
+IsServable v needs.Room = ⊥
+
 -- what was asked of the kernel's area, as the client answers it
-abbrev pub asked : Result (Unit {0}) Denied → Result (Unit {0}) AreaError
-asked (Ok x) = Ok x
+abbrev pub asked : {T : Type 0} → Result T Denied → Result (Unit {0}) AreaError
+asked (Ok x) = Ok tt
 asked (Err denied.Memory) = Err area.Memory
 asked (Err _) = Err area.DeviceFault
 
@@ -45,6 +68,12 @@ area_denied kernel.Failed = denied.KernelFailed
 area_denied (kernel.Refused area.DeviceFault) = denied.Device
 area_denied (kernel.Refused area.Memory) = denied.Memory
 area_denied (kernel.Refused (area.Damaged tier block)) = denied.Device
+
+-- The kernel's area was looked at, if no device of it had failed before, and nothing else has changed of the kernel.
+pub record HasLooked {T S : Type 0} (moment : S → ℕ) (shared : S → Tier → List ℕ) (left : S → ℕ → Tier → List ℕ → Type 0) (faults : S → ℕ) (old new : KernelView S) (result : Result T Denied) : Type 0 where
+  pub looks : old.area.failed ≡ false → Looks moment shared left faults old.area new.area (asked result)
+  pub book : new.book ≡ old.book
+  pub opening : new.opening ≡ old.opening
 
 -- ---- copies
 
@@ -63,6 +92,34 @@ pub record HasFetched {M S : Type 0} (seen : M → Tier → List ℕ) (shared : 
   pub knows_then : known_to new ≡ with_copy (without_blocks (known_to old) i) i (node_laid (behind seen old mark) i (view_at (shared_by shared k) i))
   pub numbers : new.copies.numbers ≡ old.copies.numbers
   pub rest : new ≡ record old { copies = new.copies }
+
+-- a block of a file, as the client has it behind a mark: that of the kernel's graph, with its own records laid over it; none where no file stands then
+abbrev pub block_behind : {M S : Type 0} → (M → Tier → List ℕ) → (S → Tier → List ℕ) → KernelView S → ClientView M → Mark → ℕ → ℕ → Option (List ℕ)
+block_behind seen shared k v mark i b = block_laid (behind seen v mark) i b (Some (block_of b (bytes_at (shared_by shared k) i)))
+
+-- It has no block that it had not before but some of these of a file; and of all others those stay that are among the ones used last, as many as there is room for beside these.
+pub record HasFetchedBlocks {M S : Type 0} (seen : M → Tier → List ℕ) (shared : S → Tier → List ℕ) (k : KernelView S) (old : ClientView M) (i first count : ℕ) (new : ClientView M) : Type 0 where
+  pub no_more : (mark : Mark) → IsMarkIn (store_of (shared k.area.media)) (client_of old.pass) mark → (j b : ℕ) (bytes : List ℕ) → (known_to new).blocks j b ≡ Some bytes
+      → ((known_to old).blocks j b ≡ Some bytes) ⊎ ((j ≡ i) × (first ≤ b) × (b < first + count) × (block_behind seen shared k old mark i b ≡ Some bytes))
+  pub others_stay : (j b n : ℕ) (bytes : List ℕ) → n + count ≤ MOST_BLOCKS → (j ≡ i → first ≤ b → b < first + count → ⊥) → kept_bytes j b (take n old.copies.blocks) ≡ Some bytes → kept_bytes j b (take (n + count) new.copies.blocks) ≡ Some bytes
+  pub rest : new ≡ record old { copies = record old.copies { blocks = new.copies.blocks } }
+
+-- It has each of them that is as long as its copy of the file tells, where they are no more than it keeps; and they are the ones used last.
+abbrev pub HasThem : {M S : Type 0} → (M → Tier → List ℕ) → (S → Tier → List ℕ) → KernelView S → ClientView M → ℕ → ℕ → ℕ → ClientView M → Type 0
+HasThem seen shared k old i first count new = count ≤ MOST_BLOCKS → (b : ℕ) (bytes : List ℕ) (mark : Mark) → first ≤ b → b < first + count → IsMarkIn (store_of (shared k.area.media)) (client_of old.pass) mark
+    → block_behind seen shared k old mark i b ≡ Some bytes → IsBlockLong (known_to old) i b bytes → ((known_to new).blocks i b ≡ Some bytes) × (kept_bytes i b (take count new.copies.blocks) ≡ Some (resized BLOCK_SIZE bytes))
+
+-- Each of these blocks stands in the file, as long as the client's copy of it tells.
+pub record AreAsLong {M S : Type 0} (seen : M → Tier → List ℕ) (shared : S → Tier → List ℕ) (k : KernelView S) (v : ClientView M) (i first count : ℕ) : Type 0 where
+  pub mark : Mark
+  pub is_mark : IsMarkIn (store_of (shared k.area.media)) (client_of v.pass) mark
+  pub block : ℕ → List ℕ
+  pub told : (b : ℕ) → first ≤ b → b < first + count → block_behind seen shared k v mark i b ≡ Some (block b)
+  pub long : (b : ℕ) → first ≤ b → b < first + count → IsBlockLong (known_to v) i b (block b)
+
+-- It has put a block of a file that is as long as its copy of the file tells; any other it has not.
+abbrev pub HasPut : {M : Type 0} → ClientView M → ℕ → ℕ → List ℕ → ClientView M → Type 0
+HasPut old i b bytes new = (IsBlockLong (known_to old) i b bytes × (new ≡ record old { copies = record old.copies { blocks = put i b (resized BLOCK_SIZE bytes) old.copies.blocks } })) ⊎ ((IsBlockLong (known_to old) i b bytes → ⊥) × (new ≡ old))
 
 -- ---- units, numbers and pins
 
@@ -101,3 +158,52 @@ pub record HasGivenBack {M S : Type 0} (shared : S → Tier → List ℕ) (k : K
   pub numbers : new.copies.numbers ≡ []
   pub rest : new ≡ record old { spare = new.spare; copies = record old.copies { numbers = new.copies.numbers } }
   pub step : (m : Machine) → IsKernelOf shared k m → IsKernelOf shared after (taken_back m (client_of old.pass) old.spare (inodes_granted (known_to old)))
+
+-- ---- any need
+
+-- how many units it asks for, and how many numbers
+abbrev pub units_needed : Need → ℕ
+units_needed (needs.Units n) = n
+units_needed _ = 0
+
+abbrev pub inodes_needed : Need → ℕ
+inodes_needed (needs.Inodes n) = n
+inodes_needed _ = 0
+
+-- It was granted these units and so many numbers, and what is used and what is out fit the media together.
+pub record HasBeenGranted {M S : Type 0} (shared : S → Tier → List ℕ) (k : KernelView S) (old : ClientView M) (units inodes : ℕ) (new : ClientView M) (after : KernelView S) : Type 0 where
+  pub refilled : HasRefilled shared k old units inodes new after
+  pub law : charge (shared_by shared k) + out_of after.book ≤ k.area.geometry.units
+
+-- It was served what it needed.
+abbrev pub HasServed : {M S : Type 0} → (M → Tier → List ℕ) → (S → Tier → List ℕ) → KernelView S → ClientView M → Need → ClientView M → KernelView S → Type 0
+HasServed seen shared k old (needs.View i) new after = HasFetched seen shared k old i new
+HasServed seen shared k old (needs.Blocks i first count) new after = HasFetchedBlocks seen shared k old i first count new × HasThem seen shared k old i first count new
+HasServed seen shared k old (needs.Inodes n) new after = HasBeenGranted shared k old 0 n new after
+HasServed seen shared k old (needs.Units n) new after = HasBeenGranted shared k old n 0 new after
+HasServed seen shared k old (needs.Pin i) new after = (new ≡ record old { pins = pinned old.pins i }) × ((m : Machine) → IsKernelOf shared k m → IsKernelOf shared after (book_pin m (client_of old.pass) i))
+HasServed seen shared k old (needs.Unpin i) new after = (new ≡ record old { pins = unpinned old.pins i }) × ((m : Machine) → IsKernelOf shared k m → IsKernelOf shared after (unbook_pin m (client_of old.pass) i))
+HasServed seen shared k old (needs.Lease i mode) new after = ⊥
+HasServed seen shared k old needs.Room new after = ⊥
+
+-- It was not: nothing has changed of it, but for blocks that had come.
+abbrev pub HasNotServed : {M S : Type 0} → (M → Tier → List ℕ) → (S → Tier → List ℕ) → KernelView S → ClientView M → Need → ClientView M → Type 0
+HasNotServed seen shared k old (needs.Blocks i first count) new = HasFetchedBlocks seen shared k old i first count new
+HasNotServed seen shared k old _ new = new ≡ old
+
+-- What is left of the kernel: for copies its area was looked at; what is granted, pinned or no longer pinned changes its book alone, and what is refused nothing.
+abbrev pub LeavesKernel : {S : Type 0} → (S → ℕ) → (S → Tier → List ℕ) → (S → ℕ → Tier → List ℕ → Type 0) → (S → ℕ) → Need → KernelView S → KernelView S → Result (Unit {0}) Denied → Type 0
+LeavesKernel moment shared left faults (needs.View i) k after result = HasLooked moment shared left faults k after result
+LeavesKernel moment shared left faults (needs.Blocks i first count) k after result = HasLooked moment shared left faults k after result
+LeavesKernel moment shared left faults _ k after result = (after.area ≡ k.area) × (after.opening ≡ k.opening) × OnErr result (after ≡ k)
+
+-- why a need is not served
+abbrev pub MayBeDenied : Need → Denied → Type 0
+MayBeDenied (needs.View i) e = (e ≡ denied.KernelFailed) ⊎ (e ≡ denied.Device) ⊎ (e ≡ denied.Memory)
+MayBeDenied (needs.Blocks i first count) e = (e ≡ denied.KernelFailed) ⊎ (e ≡ denied.Device) ⊎ (e ≡ denied.Memory)
+MayBeDenied (needs.Inodes n) e = (e ≡ denied.Memory) ⊎ (e ≡ denied.KernelFailed) ⊎ (e ≡ denied.NoUnits) ⊎ (e ≡ denied.NoInode)
+MayBeDenied (needs.Units n) e = (e ≡ denied.Memory) ⊎ (e ≡ denied.KernelFailed) ⊎ (e ≡ denied.NoUnits)
+MayBeDenied (needs.Pin i) e = (e ≡ denied.KernelFailed) ⊎ (e ≡ denied.Memory)
+MayBeDenied (needs.Unpin i) e = e ≡ denied.KernelFailed
+MayBeDenied (needs.Lease i mode) e = ⊥
+MayBeDenied needs.Room e = ⊥

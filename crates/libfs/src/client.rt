@@ -29,6 +29,7 @@ use update_log::Region;
 /// records of the region that is away.
 #[derive(Drop)]
 pub struct Client<M: Media> {
+    pub(crate) alloc: Global,
     pub(crate) leases: Leases,
     pub(crate) pass: Pass,
     pub(crate) log: ClientLog<M>,
@@ -68,7 +69,7 @@ pub struct Detached<M: Media> {
 }
 
 impl<M: Media> Client<M> {
-    /// The client of a pass and of a log, which has no record and neither region away. It knows nothing, and nothing is granted to it.
+    /// The client of a pass and of a log, which has no record and neither region away. It knows nothing, and nothing is granted to it. It keeps the allocator for its calls.
     ///
     /// All is given back where there is no memory.
     pub fn open(
@@ -85,6 +86,7 @@ impl<M: Media> Client<M> {
     {
         match ClientCopies::new(alloc, pass.client()) {
             Ok(copies) => Ok(Client {
+                alloc,
                 leases,
                 pass,
                 log,

@@ -1,15 +1,14 @@
 //! Copies that a client fetches of the shared graph, with its own records laid over them.
-ghost use Rattle.std.specs.Prelude.{◌≡◌, ◌⊎◌, ◌==◌, true, false, None, Err, OnOk, OnErr, IfOk, IfErr};
+ghost use Rattle.std.specs.Prelude.{◌≡◌, ◌⊎◌, ◌==◌, true, false, None, Err, OnOk, OnErr, IfOk, IfErr, IsErrOf};
 ghost use Rattle.lease_manager.specs.Words.{HasWord};
 ghost use Rattle.call_effects.specs.Known.{with_copy};
 ghost use Rattle.client_copies.specs.Forgotten.{without_blocks};
 ghost use Rattle.own_records.specs.After.{node_laid};
-ghost use Rattle.shared_area.specs.Looks.{Looks};
 ghost use Rattle.shared_area.specs.Parts.{IsNoDamage};
 ghost use Rattle.kernel_fs.specs.Answering.{OnRefusal};
 ghost use Rattle.libfs.specs.declared.denying.Denied.TheVariants as denied;
 ghost use Rattle.libfs.specs.Holding.{known_to};
-ghost use Rattle.libfs.specs.Serving.{HasFetched, asked, area_denied, behind};
+ghost use Rattle.libfs.specs.Serving.{HasFetched, HasLooked, area_denied, behind};
 
 use crate::client::Client;
 use crate::denying::Denied;
@@ -20,15 +19,18 @@ use tier_device::Media;
 
 impl<M: Media> Client<M> {
     /// Fetches a copy of what stands at an inode: the shared node, and over it the client's own records that are not digested there. What it knew of the inode before goes, its blocks too.
+    ///
+    /// Refused: `KernelFailed` exactly where a device of the kernel had failed before; `Device` where one fails now; `Memory` where there was none for an extent block of the kernel's or for an entry. The
+    /// client is as it was then. The kernel's device calls are reads.
     pub fn fetch<S: Media>(&mut self, kernel: &mut Kernel<S>, inode: u32) -> Result<(), Denied>
         requires inode { HasWord inode }
         requires idle { self.old.begun ≡ None }
         ensures fetched { OnOk result (HasFetched M.seen S.seen kernel.old self.old inode self.new) }
-        ensures looks { kernel.old.area.failed ≡ false → Looks S.moment S.seen S.left S.faults kernel.old.area kernel.new.area (asked result) }
+        ensures looks { HasLooked S.moment S.seen S.left S.faults kernel.old kernel.new result }
         ensures failed { kernel.old.area.failed ≡ true → (result ≡ Err denied.KernelFailed) × (kernel.new ≡ kernel.old) }
+        ensures going { IsErrOf result denied.KernelFailed → kernel.old.area.failed ≡ true }
         ensures only { IfErr result (λ e. (e ≡ denied.KernelFailed) ⊎ (e ≡ denied.Device) ⊎ (e ≡ denied.Memory)) }
         ensures refused { OnErr result (self.new ≡ self.old) }
-        ensures book { kernel.new.book ≡ kernel.old.book }
     {
         match kernel.fetch(self.pass.client(), inode) {
             Ok(found) => self.put_copy(inode, found),
@@ -70,7 +72,7 @@ impl<M: Media> Client<M> {
     }
 
     // Whether a mark is in the generation of the region that is written.
-    fn is_current(&self, mark: Mark) -> bool
+    pub(crate) fn is_current(&self, mark: Mark) -> bool
         ensures { result ≡ (mark.generation == self.now.log.generation) }
     {
         mark.generation == self.log.generation()

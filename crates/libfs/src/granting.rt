@@ -19,7 +19,7 @@ use crate::denying::Denied;
 use client_leases::is_inode;
 use kernel_fs::{InodeSet, Kernel, KernelError, RefillError};
 use posix_calls::MAX_INODE;
-use std::alloc::{AllocError, Global};
+use std::alloc::AllocError;
 use tier_device::Media;
 
 impl<M: Media> Client<M> {
@@ -29,7 +29,6 @@ impl<M: Media> Client<M> {
     /// then, of client and kernel. No device call is made.
     pub fn refill<S: Media>(
         &mut self,
-        alloc: Global,
         kernel: &mut Kernel<S>,
         units: u32,
         inodes: u32,
@@ -39,14 +38,16 @@ impl<M: Media> Client<M> {
         ensures out { OnOk result (out_of kernel.new.book ≡ out_of kernel.old.book + units) }
         ensures law { OnOk result (charge (shared_by S.seen kernel.old) + out_of kernel.new.book ≤ kernel.old.area.geometry.units) }
         ensures no_units { IsErrOf result denied.NoUnits → (kernel.old.area.failed ≡ false) × (kernel.old.area.geometry.units < charge (shared_by S.seen kernel.old) + out_of kernel.old.book + units) }
-        ensures no_inode { IsErrOf result denied.NoInode → (kernel.old.area.failed ≡ false) × (count_of (is_free kernel.old.book (nodes_in (shared_by S.seen kernel.old))) < inodes) }
+        ensures no_inode { IsErrOf result denied.NoInode → (kernel.old.area.failed ≡ false) × (charge (shared_by S.seen kernel.old) + out_of kernel.old.book + units ≤ kernel.old.area.geometry.units)
+            × (count_of (is_free kernel.old.book (nodes_in (shared_by S.seen kernel.old))) < inodes) }
         ensures failed { IsErrOf result denied.KernelFailed → kernel.old.area.failed ≡ true }
         ensures going { OnOk result (kernel.old.area.failed ≡ false) }
         ensures only { IfErr result (λ e. (e ≡ denied.Memory) ⊎ (e ≡ denied.KernelFailed) ⊎ (e ≡ denied.NoUnits) ⊎ (e ≡ denied.NoInode)) }
         ensures refused { OnErr result ((self.new ≡ self.old) × (kernel.new ≡ kernel.old)) }
         ensures area { kernel.new.area ≡ kernel.old.area }
+        ensures opening { kernel.new.opening ≡ kernel.old.opening }
     {
-        let mut numbers = match self.numbers_with_room(alloc) {
+        let mut numbers = match self.numbers_with_room() {
             Ok(numbers) => numbers,
             Err(_) => return Err(Denied::Memory),
         };
@@ -62,33 +63,30 @@ impl<M: Media> Client<M> {
     }
 
     // The numbers that the client was granted, with room for all that there are.
-    fn numbers_with_room(&self, alloc: Global) -> Result<Vec<u32>, AllocError>
+    fn numbers_with_room(&self) -> Result<Vec<u32>, AllocError>
         ensures same { IfOk result (λ numbers. numbers.items ≡ self.now.copies.numbers) }
         ensures room { IfOk result (λ numbers. vec_len numbers + MAX_INODE ≤ vec_capacity numbers) }
     {
         let held = self.copies.numbers();
-        let mut numbers = Vec::with_capacity(alloc, held.len() + MAX_INODE as usize)?;
+        let mut numbers = Vec::with_capacity(self.alloc, held.len() + MAX_INODE as usize)?;
         numbers.extend_from_slice(held)?;
         Ok(numbers)
     }
 
     /// Gives back the units and the numbers that it has not used.
-    pub fn give_back<S: Media>(
-        &mut self,
-        alloc: Global,
-        kernel: &mut Kernel<S>,
-    ) -> Result<(), Denied>
+    pub fn give_back<S: Media>(&mut self, kernel: &mut Kernel<S>) -> Result<(), Denied>
         ensures given { OnOk result (HasGivenBack S.seen kernel.old self.old self.new kernel.new) }
         ensures going { OnOk result (kernel.old.area.failed ≡ false) }
         ensures failed { OnErr result (kernel.old.area.failed ≡ true) }
         ensures only { IfErr result (λ e. e ≡ denied.KernelFailed) }
         ensures refused { OnErr result ((self.new ≡ self.old) × (kernel.new ≡ kernel.old)) }
         ensures area { kernel.new.area ≡ kernel.old.area }
+        ensures opening { kernel.new.opening ≡ kernel.old.opening }
     {
         let numbers = set_of(self.copies.numbers());
         match kernel.give_back(self.pass.client(), self.spare as u64, &numbers) {
             Ok(()) => {
-                self.copies.put_numbers(Vec::new(alloc));
+                self.copies.put_numbers(Vec::new(self.alloc));
                 self.spare = 0;
                 Ok(())
             }
@@ -107,6 +105,7 @@ impl<M: Media> Client<M> {
         ensures only { IfErr result (λ e. (e ≡ denied.KernelFailed) ⊎ (e ≡ denied.Memory)) }
         ensures refused { OnErr result ((self.new ≡ self.old) × (kernel.new ≡ kernel.old)) }
         ensures area { kernel.new.area ≡ kernel.old.area }
+        ensures opening { kernel.new.opening ≡ kernel.old.opening }
     {
         match self.pins.reserve(1) {
             Ok(()) => {}
@@ -131,6 +130,7 @@ impl<M: Media> Client<M> {
         ensures only { IfErr result (λ e. e ≡ denied.KernelFailed) }
         ensures refused { OnErr result ((self.new ≡ self.old) × (kernel.new ≡ kernel.old)) }
         ensures area { kernel.new.area ≡ kernel.old.area }
+        ensures opening { kernel.new.opening ≡ kernel.old.opening }
     {
         match kernel.unpin(self.pass.client(), inode) {
             Ok(()) => {

@@ -18,7 +18,7 @@ use client_leases::{clean_records, written_inodes};
 use client_log::{HandedOver, LogError};
 use file_graph::Effect;
 use log_record::Record;
-use std::alloc::{AllocError, Global};
+use std::alloc::AllocError;
 use tier_device::Media;
 use update_log::WipeProgress;
 
@@ -39,7 +39,7 @@ impl<M: Media> Client<M> {
     ///
     /// `None`, with nothing changed, exactly where there is no record, a call waits for its answer, the other region is away, or a device has failed. Nothing has changed either where
     /// there is no memory for the list of inodes.
-    pub fn seal(&mut self, alloc: Global) -> Result<Option<Sealed<M>>, AllocError>
+    pub fn seal(&mut self) -> Result<Option<Sealed<M>>, AllocError>
         ensures exact { IfOk result (λ s. IsSome s ↔ CanBeSealed M.seen self.old.log) }
         ensures sealed { IfOk result (λ s. IfSome s (λ x. HasSealed M.seen self.old x.over self.new)) }
         ensures client { IfOk result (λ s. IfSome s (λ x. x.client ≡ client_of self.old.pass)) }
@@ -51,7 +51,7 @@ impl<M: Media> Client<M> {
         if !self.can_be_sealed() {
             return Ok(None);
         }
-        let held = written_inodes(alloc, &self.pass)?;
+        let held = written_inodes(self.alloc, &self.pass)?;
         let client = self.pass.client();
         let count = self.records.current().len();
         match self.log.seal() {

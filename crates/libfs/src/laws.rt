@@ -1,5 +1,5 @@
 //! What holds of every client and every call.
-ghost use Rattle.std.specs.Prelude.{◌≡◌, ◌⊎◌, ℕ, Option};
+ghost use Rattle.std.specs.Prelude.{◌≡◌, ◌≢◌, ◌⊎◌, ◌<◌, ◌≤◌, ℕ, Option};
 ghost use Rattle.posix_calls.specs.Tree.{Descriptors, with_own};
 ghost use Rattle.posix_calls.specs.Operations.{Step};
 ghost use Rattle.posix_calls.specs.declared.call.Call.{Call};
@@ -9,16 +9,22 @@ ghost use Rattle.file_graph.specs.Units.{growth};
 ghost use Rattle.log_record.specs.declared.format.Record.{Record};
 ghost use Rattle.call_effects.specs.Known.{Agrees};
 ghost use Rattle.call_effects.specs.Wholes.{IsSound, state_of};
+ghost use Rattle.client_plan.specs.declared.need.Need.TheVariants as needs;
 ghost use Rattle.client_plan.specs.declared.outcome.DescriptorChange.{DescriptorChange};
 ghost use Rattle.client_plan.specs.declared.outcome.Outcome.TheVariants as outcomes;
 ghost use Rattle.client_plan.specs.Planned.{own_changed};
 ghost use Rattle.client_plan.specs.Steps.{IsAnswered, IsOf, IsReady, IsRefused};
+ghost use Rattle.block_cache.specs.declared.blocks.TheConstants.{MOST_BLOCKS};
 ghost use Rattle.client_copies.specs.Logged.{knows_logged, with_change};
+ghost use Rattle.kernel_fs.specs.KernelView.{KernelView};
 ghost use Rattle.libfs.specs.View.{ClientView};
 ghost use Rattle.libfs.specs.Holding.{holdings_of, known_to, outcome_for};
+ghost use Rattle.libfs.specs.Serving.{AreAsLong, HasFetched, HasRefilled, HasThem, pinned, unpinned};
 
 use client_copies::logged_call_keeps_agreement;
-use client_plan::{answered_call_is_a_step, logged_call_is_a_step};
+use client_plan::{
+    answered_call_is_a_step, logged_call_is_a_step, served_need_is_lacking_no_longer,
+};
 use tier_device::Media;
 
 /// A call that a client answers at once is one step of the file tree, in every sound whole that agrees with what the client knows; nothing in the whole changes but the client's descriptor, if
@@ -54,4 +60,19 @@ pub fn begun_record_is_a_step<M: Media>()
 {
     logged_call_is_a_step();
     logged_call_keeps_agreement();
+}
+
+/// Once the kernel has served a client what a call needed, the same call needs it no longer: not a copy that came, nor blocks, where they are no more than the client keeps and stand in the file as
+/// long as its copy tells; no number, no units at all once those were granted that were asked for; not a pin that was set, and not to give back one that is dropped.
+pub fn served_client_needs_it_no_longer<M: Media, S: Media>()
+    ensures view { (k : KernelView S) (old new : ClientView M) (call : Call) (i : ℕ) → HasFetched M.seen S.seen k old i new → outcome_for M.seen new call ≢ outcomes.Need (needs.View i) }
+    ensures blocks { (k : KernelView S) (old new : ClientView M) (call : Call) (i first count : ℕ) → count ≤ MOST_BLOCKS → AreAsLong M.seen S.seen k old i first count → HasThem M.seen S.seen k old i first count new
+        → outcome_for M.seen new call ≢ outcomes.Need (needs.Blocks i first count) }
+    ensures inodes { (k after : KernelView S) (old new : ClientView M) (call : Call) (units n more : ℕ) → 0 < n → HasRefilled S.seen k old units n new after → outcome_for M.seen new call ≢ outcomes.Need (needs.Inodes more) }
+    ensures units { (k after : KernelView S) (old new : ClientView M) (call : Call) (n inodes more : ℕ) → outcome_for M.seen old call ≡ outcomes.Need (needs.Units n) → HasRefilled S.seen k old n inodes new after
+        → outcome_for M.seen new call ≢ outcomes.Need (needs.Units more) }
+    ensures pin { (old new : ClientView M) (call : Call) (i : ℕ) → new ≡ record old { pins = pinned old.pins i } → outcome_for M.seen new call ≢ outcomes.Need (needs.Pin i) }
+    ensures unpin { (old new : ClientView M) (call : Call) (i : ℕ) → new ≡ record old { pins = unpinned old.pins i } → outcome_for M.seen new call ≢ outcomes.Need (needs.Unpin i) }
+{
+    served_need_is_lacking_no_longer();
 }

@@ -14,6 +14,7 @@
 #![tactic(auto)]
 
 mod begun;
+mod block_fetching;
 mod client;
 mod denying;
 mod fetching;
@@ -22,6 +23,7 @@ mod handing_over;
 mod laws;
 mod leasing;
 mod now;
+mod serving;
 mod starting;
 mod stepping;
 mod supplies;
@@ -30,5 +32,7 @@ pub use begun::Begun;
 pub use client::{Client, Detached};
 pub use denying::Denied;
 pub use handing_over::Sealed;
-pub use laws::{answered_start_is_a_step, begun_record_is_a_step};
+pub use laws::{
+    answered_start_is_a_step, begun_record_is_a_step, served_client_needs_it_no_longer,
+};
 pub use now::Now;

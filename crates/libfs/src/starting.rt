@@ -17,7 +17,7 @@ use client_leases::note_effects;
 use client_plan::{DescriptorChange, Outcome, logged_call_is_a_step, plan_call};
 use log_record::Record;
 use posix_calls::{Call, Errno, Reply};
-use std::alloc::{AllocError, Global};
+use std::alloc::AllocError;
 use tier_device::Media;
 
 impl<M: Media> Client<M> {
@@ -26,7 +26,7 @@ impl<M: Media> Client<M> {
     ///
     /// Memory is taken for names and bytes that the call tells or has, and for all that its record needs until it is answered; where there is none the answer is ENOMEM, and nothing has
     /// changed. It makes no device call.
-    pub fn start(&mut self, alloc: Global, call: &Call) -> Now
+    pub fn start(&mut self, call: &Call) -> Now
         requires idle { is_pending self.old ≡ false }
         ensures failed { self.old.log.failed ≡ true → (result ≡ now.Done (replies.Failed IoError)) × (self.new ≡ self.old) }
         ensures started { self.old.log.failed ≡ false → HasStarted M.seen self.old (outcome_for M.seen self.old call.now) result self.new ⊎ IsOutOfMemory M.seen self.old call.now result self.new }
@@ -34,7 +34,7 @@ impl<M: Media> Client<M> {
         if self.log.has_failed() {
             return answer(Errno::IoError);
         }
-        match self.plan(alloc, call) {
+        match self.plan(call) {
             Ok(Outcome::Reply { reply, change }) => {
                 self.copies.change_descriptor(change);
                 Now::Done { reply }
@@ -53,14 +53,14 @@ impl<M: Media> Client<M> {
     }
 
     // What a call comes to. Of a record all is there that it asks for.
-    fn plan(&self, alloc: Global, call: &Call) -> Result<Outcome, AllocError>
+    fn plan(&self, call: &Call) -> Result<Outcome, AllocError>
         ensures exact { IfOk result (λ o. o ≡ outcome_for M.seen self.now call.now) }
         ensures ready { IfOk result (MayGoOn M.seen self.now) }
         ensures memory { IfErr result (λ _. wants_memory (part_of (known_to self.now)) (holdings_of M.seen self.now).own call.now ≡ true) }
     {
         logged_call_is_a_step();
         logged_call_can_be_prepared();
-        plan_call(alloc, &self.copies, self, call)
+        plan_call(self.alloc, &self.copies, self, call)
     }
 
     // Begins a record, for which all is there.

@@ -1,0 +1,121 @@
+-- What a client that was served lacks no longer.
+use Rattle.std.proofs.Common.{◌≡◌, inl, inr, ℕ, zero, suc, ◌+◌, ◌-◌, ◌*◌, ◌/◌, ◌<◌, ◌≤◌, Bool, true, false, cond, List, [], ◌∷◌, ◌++◌, Option, Some, None, refl, ap, sym, ◌∙◌, arith}
+use Rattle.std.specs.Prelude.{◌==◌, ◌||◌, not, option_map, Ok}
+use Rattle.std.proofs.lemmas.Bool.{cases_Bool, true≢false, cond-true, cond-false, eq-eqb}
+use Rattle.std.proofs.lemmas.List.Folds.{list_any-append}
+use Rattle.tier_device.specs.declared.media.Tier.{Tier}
+use Rattle.posix_calls.specs.Content.{range}
+use Rattle.posix_calls.specs.Tree.{sum_up_to}
+use Rattle.posix_calls.specs.Query.{Part, Known, blocks_touched, run_part}
+use Rattle.posix_calls.specs.Own.{own_of}
+use Rattle.posix_calls.specs.Decide.{decide}
+use Rattle.posix_calls.specs.declared.call.Call.{Call}
+use Rattle.posix_calls.specs.declared.operation.Operation.{Operation}
+use Rattle.posix_calls.specs.declared.operation.Missing.TheVariants as missing
+use Rattle.file_graph.specs.Graph.{is_among}
+use Rattle.call_effects.specs.Blocks.{blocks_joined, followed, range_by}
+use Rattle.call_effects.specs.Known.{Knowledge, part_of}
+use Rattle.call_effects.specs.Records.{units_asked}
+use Rattle.client_plan.specs.Served.{AreUnread, IsShort}
+use Rattle.kernel_book.specs.Free.{count_of}
+use Rattle.kernel_fs.specs.KernelView.{KernelView}
+use Rattle.libfs.specs.View.{ClientView}
+use Rattle.libfs.specs.Holding.{holdings_of, known_to}
+use Rattle.libfs.specs.Serving.{AreAsLong, HasRefilled, HasThem, pinned, unpinned}
+
+-- ---- blocks
+
+joined_more : (first : Option (List ℕ)) (x : List ℕ) (rest : Option (List ℕ)) → first ≡ Some x → (y : List ℕ) × (rest ≡ Some y) → (w : List ℕ) × (followed first rest ≡ Some w)
+joined_more first x rest is more = (x ++ more.0, ap (λ o. followed o rest) is ∙ ap (option_map (λ ys. x ++ ys)) more.1)
+
+all_joined : (blocks : ℕ → Option (List ℕ)) (first count : ℕ) (block : ℕ → List ℕ) → ((b : ℕ) → first ≤ b → b < first + count → blocks b ≡ Some (block b)) → (w : List ℕ) × (blocks_joined blocks first count ≡ Some w)
+all_joined blocks first zero block all = ([], refl)
+all_joined blocks first (suc count) block all =
+    joined_more (blocks first) (block first) (blocks_joined blocks (first + 1) count) (all first (omega arith) (omega arith))
+    (all_joined blocks (first + 1) count block (λ b low high. all b (omega (arith, low)) (omega (arith, high))))
+
+same_blocks : (i j a b n m : ℕ) → missing.Blocks i a n ≡ missing.Blocks j b m → (a ≡ b) × (n ≡ m)
+same_blocks i j a b n m same = (cc same, cc same)
+
+-- bytes are unread no longer where all blocks that they touch are known
+pub all_read : (k : Knowledge) (i first count : ℕ) (block : ℕ → List ℕ) → ((b : ℕ) → first ≤ b → b < first + count → k.blocks i b ≡ Some (block b)) → AreUnread (part_of k) i first count → ⊥
+all_read k i first count block all unread =
+    let at : ℕ = unread.at in
+    let touched = same_blocks i i (at / 4096) first (blocks_touched at unread.bytes) count unread.touches in
+    let joined = all_joined (k.blocks i) first count block all in
+    let known : blocks_joined (k.blocks i) (at / 4096) (blocks_touched at unread.bytes) ≡ Some joined.0 = ap (λ a. blocks_joined (k.blocks i) a (blocks_touched at unread.bytes)) touched.0 ∙ ap (blocks_joined (k.blocks i) first) touched.1 ∙ joined.1 in
+    let read : range_by (k.blocks i) at unread.bytes ≡ Some (range (at - 4096 * (at / 4096)) unread.bytes joined.0) = ap (option_map (range (at - 4096 * (at / 4096)) unread.bytes)) known in
+    none_read (range_by (k.blocks i) at unread.bytes) (range (at - 4096 * (at / 4096)) unread.bytes joined.0) read unread.unknown
+  where
+    none_read : (o : Option (List ℕ)) (w : List ℕ) → o ≡ Some w → o ≡ None → ⊥
+    none_read o w is none = let clash : ◌≡◌ {A = Option (List ℕ)} None (Some w) = sym none ∙ is in absurd (cc clash)
+
+-- ---- numbers
+
+-- of numbers of which none passes there are none
+sum_none : (n : ℕ) (p : ℕ → Bool) → ((i : ℕ) → p i ≡ false) → sum_up_to n (λ i. cond (p i) 1 0) ≡ 0
+unfolding sum_up_to
+sum_none zero p none = refl
+sum_none (suc n) p none = let first = cond-false {A = ℕ} (p (suc n)) 1 0 (none (suc n)) in let rest = sum_none n p none in omega (arith, first, rest)
+
+module _ {M S : Type 0} (seen : M → Tier → List ℕ) (shared : S → Tier → List ℕ) (k : KernelView S) (old new : ClientView M) where
+  pub blocks_read : (i first count : ℕ) → count ≤ 256 → AreAsLong seen shared k old i first count → HasThem seen shared k old i first count new → AreUnread (part_of (known_to new)) i first count → ⊥
+  blocks_read i first count few long has =
+      all_read (known_to new) i first count long.block (λ b low high. (has few b (long.block b) long.mark low high long.is_mark (long.told b low high) (long.long b low high)).0)
+
+  module _ (units inodes : ℕ) (after : KernelView S) (h : HasRefilled shared k old units inodes new after) where
+    is_granted : (i : ℕ) → is_among i new.copies.numbers ≡ (is_among i old.copies.numbers || h.numbers i)
+    is_granted i = ap (λ (x : Knowledge). x.granted i) h.knows_then
+
+    pub some_number : 0 < inodes → new.copies.numbers ≡ [] → ⊥
+    some_number some none =
+        let counted : inodes ≡ 0 = sym h.lowest.count ∙ count_none h.numbers (λ i. or_false (is_among i old.copies.numbers) (h.numbers i) (sym (is_granted i) ∙ ap (is_among i) none)) in
+        absurd (omega (arith, some, counted))
+      where
+        or_false : (a b : Bool) → (a || b) ≡ false → b ≡ false
+        or_false true b is = absurd (true≢false is)
+        or_false false b is = is
+
+        count_none : (p : ℕ → Bool) → ((i : ℕ) → p i ≡ false) → count_of p ≡ 0
+        count_none p none = sum_none 1024 p none
+
+    -- ---- units
+
+    -- units that were short were those that are granted
+    pub paid : (call : Call) (n more : ℕ) → units ≡ n → IsShort (part_of (known_to old)) (holdings_of seen old) call n → IsShort (part_of (known_to new)) (holdings_of seen new) call more → ⊥
+    paid call n more all was is = absurd (omega (arith, all, same_units, was.lacks, is.lacks, is.some, h.spare))
+      where
+        same_part : part_of (known_to new) ≡ part_of (known_to old)
+        same_part = ap part_of h.knows_then
+
+        same_own : own_of new.copies.own ≡ own_of old.copies.own
+        same_own = ap (λ (v : ClientView M). own_of v.copies.own) h.rest
+
+        same_operation : was.operation ≡ is.operation
+        same_operation = let both : Known (Ok was.operation) ≡ Known (Ok is.operation) = sym was.comes ∙ sym (ap (λ (p : Part). run_part p (decide (own_of old.copies.own) call)) same_part) ∙ sym (ap (λ own. run_part (part_of (known_to new)) (decide own call)) same_own) ∙ is.comes in cc
+
+        same_units : was.units ≡ is.units
+        same_units = let both : Known (Ok was.units) ≡ Known (Ok is.units) = sym was.grows ∙ ap (λ (o : Operation). run_part (part_of (known_to old)) (units_asked o)) same_operation ∙ sym (ap (λ (p : Part). run_part p (units_asked is.operation)) same_part) ∙ is.grows in cc
+
+-- ---- pins
+
+or_true : (a : Bool) → (a || true) ≡ true
+or_true true = refl
+or_true false = refl
+
+pub is_pinned : (pins : List ℕ) (i : ℕ) → is_among i (pinned pins i) ≡ true
+is_pinned pins i = elim (cases_Bool (is_among i pins)) [
+  | inl there ↦ ap (is_among i) (cond-true (is_among i pins) pins (pins ++ i ∷ []) there) ∙ there
+  | inr not' ↦
+      ap (is_among i) (cond-false (is_among i pins) pins (pins ++ i ∷ []) not')
+      ∙ list_any-append (λ j. j == i) pins (i ∷ [])
+      ∙ ap (λ t. is_among i pins || (t || false)) (eq-eqb i i refl)
+      ∙ or_true (is_among i pins)
+]
+
+pub is_unpinned : (pins : List ℕ) (i : ℕ) → is_among i (unpinned pins i) ≡ false
+is_unpinned [] i = refl
+is_unpinned (j ∷ pins) i = elim (cases_Bool (j == i)) [
+  | inl same ↦ ap (λ t. is_among i (cond (not t) (j ∷ unpinned pins i) (unpinned pins i))) same ∙ is_unpinned pins i
+  | inr other ↦ ap (λ t. is_among i (cond (not t) (j ∷ unpinned pins i) (unpinned pins i))) other ∙ ap (λ t. t || is_among i (unpinned pins i)) other ∙ is_unpinned pins i
+]

@@ -1,0 +1,9 @@
+use Rattle.std.proofs.Common.{refl}
+use Rattle.libfs.proofs.Fetched.{none_came}
+use Rattle.libfs.proofs.client.Client.fetch_blocks.Goals as goal
+
+pub returns-then-has_failed-clause-fetched : goal.returns-then-has_failed-clause-fetched
+returns-then-has_failed-clause-fetched g c = none_came g.M.Media.seen g.S.Media.seen c.args.kernel.now c.args.self.now c.args.inode c.args.self.now c.args.first c.args.count refl
+
+pub returns-in-Err-clause-fetched : goal.returns-in-Err-clause-fetched
+returns-in-Err-clause-fetched g c = none_came g.M.Media.seen g.S.Media.seen c.args.kernel.now c.args.self.now c.args.inode c.args.self.now c.args.first c.args.count refl

@@ -1,0 +1,51 @@
+use Rattle.std.proofs.Common.{◌≡◌, ◌≢◌, false, refl, ap, sym, ◌∙◌, subst}
+use Rattle.std.proofs.lemmas.Bool.{true≢false}
+use Rattle.file_graph.specs.Graph.{is_among}
+use Rattle.call_effects.specs.Known.{Knowledge, part_of}
+use Rattle.call_effects.specs.NodeView.{view_at}
+use Rattle.client_plan.specs.declared.need.Need.TheVariants as needs
+use Rattle.client_plan.specs.declared.outcome.Outcome.TheVariants as outcomes
+use Rattle.client_plan.specs.Planned.{outcome}
+use Rattle.client_copies.specs.Forgotten.{without_blocks}
+use Rattle.own_records.specs.After.{node_laid}
+use Rattle.libfs.specs.Holding.{holdings_of, known_to}
+use Rattle.libfs.specs.Serving.{behind, shared_by}
+use Rattle.libfs.specs.View.{ClientView}
+use Rattle.libfs.proofs.Served.{blocks_read, is_pinned, is_unpinned, paid, some_number}
+use Rattle.libfs.proofs.laws.served_client_needs_it_no_longer.Goals as goal
+
+pub returns-clause-view : goal.returns-clause-view
+returns-clause-view g c = λ k old new call i h.
+    let seen = g.M.Media.seen in
+    subst (λ (x : Knowledge). outcome (part_of x) (holdings_of seen new) call ≢ outcomes.Need (needs.View i)) (sym h.knows_then)
+    (c.served_need_is_lacking_no_longer.ensures.view (without_blocks (known_to old) i) (holdings_of seen new) call i (node_laid (behind seen old h.mark) i (view_at (shared_by g.S.Media.seen k) i)))
+
+pub returns-clause-blocks : goal.returns-clause-blocks
+returns-clause-blocks g c = λ k old new call i first count few long has is.
+    let seen = g.M.Media.seen in
+    blocks_read seen g.S.Media.seen k old new i first count few long has (c.served_need_is_lacking_no_longer.ensures.lacks (part_of (known_to new)) (holdings_of seen new) call (needs.Blocks i first count) is)
+
+pub returns-clause-inodes : goal.returns-clause-inodes
+returns-clause-inodes g c = λ k after old new call units n more some h is.
+    let seen = g.M.Media.seen in
+    some_number seen g.S.Media.seen k old new units n after h some (c.served_need_is_lacking_no_longer.ensures.lacks (part_of (known_to new)) (holdings_of seen new) call (needs.Inodes more) is)
+
+pub returns-clause-units : goal.returns-clause-units
+returns-clause-units g c = λ k after old new call n inodes more was h is.
+    let seen = g.M.Media.seen in
+    let lacks = c.served_need_is_lacking_no_longer.ensures.lacks in
+    paid seen g.S.Media.seen k old new n inodes after h call n more refl
+    (lacks (part_of (known_to old)) (holdings_of seen old) call (needs.Units n) was)
+    (lacks (part_of (known_to new)) (holdings_of seen new) call (needs.Units more) is)
+
+pub returns-clause-pin : goal.returns-clause-pin
+returns-clause-pin g c = λ old new call i same is.
+    let seen = g.M.Media.seen in
+    let lacks : is_among i new.pins ≡ false = c.served_need_is_lacking_no_longer.ensures.lacks (part_of (known_to new)) (holdings_of seen new) call (needs.Pin i) is in
+    true≢false (sym (is_pinned old.pins i) ∙ sym (ap (λ (v : ClientView _). is_among i v.pins) same) ∙ lacks)
+
+pub returns-clause-unpin : goal.returns-clause-unpin
+returns-clause-unpin g c = λ old new call i same is.
+    let seen = g.M.Media.seen in
+    let lacks = c.served_need_is_lacking_no_longer.ensures.lacks (part_of (known_to new)) (holdings_of seen new) call (needs.Unpin i) is in
+    true≢false (sym lacks.0 ∙ ap (λ (v : ClientView _). is_among i v.pins) same ∙ is_unpinned old.pins i)
