@@ -1,5 +1,7 @@
-ghost use Rattle.std.specs.Prelude.{◌≡◌, ◌≢◌, ◌<◌, ◌≤◌, ℕ, ◌++◌, List, [], true, false, Some, None, IfOk, IfErr, IfSome, is_some, length};
+ghost use Rattle.std.specs.Prelude.{◌≡◌, ◌≢◌, ◌<◌, ◌≤◌, ℕ, ◌++◌, List, [], true, false, Some, None, IfOk, IfErr, IfSome, is_some, length, IsTrue, ◌↔◌};
+ghost use Rattle.std.specs.List.{AllByRecursion};
 ghost use Rattle.file_graph.specs.Graph.{is_among};
+ghost use Rattle.log_record.specs.Grammar.{IsRecord};
 ghost use Rattle.update_log.specs.Counting.{next_generation};
 ghost use Rattle.update_log.specs.Frames.{end_behind};
 ghost use Rattle.update_log.specs.View.{records_of as records_in};
@@ -160,6 +162,13 @@ impl<M: Media> Client<M> {
         self.copies.own().has_open(inode)
     }
 
+    /// Whether the client has handed a region over that is not back.
+    pub fn is_region_away(&self) -> bool
+        ensures { IsTrue result ↔ (self.now.log.other ≡ None) }
+    {
+        self.log.is_away()
+    }
+
     /// How the client stands to an inode.
     pub fn holds(&self, inode: u32) -> LeaseMode
         requires { HasWord inode }
@@ -170,15 +179,17 @@ impl<M: Media> Client<M> {
     }
 
     /// What holds of a client: what it has begun is begun in its log, its pass counts just its records that are not digested, and each inode that one of them touches it holds for
-    /// writing. Where both regions are here none of its records is away, and only where a device has failed a call is answered whose record stays begun.
+    /// writing. Where both regions are here none of its records is away, those that are away have spellings, and only where a device has failed a call is answered whose record stays begun.
     pub fn own_records_are_held(&self)
         ensures begins { begun_record self.now.begun ≡ self.now.log.current.begun }
         ensures counts { Counts self.now.pass (own_records M.seen self.now) }
         ensures held { (i : ℕ) → HasWord i → 0 < touching (own_records M.seen self.now) i → lease_of self.now.pass i ≡ Writing }
         ensures back { is_some self.now.log.other ≡ true → self.now.sealed ≡ [] }
+        ensures spelled { AllByRecursion IsRecord self.now.sealed }
         ensures failed { self.now.answered ≡ true → (self.now.log.failed ≡ true) × (is_some self.now.begun ≡ true) }
     {
         self.pass.counts_held();
+        let _away = self.records.away();
     }
 
     /// What a stop may leave now, between two calls: of what the regions hold that are here, just the records of the client's log count, with the begun one or without. And which of them are
