@@ -1,0 +1,66 @@
+-- What was asked of the kernel, as a seat tells it.
+use Rattle.std.proofs.Common.{◌≡◌, ◌≢◌, ◌⊎◌, inl, inr, ℕ, Bool, true, false, List, Option, refl, ap, sym, ◌∙◌}
+use Rattle.std.specs.Prelude.{Result, Ok, Err, OnOk, OnErr, IsErrOf}
+use Rattle.tier_device.specs.declared.media.Tier.{Tier}
+use Rattle.kernel_fs.specs.KernelView.{KernelView}
+use Rattle.libfs.specs.View.{ClientView}
+use Rattle.libfs.specs.declared.denying.Denied.{Denied}
+use Rattle.libfs.specs.declared.denying.Denied.TheVariants as denied
+use Rattle.event_steps.specs.Asking.{HasAsked, IsBooked}
+use Rattle.event_steps.specs.Played.{Carries}
+use Rattle.event_steps.specs.Told.{noted, told_asked}
+use Rattle.event_steps.specs.View.{AwayView}
+use Rattle.event_steps.specs.declared.outcome.Outcome.{Outcome}
+use Rattle.event_steps.specs.declared.outcome.Outcome.TheVariants as outcomes
+use Rattle.event_steps.specs.declared.refusals.Refusals.{Refusals}
+use Rattle.event_steps.proofs.Carried.{done}
+
+asked_is_done : (answer : Result (Unit {0}) Denied) → told_asked answer ≢ outcomes.Idle
+asked_is_done (Ok x) is = absurd (cc)
+asked_is_done (Err e) is = absurd (cc)
+
+-- what holds of each refusal holds of this one
+pub on_err : {P : Type 0} (answer : Result (Unit {0}) Denied) (e : Denied) → OnErr answer P → answer ≡ Err e → P
+on_err (Ok x) e p is = absurd (cc)
+on_err (Err why) e p is = p
+
+pub carried : {Turn Made Same : Type 0} (answer : Result (Unit {0}) Denied) (o : Outcome) → o ≡ told_asked answer → Turn → Made → Carries Turn Made Same o
+carried answer o told turn made = done o (λ idle. asked_is_done answer (sym told ∙ idle)) turn made
+
+module _ {M : Type 0} (seen : M → Tier → List ℕ) (k k' : KernelView M) (v v' : ClientView M) (away : Option (AwayView M)) (r r' : Refusals) (answer : Result (Unit {0}) Denied) (o : Outcome) where
+  pub asks : o ≡ told_asked answer → r' ≡ noted answer r → HasAsked (record { client = v; away = away; refused = r }) answer o (record { client = v'; away = away; refused = r' })
+  asks told note = record { told = told; rest = ap (λ (q : Refusals). record { client = v'; away = away; refused = q }) note }
+
+  pub booked : o ≡ told_asked answer → r' ≡ noted answer r → OnOk answer (k.area.failed ≡ false) → (IsErrOf answer denied.KernelFailed → k.area.failed ≡ true) → OnErr answer ((v' ≡ v) × (k' ≡ k)) → k'.area ≡ k.area
+      → IsBooked k (record { client = v; away = away; refused = r }) answer o (record { client = v'; away = away; refused = r' }) k'
+  booked told note going failed refused area = record { asks = asks told note; going = going; failed = failed; refused = refused; area = area }
+
+-- ---- units that no kernel has
+
+abbrev why_of : Result (Unit {0}) Denied → Denied
+why_of (Ok x) = denied.Turns
+why_of (Err e) = e
+
+units_are_no_failure : denied.NoUnits ≡ denied.KernelFailed → ⊥
+units_are_no_failure is = absurd (cc)
+
+units_are_no_number : denied.NoUnits ≡ denied.NoInode → ⊥
+units_are_no_number is = absurd (cc)
+
+failure_is_no_number : denied.KernelFailed ≡ denied.NoInode → ⊥
+failure_is_no_number is = absurd (cc)
+
+abbrev pub refused_for : Denied → Result (Unit {0}) Denied
+refused_for why = Err why
+
+pub none_by : (failed : Bool) (why : Denied) → (failed ≡ false → why ≡ denied.NoUnits) → refused_for why ≡ Err denied.KernelFailed → failed ≡ true
+none_by true why going is = refl
+none_by false why going is = absurd (units_are_no_failure (sym (going refl) ∙ ap why_of is))
+
+pub no_number : (failed : Bool) (why : Denied) → (failed ≡ true → why ≡ denied.KernelFailed) → (failed ≡ false → why ≡ denied.NoUnits) → refused_for why ≡ Err denied.NoInode → ⊥
+no_number true why fails going is = failure_is_no_number (sym (fails refl) ∙ ap why_of is)
+no_number false why fails going is = units_are_no_number (sym (going refl) ∙ ap why_of is)
+
+pub why_none : (failed : Bool) (why : Denied) → (failed ≡ true → why ≡ denied.KernelFailed) → (failed ≡ false → why ≡ denied.NoUnits) → (why ≡ denied.Memory) ⊎ (why ≡ denied.KernelFailed) ⊎ (why ≡ denied.NoUnits) ⊎ (why ≡ denied.NoInode)
+why_none true why fails going = inr (inl (fails refl))
+why_none false why fails going = inr (inr (inl (going refl)))

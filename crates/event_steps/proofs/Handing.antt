@@ -1,0 +1,70 @@
+-- A region that is handed over, and one that is wiped.
+use Rattle.std.proofs.Common.{◌≡◌, ◌≢◌, ◌⊎◌, inl, inr, true, false, cond, List, [], ℕ, Option, Some, None, refl, ap, sym, ◌∙◌}
+use Rattle.std.specs.Prelude.{Result, Ok, Err, is_some}
+use Rattle.std.proofs.lemmas.Bool.{false≢true}
+use Rattle.tier_device.specs.declared.media.Tier.{Tier}
+use Rattle.update_log.specs.View.{records_of}
+use Rattle.update_log.specs.declared.stage.WipeProgress.{WipeProgress}
+use Rattle.client_log.specs.View.{HandedView, LogView, written}
+use Rattle.client_log.specs.declared.error.LogError.{LogError}
+use Rattle.libfs.specs.HandingOver.{HasSealed}
+use Rattle.libfs.specs.View.{ClientView}
+use Rattle.event_steps.specs.Played.{Carries}
+use Rattle.event_steps.specs.Regions.{told_wipe}
+use Rattle.event_steps.specs.Turns.{IsToBeWiped}
+use Rattle.event_steps.specs.declared.outcome.Outcome.{Outcome}
+use Rattle.event_steps.specs.declared.outcome.Outcome.TheVariants as outcomes
+use Rattle.event_steps.specs.declared.outcome.Refusal.{Refusal}
+use Rattle.event_steps.specs.declared.outcome.Refusal.TheVariants as refusals
+use Rattle.event_steps.proofs.Carried.{done}
+
+-- a region that has records is wiped to its generation
+ready_written : {M : Type 0} (seen : M → Tier → List ℕ) (v : LogView M) → written seen v ≢ [] → written seen v ≡ records_of seen v.current
+ready_written seen v some = elim v.ready as (λ b. (cond b (records_of seen v.current) [] ≢ []) → cond b (records_of seen v.current) [] ≡ records_of seen v.current) [
+  | true ↦ λ _. refl
+  | false ↦ λ none. absurd (none refl)
+] some
+
+-- the records of the region are those that the client keeps of it
+pub handed_records : {M : Type 0} (seen : M → Tier → List ℕ) (old new : ClientView M) (over : HandedView M) → HasSealed seen old over new → records_of seen over.region ≡ new.sealed
+handed_records seen old new over has = ap (records_of seen) has.region ∙ sym (ready_written seen old.log has.may.some) ∙ sym has.sealed_is
+
+going : (p : WipeProgress) (r : Result (Option WipeProgress) LogError) → r ≡ Ok (Some p) → r ≡ Ok None → ⊥
+going p r one other = absurd (cc)
+
+failed : (e : LogError) (r : Result (Option WipeProgress) LogError) → r ≡ Err e → r ≡ Ok None → ⊥
+failed e r one other = absurd (cc)
+
+pub stepped_is_done : outcomes.Stepped ≢ outcomes.Idle
+stepped_is_done is = absurd (cc)
+
+pub refused_is_done : (why : Refusal) → outcomes.Refused why ≢ outcomes.Idle
+refused_is_done why is = absurd (cc)
+
+-- a device call of a wipe
+pub wiped : {Turn Made Same : Type 0} (answer : Result (Option WipeProgress) LogError) (o : Outcome) → o ≡ told_wipe answer → (answer ≡ Ok None → (Turn → ⊥) × Same) → (answer ≢ Ok None → Turn) → Made → Carries Turn Made Same o
+wiped (Ok None) o told none some made = record { idle = λ _. none refl; turn = λ other. absurd (other told); made = λ t. absurd ((none refl).0 t) }
+wiped (Ok (Some p)) o told none some made = done o (λ idle. stepped_is_done (sym told ∙ idle)) (some (going p (Ok (Some p)) refl)) made
+wiped (Err e) o told none some made = done o (λ idle. refused_is_done refusals.DeviceFault (sym told ∙ idle)) (some (failed e (Err e) refl)) made
+
+-- something is to be wiped where not all is wiped that is here
+pub to_be_wiped : {M : Type 0} (v : ClientView M) → ((v.log.ready ≡ true) → ((v.log.clean ≡ true) ⊎ (v.log.other ≡ None)) → ⊥) → IsToBeWiped v
+to_be_wiped v not_all = elim v.log.ready as (λ b. v.log.ready ≡ b → IsToBeWiped v) [
+  | false ↦ λ is. inl is
+  | true ↦ λ is. inr (elim v.log.clean as (λ b. v.log.clean ≡ b → (v.log.clean ≡ false) × (is_some v.log.other ≡ true)) [
+    | true ↦ λ clean. absurd (not_all is (inl clean))
+    | false ↦ λ stale. (
+      stale,
+      elim v.log.other as (λ o. v.log.other ≡ o → is_some o ≡ true) [
+        | None ↦ λ none. absurd (not_all is (inr none))
+        | Some r ↦ λ _. refl
+      ] refl,
+    )
+  ] refl)
+] refl
+
+-- and not where all is
+pub not_to_be_wiped : {M : Type 0} (v : ClientView M) → v.log.ready ≡ true → ((v.log.clean ≡ true) ⊎ (v.log.other ≡ None)) → IsToBeWiped v → ⊥
+not_to_be_wiped v ready rest (inl stale) = false≢true (sym stale ∙ ready)
+not_to_be_wiped v ready (inl clean) (inr is) = false≢true (sym is.0 ∙ clean)
+not_to_be_wiped v ready (inr none) (inr is) = false≢true (sym (ap is_some none) ∙ is.1)

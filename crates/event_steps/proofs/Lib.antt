@@ -1,0 +1,6 @@
+mod Carried
+mod Keeps
+mod Handing
+mod Asked
+mod Chunks
+mod Seats

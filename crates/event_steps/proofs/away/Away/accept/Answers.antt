@@ -1,0 +1,45 @@
+use Rattle.std.proofs.Common.{◌≡◌, ℕ, List, None, true, false, arith, inr, refl, subst, sym, ◌∙◌}
+use Rattle.std.specs.Option.{ForSome}
+use Rattle.std.specs.Prelude.{is_some}
+use Rattle.file_graph.specs.Graph.{is_among}
+use Rattle.event_steps.specs.Regions.{IsAwayRead}
+use Rattle.event_steps.specs.Sound.{IsLogOf}
+use Rattle.event_steps.specs.View.{AwayView}
+use Rattle.event_steps.proofs.Chunks.{none_of, read_records, was_accepted}
+use Rattle.event_steps.proofs.away.Away.accept.Goals as goal
+
+pub returns-then-is_some-clause-accepted : goal.returns-then-is_some-clause-accepted
+returns-then-is_some-clause-accepted g c =
+    let has : is_some c.self.inside.log ≡ true = grind arith in
+    was_accepted g.M.Media.seen g.M.Media.moment g.M.Media.left g.M.Media.faults c.args.kernel.now c.args.self.now
+    (subst (λ (v : AwayView _). ForSome v.log (IsLogOf g.M.Media.seen v)) c.self.view_is c.self.invariant.log)
+    (subst (λ (v : AwayView _). is_some v.log ≡ true) c.self.view_is has)
+
+pub returns-in-Ok-clause-accepted : goal.returns-in-Ok-clause-accepted
+returns-in-Ok-clause-accepted g c =
+    let seen = g.M.Media.seen in
+    let k = c.args.kernel.now in
+    let x = c.in_ok-log.log in
+    let told = c.in_ok-log.ensures.log in
+    let none : is_some c.self.inside.log ≡ false = grind arith in
+    let read = subst (λ (v : AwayView _). IsAwayRead seen g.M.Media.moment g.M.Media.left g.M.Media.faults c.args.self.now v) (sym c.self-2.view_is) c.read_log.ensures.read in (
+      x,
+      record {
+        log = refl;
+        records = told.0.records ∙ sym (read_records seen g.M.Media.moment g.M.Media.left g.M.Media.faults c.args.self.now.over.region c.self-2.inside.sealed.over.region read.read);
+        accepted = inr (
+          subst (λ (v : AwayView _). v.log ≡ None) c.self.view_is (none_of c.self.inside.log none),
+          record { read = read.read; generation = read.generation; client = read.client },
+          record {
+            is = told.0;
+            none = told.2;
+            held = told.3;
+            waiting = c.in-Ok.ensures.accepted;
+            can = c.in-Ok.ensures.can;
+            step = c.in-Ok.ensures.step;
+            region = λ m s of past records writes. c.in-Ok.ensures.region m s of past records (λ i w. subst (λ (h : List ℕ). is_among i h ≡ true) (sym told.3) (writes i w));
+            area = c.in-Ok.ensures.area;
+          },
+        );
+      },
+    )

@@ -1,0 +1,29 @@
+use Rattle.std.proofs.Common.{ap}
+use Rattle.std.specs.Prelude.{Ok}
+use Rattle.kernel_fs.specs.KernelView.{KernelView}
+use Rattle.kernel_fs.specs.declared.digesting.Digestion.{Digestion}
+use Rattle.kernel_fs.specs.declared.digesting.Digestion.TheVariants as digestion
+use Rattle.event_steps.proofs.Chunks.{next_run, same_ok}
+use Rattle.event_steps.proofs.digesting.digest_prepared.Goals as goal
+
+pub returns-in-Ok : goal.returns-in-Ok
+returns-in-Ok g c =
+    let d = c.in-Ok.digestion in
+    let e = c.in-Ok.ensures in (
+      Ok d,
+      c.told_digestion.ensures,
+      record {
+        run = next_run c.args.log.now c.args.chunk.now c.requires.chunk c.requires.next;
+        any_moment = λ going at waiting. e.any_moment going (c.requires.next, at) waiting;
+        digested = λ is. e.digested (same_ok d digestion.Digested is);
+        done = λ is. e.done (same_ok d digestion.Digested is);
+        at_mark = λ is. e.at_mark (same_ok d digestion.Digested is);
+        waiting = λ is. ((e.next.0 (same_ok d digestion.Digested is)).1, e.accepted (same_ok d digestion.Digested is));
+        step = λ is. e.step (same_ok d digestion.Digested is);
+        stays = λ other.
+            let same = e.not_digested (λ is. other (ap (λ (x : Digestion). Ok x) is)) in
+            (same.1, ap (λ (k : KernelView _). k.book) same.0);
+        bad = tt;
+        answers = e.answers;
+      },
+    )

@@ -1,0 +1,24 @@
+use Rattle.std.proofs.Common.{◌≡◌, arith, subst}
+use Rattle.lease_manager.specs.Words.{HasWord}
+use Rattle.event_steps.specs.Asking.{IsPinned}
+use Rattle.event_steps.specs.Played.{Carries}
+use Rattle.event_steps.specs.View.{SeatView}
+use Rattle.event_steps.proofs.Asked.{booked, carried}
+use Rattle.event_steps.proofs.seat.Seat.pin.Goals as goal
+
+pub returns-clause-carries : goal.returns-clause-carries
+returns-clause-carries g c =
+    let seen = g.M.Media.seen in
+    let s = c.self.inside in
+    let k = c.args.kernel.now in
+    let word : HasWord c.args.inode = grind arith in
+    let new : SeatView _ = record { client = c.pin-answer.new.self; away = s.away; refused = c.asked.new.refused } in
+    subst (λ (v : SeatView _). Carries (HasWord c.args.inode) (IsPinned seen k v c.args.inode c.asked.result new c.pin-answer.new.kernel) ((new ≡ v) × (c.pin-answer.new.kernel ≡ k)) c.asked.result) c.self.view_is
+    (carried c.pin-answer.result c.asked.result c.asked.ensures.told word (record {
+      answer = c.pin-answer.result;
+      booked = booked seen k c.pin-answer.new.kernel s.client c.pin-answer.new.self s.away s.refused c.asked.new.refused c.pin-answer.result c.asked.result c.asked.ensures.told c.asked.ensures.noted c.pin-answer.ensures.going c.pin-answer.ensures.failed c.pin-answer.ensures.refused c.pin-answer.ensures.area;
+      pins = c.pin-answer.ensures.pinned;
+      step = c.pin-answer.ensures.step;
+      out = c.pin-answer.ensures.out;
+      only = c.pin-answer.ensures.only;
+    }))

@@ -1,0 +1,25 @@
+use Rattle.std.proofs.Common.{◌≡◌, arith, subst}
+use Rattle.libfs.specs.declared.denying.Denied.TheVariants as denied
+use Rattle.event_steps.specs.Asking.{IsUnpinned}
+use Rattle.event_steps.specs.Played.{Carries}
+use Rattle.event_steps.specs.Turns.{CanBeUnpinned}
+use Rattle.event_steps.specs.View.{SeatView}
+use Rattle.event_steps.proofs.Asked.{booked, carried, on_err}
+use Rattle.event_steps.proofs.seat.Seat.unpin.Goals as goal
+
+pub returns-clause-carries : goal.returns-clause-carries
+returns-clause-carries g c =
+    let seen = g.M.Media.seen in
+    let s = c.self.inside in
+    let k = c.args.kernel.now in
+    let turn : CanBeUnpinned s.client c.args.inode = grind arith in
+    let new : SeatView _ = record { client = c.unpin-answer.new.self; away = s.away; refused = c.asked.new.refused } in
+    subst (λ (v : SeatView _). Carries (CanBeUnpinned v.client c.args.inode) (IsUnpinned seen k v c.args.inode c.asked.result new c.unpin-answer.new.kernel) ((new ≡ v) × (c.unpin-answer.new.kernel ≡ k)) c.asked.result) c.self.view_is
+    (carried c.unpin-answer.result c.asked.result c.asked.ensures.told turn (record {
+      answer = c.unpin-answer.result;
+      booked = booked seen k c.unpin-answer.new.kernel s.client c.unpin-answer.new.self s.away s.refused c.asked.new.refused c.unpin-answer.result c.asked.result c.asked.ensures.told c.asked.ensures.noted c.unpin-answer.ensures.going (on_err c.unpin-answer.result denied.KernelFailed c.unpin-answer.ensures.failed) c.unpin-answer.ensures.refused c.unpin-answer.ensures.area;
+      pins = c.unpin-answer.ensures.unpinned;
+      step = c.unpin-answer.ensures.step;
+      out = c.unpin-answer.ensures.out;
+      only = c.unpin-answer.ensures.only;
+    }))

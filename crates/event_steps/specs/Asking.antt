@@ -1,0 +1,103 @@
+-- What an event makes of client and kernel in which the client asks the kernel.
+use Rattle.std.specs.Prelude.{◌≡◌, ◌⊎◌, ◌<◌, ◌≤◌, ◌+◌, ◌^◌, ℕ, List, true, false, None, Result, Ok, Err, OnOk, OnErr, IfErr, IsErrOf, is_some}
+use Rattle.tier_device.specs.declared.media.Tier.{Tier}
+use Rattle.file_graph.specs.Units.{charge}
+use Rattle.kernel_book.specs.Book.{out_of, is_free}
+use Rattle.kernel_book.specs.Free.{count_of}
+use Rattle.kernel_book.specs.Nodes.{nodes_in}
+use Rattle.kernel_fs.specs.KernelView.{KernelView}
+use Rattle.kernel_fs.specs.Standing.{IsKernelOf}
+use Rattle.lease_manager.specs.Passes.{client_of}
+use Rattle.world_facts.specs.Machine.{Machine, book_pin, unbook_pin}
+use Rattle.libfs.specs.Serving.{HasFetched, HasFetchedBlocks, HasThem, HasGivenBack, HasLooked, HasRefilled, pinned, shared_by, unpinned}
+use Rattle.libfs.specs.declared.denying.Denied.{Denied}
+use Rattle.libfs.specs.declared.denying.Denied.TheVariants as denied
+use Rattle.event_steps.specs.declared.outcome.Outcome.{Outcome}
+use Rattle.event_steps.specs.Told.{noted, told_asked}
+use Rattle.event_steps.specs.View.{SeatView}
+
+-- The client was told what the kernel answered, and a refusal is kept until its next reply.
+pub record HasAsked {M : Type 0} (old : SeatView M) (answer : Result (Unit {0}) Denied) (o : Outcome) (new : SeatView M) : Type 0 where
+  pub told : o ≡ told_asked answer
+  pub rest : new ≡ record old { client = new.client; refused = noted answer old.refused }
+
+-- The client has begun a record: it has all that it needs, and gets no copy meanwhile.
+pub record HasNoneMeanwhile {M : Type 0} (k : KernelView M) (old : SeatView M) (o : Outcome) (new : SeatView M) (after : KernelView M) : Type 0 where
+  pub begun : is_some old.client.begun ≡ true
+  pub told : o ≡ told_asked (Ok tt)
+  pub same : new ≡ old
+  pub kernel : after ≡ k
+
+-- A copy was fetched.
+pub record GetsCopy {M : Type 0} (seen : M → Tier → List ℕ) (moment : M → ℕ) (left : M → ℕ → Tier → List ℕ → Type 0) (faults : M → ℕ) (k : KernelView M) (old : SeatView M) (i : ℕ) (o : Outcome) (new : SeatView M) (after : KernelView M) : Type 0 where
+  pub idle : old.client.begun ≡ None
+  pub answer : Result (Unit {0}) Denied
+  pub asks : HasAsked old answer o new
+  pub fetched : OnOk answer (HasFetched seen seen k old.client i new.client)
+  pub refused : OnErr answer (new.client ≡ old.client)
+  pub failed : k.area.failed ≡ true → answer ≡ Err denied.KernelFailed
+  pub untouched : k.area.failed ≡ true → after ≡ k
+  pub kernel : HasLooked moment seen left faults k after answer
+
+abbrev pub IsFetched : {M : Type 0} → (M → Tier → List ℕ) → (M → ℕ) → (M → ℕ → Tier → List ℕ → Type 0) → (M → ℕ) → KernelView M → SeatView M → ℕ → Outcome → SeatView M → KernelView M → Type 0
+IsFetched seen moment left faults k old i o new after = HasNoneMeanwhile k old o new after ⊎ GetsCopy seen moment left faults k old i o new after
+
+-- Blocks of a file were fetched: where it was refused, those before stay that had come.
+pub record GetsBlocks {M : Type 0} (seen : M → Tier → List ℕ) (moment : M → ℕ) (left : M → ℕ → Tier → List ℕ → Type 0) (faults : M → ℕ) (k : KernelView M) (old : SeatView M) (i first count : ℕ) (o : Outcome) (new : SeatView M) (after : KernelView M) : Type 0 where
+  pub answer : Result (Unit {0}) Denied
+  pub asks : HasAsked old answer o new
+  pub fetched : HasFetchedBlocks seen seen k old.client i first count new.client
+  pub there : OnOk answer (HasThem seen seen k old.client i first count new.client)
+  pub failed : k.area.failed ≡ true → (answer ≡ Err denied.KernelFailed) × (new.client ≡ old.client) × (after ≡ k)
+  pub kernel : HasLooked moment seen left faults k after answer
+
+-- A run that would end past all numbers of blocks has none.
+pub record HasNoSuchBlocks {M : Type 0} (k : KernelView M) (old : SeatView M) (first count : ℕ) (o : Outcome) (new : SeatView M) (after : KernelView M) : Type 0 where
+  pub past : 2 ^ 32 ≤ first + count
+  pub told : o ≡ told_asked (Ok tt)
+  pub same : new ≡ old
+  pub kernel : after ≡ k
+
+abbrev pub AreFetched : {M : Type 0} → (M → Tier → List ℕ) → (M → ℕ) → (M → ℕ → Tier → List ℕ → Type 0) → (M → ℕ) → KernelView M → SeatView M → ℕ → ℕ → ℕ → Outcome → SeatView M → KernelView M → Type 0
+AreFetched seen moment left faults k old i first count o new after = HasNoSuchBlocks k old first count o new after ⊎ GetsBlocks seen moment left faults k old i first count o new after
+
+-- What only the kernel's book has to do with: no device is asked, and what is refused changes nothing.
+pub record IsBooked {M : Type 0} (k : KernelView M) (old : SeatView M) (answer : Result (Unit {0}) Denied) (o : Outcome) (new : SeatView M) (after : KernelView M) : Type 0 where
+  pub asks : HasAsked old answer o new
+  pub going : OnOk answer (k.area.failed ≡ false)
+  pub failed : IsErrOf answer denied.KernelFailed → k.area.failed ≡ true
+  pub refused : OnErr answer ((new.client ≡ old.client) × (after ≡ k))
+  pub area : after.area ≡ k.area
+
+-- Units and numbers were granted. Want of units comes first.
+pub record IsRefilled {M : Type 0} (seen : M → Tier → List ℕ) (k : KernelView M) (old : SeatView M) (units inodes : ℕ) (o : Outcome) (new : SeatView M) (after : KernelView M) : Type 0 where
+  pub answer : Result (Unit {0}) Denied
+  pub booked : IsBooked k old answer o new after
+  pub granted : OnOk answer (HasRefilled seen k old.client units inodes new.client after)
+  pub law : OnOk answer (charge (shared_by seen k) + out_of after.book ≤ k.area.geometry.units)
+  -- beside what passes the capacity, no client can have so many that they have no number
+  pub no_units : IsErrOf answer denied.NoUnits → (k.area.geometry.units < charge (shared_by seen k) + out_of k.book + units) ⊎ (2 ^ 32 ≤ old.client.spare + units)
+  pub no_inode : IsErrOf answer denied.NoInode → count_of (is_free k.book (nodes_in (shared_by seen k))) < inodes
+  pub only : IfErr answer (λ e. (e ≡ denied.Memory) ⊎ (e ≡ denied.KernelFailed) ⊎ (e ≡ denied.NoUnits) ⊎ (e ≡ denied.NoInode))
+
+pub record IsGivenBack {M : Type 0} (seen : M → Tier → List ℕ) (k : KernelView M) (old : SeatView M) (o : Outcome) (new : SeatView M) (after : KernelView M) : Type 0 where
+  pub answer : Result (Unit {0}) Denied
+  pub booked : IsBooked k old answer o new after
+  pub given : OnOk answer (HasGivenBack seen k old.client new.client after)
+  pub only : IfErr answer (λ e. e ≡ denied.KernelFailed)
+
+pub record IsPinned {M : Type 0} (seen : M → Tier → List ℕ) (k : KernelView M) (old : SeatView M) (i : ℕ) (o : Outcome) (new : SeatView M) (after : KernelView M) : Type 0 where
+  pub answer : Result (Unit {0}) Denied
+  pub booked : IsBooked k old answer o new after
+  pub pins : OnOk answer (new.client ≡ record old.client { pins = pinned old.client.pins i })
+  pub step : OnOk answer ((m : Machine) → IsKernelOf seen k m → IsKernelOf seen after (book_pin m (client_of old.client.pass) i))
+  pub out : out_of after.book ≡ out_of k.book
+  pub only : IfErr answer (λ e. (e ≡ denied.KernelFailed) ⊎ (e ≡ denied.Memory))
+
+pub record IsUnpinned {M : Type 0} (seen : M → Tier → List ℕ) (k : KernelView M) (old : SeatView M) (i : ℕ) (o : Outcome) (new : SeatView M) (after : KernelView M) : Type 0 where
+  pub answer : Result (Unit {0}) Denied
+  pub booked : IsBooked k old answer o new after
+  pub pins : OnOk answer (new.client ≡ record old.client { pins = unpinned old.client.pins i })
+  pub step : OnOk answer ((m : Machine) → IsKernelOf seen k m → IsKernelOf seen after (unbook_pin m (client_of old.client.pass) i))
+  pub out : out_of after.book ≡ out_of k.book
+  pub only : IfErr answer (λ e. e ≡ denied.KernelFailed)

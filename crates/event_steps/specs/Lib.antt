@@ -1,0 +1,11 @@
+pub mod Refusals
+pub mod View
+pub mod Sound
+pub mod Told
+pub mod Turns
+pub mod Calls
+pub mod Leases
+pub mod Asking
+pub mod Regions
+pub mod Media
+pub mod Played

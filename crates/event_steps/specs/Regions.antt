@@ -1,0 +1,173 @@
+-- What an event makes of a client's regions.
+use Rattle.std.specs.Prelude.{◌≡◌, ◌≢◌, ◌⊎◌, ◌==◌, ℕ, Bool, List, true, false, length, take, Option, Some, None, Result, Ok, Err, IfErr}
+use Rattle.tier_device.specs.declared.media.Tier.{Tier}
+use Rattle.update_log.specs.View.{RegionView, records_of}
+use Rattle.update_log.specs.declared.stage.WipeProgress.{WipeProgress}
+use Rattle.client_log.specs.Calls.{IsOnlyRead}
+use Rattle.client_log.specs.Steps.{WipesCurrent, WipesOther}
+use Rattle.client_log.specs.declared.error.LogError.{LogError}
+use Rattle.client_leases.specs.Held.{AreWritten}
+use Rattle.digester.specs.Digesting.{IsDigested, IsToldBad, StaysOrDigests, DigestsOrStays}
+use Rattle.digester.specs.SealedLog.{IsDoneBy, StandsAtMark, undone}
+use Rattle.digester.specs.declared.error.DigestError.{DigestError}
+use Rattle.digester.specs.declared.error.DigestError.TheVariants as digests
+use Rattle.digester.specs.declared.sealed_log.SealedLog.{SealedLog}
+use Rattle.coalescer.specs.Weight.{IsLongestRun}
+use Rattle.shared_area.specs.Store.{store_of}
+use Rattle.world_facts.specs.Machine.{Machine, Sealed, CanAccept, accept as accept_step, digest as digest_step}
+use Rattle.kernel_fs.specs.Accepting.{client_of as client_in, HasAsManyWaiting, IsRegionOf}
+use Rattle.kernel_fs.specs.Answering.{Answers, OnRefusal}
+use Rattle.kernel_fs.specs.KernelView.{KernelView}
+use Rattle.kernel_fs.specs.Standing.{IsKernelOf}
+use Rattle.kernel_fs.specs.declared.digesting.Digestion.{Digestion}
+use Rattle.kernel_fs.specs.declared.digesting.Digestion.TheVariants as digestion
+use Rattle.kernel_fs.specs.declared.error.KernelError.{KernelError}
+use Rattle.kernel_fs.specs.declared.error.KernelError.TheVariants as kernel
+use Rattle.file_graph.specs.Graph.{is_among}
+use Rattle.lease_manager.specs.Passes.{client_of}
+use Rattle.libfs.specs.HandingOver.{HasSealed, HasTakenBack}
+use Rattle.event_steps.specs.Calls.{CountsOn}
+use Rattle.event_steps.specs.Sound.{IsLogOf}
+use Rattle.event_steps.specs.View.{AwayView, SeatView}
+use Rattle.event_steps.specs.declared.outcome.Outcome.{Outcome}
+use Rattle.event_steps.specs.declared.outcome.Outcome.TheVariants as outcomes
+use Rattle.event_steps.specs.declared.outcome.Refusal.{Refusal}
+use Rattle.event_steps.specs.declared.outcome.Refusal.TheVariants as refusals
+
+-- ---- handed over
+
+-- The client handed its current region over, and goes on in the other one.
+pub record HasHandedOver {M : Type 0} (seen : M → Tier → List ℕ) (old : SeatView M) (new : SeatView M) : Type 0 where
+  pub away : AwayView M
+  pub is_away : new.away ≡ Some away
+  pub client : away.client ≡ client_of old.client.pass
+  pub held : AreWritten old.client.pass away.held
+  pub unread : away.log ≡ None
+  pub sealed : HasSealed seen old.client away.over new.client
+  pub rest : new ≡ record old { client = new.client; away = new.away }
+
+-- So it did, or there was no memory for it.
+abbrev pub IsHandedOver : {M : Type 0} → (M → Tier → List ℕ) → SeatView M → Outcome → SeatView M → Type 0
+IsHandedOver seen old o new = ((o ≡ outcomes.Stepped) × HasHandedOver seen old new) ⊎ ((o ≡ outcomes.Refused refusals.Memory) × (new ≡ old))
+
+-- ---- wiped
+
+abbrev pub told_wipe : Result (Option WipeProgress) LogError → Outcome
+told_wipe (Ok None) = outcomes.Idle
+told_wipe (Ok (Some p)) = outcomes.Stepped
+told_wipe (Err e) = outcomes.Refused refusals.DeviceFault
+
+-- One device call of a wipe was made.
+pub record IsWipedOn {M : Type 0} (seen : M → Tier → List ℕ) (moment : M → ℕ) (left : M → ℕ → Tier → List ℕ → Type 0) (faults : M → ℕ) (old : SeatView M) (o : Outcome) (new : SeatView M) : Type 0 where
+  pub answer : Result (Option WipeProgress) LogError
+  pub told : o ≡ told_wipe answer
+  pub any_moment : CountsOn seen moment left old.client new.client
+  pub current : old.client.log.ready ≡ false → WipesCurrent seen moment left faults old.client.log new.client.log answer
+  pub other : old.client.log.ready ≡ true → old.client.log.clean ≡ false → (r : RegionView M) → old.client.log.other ≡ Some r → WipesOther seen moment left faults r old.client.log new.client.log answer
+  pub rest : new ≡ record old { client = record old.client { log = new.client.log } }
+
+-- ---- accepted
+
+-- Of a region that was handed over only the region was read.
+pub record IsAwayRead {M : Type 0} (seen : M → Tier → List ℕ) (moment : M → ℕ) (left : M → ℕ → Tier → List ℕ → Type 0) (faults : M → ℕ) (old new : AwayView M) : Type 0 where
+  pub read : IsOnlyRead seen moment left faults old.over.region new.over.region
+  pub generation : new.over.generation ≡ old.over.generation
+  pub client : new.client ≡ old.client
+
+-- The kernel has accepted the region, with all its records, none of which is digested.
+pub record HasAccepted {M : Type 0} (seen : M → Tier → List ℕ) (k : KernelView M) (a : AwayView M) (x : SealedLog) (after : KernelView M) : Type 0 where
+  pub is : IsLogOf seen a x
+  pub none : x.done ≡ 0
+  pub held : x.held.items ≡ a.held
+  pub waiting : HasAsManyWaiting after.book x
+  pub can : (m : Machine) (s : Sealed) → IsKernelOf seen k m → m.accepted (client_in x) ≡ s.past → s.records ≡ x.records.items → CanAccept m (client_in x) s
+  pub step : (m : Machine) (s : Sealed) → IsKernelOf seen k m → m.accepted (client_in x) ≡ s.past → s.records ≡ x.records.items → IsKernelOf seen after (accept_step m (client_in x) s)
+  pub region : (m : Machine) (s : Sealed) → IsKernelOf seen k m → m.accepted (client_in x) ≡ s.past → s.records ≡ x.records.items → ((i : ℕ) → s.writes i ≡ true → is_among i a.held ≡ true) → IsRegionOf x (m.kernel.accounts (client_in x)).mark s
+  pub area : after.area ≡ k.area
+
+-- The log of the region, which the kernel accepted before, or accepts now.
+pub record HasLog {M : Type 0} (seen : M → Tier → List ℕ) (moment : M → ℕ) (left : M → ℕ → Tier → List ℕ → Type 0) (faults : M → ℕ) (k : KernelView M) (a : AwayView M) (x : SealedLog) (b : AwayView M) (after : KernelView M) : Type 0 where
+  pub log : b.log ≡ Some x
+  pub records : x.records.items ≡ records_of seen b.over.region
+  pub accepted : ((b ≡ a) × (after ≡ k)) ⊎ ((a.log ≡ None) × IsAwayRead seen moment left faults a b × HasAccepted seen k a x after)
+
+-- why a region was not accepted
+abbrev pub IsNotAcceptedFor : Refusal → Type 0
+IsNotAcceptedFor why = (why ≡ refusals.Memory) ⊎ ((why ≡ refusals.DeviceFault) ⊎ ((why ≡ refusals.KernelFailed) ⊎ (why ≡ refusals.BadLog)))
+
+-- ---- digested
+
+abbrev pub told_digest : Result Digestion (KernelError DigestError) → Outcome
+told_digest (Ok digestion.Digested) = outcomes.Stepped
+told_digest (Ok digestion.NotNext) = outcomes.Refused refusals.BadLog
+told_digest (Ok digestion.NotAccepted) = outcomes.Refused refusals.BadLog
+told_digest (Err kernel.Failed) = outcomes.Refused refusals.KernelFailed
+told_digest (Err (kernel.Refused digests.DeviceFault)) = outcomes.Refused refusals.DeviceFault
+told_digest (Err (kernel.Refused (digests.BadLog place))) = outcomes.Refused refusals.BadLog
+told_digest (Err (kernel.Refused digests.Memory)) = outcomes.Refused refusals.Memory
+
+-- The kernel was asked to digest the next n records of a log, as many as a batch takes: graph, mark and account move together, or nothing does.
+pub record DigestsNext {M : Type 0} (seen : M → Tier → List ℕ) (moment : M → ℕ) (left : M → ℕ → Tier → List ℕ → Type 0) (faults : M → ℕ) (k : KernelView M) (x : SealedLog) (n : ℕ) (answer : Result Digestion (KernelError DigestError)) (y : SealedLog) (after : KernelView M) : Type 0 where
+  pub run : IsLongestRun (undone x) n
+  pub any_moment : k.area.failed ≡ false → StandsAtMark x (store_of (seen k.area.media)) → HasAsManyWaiting k.book x → StaysOrDigests k.area.geometry (store_of (seen k.area.media)) x n (moment k.area.media) (moment after.area.media) (left k.area.media) (left after.area.media)
+  pub digested : answer ≡ Ok digestion.Digested → IsDigested k.area.geometry (store_of (seen k.area.media)) x n (store_of (seen after.area.media))
+  pub done : answer ≡ Ok digestion.Digested → IsDoneBy x n y
+  pub at_mark : answer ≡ Ok digestion.Digested → StandsAtMark y (store_of (seen after.area.media))
+  pub waiting : answer ≡ Ok digestion.Digested → HasAsManyWaiting k.book x × HasAsManyWaiting after.book y
+  pub step : answer ≡ Ok digestion.Digested → (m : Machine) → IsKernelOf seen k m → IsKernelOf seen after (digest_step m (client_in x) (take n (undone x)))
+  pub stays : answer ≢ Ok digestion.Digested → (y ≡ x) × (after.book ≡ k.book)
+  pub bad : IfErr answer (λ e. OnRefusal e (IsToldBad k.area.geometry (store_of (seen k.area.media)) x n))
+  pub answers : Answers k.area.failed k after answer (DigestsOrStays moment seen left faults k.area after.area)
+
+-- The next records were prepared and the kernel was asked to digest them, or there was no memory for that.
+abbrev pub ChunkCame : {M : Type 0} → (M → Tier → List ℕ) → (M → ℕ) → (M → ℕ → Tier → List ℕ → Type 0) → (M → ℕ) → KernelView M → SealedLog → Outcome → SealedLog → KernelView M → Type 0
+ChunkCame seen moment left faults k x o y after = ((o ≡ outcomes.Refused refusals.Memory) × (y ≡ x) × (after ≡ k))
+    ⊎ ((n : ℕ) × (answer : Result Digestion (KernelError DigestError)) × (o ≡ told_digest answer) × DigestsNext seen moment left faults k x n answer y after)
+
+-- Where the last record of the region is digested the client takes it back; else it stays away, with this log.
+abbrev pub IsPutBy : {M : Type 0} → Bool → (M → Tier → List ℕ) → SeatView M → AwayView M → SealedLog → SeatView M → Type 0
+IsPutBy true seen old b y new = HasTakenBack seen old.client b.over new.client × (new ≡ record old { client = new.client; away = None })
+IsPutBy false seen old b y new = new ≡ record old { away = Some (record b { log = Some y }) }
+
+abbrev pub IsPutAway : {M : Type 0} → (M → Tier → List ℕ) → SeatView M → AwayView M → SealedLog → SeatView M → Type 0
+IsPutAway seen old b y new = IsPutBy (y.done == length y.records.items) seen old b y new
+
+-- The region could not be read, or was not accepted: nothing has changed.
+pub record IsNotAccepted {M : Type 0} (seen : M → Tier → List ℕ) (moment : M → ℕ) (left : M → ℕ → Tier → List ℕ → Type 0) (faults : M → ℕ) (k : KernelView M) (old : SeatView M) (a : AwayView M) (o : Outcome) (new : SeatView M) (after : KernelView M) : Type 0 where
+  pub unread : a.log ≡ None
+  pub why : Refusal
+  pub told : o ≡ outcomes.Refused why
+  pub only : IsNotAcceptedFor why
+  pub away : AwayView M
+  pub read : IsAwayRead seen moment left faults a away
+  pub held : away.held ≡ a.held
+  pub none : away.log ≡ None
+  pub rest : new ≡ record old { away = Some away }
+  pub kernel : after ≡ k
+
+-- There was no memory to prepare the next records.
+pub record IsNotPrepared {M : Type 0} (seen : M → Tier → List ℕ) (moment : M → ℕ) (left : M → ℕ → Tier → List ℕ → Type 0) (faults : M → ℕ) (k : KernelView M) (old : SeatView M) (a : AwayView M) (o : Outcome) (new : SeatView M) (after : KernelView M) : Type 0 where
+  pub told : o ≡ outcomes.Refused refusals.Memory
+  pub log : SealedLog
+  pub away : AwayView M
+  pub accepted : HasLog seen moment left faults k a log away after
+  pub rest : new ≡ record old { away = Some away }
+
+-- The kernel was asked.
+pub record IsAskedToDigest {M : Type 0} (seen : M → Tier → List ℕ) (moment : M → ℕ) (left : M → ℕ → Tier → List ℕ → Type 0) (faults : M → ℕ) (k : KernelView M) (old : SeatView M) (a : AwayView M) (o : Outcome) (new : SeatView M) (after : KernelView M) : Type 0 where
+  pub log : SealedLog
+  pub away : AwayView M
+  pub between : KernelView M
+  pub accepted : HasLog seen moment left faults k a log away between
+  pub count : ℕ
+  pub answer : Result Digestion (KernelError DigestError)
+  pub told : o ≡ told_digest answer
+  pub log_then : SealedLog
+  pub digests : DigestsNext seen moment left faults between log count answer log_then after
+  pub put : IsPutAway seen old away log_then new
+
+-- The region is read and accepted first, where it was not yet; then its next records are digested, one chunk of them.
+pub record IsDigestedOn {M : Type 0} (seen : M → Tier → List ℕ) (moment : M → ℕ) (left : M → ℕ → Tier → List ℕ → Type 0) (faults : M → ℕ) (k : KernelView M) (old : SeatView M) (o : Outcome) (new : SeatView M) (after : KernelView M) : Type 0 where
+  pub away : AwayView M
+  pub was_away : old.away ≡ Some away
+  pub came : IsNotAccepted seen moment left faults k old away o new after ⊎ (IsNotPrepared seen moment left faults k old away o new after ⊎ IsAskedToDigest seen moment left faults k old away o new after)

@@ -1,0 +1,45 @@
+-- How what came of an event is told.
+use Rattle.std.specs.Prelude.{Option, Some, None, Result, Ok, Err}
+use Rattle.posix_calls.specs.declared.call.Reply.{Reply}
+use Rattle.libfs.specs.declared.denying.Denied.{Denied}
+use Rattle.libfs.specs.declared.now.Now.{Now}
+use Rattle.libfs.specs.declared.now.Now.TheVariants as now
+use Rattle.event_steps.specs.declared.outcome.Outcome.{Outcome}
+use Rattle.event_steps.specs.declared.outcome.Outcome.TheVariants as outcomes
+use Rattle.event_steps.specs.declared.outcome.Refusal.{Refusal}
+use Rattle.event_steps.specs.declared.refusals.Refusals.{Refusals}
+use Rattle.event_steps.specs.Refusals.{no_refusals, refusal_of, with_refusal}
+
+-- a call that was started
+abbrev pub told_start : Now → Outcome
+told_start (now.Done reply) = outcomes.Reply reply
+told_start now.Pending = outcomes.Pending
+told_start (now.Need need) = outcomes.Need need
+
+-- a device call of a begun call
+abbrev pub told_step : Option Reply → Outcome
+told_step None = outcomes.Stepped
+told_step (Some reply) = outcomes.Reply reply
+
+-- what was done or refused
+abbrev pub told : Result (Unit {0}) Refusal → Outcome
+told (Ok x) = outcomes.Stepped
+told (Err why) = outcomes.Refused why
+
+-- what was asked of the kernel
+abbrev pub told_asked : Result (Unit {0}) Denied → Outcome
+told_asked (Ok x) = outcomes.Stepped
+told_asked (Err why) = outcomes.Refused (refusal_of why)
+
+-- what the kernel refused is kept until the next reply
+abbrev pub refused_then : Outcome → Refusals → Refusals
+refused_then (outcomes.Reply reply) r = no_refusals
+refused_then outcomes.Pending r = r
+refused_then (outcomes.Need need) r = r
+refused_then outcomes.Stepped r = r
+refused_then (outcomes.Refused why) r = r
+refused_then outcomes.Idle r = r
+
+abbrev pub noted : Result (Unit {0}) Denied → Refusals → Refusals
+noted (Ok x) r = r
+noted (Err why) r = with_refusal r why

@@ -1,0 +1,102 @@
+-- When an event has something to do.
+use Rattle.std.specs.Prelude.{◌≡◌, ◌≢◌, ◌⊎◌, ℕ, Bool, List, true, false, Option, Some, None, is_some, IfSome}
+use Rattle.tier_device.specs.declared.media.Tier.{Tier}
+use Rattle.posix_calls.specs.Tree.{has_open}
+use Rattle.file_graph.specs.Graph.{is_among}
+use Rattle.client_log.specs.Steps.{CanBeSealed}
+use Rattle.lease_manager.specs.Passes.{lease_of}
+use Rattle.lease_manager.specs.Words.{HasWord, IsClient}
+use Rattle.lease_manager.specs.declared.view.LeaseMode.TheVariants.{Free, Reading}
+use Rattle.libfs.specs.Holding.{known_to}
+use Rattle.libfs.specs.Leasing.{CanBeGiven}
+use Rattle.libfs.specs.View.{ClientView, is_pending}
+use Rattle.event_steps.specs.declared.event.Event.{Event}
+use Rattle.event_steps.specs.declared.event.Event.TheVariants as event
+use Rattle.event_steps.specs.Refusals.{has_refusal}
+use Rattle.event_steps.specs.View.{SeatView, SystemView, seat_of}
+
+-- the client whose event it is
+abbrev pub whose : Event → Option ℕ
+whose (event.Start c call) = Some c
+whose (event.Step c) = Some c
+whose (event.Lease c i mode) = Some c
+whose (event.Raise c i) = Some c
+whose (event.Give c i) = Some c
+whose (event.AskBack c i of) = Some c
+whose (event.Fetch c i) = Some c
+whose (event.Blocks c i first count) = Some c
+whose (event.Refill c units inodes) = Some c
+whose (event.GiveBack c) = Some c
+whose (event.Pin c i) = Some c
+whose (event.Unpin c i) = Some c
+whose (event.Seal c) = Some c
+whose (event.Digest c) = Some c
+whose (event.WipeStep c) = Some c
+whose (event.Reclaim i) = None
+whose (event.Migrate i first count to) = None
+whose (event.Deny c call why) = Some c
+
+-- whether the client asks the kernel in it, or the kernel digests what the client handed over
+abbrev pub asks_kernel : Event → Bool
+asks_kernel (event.Start c call) = false
+asks_kernel (event.Step c) = false
+asks_kernel (event.Lease c i mode) = false
+asks_kernel (event.Raise c i) = false
+asks_kernel (event.Give c i) = false
+asks_kernel (event.AskBack c i of) = false
+asks_kernel (event.Fetch c i) = true
+asks_kernel (event.Blocks c i first count) = true
+asks_kernel (event.Refill c units inodes) = true
+asks_kernel (event.GiveBack c) = true
+asks_kernel (event.Pin c i) = true
+asks_kernel (event.Unpin c i) = true
+asks_kernel (event.Seal c) = false
+asks_kernel (event.Digest c) = true
+asks_kernel (event.WipeStep c) = false
+asks_kernel (event.Reclaim i) = false
+asks_kernel (event.Migrate i first count to) = false
+asks_kernel (event.Deny c call why) = false
+
+-- a client holds an inode, for reading or for writing
+abbrev pub IsHeld : {M : Type 0} → ClientView M → ℕ → Type 0
+IsHeld v i = HasWord i × (lease_of v.pass i ≢ Free)
+
+-- A pin may go of a file that is not open, while no call waits.
+pub record CanBeUnpinned {M : Type 0} (v : ClientView M) (i : ℕ) : Type 0 where
+  pub idle : is_pending v ≡ false
+  pub pinned : is_among i v.pins ≡ true
+  pub closed : has_open (known_to v).own i ≡ false
+
+-- Something is to be wiped: the current region, or the other one that is back.
+abbrev pub IsToBeWiped : {M : Type 0} → ClientView M → Type 0
+IsToBeWiped v = (v.log.ready ≡ false) ⊎ ((v.log.clean ≡ false) × (is_some v.log.other ≡ true))
+
+-- A client has something to do in an event.
+abbrev pub HasTurn : {M : Type 0} → (M → Tier → List ℕ) → SeatView M → Event → Type 0
+HasTurn seen s (event.Start c call) = is_pending s.client ≡ false
+HasTurn seen s (event.Step c) = is_pending s.client ≡ true
+HasTurn seen s (event.Lease c i mode) = HasWord i × (lease_of s.client.pass i ≡ Free)
+HasTurn seen s (event.Raise c i) = HasWord i × (lease_of s.client.pass i ≡ Reading)
+HasTurn seen s (event.Give c i) = CanBeGiven s.client i
+HasTurn seen s (event.AskBack c i of) = HasWord i × IsClient of
+HasTurn seen s (event.Fetch c i) = IsHeld s.client i
+HasTurn seen s (event.Blocks c i first count) = IsHeld s.client i
+HasTurn seen s (event.Refill c units inodes) = Unit {0}
+HasTurn seen s (event.GiveBack c) = (is_pending s.client ≡ false) × (s.client.log.failed ≡ false)
+HasTurn seen s (event.Pin c i) = HasWord i
+HasTurn seen s (event.Unpin c i) = CanBeUnpinned s.client i
+HasTurn seen s (event.Seal c) = CanBeSealed seen s.client.log
+HasTurn seen s (event.Digest c) = (s.client.log.failed ≡ false) × (is_some s.away ≡ true)
+HasTurn seen s (event.WipeStep c) = (s.client.log.failed ≡ false) × IsToBeWiped s.client
+HasTurn seen s (event.Reclaim i) = ⊥
+HasTurn seen s (event.Migrate i first count to) = ⊥
+HasTurn seen s (event.Deny c call why) = (is_pending s.client ≡ false) × (has_refusal s.refused why ≡ true)
+
+-- One of the eight clients has.
+abbrev pub IsTurnOf : {M : Type 0} → (M → Tier → List ℕ) → SystemView M → Event → Option ℕ → Type 0
+IsTurnOf seen w e None = Unit {0}
+IsTurnOf seen w e (Some c) = IsClient c × IfSome (seat_of w c) (λ s. HasTurn seen s e)
+
+-- An event has something to do: what is of no client always has, and of a number outside 1 to 8 nothing.
+abbrev pub CanPlay : {M : Type 0} → (M → Tier → List ℕ) → SystemView M → Event → Type 0
+CanPlay seen w e = IsTurnOf seen w e (whose e)

@@ -1,0 +1,157 @@
+//! What a client asks of the kernel.
+ghost use Rattle.std.specs.Prelude.{◌≡◌, ◌↔◌, ◌+◌, ◌<◌, ◌≤◌, ◌^◌, true, false, IsTrue, ⊤};
+ghost use Rattle.lease_manager.specs.Words.{HasWord};
+ghost use Rattle.libfs.specs.View.{is_pending};
+ghost use Rattle.libfs.specs.declared.denying.Denied.TheVariants as denied;
+ghost use Rattle.event_steps.specs.Asking.{AreFetched, IsFetched, IsGivenBack, IsPinned, IsRefilled, IsUnpinned};
+ghost use Rattle.event_steps.specs.Played.{Carries};
+ghost use Rattle.event_steps.specs.Sound.{number_of};
+ghost use Rattle.event_steps.specs.Refusals.{refusal_of};
+ghost use Rattle.event_steps.specs.Told.{noted, told_asked};
+ghost use Rattle.event_steps.specs.Turns.{CanBeUnpinned, IsHeld};
+
+use crate::outcome::{Outcome, Refusal};
+use crate::refusals::Refusals;
+use crate::seat::Seat;
+use client_leases::is_inode;
+use kernel_fs::Kernel;
+use lease_manager::LeaseMode;
+use libfs::Denied;
+use tier_device::Media;
+
+impl<M: Media> Seat<M> {
+    // A client that has begun a record has all that it needs, and gets no copy meanwhile.
+    pub fn fetch(&mut self, kernel: &mut Kernel<M>, inode: u32) -> Outcome
+        ensures carries { Carries (IsHeld self.old.client inode) (IsFetched M.seen M.moment M.left M.faults kernel.old self.old inode result self.new kernel.new) ((self.new ≡ self.old) × (kernel.new ≡ kernel.old)) result }
+        ensures number { number_of self.new ≡ number_of self.old }
+    {
+        if !self.is_held(inode) {
+            return Outcome::Idle;
+        }
+        if self.client.has_begun() {
+            return Outcome::Stepped;
+        }
+        let answer = self.client.fetch(kernel, inode);
+        asked(&mut self.refused, answer)
+    }
+
+    pub fn blocks(&mut self, kernel: &mut Kernel<M>, inode: u32, first: u32, count: u32) -> Outcome
+        ensures carries { Carries (IsHeld self.old.client inode) (AreFetched M.seen M.moment M.left M.faults kernel.old self.old inode first count result self.new kernel.new) ((self.new ≡ self.old) × (kernel.new ≡ kernel.old)) result }
+        ensures number { number_of self.new ≡ number_of self.old }
+    {
+        if !self.is_held(inode) {
+            return Outcome::Idle;
+        }
+        if !fits(first, count) {
+            return Outcome::Stepped;
+        }
+        let answer = self.client.fetch_blocks(kernel, inode, first, count);
+        asked(&mut self.refused, answer)
+    }
+
+    pub fn refill(&mut self, kernel: &mut Kernel<M>, units: u32, inodes: u32) -> Outcome
+        ensures carries { Carries ⊤ (IsRefilled M.seen kernel.old self.old units inodes result self.new kernel.new) ((self.new ≡ self.old) × (kernel.new ≡ kernel.old)) result }
+        ensures number { number_of self.new ≡ number_of self.old }
+    {
+        if !fits(self.client.spare(), units) {
+            return asked(&mut self.refused, Err(none_so_many(kernel)));
+        }
+        let answer = self.client.refill(kernel, units, inodes);
+        asked(&mut self.refused, answer)
+    }
+
+    pub fn give_back(&mut self, kernel: &mut Kernel<M>) -> Outcome
+        ensures carries { Carries ((is_pending self.old.client ≡ false) × (self.old.client.log.failed ≡ false)) (IsGivenBack M.seen kernel.old self.old result self.new kernel.new) ((self.new ≡ self.old) × (kernel.new ≡ kernel.old)) result }
+        ensures number { number_of self.new ≡ number_of self.old }
+    {
+        if self.client.is_pending() || self.client.has_failed() {
+            return Outcome::Idle;
+        }
+        let answer = self.client.give_back(kernel);
+        asked(&mut self.refused, answer)
+    }
+
+    pub fn pin(&mut self, kernel: &mut Kernel<M>, inode: u32) -> Outcome
+        ensures carries { Carries (HasWord inode) (IsPinned M.seen kernel.old self.old inode result self.new kernel.new) ((self.new ≡ self.old) × (kernel.new ≡ kernel.old)) result }
+        ensures number { number_of self.new ≡ number_of self.old }
+    {
+        if !is_inode(inode) {
+            return Outcome::Idle;
+        }
+        let answer = self.client.pin(kernel, inode);
+        asked(&mut self.refused, answer)
+    }
+
+    pub fn unpin(&mut self, kernel: &mut Kernel<M>, inode: u32) -> Outcome
+        ensures carries { Carries (CanBeUnpinned self.old.client inode) (IsUnpinned M.seen kernel.old self.old inode result self.new kernel.new) ((self.new ≡ self.old) × (kernel.new ≡ kernel.old)) result }
+        ensures number { number_of self.new ≡ number_of self.old }
+    {
+        if !self.can_be_unpinned(inode) {
+            return Outcome::Idle;
+        }
+        let answer = self.client.unpin(kernel, inode);
+        asked(&mut self.refused, answer)
+    }
+
+    // Whether the client holds an inode, for reading or writing.
+    fn is_held(&self, inode: u32) -> bool
+        ensures { IsTrue result ↔ IsHeld self.now.client inode }
+    {
+        is_inode(inode) && self.client.holds(inode) != LeaseMode::Free
+    }
+
+    fn can_be_unpinned(&self, inode: u32) -> bool
+        ensures { IsTrue result ↔ CanBeUnpinned self.now.client inode }
+    {
+        !self.client.is_pending() && self.client.is_pinned(inode) && !self.client.has_open(inode)
+    }
+}
+
+// Whether a sum has 32 bits.
+fn fits(one: u32, other: u32) -> bool
+    ensures fits { result ≡ true → one + other < 2 ^ 32 }
+    ensures past { result ≡ false → 2 ^ 32 ≤ one + other }
+{
+    other <= u32::MAX - one
+}
+
+// Why units are refused that pass all numbers: no kernel has so many.
+fn none_so_many<M: Media>(kernel: &Kernel<M>) -> Denied
+    ensures failed { kernel.now.area.failed ≡ true → result ≡ denied.KernelFailed }
+    ensures going { kernel.now.area.failed ≡ false → result ≡ denied.NoUnits }
+{
+    if kernel.has_failed() {
+        Denied::KernelFailed
+    } else {
+        Denied::NoUnits
+    }
+}
+
+// What the kernel answered: a refusal is noted, until the next reply.
+fn asked(refused: &mut Refusals, answer: Result<(), Denied>) -> Outcome
+    ensures told { result ≡ told_asked answer }
+    ensures noted { refused.new ≡ noted answer refused.old }
+{
+    match answer {
+        Ok(()) => Outcome::Stepped,
+        Err(why) => {
+            *refused = refused.with(why);
+            Outcome::Refused {
+                refusal: refusal_of(why),
+            }
+        }
+    }
+}
+
+fn refusal_of(why: Denied) -> Refusal
+    ensures { result ≡ refusal_of why }
+{
+    match why {
+        Denied::NoUnits => Refusal::NoUnits,
+        Denied::NoInode => Refusal::NoInode,
+        Denied::Device => Refusal::DeviceFault,
+        Denied::KernelFailed => Refusal::KernelFailed,
+        Denied::Memory => Refusal::Memory,
+        Denied::Turns => Refusal::Busy,
+    }
+}

@@ -1,0 +1,61 @@
+//! Calls of one client: begun, carried on, given up.
+ghost use Rattle.std.specs.Prelude.{◌≡◌, true, false};
+ghost use Rattle.libfs.specs.View.{is_pending};
+ghost use Rattle.event_steps.specs.Calls.{IsDenied, IsStarted, IsStepped};
+ghost use Rattle.event_steps.specs.Played.{Carries};
+ghost use Rattle.event_steps.specs.Sound.{number_of};
+ghost use Rattle.event_steps.specs.Refusals.{has_refusal};
+
+use crate::outcome::Outcome;
+use crate::refusals::Refusals;
+use crate::seat::Seat;
+use libfs::{Denied, Now};
+use posix_calls::Call;
+use tier_device::Media;
+
+impl<M: Media> Seat<M> {
+    pub fn start(&mut self, call: &Call) -> Outcome
+        ensures carries { Carries (is_pending self.old.client ≡ false) (IsStarted M.seen self.old call.now result self.new) (self.new ≡ self.old) result }
+        ensures number { number_of self.new ≡ number_of self.old }
+    {
+        if self.client.is_pending() {
+            return Outcome::Idle;
+        }
+        match self.client.start(call) {
+            Now::Done { reply } => {
+                self.refused = Refusals::none();
+                Outcome::Reply { reply }
+            }
+            Now::Pending => Outcome::Pending,
+            Now::Need { need } => Outcome::Need { need },
+        }
+    }
+
+    pub fn step(&mut self) -> Outcome
+        ensures carries { Carries (is_pending self.old.client ≡ true) (IsStepped M.seen M.moment M.left M.faults self.old result self.new) (self.new ≡ self.old) result }
+        ensures number { number_of self.new ≡ number_of self.old }
+    {
+        if !self.client.is_pending() {
+            return Outcome::Idle;
+        }
+        match self.client.step() {
+            Some(reply) => {
+                self.refused = Refusals::none();
+                Outcome::Reply { reply }
+            }
+            None => Outcome::Stepped,
+        }
+    }
+
+    pub fn deny(&mut self, call: &Call, why: Denied) -> Outcome
+        ensures carries { Carries ((is_pending self.old.client ≡ false) × (has_refusal self.old.refused why ≡ true)) (IsDenied self.old why result self.new) (self.new ≡ self.old) result }
+        ensures number { number_of self.new ≡ number_of self.old }
+    {
+        if self.client.is_pending() || !self.refused.has(why) {
+            return Outcome::Idle;
+        }
+        let reply = self.client.deny(call, why);
+        self.refused = Refusals::none();
+        Outcome::Reply { reply }
+    }
+}

@@ -1,0 +1,62 @@
+use client_plan::Need;
+use posix_calls::Reply;
+
+/// Why an event was refused. After each refusal but that of a device all is as it was.
+#[derive(Clone, Copy, Debug, PartialEq, Eq)]
+pub enum Refusal {
+    /// A device failed in this event.
+    DeviceFault,
+    /// Fewer blocks of the tier are free than the run has.
+    NoBlock,
+    /// The word of the lease showed another client.
+    Busy,
+    /// A record of the region can't be digested.
+    BadLog,
+    /// There is no such run of a file above the tier.
+    NotMapped,
+    /// The units don't suffice.
+    NoUnits,
+    /// No number for a new node is free.
+    NoInode,
+    /// A device of the kernel failed before.
+    KernelFailed,
+    /// There is no file at the inode that has no name and no pin.
+    InUse,
+    /// There was no memory.
+    Memory,
+}
+
+impl Refusal {
+    /// Its number, as programs print it.
+    pub fn number(self) -> u32 {
+        match self {
+            Refusal::DeviceFault => 2,
+            Refusal::NoBlock => 5,
+            Refusal::Busy => 8,
+            Refusal::BadLog => 9,
+            Refusal::NotMapped => 10,
+            Refusal::NoUnits => 11,
+            Refusal::NoInode => 12,
+            Refusal::KernelFailed => 13,
+            Refusal::InUse => 14,
+            Refusal::Memory => 15,
+        }
+    }
+}
+
+/// What became of an event.
+#[derive(Drop)]
+pub enum Outcome {
+    /// The client's call was answered.
+    Reply { reply: Reply },
+    /// Its record was begun.
+    Pending,
+    /// The call lacks this; nothing has begun.
+    Need { need: Need },
+    /// It was done.
+    Stepped,
+    /// It was refused.
+    Refused { refusal: Refusal },
+    /// There was nothing to do.
+    Idle,
+}

@@ -1,0 +1,77 @@
+ghost use Rattle.std.specs.Prelude.{◌≡◌, ◌≤◌, length, true, is_some, IfErr, IfOk, OnOk};
+ghost use Rattle.event_steps.specs.Sound.{fresh_seat, number_of};
+ghost use Rattle.event_steps.specs.View.{done_of, undigested_on};
+
+use crate::away::Away;
+use crate::refusals::Refusals;
+use libfs::Client;
+use std::marker::Model;
+use tier_device::Media;
+
+/// A client, the region that it handed over, and what the kernel refused it since its last reply.
+#[derive(Drop)]
+pub struct Seat<M: Media> {
+    pub(crate) client: Client<M>,
+    pub(crate) away: Option<Away<M>>,
+    pub(crate) refused: Refusals,
+}
+
+impl<M: Media> Model for Seat<M> {
+    ghost use Rattle.std.specs.Coded.{codes};
+    ghost use Rattle.client_copies.specs.Held.{held_code};
+    ghost use Rattle.libfs.specs.contracts.begun.Begun as begun_call;
+    ghost use Rattle.event_steps.specs.View.{SeatView};
+    ghost use Rattle.event_steps.specs.Sound.{IsSeated};
+
+    ghost Value = { SeatView M };
+
+    ghost coded = { Prim.hlevel (codes, held_code, begun_call.the_row.coded) };
+
+    ghost view = { λ s. record { client = s.client; away = s.away; refused = s.refused } };
+
+    ghost invariant = { λ s. IsSeated M.seen s.client s.away };
+}
+
+impl<M: Media> Seat<M> {
+    /// The seat of a client that has both of its regions; any other client is given back.
+    pub fn new(client: Client<M>) -> Result<Self, Client<M>>
+        ensures seat { IfOk result (λ s. s ≡ fresh_seat client) }
+        ensures here { OnOk result (is_some client.log.other ≡ true) }
+        ensures back { IfErr result (λ c. c ≡ client) }
+    {
+        if client.is_region_away() {
+            return Err(client);
+        }
+        Ok(Seat {
+            client,
+            away: None,
+            refused: Refusals::none(),
+        })
+    }
+
+    // The client's number.
+    pub(crate) fn number(&self) -> u32
+        ensures { result ≡ number_of self.now }
+    {
+        self.client.client()
+    }
+
+    /// How many records of the client are not digested, of the region that it writes and of the one that is away.
+    pub fn undigested(&self) -> usize
+        ensures { result ≡ undigested_on M.seen self.now }
+    {
+        let done = self.done();
+        self.client.undigested() - done
+    }
+
+    // How many records of the region that is away are digested.
+    fn done(&self) -> usize
+        ensures done { result ≡ done_of self.now.away }
+        ensures within { result ≤ length self.now.client.sealed }
+    {
+        match &self.away {
+            Some(away) => away.done(),
+            None => 0,
+        }
+    }
+}

@@ -1,0 +1,158 @@
+ghost use Rattle.std.specs.Prelude.{◌≡◌, length, IfErr, IfNone, IfOk, IfSome, OnOk, Some, true};
+ghost use Rattle.std.specs.Option.{ForSome};
+ghost use Rattle.call_effects.specs.NodeView.{view_at};
+ghost use Rattle.kernel_fs.specs.Answering.{Answers};
+ghost use Rattle.shared_area.specs.Looks.{Looks};
+ghost use Rattle.shared_area.specs.Parts.{IsTierOf};
+ghost use Rattle.shared_area.specs.Store.{graph, store_of};
+ghost use Rattle.lease_manager.specs.Words.{IsClient};
+ghost use Rattle.event_steps.specs.Sound.{AreFrom, AreSeats};
+ghost use Rattle.event_steps.specs.View.{seat_of, undigested_on};
+
+use crate::numbers::{CLIENTS, is_client};
+use crate::seat::Seat;
+use kernel_fs::{AreaError, Fetched, Kernel, KernelError};
+use libfs::Client;
+use std::alloc::Global;
+use std::marker::Model;
+use tier_device::{Media, Tier};
+
+/// A kernel and its eight clients, with the regions that are away.
+///
+/// Contracts see the kernel, and each client's seat (`specs/View.antt`).
+#[derive(Drop)]
+pub struct System<M: Media> {
+    pub(crate) alloc: Global,
+    pub(crate) kernel: Kernel<M>,
+    pub(crate) seats: Vec<Seat<M>>,
+}
+
+impl<M: Media> Model for System<M> {
+    ghost use Rattle.std.specs.Coded.{codes};
+    ghost use Rattle.client_copies.specs.Held.{held_code};
+    ghost use Rattle.libfs.specs.contracts.begun.Begun as begun_call;
+    ghost use Rattle.event_steps.specs.Sound.{AreSeats};
+    ghost use Rattle.event_steps.specs.View.{SystemView};
+
+    ghost Value = { SystemView M };
+
+    ghost coded = { Prim.hlevel (codes, held_code, begun_call.the_row.coded) };
+
+    ghost view = { λ s. record { kernel = s.kernel; seats = s.seats.items } };
+
+    ghost invariant = { λ s. AreSeats s.seats.items };
+}
+
+impl<M: Media> System<M> {
+    /// A client; none of a number outside 1 to 8.
+    pub fn client(&self, number: u32) -> Option<&Client<M>>
+        ensures there { IfSome result (λ c. IsClient number × ForSome (seat_of self.now number) (λ s. c.now ≡ s.client)) }
+        ensures none { IfNone result (IsClient number → ⊥) }
+    {
+        match self.seat(number) {
+            Some(seat) => Some(&seat.client),
+            None => None,
+        }
+    }
+
+    /// How many records of a client are not digested, of the region that it writes and of the one that is away; none of a number outside 1 to 8.
+    pub fn undigested(&self, number: u32) -> usize
+        ensures there { IsClient number → ForSome (seat_of self.now number) (λ s. result ≡ undigested_on M.seen s) }
+        ensures none { (IsClient number → ⊥) → result ≡ 0 }
+    {
+        match self.seat(number) {
+            Some(seat) => seat.undigested(),
+            None => 0,
+        }
+    }
+
+    /// The kernel, to be asked what moves no device.
+    pub fn kernel(&self) -> &Kernel<M>
+        ensures { result.now ≡ self.now.kernel }
+    {
+        &self.kernel
+    }
+
+    /// What stands at an inode of the shared graph, as client 1 would fetch it. `Failed` exactly where a device of the kernel has failed; else refused as `Kernel::fetch` is.
+    pub fn look(&mut self, inode: u32) -> Result<Fetched, KernelError<AreaError>>
+        ensures node { IfOk result (λ x. x.node ≡ view_at (graph self.old.kernel.area.geometry (store_of (M.seen self.old.kernel.area.media))) inode) }
+        ensures looks { Answers self.old.kernel.area.failed self.old.kernel self.new.kernel result (Looks M.moment M.seen M.left M.faults self.old.kernel.area self.new.kernel.area) }
+        ensures book { self.new.kernel.book ≡ self.old.kernel.book }
+        ensures seats { self.new.seats ≡ self.old.seats }
+    {
+        self.kernel.fetch(1, inode)
+    }
+
+    /// The tier that has a logical block of an inode of the shared graph; `None` where no tier does, or there is no such inode. Refused as `Kernel::tier_of` is.
+    pub fn tier_of(
+        &mut self,
+        inode: u32,
+        block: u64,
+    ) -> Result<Option<Tier>, KernelError<AreaError>>
+        ensures tier { IfOk result (IsTierOf self.old.kernel.area.geometry (store_of (M.seen self.old.kernel.area.media)) inode block) }
+        ensures looks { Answers self.old.kernel.area.failed self.old.kernel self.new.kernel result (Looks M.moment M.seen M.left M.faults self.old.kernel.area self.new.kernel.area) }
+        ensures book { self.new.kernel.book ≡ self.old.kernel.book }
+        ensures seats { self.new.seats ≡ self.old.seats }
+    {
+        self.kernel.tier_of(inode, block)
+    }
+
+    // The seat of a client.
+    fn seat(&self, number: u32) -> Option<&Seat<M>>
+        ensures there { IfSome result (λ s. IsClient number × (seat_of self.now number ≡ Some s.now)) }
+        ensures none { IfNone result (IsClient number → ⊥) }
+    {
+        if !is_client(number) {
+            return None;
+        }
+        Some(&self.seats[(number - 1) as usize])
+    }
+}
+
+impl<M: Media> System<M> {
+    /// The system of a kernel and of the seats of clients 1 to 8, in the order of their numbers. All is given back where they are others.
+    pub fn new(
+        alloc: Global,
+        kernel: Kernel<M>,
+        seats: Vec<Seat<M>>,
+    ) -> Result<Self, (Kernel<M>, Vec<Seat<M>>)>
+        ensures kernel { IfOk result (λ w. w.kernel ≡ kernel) }
+        ensures seats { IfOk result (λ w. w.seats ≡ seats.items) }
+        ensures right { OnOk result (AreSeats seats.items) }
+        ensures back { IfErr result (λ e. (e.0 ≡ kernel) × (e.1.items ≡ seats.items)) }
+    {
+        if !are_in_order(&seats) {
+            return Err((kernel, seats));
+        }
+        Ok(System {
+            alloc,
+            kernel,
+            seats,
+        })
+    }
+}
+
+// Whether these are the seats of clients 1 to 8.
+fn are_in_order<M: Media>(seats: &[Seat<M>]) -> bool
+    ensures { result ≡ true → AreSeats seats.now }
+{
+    if seats.len() != CLIENTS {
+        return false;
+    }
+    are_numbered(seats)
+}
+
+// Whether they are of the clients from 1 on, in the order of their numbers.
+fn are_numbered<M: Media>(seats: &[Seat<M>]) -> bool
+    requires { length seats.now ≡ 8 }
+    ensures { result ≡ true → AreFrom 1 seats.now }
+{
+    let mut number = 1;
+    'seats: for seat in seats {
+        if seat.number() != number {
+            return false;
+        }
+        number += 1;
+    }
+    true
+}

@@ -1,0 +1,35 @@
+-- The bytes of media on which nothing stands yet.
+use Rattle.std.specs.Prelude.{ℕ, ◌*◌, List, [], ◌++◌, replicate}
+use Rattle.layout.specs.Bytes.{u64, filled}
+use Rattle.layout.specs.Marks.{marks_spelling}
+use Rattle.layout.specs.Places.{Sizes, tier_blocks}
+use Rattle.layout.specs.Slot.{slot_spelling}
+use Rattle.layout.specs.Super.{super_spelling}
+use Rattle.layout.specs.declared.marks.Marks.{Marks}
+use Rattle.layout.specs.declared.marks.TheConstants.{CLIENTS}
+use Rattle.layout.specs.declared.places.TheConstants.{BLOCK, MARKS_BLOCK}
+use Rattle.layout.specs.declared.slot.Slot.{Slot}
+use Rattle.layout.specs.declared.slot.Slot.TheVariants as slot
+use Rattle.tier_device.specs.declared.media.Tier.TheVariants.{Fast}
+use Rattle.update_log.specs.declared.format.TheConstants.{REGION_SIZE}
+
+-- a root without entries, which no digest has written
+abbrev pub bare_root : Slot
+bare_root = slot.Directory 1 0 0 0
+
+-- no record of a client is digested, and there was no digest
+abbrev pub no_marks : Marks
+no_marks = record { clients = replicate CLIENTS (record { generation = 0; done = 0 }); digests = 0 }
+
+-- the superblock, the root in the first slot behind it, the marks, and zeros elsewhere
+abbrev pub fresh_fast : Sizes → List ℕ
+fresh_fast g =
+    filled (BLOCK * tier_blocks g Fast) (filled (BLOCK * MARKS_BLOCK) (super_spelling (record { geometry = g }) ++ slot_spelling bare_root) ++ marks_spelling no_marks)
+
+-- so many blocks of zeros
+abbrev pub fresh_tier : ℕ → List ℕ
+fresh_tier blocks = filled (BLOCK * blocks) []
+
+-- the generation, and zeros
+abbrev pub fresh_region : ℕ → List ℕ
+fresh_region generation = filled REGION_SIZE (u64 generation)
