@@ -1,7 +1,7 @@
 -- What a client that was served lacks no longer.
-use Rattle.std.proofs.Common.{◌≡◌, inl, inr, ℕ, zero, suc, ◌+◌, ◌-◌, ◌*◌, ◌/◌, ◌<◌, ◌≤◌, Bool, true, false, cond, List, [], ◌∷◌, ◌++◌, Option, Some, None, refl, ap, sym, ◌∙◌, arith}
-use Rattle.std.specs.Prelude.{◌==◌, ◌||◌, not, option_map, Ok}
-use Rattle.std.proofs.lemmas.Bool.{cases_Bool, true≢false, cond-true, cond-false, eq-eqb}
+use Rattle.std.proofs.Common.{◌≡◌, inl, inr, ℕ, zero, suc, ◌+◌, ◌-◌, ◌*◌, ◌/◌, ◌<◌, ◌≤◌, Bool, true, false, cond, List, [], ◌∷◌, ◌++◌, Option, Some, None, refl, ap, sym, ◌∙◌, subst, arith}
+use Rattle.std.specs.Prelude.{◌==◌, ◌||◌, ◌&&◌, nat_le, not, option_map, Ok}
+use Rattle.std.proofs.lemmas.Bool.{cases_Bool, true≢false, cond-true, cond-false, eq-eqb, le-leb}
 use Rattle.std.proofs.lemmas.List.Folds.{list_any-append}
 use Rattle.tier_device.specs.declared.media.Tier.{Tier}
 use Rattle.posix_calls.specs.Content.{range}
@@ -12,16 +12,41 @@ use Rattle.posix_calls.specs.Decide.{decide}
 use Rattle.posix_calls.specs.declared.call.Call.{Call}
 use Rattle.posix_calls.specs.declared.operation.Operation.{Operation}
 use Rattle.posix_calls.specs.declared.operation.Missing.TheVariants as missing
+use Rattle.posix_calls.specs.declared.limits.TheConstants.{MAX_INODE}
 use Rattle.file_graph.specs.Graph.{is_among}
+use Rattle.file_graph.specs.Numbers.{is_inode}
 use Rattle.call_effects.specs.Blocks.{blocks_joined, followed, range_by}
 use Rattle.call_effects.specs.Known.{Knowledge, part_of}
 use Rattle.call_effects.specs.Records.{units_asked}
-use Rattle.client_plan.specs.Served.{AreUnread, IsShort}
+use Rattle.client_leases.specs.Held.{is_reading, is_writing, reads, writes}
+use Rattle.client_plan.specs.Served.{AreUnread, IsLacking, IsShort}
+use Rattle.client_plan.specs.declared.need.Mode.{Mode}
+use Rattle.client_plan.specs.declared.need.Mode.TheVariants.{Read, Write}
+use Rattle.client_plan.specs.declared.need.Need.TheVariants as needs
 use Rattle.kernel_book.specs.Free.{count_of}
 use Rattle.kernel_fs.specs.KernelView.{KernelView}
+use Rattle.lease_manager.specs.Passes.{lease_of}
+use Rattle.lease_manager.specs.Words.{HasWord}
+use Rattle.lease_manager.specs.declared.view.LeaseMode.{LeaseMode}
+use Rattle.libfs.specs.Leasing.{mode_of}
 use Rattle.libfs.specs.View.{ClientView}
 use Rattle.libfs.specs.Holding.{holdings_of, known_to}
 use Rattle.libfs.specs.Serving.{AreAsLong, HasRefilled, HasThem, pinned, unpinned}
+
+-- ---- leases
+
+in_range : (i : ℕ) → HasWord i → is_inode i ≡ true
+in_range i word = subst (λ b. (b && nat_le i MAX_INODE) ≡ true) (sym (le-leb 1 i word.0)) (le-leb i MAX_INODE word.1)
+
+-- what a client holds it may read, and what it holds for writing it may write
+pub is_had : {M : Type 0} (seen : M → Tier → List ℕ) (v : ClientView M) (call : Call) (i : ℕ) (mode : Mode) → HasWord i → lease_of v.pass i ≡ mode_of mode → IsLacking (part_of (known_to v)) (holdings_of seen v) call (needs.Lease i mode) → ⊥
+is_had seen v call i Read word is lacks =
+    let inode : is_inode i ≡ true = in_range i word in
+    let both : (cond true (is_reading (lease_of v.pass i)) false || writes v.pass i) ≡ false = subst (λ b. ((b && is_reading (lease_of v.pass i)) || writes v.pass i) ≡ false) inode lacks in
+    true≢false (subst (λ (m : LeaseMode). (is_reading m || writes v.pass i) ≡ false) is both)
+is_had seen v call i Write word is lacks =
+    let inode : is_inode i ≡ true = in_range i word in
+    true≢false (subst (λ (m : LeaseMode). is_writing m ≡ false) is (subst (λ b. (b && is_writing (lease_of v.pass i)) ≡ false) inode lacks))
 
 -- ---- blocks
 

@@ -9,6 +9,7 @@ ghost use Rattle.file_graph.specs.Units.{growth};
 ghost use Rattle.log_record.specs.declared.format.Record.{Record};
 ghost use Rattle.call_effects.specs.Known.{Agrees};
 ghost use Rattle.call_effects.specs.Wholes.{IsSound, state_of};
+ghost use Rattle.client_plan.specs.declared.need.Mode.{Mode};
 ghost use Rattle.client_plan.specs.declared.need.Need.TheVariants as needs;
 ghost use Rattle.client_plan.specs.declared.outcome.DescriptorChange.{DescriptorChange};
 ghost use Rattle.client_plan.specs.declared.outcome.Outcome.TheVariants as outcomes;
@@ -17,6 +18,9 @@ ghost use Rattle.client_plan.specs.Steps.{IsAnswered, IsOf, IsReady, IsRefused};
 ghost use Rattle.block_cache.specs.declared.blocks.TheConstants.{MOST_BLOCKS};
 ghost use Rattle.client_copies.specs.Logged.{knows_logged, with_change};
 ghost use Rattle.kernel_fs.specs.KernelView.{KernelView};
+ghost use Rattle.lease_manager.specs.Passes.{lease_of};
+ghost use Rattle.lease_manager.specs.Words.{HasWord};
+ghost use Rattle.libfs.specs.Leasing.{mode_of};
 ghost use Rattle.libfs.specs.View.{ClientView};
 ghost use Rattle.libfs.specs.Holding.{holdings_of, known_to, outcome_for};
 ghost use Rattle.libfs.specs.Serving.{AreAsLong, HasFetched, HasRefilled, HasThem, pinned, unpinned};
@@ -63,8 +67,10 @@ pub fn begun_record_is_a_step<M: Media>()
 }
 
 /// Once the kernel has served a client what a call needed, the same call needs it no longer: not a copy that came, nor blocks, where they are no more than the client keeps and stand in the file as
-/// long as its copy tells; no number, no units at all once those were granted that were asked for; not a pin that was set, and not to give back one that is dropped.
+/// long as its copy tells; no number, no units at all once those were granted that were asked for; not a pin that was set, and not to give back one that is dropped. Nor does it need a lease that the
+/// client holds.
 pub fn served_client_needs_it_no_longer<M: Media, S: Media>()
+    ensures lease { (v : ClientView M) (call : Call) (i : ℕ) (mode : Mode) → HasWord i → lease_of v.pass i ≡ mode_of mode → outcome_for M.seen v call ≢ outcomes.Need (needs.Lease i mode) }
     ensures view { (k : KernelView S) (old new : ClientView M) (call : Call) (i : ℕ) → HasFetched M.seen S.seen k old i new → outcome_for M.seen new call ≢ outcomes.Need (needs.View i) }
     ensures blocks { (k : KernelView S) (old new : ClientView M) (call : Call) (i first count : ℕ) → count ≤ MOST_BLOCKS → AreAsLong M.seen S.seen k old i first count → HasThem M.seen S.seen k old i first count new
         → outcome_for M.seen new call ≢ outcomes.Need (needs.Blocks i first count) }

@@ -28,6 +28,8 @@ impl<M: Media> Client<M> {
         ensures going { OnOk result (kernel.old.area.failed ≡ false) }
         ensures failed { IsErrOf result denied.KernelFailed → kernel.old.area.failed ≡ true }
         ensures untouched { kernel.old.area.failed ≡ true → (self.new ≡ self.old) × (kernel.new ≡ kernel.old) }
+        // A kernel that has failed tells just that, where there is memory.
+        ensures stopped { kernel.old.area.failed ≡ true → IfErr result (λ e. (e ≡ denied.KernelFailed) ⊎ (e ≡ denied.Memory)) }
         ensures no_units { IsErrOf result denied.NoUnits → (kernel.old.area.failed ≡ false) × (kernel.old.area.geometry.units < charge (shared_by S.seen kernel.old) + out_of kernel.old.book + units_needed need.now) }
         ensures no_inode { IsErrOf result denied.NoInode → (kernel.old.area.failed ≡ false) × (charge (shared_by S.seen kernel.old) + out_of kernel.old.book + units_needed need.now ≤ kernel.old.area.geometry.units)
             × (count_of (is_free kernel.old.book (nodes_in (shared_by S.seen kernel.old))) < inodes_needed need.now) }

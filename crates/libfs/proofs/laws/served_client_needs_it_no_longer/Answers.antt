@@ -11,8 +11,12 @@ use Rattle.own_records.specs.After.{node_laid}
 use Rattle.libfs.specs.Holding.{holdings_of, known_to}
 use Rattle.libfs.specs.Serving.{behind, shared_by}
 use Rattle.libfs.specs.View.{ClientView}
-use Rattle.libfs.proofs.Served.{blocks_read, is_pinned, is_unpinned, paid, some_number}
+use Rattle.libfs.proofs.Served.{blocks_read, is_had, is_pinned, is_unpinned, paid, some_number}
 use Rattle.libfs.proofs.laws.served_client_needs_it_no_longer.Goals as goal
+
+pub returns-clause-lease : goal.returns-clause-lease
+returns-clause-lease g c = λ v call i mode word is lacks.
+    is_had g.M.Media.seen v call i mode word is (c.served_need_is_lacking_no_longer.ensures.lacks (part_of (known_to v)) (holdings_of g.M.Media.seen v) call (needs.Lease i mode) lacks)
 
 pub returns-clause-view : goal.returns-clause-view
 returns-clause-view g c = λ k old new call i h.
