@@ -1,12 +1,13 @@
 -- What was asked of the kernel, as a seat tells it.
 use Rattle.std.proofs.Common.{◌≡◌, ◌≢◌, ◌⊎◌, inl, inr, ℕ, Bool, true, false, List, Option, refl, ap, sym, ◌∙◌}
-use Rattle.std.specs.Prelude.{Result, Ok, Err, OnOk, OnErr, IsErrOf}
+use Rattle.std.specs.Prelude.{Result, Ok, Err, OnOk, OnErr, IfErr, IsErrOf}
+use Rattle.std.proofs.lemmas.Bool.{true≢false}
 use Rattle.tier_device.specs.declared.media.Tier.{Tier}
 use Rattle.kernel_fs.specs.KernelView.{KernelView}
 use Rattle.libfs.specs.View.{ClientView}
 use Rattle.libfs.specs.declared.denying.Denied.{Denied}
 use Rattle.libfs.specs.declared.denying.Denied.TheVariants as denied
-use Rattle.event_steps.specs.Asking.{HasAsked, IsBooked}
+use Rattle.event_steps.specs.Asking.{HasAsked, IsBooked, IsStopped}
 use Rattle.event_steps.specs.Played.{Carries}
 use Rattle.event_steps.specs.Told.{noted, told_asked}
 use Rattle.event_steps.specs.View.{AwayView}
@@ -31,9 +32,26 @@ module _ {M : Type 0} (seen : M → Tier → List ℕ) (k k' : KernelView M) (v 
   pub asks : o ≡ told_asked answer → r' ≡ noted answer r → HasAsked (record { client = v; away = away; refused = r }) answer o (record { client = v'; away = away; refused = r' })
   asks told note = record { told = told; rest = ap (λ (q : Refusals). record { client = v'; away = away; refused = q }) note }
 
-  pub booked : o ≡ told_asked answer → r' ≡ noted answer r → OnOk answer (k.area.failed ≡ false) → (IsErrOf answer denied.KernelFailed → k.area.failed ≡ true) → OnErr answer ((v' ≡ v) × (k' ≡ k)) → k'.area ≡ k.area
+  pub booked : o ≡ told_asked answer → r' ≡ noted answer r → OnOk answer (k.area.failed ≡ false) → (IsErrOf answer denied.KernelFailed → k.area.failed ≡ true) → (k.area.failed ≡ true → IfErr answer IsStopped) → OnErr answer ((v' ≡ v) × (k' ≡ k)) → k'.area ≡ k.area → k'.opening ≡ k.opening
       → IsBooked k (record { client = v; away = away; refused = r }) answer o (record { client = v'; away = away; refused = r' }) k'
-  booked told note going failed refused area = record { asks = asks told note; going = going; failed = failed; refused = refused; area = area }
+  booked told note going failed stopped refused area opening = record { asks = asks told note; going = going; failed = failed; stopped = stopped; refused = refused; area = area; opening = opening }
+
+abbrev pub refused_for : Denied → Result (Unit {0}) Denied
+refused_for why = Err why
+
+-- what a kernel that has failed answers, where that alone is refused
+pub only_failed : (answer : Result (Unit {0}) Denied) → IfErr answer (λ e. e ≡ denied.KernelFailed) → IfErr answer IsStopped
+only_failed (Ok x) is = tt
+only_failed (Err e) is = inl is
+
+-- and where no units and no numbers are granted
+pub refill_stopped : (failed : Bool) (answer : Result (Unit {0}) Denied) → IfErr answer (λ e. (e ≡ denied.Memory) ⊎ (e ≡ denied.KernelFailed) ⊎ (e ≡ denied.NoUnits) ⊎ (e ≡ denied.NoInode))
+    → (IsErrOf answer denied.NoUnits → failed ≡ false) → (IsErrOf answer denied.NoInode → failed ≡ false) → failed ≡ true → IfErr answer IsStopped
+refill_stopped failed (Ok x) only units inodes is = tt
+refill_stopped failed (Err e) (inl memory) units inodes is = inr memory
+refill_stopped failed (Err e) (inr (inl stopped)) units inodes is = inl stopped
+refill_stopped failed (Err e) (inr (inr (inl none))) units inodes is = absurd (true≢false (sym is ∙ units (ap refused_for none)))
+refill_stopped failed (Err e) (inr (inr (inr none))) units inodes is = absurd (true≢false (sym is ∙ inodes (ap refused_for none)))
 
 -- ---- units that no kernel has
 
@@ -49,9 +67,6 @@ units_are_no_number is = absurd (cc)
 
 failure_is_no_number : denied.KernelFailed ≡ denied.NoInode → ⊥
 failure_is_no_number is = absurd (cc)
-
-abbrev pub refused_for : Denied → Result (Unit {0}) Denied
-refused_for why = Err why
 
 pub none_by : (failed : Bool) (why : Denied) → (failed ≡ false → why ≡ denied.NoUnits) → refused_for why ≡ Err denied.KernelFailed → failed ≡ true
 none_by true why going is = refl

@@ -1,7 +1,7 @@
 -- One chunk of a region that is away.
-use Rattle.std.proofs.Common.{◌≡◌, ◌≢◌, inl, inr, ℕ, ◌<◌, ◌≤◌, Bool, true, false, List, length, take, drop, [], ◌∷◌, Option, Some, None, refl, ap, sym, ◌∙◌, subst, arith, length-drop}
+use Rattle.std.proofs.Common.{◌≡◌, ◌≢◌, ◌↔◌, inl, inr, ℕ, ◌<◌, ◌≤◌, Bool, true, false, List, length, take, drop, [], ◌∷◌, Option, Some, None, refl, ap, sym, ◌∙◌, subst, arith, length-drop}
 use Rattle.std.specs.Option.{ForSome}
-use Rattle.std.specs.Prelude.{Result, Ok, Err, ◌==◌, ◌&&◌, is_some}
+use Rattle.std.specs.Prelude.{Result, Ok, Err, IsErrOf, ◌==◌, ◌&&◌, is_some}
 use Rattle.std.proofs.lemmas.Bool.{and_parts, eq-eqb, eqb-true, false≢true}
 use Rattle.tier_device.specs.declared.media.Tier.{Tier}
 use Rattle.tier_device.specs.declared.media.Tier.TheVariants.{Fast}
@@ -13,12 +13,17 @@ use Rattle.client_log.specs.Calls.{IsOnlyRead}
 use Rattle.client_log.specs.View.{HandedView}
 use Rattle.coalescer.specs.Weight.{IsLongestRun}
 use Rattle.digester.specs.Chunk.{IsChunkOf, is_next}
-use Rattle.digester.specs.SealedLog.{undone}
+use Rattle.digester.specs.SealedLog.{StandsAtMark, undone}
 use Rattle.digester.specs.declared.chunk.Chunk.{Chunk}
 use Rattle.digester.specs.declared.error.DigestError.{DigestError}
 use Rattle.digester.specs.declared.error.DigestError.TheVariants as digests
 use Rattle.digester.specs.declared.sealed_log.SealedLog.{SealedLog}
+use Rattle.kernel_book.specs.Book.{waiting_of}
+use Rattle.kernel_fs.specs.Accepting.{client_of as client_in}
 use Rattle.kernel_fs.specs.KernelView.{KernelView}
+use Rattle.kernel_fs.specs.declared.error.AcceptError.{AcceptError}
+use Rattle.kernel_fs.specs.declared.error.AcceptError.TheVariants as accepts
+use Rattle.shared_area.specs.Store.{store_of}
 use Rattle.kernel_fs.specs.declared.digesting.Digestion.{Digestion}
 use Rattle.kernel_fs.specs.declared.digesting.Digestion.TheVariants as digestion
 use Rattle.kernel_fs.specs.declared.error.KernelError.{KernelError}
@@ -26,7 +31,7 @@ use Rattle.kernel_fs.specs.declared.error.KernelError.TheVariants as kernel
 use Rattle.lease_manager.specs.Passes.{client_of}
 use Rattle.libfs.specs.HandingOver.{HasTakenBack}
 use Rattle.libfs.specs.View.{ClientView}
-use Rattle.event_steps.specs.Regions.{ChunkCame, DigestsNext, HasLog, IsDigestedOn, IsPutBy, told_digest}
+use Rattle.event_steps.specs.Regions.{ChunkCame, DigestsNext, HasLog, IsDigestedOn, IsNotAcceptedFor, IsPutBy, refusal_to_accept, told_digest}
 use Rattle.event_steps.specs.Sound.{IsAwayFrom, IsLogOf}
 use Rattle.event_steps.specs.View.{AwayView}
 use Rattle.event_steps.specs.declared.outcome.Outcome.{Outcome}
@@ -49,6 +54,15 @@ answered d = Ok d
 
 pub same_ok : (d e : Digestion) → answered d ≡ Ok e → d ≡ e
 same_ok d e is = ap of_ok is
+
+-- what is so exactly where a test holds is not so where it fails
+pub is_false : {P : Type 0} (b : Bool) → (P → ⊥) → (P ↔ (b ≡ true)) → b ≡ false
+is_false true none is = absurd (none (is.1 refl))
+is_false false none is = refl
+
+-- what is answered is not refused
+pub ok_is_none : (d : Digestion) (e : KernelError DigestError) → answered d ≡ Err e → ⊥
+ok_is_none d e is = absurd (cc)
 
 -- the run of a chunk that is the next one is the longest run of what is not digested
 pub next_run : (x : SealedLog) (c : Chunk) → IsChunkOf x c → is_next x c ≡ true → IsLongestRun (undone x) c.count
@@ -238,3 +252,18 @@ module _ {M : Type 0} (seen : M → Tier → List ℕ) (moment : M → ℕ) (lef
       let y = out.0 in
       let all : (y.done == length y.records.items) ≡ true = sym (told y (ap (λ (z : AwayView M). z.log) out.1)) ∙ is in
       given_back seen moment left faults k between after v r a b x y o has w out.2 (some x has.log) all (subst (λ (h : HandedView M). HasTakenBack seen v h w) (ap (λ (z : AwayView M). z.over) out.1) back)
+
+-- what the kernel answers a region that it does not accept
+abbrev pub refused_with : KernelError AcceptError → Result (Unit {0}) (KernelError AcceptError)
+refused_with e = Err e
+
+pub not_accepted : {M : Type 0} (seen : M → Tier → List ℕ) (faults : M → ℕ) (k : KernelView M) (a b : AwayView M) (x : SealedLog) (error : KernelError AcceptError) → IsLogOf seen a x → x.done ≡ 0
+    → (IsErrOf (refused_with error) kernel.Failed ↔ (k.area.failed ≡ true))
+    → (IsErrOf (refused_with error) (kernel.Refused accepts.NotAtMark) ↔ ((k.area.failed ≡ false) × (StandsAtMark x (store_of (seen k.area.media)) → ⊥)))
+    → (IsErrOf (refused_with error) (kernel.Refused accepts.AlreadyAccepted) ↔ ((k.area.failed ≡ false) × StandsAtMark x (store_of (seen k.area.media)) × (waiting_of k.book (client_in x) ≢ 0)))
+    → IsNotAcceptedFor seen faults k a b (refusal_to_accept error)
+not_accepted seen faults k a b x kernel.Failed of none failed not_at already = inr (inl (refl, failed.0 refl))
+not_accepted seen faults k a b x (kernel.Refused accepts.NotAtMark) of none failed not_at already =
+    let p = not_at.0 refl in inr (inr (refl, record { log = x; is = of; none = none; going = p.0; stands = λ at. absurd (p.1 at) }))
+not_accepted seen faults k a b x (kernel.Refused accepts.AlreadyAccepted) of none failed not_at already =
+    let p = already.0 refl in inr (inr (refl, record { log = x; is = of; none = none; going = p.0; stands = λ _. p.2 }))

@@ -56,6 +56,12 @@ module _ {M : Type 0} where
   one_more (x ∷ ss) zero s n within is same rest = (ap (λ (y : SeatView M). number_of y) (sym is) ∙ same, rest)
   one_more (x ∷ ss) (suc i) s n within is same rest = one_more ss i s n (omega (arith, within)) is same rest
 
+  -- it is, and the others are behind it
+  pub one_less : (ss : List (SeatView M)) (i : ℕ) (s : SeatView M) (n : ℕ) → i < length ss → s ≡ get_or ss i s → AreFrom n (drop i ss) → (number_of s ≡ n) × AreFrom (n + 1) (drop (suc i) ss)
+  one_less [] i s n within is are = absurd (omega (arith, within))
+  one_less (x ∷ ss) zero s n within is are = (ap (λ (y : SeatView M). number_of y) is ∙ are.0, are.1)
+  one_less (x ∷ ss) (suc i) s n within is are = one_less ss i s n (omega (arith, within)) is are
+
   -- behind the last one there is none
   pub none_behind : (n : ℕ) (ss : List (SeatView M)) (i : ℕ) → length ss ≤ i → AreFrom n (drop i ss)
   none_behind n [] zero past = tt

@@ -61,13 +61,19 @@ pub record HasNoSuchBlocks {M : Type 0} (k : KernelView M) (old : SeatView M) (f
 abbrev pub AreFetched : {M : Type 0} → (M → Tier → List ℕ) → (M → ℕ) → (M → ℕ → Tier → List ℕ → Type 0) → (M → ℕ) → KernelView M → SeatView M → ℕ → ℕ → ℕ → Outcome → SeatView M → KernelView M → Type 0
 AreFetched seen moment left faults k old i first count o new after = HasNoSuchBlocks k old first count o new after ⊎ GetsBlocks seen moment left faults k old i first count o new after
 
+-- what a kernel that has failed answers: just that, where there is memory
+abbrev pub IsStopped : Denied → Type 0
+IsStopped e = (e ≡ denied.KernelFailed) ⊎ (e ≡ denied.Memory)
+
 -- What only the kernel's book has to do with: no device is asked, and what is refused changes nothing.
 pub record IsBooked {M : Type 0} (k : KernelView M) (old : SeatView M) (answer : Result (Unit {0}) Denied) (o : Outcome) (new : SeatView M) (after : KernelView M) : Type 0 where
   pub asks : HasAsked old answer o new
   pub going : OnOk answer (k.area.failed ≡ false)
   pub failed : IsErrOf answer denied.KernelFailed → k.area.failed ≡ true
+  pub stopped : k.area.failed ≡ true → IfErr answer IsStopped
   pub refused : OnErr answer ((new.client ≡ old.client) × (after ≡ k))
   pub area : after.area ≡ k.area
+  pub opening : after.opening ≡ k.opening
 
 -- Units and numbers were granted. Want of units comes first.
 pub record IsRefilled {M : Type 0} (seen : M → Tier → List ℕ) (k : KernelView M) (old : SeatView M) (units inodes : ℕ) (o : Outcome) (new : SeatView M) (after : KernelView M) : Type 0 where
@@ -77,7 +83,7 @@ pub record IsRefilled {M : Type 0} (seen : M → Tier → List ℕ) (k : KernelV
   pub law : OnOk answer (charge (shared_by seen k) + out_of after.book ≤ k.area.geometry.units)
   -- beside what passes the capacity, no client can have so many that they have no number
   pub no_units : IsErrOf answer denied.NoUnits → (k.area.geometry.units < charge (shared_by seen k) + out_of k.book + units) ⊎ (2 ^ 32 ≤ old.client.spare + units)
-  pub no_inode : IsErrOf answer denied.NoInode → count_of (is_free k.book (nodes_in (shared_by seen k))) < inodes
+  pub no_inode : IsErrOf answer denied.NoInode → (charge (shared_by seen k) + out_of k.book + units ≤ k.area.geometry.units) × (count_of (is_free k.book (nodes_in (shared_by seen k))) < inodes)
   pub only : IfErr answer (λ e. (e ≡ denied.Memory) ⊎ (e ≡ denied.KernelFailed) ⊎ (e ≡ denied.NoUnits) ⊎ (e ≡ denied.NoInode))
 
 pub record IsGivenBack {M : Type 0} (seen : M → Tier → List ℕ) (k : KernelView M) (old : SeatView M) (o : Outcome) (new : SeatView M) (after : KernelView M) : Type 0 where

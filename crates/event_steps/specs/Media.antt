@@ -1,15 +1,19 @@
 -- What an event makes of the shared media that is of no client.
-use Rattle.std.specs.Prelude.{◌≡◌, ◌≤◌, ◌+◌, ℕ, List, [], ◌∷◌, false, Result, Ok, Err, OnOk, IsErrOf}
+use Rattle.std.specs.Prelude.{◌≡◌, ◌⊎◌, ◌≤◌, ◌+◌, ℕ, List, [], ◌∷◌, true, false, Result, Ok, Err, OnOk, IsErrOf}
 use Rattle.tier_device.specs.declared.media.Tier.{Tier}
 use Rattle.file_graph.specs.declared.effect.Effect.TheVariants as effect
 use Rattle.graph_change.specs.Change.{coalesced}
 use Rattle.shared_area.specs.ChangeApplying.{MakesFewCalls}
+use Rattle.shared_area.specs.Found.{HasFileRun}
+use Rattle.shared_area.specs.Map.{WantsMemory}
 use Rattle.shared_area.specs.Moving.{HasTooFew, HasEnough, StaysOpen, MovesOrStays}
 use Rattle.shared_area.specs.RelocateError.{RelocateError}
 use Rattle.shared_area.specs.RelocateError.TheVariants as moves
 use Rattle.shared_area.specs.RunMoving.{CanMove, IsMoved}
 use Rattle.shared_area.specs.Store.{store_of, graph}
+use Rattle.kernel_book.specs.Book.{is_pinned}
 use Rattle.world_facts.specs.KernelSteps.{CanReclaim}
+use Rattle.world_facts.specs.Logs.{IsNameless}
 use Rattle.world_facts.specs.Machine.{Machine, reclaim as reclaimed}
 use Rattle.kernel_fs.specs.Answering.{Answers}
 use Rattle.kernel_fs.specs.KernelView.{KernelView}
@@ -40,7 +44,11 @@ pub record IsReclaimedIn {M : Type 0} (seen : M → Tier → List ℕ) (moment :
   pub can : OnOk answer ((m : Machine) → IsKernelOf seen k m → CanReclaim m.kernel i)
   pub step : OnOk answer ((m : Machine) → IsKernelOf seen k m → IsKernelOf seen after (reclaimed m i))
   pub in_use : IsErrOf answer (kernel.Refused reclaims.InUse) → IsUnused (graph k.area.geometry (store_of (seen k.area.media))) k.book i → ⊥
+  -- a pin is told before any device is asked
+  pub pinned : k.area.failed ≡ false → is_pinned k.book i ≡ true → IsErrOf answer (kernel.Refused reclaims.InUse) × (after ≡ k)
+  pub memory : IsErrOf answer (kernel.Refused reclaims.Memory) → WantsMemory k.area.geometry (store_of (seen k.area.media)) i ⊎ IsNameless (graph k.area.geometry (store_of (seen k.area.media)) i)
   pub book : after.book ≡ k.book
+  pub opening : after.opening ≡ k.opening
   pub answers : Answers k.area.failed k after answer (ReclaimsOrStays moment seen left faults k.area after.area)
   pub at_most : MakesFewCalls k.area.geometry (store_of (seen k.area.media)) (coalesced (effect.Drop i ∷ [])) (moment k.area.media) (moment after.area.media) (left k.area.media) (left after.area.media)
 
@@ -62,6 +70,8 @@ pub record IsMovedIn {M : Type 0} (seen : M → Tier → List ℕ) (moment : M �
   pub not_mapped : IsErrOf answer (kernel.Refused moves.NotMapped) → CanMove k.area.geometry (store_of (seen k.area.media)) i first count to → ⊥
   pub no_block : IsErrOf answer (kernel.Refused moves.NoBlock) → CanMove k.area.geometry (store_of (seen k.area.media)) i first count to × HasTooFew k.area.geometry (store_of (seen k.area.media)) to count
   pub can : OnOk answer (CanMove k.area.geometry (store_of (seen k.area.media)) i first count to × HasEnough k.area.geometry (store_of (seen k.area.media)) to count)
+  pub memory : IsErrOf answer (kernel.Refused moves.Memory) → HasFileRun k.area.geometry (store_of (seen k.area.media)) i first count
   pub book : after.book ≡ k.book
+  pub opening : after.opening ≡ k.opening
   pub answers : Answers k.area.failed k after answer (MovesOrStays moment seen left faults k.area after.area)
   pub at_most : moment after.area.media ≤ moment k.area.media + count + 13

@@ -1,6 +1,7 @@
 -- What an event makes of a client's regions.
-use Rattle.std.specs.Prelude.{◌≡◌, ◌≢◌, ◌⊎◌, ◌==◌, ℕ, Bool, List, true, false, length, take, Option, Some, None, Result, Ok, Err, IfErr}
+use Rattle.std.specs.Prelude.{◌≡◌, ◌≢◌, ◌⊎◌, ◌==◌, ◌≤◌, ◌+◌, ℕ, Bool, List, true, false, length, take, Option, Some, None, Result, Ok, Err, IfErr, IfOk, IsErrOf}
 use Rattle.tier_device.specs.declared.media.Tier.{Tier}
+use Rattle.tier_device.specs.Media.{Rose}
 use Rattle.update_log.specs.View.{RegionView, records_of}
 use Rattle.update_log.specs.declared.stage.WipeProgress.{WipeProgress}
 use Rattle.client_log.specs.Calls.{IsOnlyRead}
@@ -14,18 +15,23 @@ use Rattle.digester.specs.declared.error.DigestError.TheVariants as digests
 use Rattle.digester.specs.declared.sealed_log.SealedLog.{SealedLog}
 use Rattle.coalescer.specs.Weight.{IsLongestRun}
 use Rattle.shared_area.specs.Store.{store_of}
-use Rattle.world_facts.specs.Machine.{Machine, Sealed, CanAccept, accept as accept_step, digest as digest_step}
+use Rattle.file_graph.specs.Units.{charge}
+use Rattle.kernel_book.specs.Book.{out_of, units_of, waiting_of}
+use Rattle.world_facts.specs.Logs.{units_in}
+use Rattle.world_facts.specs.Machine.{Machine, Sealed, CanAccept, IsRunning, StandsSealed, accept as accept_step, digest as digest_step}
 use Rattle.kernel_fs.specs.Accepting.{client_of as client_in, HasAsManyWaiting, IsRegionOf}
 use Rattle.kernel_fs.specs.Answering.{Answers, OnRefusal}
 use Rattle.kernel_fs.specs.KernelView.{KernelView}
 use Rattle.kernel_fs.specs.Standing.{IsKernelOf}
 use Rattle.kernel_fs.specs.declared.digesting.Digestion.{Digestion}
 use Rattle.kernel_fs.specs.declared.digesting.Digestion.TheVariants as digestion
+use Rattle.kernel_fs.specs.declared.error.AcceptError.{AcceptError}
 use Rattle.kernel_fs.specs.declared.error.KernelError.{KernelError}
 use Rattle.kernel_fs.specs.declared.error.KernelError.TheVariants as kernel
 use Rattle.file_graph.specs.Graph.{is_among}
 use Rattle.lease_manager.specs.Passes.{client_of}
 use Rattle.libfs.specs.HandingOver.{HasSealed, HasTakenBack}
+use Rattle.libfs.specs.Serving.{shared_by}
 use Rattle.event_steps.specs.Calls.{CountsOn}
 use Rattle.event_steps.specs.Sound.{IsLogOf}
 use Rattle.event_steps.specs.View.{AwayView, SeatView}
@@ -83,7 +89,10 @@ pub record HasAccepted {M : Type 0} (seen : M → Tier → List ℕ) (k : Kernel
   pub can : (m : Machine) (s : Sealed) → IsKernelOf seen k m → m.accepted (client_in x) ≡ s.past → s.records ≡ x.records.items → CanAccept m (client_in x) s
   pub step : (m : Machine) (s : Sealed) → IsKernelOf seen k m → m.accepted (client_in x) ≡ s.past → s.records ≡ x.records.items → IsKernelOf seen after (accept_step m (client_in x) s)
   pub region : (m : Machine) (s : Sealed) → IsKernelOf seen k m → m.accepted (client_in x) ≡ s.past → s.records ≡ x.records.items → ((i : ℕ) → s.writes i ≡ true → is_among i a.held ≡ true) → IsRegionOf x (m.kernel.accounts (client_in x)).mark s
+  pub out : out_of after.book ≡ out_of k.book
+  pub going : k.area.failed ≡ false
   pub area : after.area ≡ k.area
+  pub opening : after.opening ≡ k.opening
 
 -- The log of the region, which the kernel accepted before, or accepts now.
 pub record HasLog {M : Type 0} (seen : M → Tier → List ℕ) (moment : M → ℕ) (left : M → ℕ → Tier → List ℕ → Type 0) (faults : M → ℕ) (k : KernelView M) (a : AwayView M) (x : SealedLog) (b : AwayView M) (after : KernelView M) : Type 0 where
@@ -91,9 +100,26 @@ pub record HasLog {M : Type 0} (seen : M → Tier → List ℕ) (moment : M → 
   pub records : x.records.items ≡ records_of seen b.over.region
   pub accepted : ((b ≡ a) × (after ≡ k)) ⊎ ((a.log ≡ None) × IsAwayRead seen moment left faults a b × HasAccepted seen k a x after)
 
--- why a region was not accepted
-abbrev pub IsNotAcceptedFor : Refusal → Type 0
-IsNotAcceptedFor why = (why ≡ refusals.Memory) ⊎ ((why ≡ refusals.DeviceFault) ⊎ ((why ≡ refusals.KernelFailed) ⊎ (why ≡ refusals.BadLog)))
+-- A log that the kernel does not accept: it does not stand at its client's mark, or records of its client are waiting.
+pub record IsNotAcceptable {M : Type 0} (seen : M → Tier → List ℕ) (k : KernelView M) (a : AwayView M) : Type 0 where
+  pub log : SealedLog
+  pub is : IsLogOf seen a log
+  pub none : log.done ≡ 0
+  pub going : k.area.failed ≡ false
+  pub stands : StandsAtMark log (store_of (seen k.area.media)) → waiting_of k.book (client_in log) ≢ 0
+
+-- why the records of a region were not read: there was no memory, or its device failed now
+abbrev pub IsNotReadFor : {M : Type 0} → (M → ℕ) → AwayView M → AwayView M → Refusal → Type 0
+IsNotReadFor faults a b why = (why ≡ refusals.Memory) ⊎ ((why ≡ refusals.DeviceFault) × Rose (faults a.over.region.media) (faults b.over.region.media))
+
+-- why it was not accepted: it was not read, a device of the kernel's had failed before, or the kernel does not accept it
+abbrev pub IsNotAcceptedFor : {M : Type 0} → (M → Tier → List ℕ) → (M → ℕ) → KernelView M → AwayView M → AwayView M → Refusal → Type 0
+IsNotAcceptedFor seen faults k a b why = IsNotReadFor faults a b why ⊎ (((why ≡ refusals.KernelFailed) × (k.area.failed ≡ true)) ⊎ ((why ≡ refusals.BadLog) × IsNotAcceptable seen k a))
+
+-- how the kernel's answer to a region that it does not accept is told
+abbrev pub refusal_to_accept : KernelError AcceptError → Refusal
+refusal_to_accept kernel.Failed = refusals.KernelFailed
+refusal_to_accept (kernel.Refused e) = refusals.BadLog
 
 -- ---- digested
 
@@ -115,9 +141,19 @@ pub record DigestsNext {M : Type 0} (seen : M → Tier → List ℕ) (moment : M
   pub at_mark : answer ≡ Ok digestion.Digested → StandsAtMark y (store_of (seen after.area.media))
   pub waiting : answer ≡ Ok digestion.Digested → HasAsManyWaiting k.book x × HasAsManyWaiting after.book y
   pub step : answer ≡ Ok digestion.Digested → (m : Machine) → IsKernelOf seen k m → IsKernelOf seen after (digest_step m (client_in x) (take n (undone x)))
+  -- the units of the records pay for what they raise of the charge
+  pub law : answer ≡ Ok digestion.Digested → units_in (undone x) ≤ units_of k.book (client_in x) → charge (shared_by seen k) + out_of k.book ≤ k.area.geometry.units → charge (shared_by seen after) + out_of after.book ≤ after.area.geometry.units
   pub stays : answer ≢ Ok digestion.Digested → (y ≡ x) × (after.book ≡ k.book)
+  pub unasked : IfOk answer (λ d. d ≢ digestion.Digested → after ≡ k)
+  -- a log that does not stand at the mark, or is not accepted, is told as such, and as nothing else
+  pub not_next : answer ≡ Ok digestion.NotNext → StandsAtMark x (store_of (seen k.area.media)) → ⊥
+  pub not_accepted : answer ≡ Ok digestion.NotAccepted → StandsAtMark x (store_of (seen k.area.media)) × (HasAsManyWaiting k.book x → ⊥)
+  pub only_next : IfErr answer (λ e. OnRefusal e (λ _. StandsAtMark x (store_of (seen k.area.media)) × HasAsManyWaiting k.book x))
   pub bad : IfErr answer (λ e. OnRefusal e (IsToldBad k.area.geometry (store_of (seen k.area.media)) x n))
+  -- in a machine that runs no record of a region that stands there is bad
+  pub never_bad : (m : Machine) (s : Sealed) (place : ℕ) → IsKernelOf seen k m → IsRunning m → IsRegionOf x (m.kernel.accounts (client_in x)).mark s → StandsSealed m.kernel.shared (m.kernel.accounts (client_in x)) s → IsErrOf answer (kernel.Refused (digests.BadLog place)) → ⊥
   pub answers : Answers k.area.failed k after answer (DigestsOrStays moment seen left faults k.area after.area)
+  pub opening : after.opening ≡ k.opening
 
 -- The next records were prepared and the kernel was asked to digest them, or there was no memory for that.
 abbrev pub ChunkCame : {M : Type 0} → (M → Tier → List ℕ) → (M → ℕ) → (M → ℕ → Tier → List ℕ → Type 0) → (M → ℕ) → KernelView M → SealedLog → Outcome → SealedLog → KernelView M → Type 0
@@ -137,8 +173,8 @@ pub record IsNotAccepted {M : Type 0} (seen : M → Tier → List ℕ) (moment :
   pub unread : a.log ≡ None
   pub why : Refusal
   pub told : o ≡ outcomes.Refused why
-  pub only : IsNotAcceptedFor why
   pub away : AwayView M
+  pub only : IsNotAcceptedFor seen faults k a away why
   pub read : IsAwayRead seen moment left faults a away
   pub held : away.held ≡ a.held
   pub none : away.log ≡ None

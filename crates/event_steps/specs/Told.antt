@@ -1,5 +1,5 @@
 -- How what came of an event is told.
-use Rattle.std.specs.Prelude.{Option, Some, None, Result, Ok, Err}
+use Rattle.std.specs.Prelude.{ℕ, Option, Some, None, Result, Ok, Err}
 use Rattle.posix_calls.specs.declared.call.Reply.{Reply}
 use Rattle.libfs.specs.declared.denying.Denied.{Denied}
 use Rattle.libfs.specs.declared.now.Now.{Now}
@@ -7,6 +7,7 @@ use Rattle.libfs.specs.declared.now.Now.TheVariants as now
 use Rattle.event_steps.specs.declared.outcome.Outcome.{Outcome}
 use Rattle.event_steps.specs.declared.outcome.Outcome.TheVariants as outcomes
 use Rattle.event_steps.specs.declared.outcome.Refusal.{Refusal}
+use Rattle.event_steps.specs.declared.outcome.Refusal.TheVariants as refusals
 use Rattle.event_steps.specs.declared.refusals.Refusals.{Refusals}
 use Rattle.event_steps.specs.Refusals.{no_refusals, refusal_of, with_refusal}
 
@@ -43,3 +44,16 @@ refused_then outcomes.Idle r = r
 abbrev pub noted : Result (Unit {0}) Denied → Refusals → Refusals
 noted (Ok x) r = r
 noted (Err why) r = with_refusal r why
+
+-- a refusal's number, as programs print it
+abbrev pub refusal_number : Refusal → ℕ
+refusal_number refusals.DeviceFault = 2
+refusal_number refusals.NoBlock = 5
+refusal_number refusals.Busy = 8
+refusal_number refusals.BadLog = 9
+refusal_number refusals.NotMapped = 10
+refusal_number refusals.NoUnits = 11
+refusal_number refusals.NoInode = 12
+refusal_number refusals.KernelFailed = 13
+refusal_number refusals.InUse = 14
+refusal_number refusals.Memory = 15

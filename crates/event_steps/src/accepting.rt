@@ -1,11 +1,12 @@
 //! The kernel accepts the region that a client handed over.
 ghost use Rattle.std.specs.Prelude.{◌≡◌, ◌⊎◌, ◌<◌, [], length, None, Some, IfErr, IfOk, OnErr, OnOk};
+ghost use Rattle.tier_device.specs.Media.{Rose};
 ghost use Rattle.client_log.specs.Calls.{IsOnlyRead};
 ghost use Rattle.update_log.specs.View.{records_of};
 ghost use Rattle.digester.specs.SealedLog.{IsSealed};
 ghost use Rattle.digester.specs.declared.sealed_log.SealedLog.{SealedLog};
 ghost use Rattle.event_steps.specs.Sound.{IsLogOf};
-ghost use Rattle.event_steps.specs.Regions.{HasAccepted, HasLog, IsAwayRead, IsNotAcceptedFor};
+ghost use Rattle.event_steps.specs.Regions.{HasAccepted, HasLog, IsAwayRead, IsNotAcceptedFor, IsNotReadFor, refusal_to_accept};
 ghost use Rattle.event_steps.specs.declared.outcome.Refusal.TheVariants as refusals;
 
 use crate::away::Away;
@@ -24,7 +25,7 @@ impl<M: Media> Away<M> {
         ensures some { OnOk result ((x : SealedLog) → self.new.log ≡ Some x → x.done < length x.records.items) }
         ensures accepted { OnOk result ((x : SealedLog) × HasLog M.seen M.moment M.left M.faults kernel.old self.old x self.new kernel.new) }
         ensures unread { OnErr result (self.old.log ≡ None) }
-        ensures only { IfErr result IsNotAcceptedFor }
+        ensures only { IfErr result (IsNotAcceptedFor M.seen M.faults kernel.old self.old self.new) }
         ensures read { OnErr result (IsAwayRead M.seen M.moment M.left M.faults self.old self.new) }
         ensures refused { OnErr result ((self.new.held ≡ self.old.held) × (self.new.log ≡ None) × (kernel.new ≡ kernel.old)) }
     {
@@ -51,7 +52,7 @@ impl<M: Media> Away<M> {
         ensures taken { OnOk result ((self.new.log ≡ None) × (self.new.held ≡ [])) }
         ensures kept { OnErr result ((self.new.log ≡ None) × (self.new.held ≡ self.old.held)) }
         ensures read { IsAwayRead M.seen M.moment M.left M.faults self.old self.new }
-        ensures only { IfErr result (λ e. (e ≡ refusals.Memory) ⊎ (e ≡ refusals.DeviceFault)) }
+        ensures only { IfErr result (IsNotReadFor M.faults self.old self.new) }
     {
         self.sealed.over.left_now();
         let records = records_of(&mut self.sealed.over)?;
@@ -69,7 +70,7 @@ fn records_of<M: Media>(over: &mut HandedOver<M>) -> Result<Vec<Record>, Refusal
     ensures found { IfOk result (λ found. found.items ≡ records_of M.seen over.old.region) }
     ensures read { IsOnlyRead M.seen M.moment M.left M.faults over.old.region over.new.region }
     ensures generation { over.new.generation ≡ over.old.generation }
-    ensures only { IfErr result (λ e. (e ≡ refusals.Memory) ⊎ (e ≡ refusals.DeviceFault)) }
+    ensures only { IfErr result (λ e. (e ≡ refusals.Memory) ⊎ ((e ≡ refusals.DeviceFault) × Rose (M.faults over.old.region.media) (M.faults over.new.region.media))) }
 {
     match over.records() {
         Ok(records) => Ok(records),
@@ -79,7 +80,7 @@ fn records_of<M: Media>(over: &mut HandedOver<M>) -> Result<Vec<Record>, Refusal
 }
 
 fn refusal_to_accept(error: KernelError<AcceptError>) -> Refusal
-    ensures { (result ≡ refusals.KernelFailed) ⊎ (result ≡ refusals.BadLog) }
+    ensures { result ≡ refusal_to_accept error }
 {
     match error {
         KernelError::Failed => Refusal::KernelFailed,

@@ -1,3 +1,6 @@
+ghost use Rattle.std.specs.Prelude.{◌≡◌};
+ghost use Rattle.event_steps.specs.Told.{refusal_number};
+
 use client_plan::Need;
 use posix_calls::Reply;
 
@@ -28,7 +31,9 @@ pub enum Refusal {
 
 impl Refusal {
     /// Its number, as programs print it.
-    pub fn number(self) -> u32 {
+    pub fn number(self) -> u32
+        ensures { result ≡ refusal_number self }
+    {
         match self {
             Refusal::DeviceFault => 2,
             Refusal::NoBlock => 5,

@@ -1,4 +1,4 @@
-ghost use Rattle.std.specs.Prelude.{◌≡◌, ◌≤◌, length, true, is_some, IfErr, IfOk, OnOk};
+ghost use Rattle.std.specs.Prelude.{◌≡◌, ◌≤◌, length, true, None, is_some, IfErr, IfOk, OnErr, OnOk};
 ghost use Rattle.event_steps.specs.Sound.{fresh_seat, number_of};
 ghost use Rattle.event_steps.specs.View.{done_of, undigested_on};
 
@@ -37,6 +37,7 @@ impl<M: Media> Seat<M> {
     pub fn new(client: Client<M>) -> Result<Self, Client<M>>
         ensures seat { IfOk result (λ s. s ≡ fresh_seat client) }
         ensures here { OnOk result (is_some client.log.other ≡ true) }
+        ensures away { OnErr result (client.log.other ≡ None) }
         ensures back { IfErr result (λ c. c ≡ client) }
     {
         if client.is_region_away() {

@@ -1,4 +1,4 @@
-ghost use Rattle.std.specs.Prelude.{◌≡◌, length, IfErr, IfNone, IfOk, IfSome, OnOk, Some, true};
+ghost use Rattle.std.specs.Prelude.{◌≡◌, ◌↔◌, length, IfErr, IfNone, IfOk, IfSome, IsTrue, OnErr, OnOk, Some, true};
 ghost use Rattle.std.specs.Option.{ForSome};
 ghost use Rattle.call_effects.specs.NodeView.{view_at};
 ghost use Rattle.kernel_fs.specs.Answering.{Answers};
@@ -119,6 +119,7 @@ impl<M: Media> System<M> {
         ensures kernel { IfOk result (λ w. w.kernel ≡ kernel) }
         ensures seats { IfOk result (λ w. w.seats ≡ seats.items) }
         ensures right { OnOk result (AreSeats seats.items) }
+        ensures others { OnErr result (AreSeats seats.items → ⊥) }
         ensures back { IfErr result (λ e. (e.0 ≡ kernel) × (e.1.items ≡ seats.items)) }
     {
         if !are_in_order(&seats) {
@@ -134,7 +135,7 @@ impl<M: Media> System<M> {
 
 // Whether these are the seats of clients 1 to 8.
 fn are_in_order<M: Media>(seats: &[Seat<M>]) -> bool
-    ensures { result ≡ true → AreSeats seats.now }
+    ensures { IsTrue result ↔ AreSeats seats.now }
 {
     if seats.len() != CLIENTS {
         return false;
@@ -145,7 +146,7 @@ fn are_in_order<M: Media>(seats: &[Seat<M>]) -> bool
 // Whether they are of the clients from 1 on, in the order of their numbers.
 fn are_numbered<M: Media>(seats: &[Seat<M>]) -> bool
     requires { length seats.now ≡ 8 }
-    ensures { result ≡ true → AreFrom 1 seats.now }
+    ensures { IsTrue result ↔ AreFrom 1 seats.now }
 {
     let mut number = 1;
     'seats: for seat in seats {

@@ -3,7 +3,9 @@ use Rattle.std.specs.Prelude.{Ok}
 use Rattle.kernel_fs.specs.KernelView.{KernelView}
 use Rattle.kernel_fs.specs.declared.digesting.Digestion.{Digestion}
 use Rattle.kernel_fs.specs.declared.digesting.Digestion.TheVariants as digestion
-use Rattle.event_steps.proofs.Chunks.{next_run, same_ok}
+use Rattle.digester.specs.declared.error.DigestError.TheVariants as digests
+use Rattle.kernel_fs.specs.declared.error.KernelError.TheVariants as kernel
+use Rattle.event_steps.proofs.Chunks.{next_run, ok_is_none, same_ok}
 use Rattle.event_steps.proofs.digesting.digest_prepared.Goals as goal
 
 pub returns-in-Ok : goal.returns-in-Ok
@@ -23,7 +25,14 @@ returns-in-Ok g c =
         stays = λ other.
             let same = e.not_digested (λ is. other (ap (λ (x : Digestion). Ok x) is)) in
             (same.1, ap (λ (k : KernelView _). k.book) same.0);
+        law = λ _. e.law;
+        unasked = λ other. (e.not_digested other).0;
+        not_next = λ is at. (e.not_next.0 (same_ok d digestion.NotNext is)) (c.requires.next, at);
+        not_accepted = λ is. let both = e.not_accepted.0 (same_ok d digestion.NotAccepted is) in (both.0.1, both.1);
+        only_next = tt;
         bad = tt;
+        never_bad = λ m s place is running region stands bad. absurd (ok_is_none d (kernel.Refused (digests.BadLog place)) bad);
         answers = e.answers;
+        opening = e.opening;
       },
     )

@@ -2,10 +2,11 @@ use Rattle.std.proofs.Common.{◌≡◌, ℕ, List, None, true, false, arith, in
 use Rattle.std.specs.Option.{ForSome}
 use Rattle.std.specs.Prelude.{is_some}
 use Rattle.file_graph.specs.Graph.{is_among}
-use Rattle.event_steps.specs.Regions.{IsAwayRead}
+use Rattle.event_steps.specs.Regions.{IsAwayRead, IsNotAcceptedFor}
+use Rattle.event_steps.specs.declared.outcome.Refusal.{Refusal}
 use Rattle.event_steps.specs.Sound.{IsLogOf}
 use Rattle.event_steps.specs.View.{AwayView}
-use Rattle.event_steps.proofs.Chunks.{none_of, read_records, was_accepted}
+use Rattle.event_steps.proofs.Chunks.{is_false, none_of, not_accepted, read_records, was_accepted}
 use Rattle.event_steps.proofs.away.Away.accept.Goals as goal
 
 pub returns-then-is_some-clause-accepted : goal.returns-then-is_some-clause-accepted
@@ -38,8 +39,22 @@ returns-in-Ok-clause-accepted g c =
             can = c.in-Ok.ensures.can;
             step = c.in-Ok.ensures.step;
             region = λ m s of past records writes. c.in-Ok.ensures.region m s of past records (λ i w. subst (λ (h : List ℕ). is_among i h ≡ true) (sym told.3) (writes i w));
+            out = c.in-Ok.ensures.out;
+            going = is_false k.area.failed (λ is. absurd (cc)) c.in-Ok.ensures.failed;
             area = c.in-Ok.ensures.area;
+            opening = c.in-Ok.ensures.opening;
           },
         );
       },
     )
+
+pub returns-in-Err-clause-only : goal.returns-in-Err-clause-only
+returns-in-Err-clause-only g c =
+    let seen = g.M.Media.seen in
+    let k = c.args.kernel.now in
+    let told = c.in_ok-log.ensures.log in
+    let e = c.in-Err.ensures in
+    let s = c.self-2.inside in
+    let left : AwayView _ = record { client = s.sealed.client; over = s.sealed.over; held = c.in_ok-log.log.held.items; log = s.log } in
+    subst (λ (why : Refusal). IsNotAcceptedFor seen g.M.Media.faults k c.args.self.now left why) (sym c.refusal_to_accept.ensures)
+    (not_accepted seen g.M.Media.faults k c.args.self.now left c.in_ok-log.log c.in-Err.error told.0 told.2 e.failed e.not_at_mark e.already_accepted)

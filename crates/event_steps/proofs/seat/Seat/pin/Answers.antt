@@ -16,7 +16,7 @@ returns-clause-carries g c =
     subst (λ (v : SeatView _). Carries (HasWord c.args.inode) (IsPinned seen k v c.args.inode c.asked.result new c.pin-answer.new.kernel) ((new ≡ v) × (c.pin-answer.new.kernel ≡ k)) c.asked.result) c.self.view_is
     (carried c.pin-answer.result c.asked.result c.asked.ensures.told word (record {
       answer = c.pin-answer.result;
-      booked = booked seen k c.pin-answer.new.kernel s.client c.pin-answer.new.self s.away s.refused c.asked.new.refused c.pin-answer.result c.asked.result c.asked.ensures.told c.asked.ensures.noted c.pin-answer.ensures.going c.pin-answer.ensures.failed c.pin-answer.ensures.refused c.pin-answer.ensures.area;
+      booked = booked seen k c.pin-answer.new.kernel s.client c.pin-answer.new.self s.away s.refused c.asked.new.refused c.pin-answer.result c.asked.result c.asked.ensures.told c.asked.ensures.noted c.pin-answer.ensures.going c.pin-answer.ensures.failed (λ _. c.pin-answer.ensures.only) c.pin-answer.ensures.refused c.pin-answer.ensures.area c.pin-answer.ensures.opening;
       pins = c.pin-answer.ensures.pinned;
       step = c.pin-answer.ensures.step;
       out = c.pin-answer.ensures.out;

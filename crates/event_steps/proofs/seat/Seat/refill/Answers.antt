@@ -1,4 +1,4 @@
-use Rattle.std.proofs.Common.{◌≡◌, ◌+◌, ◌≤◌, ◌^◌, arith, inr, refl, subst}
+use Rattle.std.proofs.Common.{◌≡◌, ◌+◌, ◌≤◌, ◌^◌, arith, inl, inr, refl, subst}
 use Rattle.std.specs.Prelude.{Err, ⊤}
 use Rattle.event_steps.specs.Asking.{IsRefilled}
 use Rattle.event_steps.specs.Played.{Carries}
@@ -17,7 +17,7 @@ returns-then-not-fits-clause-carries g c =
     subst (λ (v : SeatView _). Carries ⊤ (IsRefilled seen k v c.args.units c.args.inodes c.asked.result new k) ((new ≡ v) × (k ≡ k)) c.asked.result) c.self.view_is
     (carried (Err why) c.asked.result c.asked.ensures.told tt (record {
       answer = Err why;
-      booked = booked seen k k s.client s.client s.away s.refused c.asked.new.refused (Err why) c.asked.result c.asked.ensures.told c.asked.ensures.noted tt (none_by k.area.failed why c.none_so_many.ensures.going) (refl, refl) refl;
+      booked = booked seen k k s.client s.client s.away s.refused c.asked.new.refused (Err why) c.asked.result c.asked.ensures.told c.asked.ensures.noted tt (none_by k.area.failed why c.none_so_many.ensures.going) (λ is. inl (c.none_so_many.ensures.failed is)) (refl, refl) refl refl;
       granted = tt;
       law = tt;
       no_units = λ _. inr past;

@@ -4,7 +4,7 @@ use Rattle.event_steps.specs.Asking.{IsUnpinned}
 use Rattle.event_steps.specs.Played.{Carries}
 use Rattle.event_steps.specs.Turns.{CanBeUnpinned}
 use Rattle.event_steps.specs.View.{SeatView}
-use Rattle.event_steps.proofs.Asked.{booked, carried, on_err}
+use Rattle.event_steps.proofs.Asked.{booked, carried, on_err, only_failed}
 use Rattle.event_steps.proofs.seat.Seat.unpin.Goals as goal
 
 pub returns-clause-carries : goal.returns-clause-carries
@@ -17,7 +17,7 @@ returns-clause-carries g c =
     subst (λ (v : SeatView _). Carries (CanBeUnpinned v.client c.args.inode) (IsUnpinned seen k v c.args.inode c.asked.result new c.unpin-answer.new.kernel) ((new ≡ v) × (c.unpin-answer.new.kernel ≡ k)) c.asked.result) c.self.view_is
     (carried c.unpin-answer.result c.asked.result c.asked.ensures.told turn (record {
       answer = c.unpin-answer.result;
-      booked = booked seen k c.unpin-answer.new.kernel s.client c.unpin-answer.new.self s.away s.refused c.asked.new.refused c.unpin-answer.result c.asked.result c.asked.ensures.told c.asked.ensures.noted c.unpin-answer.ensures.going (on_err c.unpin-answer.result denied.KernelFailed c.unpin-answer.ensures.failed) c.unpin-answer.ensures.refused c.unpin-answer.ensures.area;
+      booked = booked seen k c.unpin-answer.new.kernel s.client c.unpin-answer.new.self s.away s.refused c.asked.new.refused c.unpin-answer.result c.asked.result c.asked.ensures.told c.asked.ensures.noted c.unpin-answer.ensures.going (on_err c.unpin-answer.result denied.KernelFailed c.unpin-answer.ensures.failed) (λ _. only_failed c.unpin-answer.result c.unpin-answer.ensures.only) c.unpin-answer.ensures.refused c.unpin-answer.ensures.area c.unpin-answer.ensures.opening;
       pins = c.unpin-answer.ensures.unpinned;
       step = c.unpin-answer.ensures.step;
       out = c.unpin-answer.ensures.out;
