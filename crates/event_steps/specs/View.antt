@@ -1,5 +1,5 @@
 -- A running system, as its callers see it.
-use Rattle.std.specs.Prelude.{ℕ, ◌-◌, ◌++◌, List, length, Option, Some, None, slice_get}
+use Rattle.std.specs.Prelude.{◌≡◌, ℕ, ◌-◌, ◌++◌, List, length, Option, Some, None, slice_get}
 use Rattle.tier_device.specs.declared.media.Tier.{Tier}
 use Rattle.client_log.specs.View.{HandedView, written}
 use Rattle.digester.specs.declared.sealed_log.SealedLog.{SealedLog}
@@ -30,6 +30,10 @@ pub record SystemView (M : Type 0) : Type 0 where
 -- a client's seat; clients are counted from 1
 abbrev pub seat_of : {M : Type 0} → SystemView M → ℕ → Option (SeatView M)
 seat_of w c = slice_get w.seats (c - 1)
+
+-- a client has a seat, of which this holds
+abbrev pub HasSeat : {M : Type 0} → SystemView M → ℕ → (SeatView M → Type 0) → Type 0
+HasSeat {M} w c P = (s : SeatView M) × (seat_of w c ≡ Some s) × P s
 
 -- how many records of a log are digested; of one that is not there none
 abbrev pub done_in : Option SealedLog → ℕ

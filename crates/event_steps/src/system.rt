@@ -1,5 +1,4 @@
 ghost use Rattle.std.specs.Prelude.{◌≡◌, ◌↔◌, length, IfErr, IfNone, IfOk, IfSome, IsTrue, OnErr, OnOk, Some, true};
-ghost use Rattle.std.specs.Option.{ForSome};
 ghost use Rattle.call_effects.specs.NodeView.{view_at};
 ghost use Rattle.kernel_fs.specs.Answering.{Answers};
 ghost use Rattle.shared_area.specs.Looks.{Looks};
@@ -7,7 +6,7 @@ ghost use Rattle.shared_area.specs.Parts.{IsTierOf};
 ghost use Rattle.shared_area.specs.Store.{graph, store_of};
 ghost use Rattle.lease_manager.specs.Words.{IsClient};
 ghost use Rattle.event_steps.specs.Sound.{AreFrom, AreSeats};
-ghost use Rattle.event_steps.specs.View.{seat_of, undigested_on};
+ghost use Rattle.event_steps.specs.View.{HasSeat, seat_of, undigested_on};
 
 use crate::numbers::{CLIENTS, is_client};
 use crate::seat::Seat;
@@ -46,7 +45,7 @@ impl<M: Media> Model for System<M> {
 impl<M: Media> System<M> {
     /// A client; none of a number outside 1 to 8.
     pub fn client(&self, number: u32) -> Option<&Client<M>>
-        ensures there { IfSome result (λ c. IsClient number × ForSome (seat_of self.now number) (λ s. c.now ≡ s.client)) }
+        ensures there { IfSome result (λ c. IsClient number × HasSeat self.now number (λ s. c.now ≡ s.client)) }
         ensures none { IfNone result (IsClient number → ⊥) }
     {
         match self.seat(number) {
@@ -57,7 +56,7 @@ impl<M: Media> System<M> {
 
     /// How many records of a client are not digested, of the region that it writes and of the one that is away; none of a number outside 1 to 8.
     pub fn undigested(&self, number: u32) -> usize
-        ensures there { IsClient number → ForSome (seat_of self.now number) (λ s. result ≡ undigested_on M.seen s) }
+        ensures there { IsClient number → HasSeat self.now number (λ s. result ≡ undigested_on M.seen s) }
         ensures none { (IsClient number → ⊥) → result ≡ 0 }
     {
         match self.seat(number) {

@@ -1,0 +1,6 @@
+use Rattle.std.proofs.Common.{ap}
+use Rattle.event_steps.proofs.system.System.client.Goals as goal
+
+pub returns-in-Some-clause-there : goal.returns-in-Some-clause-there
+returns-in-Some-clause-there g c =
+    (c.in-Some.ensures.there.0, (c.in-Some.seat.now, c.in-Some.ensures.there.1, ap (λ s. s.client) c.seat-in-Some.view_is))
