@@ -1,0 +1,123 @@
+// Clients that have logged nothing.
+ghost use Rattle.std.specs.Prelude.{◌≡◌, IfOk};
+ghost use Rattle.std.specs.List.{All};
+ghost use Rattle.tier_device.specs.declared.media.Tier.TheVariants.{Fast};
+ghost use Rattle.tier_device.specs.Media.{AtRest};
+ghost use Rattle.fresh_system.specs.Fresh.{CountsNone};
+
+use crate::error::OpenError;
+use crate::media_maker::MediaMaker;
+use client_log::ClientLog;
+use event_steps::Seat;
+use fresh_media::empty_region;
+use lease_manager::{CLIENTS, Leases, Opened, Pass};
+use libfs::Client;
+use std::alloc::{AllocError, Global};
+use tier_device::Media;
+use update_log::{Region, RegionError};
+
+/// The seats of all clients, in the order of their numbers.
+#[tactic(auto, using(crate::proofs::Passes::all_handles))]
+pub fn fresh_seats<M: Media + Drop, B: MediaMaker<M>>(
+    alloc: Global,
+    maker: &mut B,
+) -> Result<Vec<Seat<M>>, OpenError> {
+    let Opened {
+        leases,
+        handles,
+        passes,
+    } = Leases::open(alloc)?;
+    seat_all(alloc, maker, &leases, handles, passes)
+}
+
+// The seats of these passes.
+fn seat_all<M: Media + Drop, B: MediaMaker<M>>(
+    alloc: Global,
+    maker: &mut B,
+    leases: &Leases,
+    handles: Vec<Leases>,
+    passes: Vec<Pass>,
+) -> Result<Vec<Seat<M>>, OpenError>
+    requires handles { All (λ h. h ≡ leases.now) handles.items }
+    requires passes { All (CountsNone leases.now) passes.items }
+{
+    let (mut handles, mut passes) = (handles, passes);
+    let mut seats = Vec::new(alloc);
+    for _ in 0..CLIENTS {
+        let seat = next_seat(alloc, maker, leases, &mut handles, &mut passes)?;
+        if seats.push(seat).is_err() {
+            return Err(OpenError::Memory);
+        }
+    }
+    Ok(seats)
+}
+
+// The seat of the first pass that is left.
+#[tactic(auto, using(crate::proofs::Passes::all_popped, crate::proofs::Passes::all_left, crate::proofs::Passes::first_is))]
+fn next_seat<M: Media + Drop, B: MediaMaker<M>>(
+    alloc: Global,
+    maker: &mut B,
+    leases: &Leases,
+    handles: &mut Vec<Leases>,
+    passes: &mut Vec<Pass>,
+) -> Result<Seat<M>, OpenError>
+    requires handles { All (λ h. h ≡ leases.now) handles.old.items }
+    requires passes { All (CountsNone leases.now) passes.old.items }
+    ensures handles { All (λ h. h ≡ leases.now) handles.new.items }
+    ensures passes { All (CountsNone leases.now) passes.new.items }
+{
+    if passes.is_empty() {
+        return Err(OpenError::Damaged);
+    }
+    match handles.pop() {
+        Some(leases) => fresh_seat(alloc, maker, leases, passes.remove(0)),
+        None => Err(OpenError::Damaged),
+    }
+}
+
+fn fresh_seat<M: Media + Drop, B: MediaMaker<M>>(
+    alloc: Global,
+    maker: &mut B,
+    leases: Leases,
+    pass: Pass,
+) -> Result<Seat<M>, OpenError>
+    requires { CountsNone leases pass }
+{
+    let even = fresh_region(alloc, maker, 0)?;
+    let odd = fresh_region(alloc, maker, 1)?;
+    let Ok(log) = ClientLog::open(alloc, (even, odd), 0) else {
+        return Err(OpenError::Memory);
+    };
+    let Ok(client) = Client::open(alloc, leases, pass, log) else {
+        return Err(OpenError::Memory);
+    };
+    match Seat::new(client) {
+        Ok(seat) => Ok(seat),
+        Err(_) => Err(OpenError::Damaged),
+    }
+}
+
+fn fresh_region<M: Media + Drop, B: MediaMaker<M>>(
+    alloc: Global,
+    maker: &mut B,
+    generation: u64,
+) -> Result<Region<M>, OpenError> {
+    let media = region_media(alloc, maker, generation)?;
+    match Region::reopen(alloc, media) {
+        Ok(region) => Ok(region),
+        Err((RegionError::DeviceFault, _)) => Err(OpenError::DeviceFault),
+        Err((RegionError::Memory, _)) => Err(OpenError::Memory),
+        Err(_) => Err(OpenError::Damaged),
+    }
+}
+
+fn region_media<M: Media + Drop, B: MediaMaker<M>>(
+    alloc: Global,
+    maker: &mut B,
+    generation: u64,
+) -> Result<M, AllocError>
+    ensures { IfOk result (λ m. AtRest (M.seen m) (M.left m (M.moment m)) Fast) }
+{
+    let bytes = empty_region(alloc, generation)?;
+    maker.make(bytes, Vec::new(alloc), Vec::new(alloc))
+}

@@ -1,0 +1,45 @@
+// A kernel over a fresh shared area.
+ghost use Rattle.std.specs.Prelude.{IfOk};
+ghost use Rattle.tier_device.specs.declared.media.Tier.{Tier};
+ghost use Rattle.tier_device.specs.Media.{AtRest};
+
+use crate::error::OpenError;
+use crate::media_maker::MediaMaker;
+use fresh_media::{empty_tier, first_fast_tier};
+use kernel_fs::{Kernel, Shared};
+use layout::Geometry;
+use std::alloc::{AllocError, Global};
+use tier_device::{Media, Tier};
+
+/// A kernel over fresh media of this geometry.
+pub fn fresh_kernel<M: Media + Drop, B: MediaMaker<M>>(
+    alloc: Global,
+    maker: &mut B,
+    geometry: &Geometry,
+) -> Result<Kernel<M>, OpenError> {
+    let media = fresh_area(alloc, maker, geometry)?;
+    match Shared::reopen(alloc, media) {
+        Ok(area) => over(alloc, area),
+        Err((error, _)) => Err(OpenError::from(error)),
+    }
+}
+
+fn over<M: Media + Drop>(alloc: Global, area: Shared<M>) -> Result<Kernel<M>, OpenError> {
+    match Kernel::open(alloc, area) {
+        Ok(kernel) => Ok(kernel),
+        Err((error, _)) => Err(OpenError::from(error)),
+    }
+}
+
+fn fresh_area<M: Media + Drop, B: MediaMaker<M>>(
+    alloc: Global,
+    maker: &mut B,
+    geometry: &Geometry,
+) -> Result<M, AllocError>
+    ensures { IfOk result (λ m. (t : Tier) → AtRest (M.seen m) (M.left m (M.moment m)) t) }
+{
+    let fast = first_fast_tier(alloc, geometry)?;
+    let block = empty_tier(alloc, geometry.tier_blocks(Tier::Block))?;
+    let slow = empty_tier(alloc, geometry.tier_blocks(Tier::Slow))?;
+    maker.make(fast, block, slow)
+}

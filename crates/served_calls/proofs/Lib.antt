@@ -1,0 +1,5 @@
+pub mod Ways
+pub mod Ends
+pub mod Chains
+pub mod KindLemmas
+pub mod RunLemmas

@@ -1,0 +1,11 @@
+use Rattle.served_calls.specs.HandingOver.{GaveWay}
+use Rattle.served_calls.specs.Runs.{Leads}
+use Rattle.served_calls.specs.Whose.{IsHandingOver}
+use Rattle.served_calls.proofs.handing_over.others_hand_over.Given as goal
+
+-- what was played so far: so many clients gave way
+abbrev pub invariant-loop-before : goal.invariant-loop-before
+invariant-loop-before g l = record {
+  run : Leads g.E.Events.plays (IsHandingOver l.fn.inode) l.fn.events l.events;
+  gave : GaveWay g.E.Events.plays g.E.Events.owes g.E.Events.leases g.E.Events.waits g.E.Events.broken l.fn.client l.fn.inode l.before l.fn.events l.events;
+}
