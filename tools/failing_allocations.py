@@ -125,8 +125,11 @@ def tally(what, whole, runs, ends_well):
     return Tally(len(runs), told, bad)
 
 
-# Before the script is read, or where a line of it can't be read for want of memory, strata_sh ends with `fault 15` and status 3. A call
-# that meets it is answered ENOMEM, and all others as if its line were not there.
+# Before the script is read, or where a line of it can't be read for want of memory, strata_sh ends with `fault 15` and status 3. A line
+# that meets it is answered ENOMEM or `refused 15`, and the calls behind it as if it were not there, but that what it was granted is not
+# there for others (ENOSPC). What the other lines tell, of records, blocks, units and who is in the way, may differ by what it has begun.
+
+PLAIN_CALL = re.compile(rb"[1-8] (?!try |begin )")
 
 
 def script(lines, words, what):
@@ -145,11 +148,17 @@ def script(lines, words, what):
         if run.status == 3:
             return whole.out.startswith(run.out) and run.err == "fault 15\n"
         answers = run.out.splitlines()
-        met = [at for at, line in enumerate(answers) if line == "ENOMEM"]
-        if len(met) != 1:
+        met = [at for at, line in enumerate(answers) if line in ("ENOMEM", "refused 15")]
+        if len(met) != 1 or (run.status, run.err) != (whole.status, whole.err):
             return False
-        other = run_without(met[0])
-        return answers[: met[0]] + answers[met[0] + 1 :] == other.out.splitlines() and (run.status, run.err) == (other.status, other.err)
+        with_line, others = whole.out.splitlines(), run_without(met[0]).out.splitlines()
+        with_line[met[0]] = answers[met[0]]
+        others[met[0] : met[0]] = [answers[met[0]]]
+        plain = [at for at, line in enumerate(calls) if PLAIN_CALL.match(lines[line])]
+        return answers == with_line or (
+            len(answers) == len(others)
+            and all(answers[at] == others[at] or "ENOSPC" in (answers[at], others[at]) for at in plain if at < len(answers))
+        )
 
     whole, runs = all_of("strata_sh", b"".join(lines), words)
     if "ENOMEM" in whole.out:

@@ -4,6 +4,8 @@
 #![tactic(auto)]
 
 mod difference;
+mod needs;
+mod noting;
 mod report;
 mod row;
 mod run;

@@ -1,9 +1,10 @@
 // The runs of the programs.
+use crate::needs::run_needs;
 use crate::row::Row;
 use first_run::run_first;
 use posix_calls::Errno;
 use std::io::{BufReader, Write};
-use workload_cli::run_sh;
+use system_shell::run_sh;
 
 // The script comes by so few bytes at a time, so that lines are cut everywhere.
 const AT_A_TIME: usize = 7;
@@ -48,6 +49,7 @@ pub fn run(row: &Row<'_>) -> Ran {
             ran.status = run_first(row.alloc, &row.words, &mut ran.out, &mut ran.err);
         }
         "errors" => print_errors(&mut ran.out),
+        "needs" => ran.status = run_needs(row.alloc, &row.script.bytes, &mut ran.out),
         _ => shell(row, &mut ran),
     }
     ran

@@ -1,4 +1,4 @@
-// A script that is read line by line, and what its lines are answered.
-pub mod answer;
+// A script that is read line by line, and what its calls are answered.
 pub mod part;
 pub mod reader;
+pub mod replies;

@@ -1,25 +1,10 @@
-// What the lines of a script are answered.
+// What a script's calls are answered, as it is printed.
 use crate::lines::{write_data, write_name};
 use posix_calls::{Name, Reply};
 use std::io::{self, Write};
 
-/// What a line that can be read is answered.
-#[derive(Drop)]
-pub enum Answer {
-    /// Nothing, to an empty line or a comment.
-    Silent,
-    Call(Reply),
-}
-
-/// Prints an answer: nothing, or a reply as a line.
-pub fn write_answer<W: Write>(out: &mut W, answer: &Answer) -> io::Result<()> {
-    match answer {
-        Answer::Silent => Ok(()),
-        Answer::Call(reply) => write_reply(out, reply),
-    }
-}
-
-fn write_reply<W: Write>(out: &mut W, reply: &Reply) -> io::Result<()> {
+/// Prints a reply as a line.
+pub fn write_reply<W: Write>(out: &mut W, reply: &Reply) -> io::Result<()> {
     match reply {
         Reply::Read { bytes } => write_bytes(out, bytes.as_slice()),
         Reply::Listed { names } => write_listed(out, names.as_slice()),

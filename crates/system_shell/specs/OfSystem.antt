@@ -1,0 +1,46 @@
+-- What a system in memory tells of its shared area.
+use Rattle.std.specs.Prelude.{◌≡◌, ℕ, List, Option, Some, None, if◌then◌else◌}
+use Rattle.tier_device.specs.declared.media.Tier.{Tier}
+use Rattle.posix_calls.specs.Tree.{Tree}
+use Rattle.call_effects.specs.Wholes.{tree_of}
+use Rattle.file_graph.specs.Units.{charge}
+use Rattle.shared_area.specs.Parts.{IsTierOf}
+use Rattle.shared_area.specs.Store.{graph, store_of}
+use Rattle.kernel_book.specs.Book.{out_of}
+use Rattle.kernel_fs.specs.KernelView.{KernelView}
+use Rattle.kernel_fs.specs.declared.kernel.Figures.{Figures}
+use Rattle.kernel_fs.specs.declared.error.KernelError.{KernelError}
+use Rattle.kernel_fs.specs.declared.error.KernelError.TheVariants as why
+use Rattle.shared_area.specs.AreaError.{AreaError}
+use Rattle.shared_area.specs.AreaError.TheVariants as errors
+use Rattle.event_steps.specs.View.{SystemView}
+use Rattle.event_steps.specs.declared.outcome.Refusal.TheVariants as refusals
+use Rattle.system_shell.specs.declared.answer.Answer.{Answer}
+use Rattle.system_shell.specs.declared.answer.Answer.TheVariants as answers
+
+-- the file tree that the shared media of a kernel spell
+abbrev pub tree_in : {M : Type 0} → (M → Tier → List ℕ) → KernelView M → Tree
+tree_in seen k = tree_of (graph k.area.geometry (store_of (seen k.area.media)))
+
+-- the tier that has a logical block of an inode there, if one does
+abbrev pub LiesIn : {M : Type 0} → (M → Tier → List ℕ) → KernelView M → ℕ → ℕ → Option Tier → Type 0
+LiesIn seen k i block tier = IsTierOf k.area.geometry (store_of (seen k.area.media)) i block tier
+
+-- how the units stand; none where a device has failed
+abbrev pub figures_of : {M : Type 0} → (M → Tier → List ℕ) → KernelView M → Option Figures
+figures_of seen k = if k.area.failed then None else Some (record { charge = charge (graph k.area.geometry (store_of (seen k.area.media))); out = out_of k.book; capacity = k.area.geometry.units })
+
+-- The shared media were only read: they have what they had. A device may have failed.
+pub record HasLooked {M : Type 0} (moment : M → ℕ) (seen : M → Tier → List ℕ) (old new : SystemView M) : Type 0 where
+  pub seats : new.seats ≡ old.seats
+  pub book : new.kernel.book ≡ old.kernel.book
+  pub geometry : new.kernel.area.geometry ≡ old.kernel.area.geometry
+  pub clock : moment new.kernel.area.media ≡ moment old.kernel.area.media
+  pub reads : (t : Tier) → seen new.kernel.area.media t ≡ seen old.kernel.area.media t
+
+-- how it is told that the shared media could not be read
+abbrev pub told_error : KernelError AreaError → Answer
+told_error why.Failed = answers.Refused refusals.KernelFailed
+told_error (why.Refused errors.DeviceFault) = answers.Refused refusals.DeviceFault
+told_error (why.Refused errors.Memory) = answers.Refused refusals.Memory
+told_error (why.Refused (errors.Damaged what block)) = answers.Damaged

@@ -1,0 +1,23 @@
+-- The lines of a script, answered one after the other.
+use Rattle.std.specs.Prelude.{◌≡◌, ℕ, zero, suc, List, Option, Some}
+use Rattle.script_lines.specs.SystemLines.{Asked, system_line}
+use Rattle.workload_cli.specs.Reading.{LosesLine}
+use Rattle.system_shell.specs.declared.answer.Answer.{Answer}
+
+-- A line was read, understood and answered.
+pub record IsLineAnswered {S : Type 0} (answers : S → Option Asked → Answer → S → Type 0) (before : Option (List ℕ)) (old : S) (after : Option (List ℕ)) (new : S) : Type 0 where
+  pub line : List ℕ
+  pub read : LosesLine before after line
+  pub asks : Option Asked
+  pub understood : system_line line ≡ Some asks
+  pub answer : Answer
+  pub answered : answers old asks answer new
+
+-- So many were, in their order.
+abbrev pub AreAnswered : {S : Type 0} → (S → Option Asked → Answer → S → Type 0) → ℕ → Option (List ℕ) → S → Option (List ℕ) → S → Type 0
+AreAnswered answers zero before old after new = (after ≡ before) × (new ≡ old)
+AreAnswered {S = S} answers (suc n) before old after new = (between : Option (List ℕ)) × (mid : S) × AreAnswered answers n before old between mid × IsLineAnswered answers between mid after new
+
+-- Some lines were, as far as the script was read.
+abbrev pub IsAnsweredTo : {S : Type 0} → (S → Option Asked → Answer → S → Type 0) → Option (List ℕ) → S → Option (List ℕ) → S → Type 0
+IsAnsweredTo answers before old after new = (n : ℕ) × AreAnswered answers n before old after new

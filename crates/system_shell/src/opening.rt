@@ -1,0 +1,20 @@
+// A running system over fresh media.
+use crate::options::Sizes;
+use event_steps::System;
+use fresh_system::{OpenError, RamMaker, RamMedia, open_fresh};
+use layout::Geometry;
+use std::alloc::Global;
+use workload_cli::RunError;
+
+/// A system over fresh media of these sizes, which may be none that media have.
+pub fn open_system(alloc: Global, sizes: Sizes) -> Result<System<RamMedia>, RunError> {
+    let Some(geometry) = Geometry::new(sizes.units, sizes.fast, sizes.block, sizes.slow) else {
+        return Err(RunError::Damaged);
+    };
+    match open_fresh(alloc, &mut RamMaker, &geometry) {
+        Ok(system) => Ok(system),
+        Err(OpenError::Memory) => Err(RunError::Memory),
+        Err(OpenError::DeviceFault) => Err(RunError::Device),
+        Err(OpenError::Damaged) => Err(RunError::Damaged),
+    }
+}

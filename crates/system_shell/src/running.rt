@@ -1,0 +1,58 @@
+// What a script asks of a running system beside its events.
+ghost use Rattle.std.specs.Prelude.{◌≡◌, ℕ, Bool, false, Ok, Option, Some, None, IfErr, IfOk, OnOk};
+ghost use Rattle.tier_device.specs.declared.media.Tier.{Tier};
+ghost use Rattle.posix_calls.specs.Tree.{Tree};
+ghost use Rattle.event_steps.specs.declared.outcome.Refusal.TheVariants as refusals;
+ghost use Rattle.kernel_fs.specs.declared.kernel.Figures.{Figures};
+ghost use Rattle.script_lines.specs.Seen.{path_of};
+ghost use Rattle.system_shell.specs.Paths.{file_in};
+ghost use Rattle.system_shell.specs.Told.{IsNoFile};
+
+use crate::answer::Answer;
+use kernel_fs::Figures;
+use script_lines::PathText;
+use served_calls::Events;
+use std::alloc::Global;
+use tier_device::Tier;
+
+/// A running system that tells of its shared area. Where it can't tell, it answers why.
+pub trait Running: Events {
+    /// Whether a device of the shared area has failed.
+    ghost dead: { Self → Bool };
+
+    /// The file tree of the shared area.
+    ghost tree: { Self → Tree };
+
+    /// The tier that has a logical block of an inode of that tree, if one does.
+    ghost lies: { Self → ℕ → ℕ → Option Tier → Type 0 };
+
+    /// How the units stand; none once a device of the shared area has failed.
+    ghost figures_in: { Self → Option Figures };
+
+    /// The shared area was read, and nothing else.
+    ghost looks: { Self → Self → Type 0 };
+
+    /// The inode of the file that a path leads to in the shared area.
+    fn file_at(&mut self, alloc: Global, path: &PathText<'_>) -> Result<u32, Answer>
+        ensures file { IfOk result (λ i. file_in (tree self.old) (path_of path.now) ≡ Ok i) }
+        ensures none { IfErr result (IsNoFile (file_in (tree self.old) (path_of path.now)) (dead self.old) (dead self.new)) }
+        ensures going { OnOk result ((dead self.old ≡ false) × (dead self.new ≡ false)) }
+        ensures looks { looks self.old self.new };
+
+    /// The tier that has a logical block of the file that a path leads to there; none where no tier does.
+    fn tier_at(
+        &mut self,
+        alloc: Global,
+        path: &PathText<'_>,
+        block: u64,
+    ) -> Result<Option<Tier>, Answer>
+        ensures tier { IfOk result (λ tier. (i : ℕ) × (file_in (tree self.old) (path_of path.now) ≡ Ok i) × lies self.old i block tier) }
+        ensures none { IfErr result (IsNoFile (file_in (tree self.old) (path_of path.now)) (dead self.old) (dead self.new)) }
+        ensures going { OnOk result ((dead self.old ≡ false) × (dead self.new ≡ false)) }
+        ensures looks { looks self.old self.new };
+
+    /// What the shared tree costs, what the clients were given, and how many units there are. Refused once a device of the shared area has failed.
+    fn figures(&self) -> Result<Figures, Answer>
+        ensures figures { IfOk result (λ f. figures_in self.now ≡ Some f) }
+        ensures failed { IfErr result (λ why. (why ≡ Answer.Refused refusals.KernelFailed) × (figures_in self.now ≡ None)) };
+}
