@@ -57,7 +57,7 @@ impl Beside {
                     manner,
                     call,
                 },
-            ) => self.call_is_alike(client as usize, manner, &call, printed),
+            ) => self.call_is_alike(client, manner, &call, printed),
             Some(SystemLine::Step { client }) => self.step_is_alike(client as usize, printed),
             Some(_) => true,
             None => false,
@@ -67,7 +67,7 @@ impl Beside {
     // A call that was blocked has changed nothing, nor has one for which there were no units or no number: no directory is full here.
     fn call_is_alike(
         &mut self,
-        client: usize,
+        client: u32,
         manner: Manner,
         call: &CallText<'_>,
         printed: &str,
@@ -93,8 +93,8 @@ impl Beside {
     }
 
     // Asks the tree. What a call that waits is to print is kept.
-    fn asked(&mut self, client: usize, call: &Call, printed: &str) -> bool {
-        let reply = self.tree.ask(client as u32, call);
+    fn asked(&mut self, client: u32, call: &Call, printed: &str) -> bool {
+        let reply = self.tree.ask(client, call);
         let mut text = Vec::new(self.alloc);
         let _ = write_reply(&mut text, &reply);
         self.alike = self.alike.saturating_add(1);
@@ -104,7 +104,7 @@ impl Beside {
         if printed != "pending" {
             return text.strip_suffix(b"\n") == Some(printed.as_bytes());
         }
-        match (self.waiting.get_mut(client), String::from_utf8(text)) {
+        match (self.waiting.get_mut(client as usize), String::from_utf8(text)) {
             (Some(waits), Ok(text)) => {
                 *waits = text;
                 true

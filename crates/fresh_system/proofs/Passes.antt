@@ -8,6 +8,7 @@ use Rattle.std.proofs.lemmas.List.Elements.{All-map, All-pop, All-replicate, All
 use Rattle.atomic_table.specs.Seated.{TableId}
 use Rattle.lease_manager.specs.Passes.{PassView, fresh, places}
 use Rattle.lease_manager.specs.Words.{lease_place}
+use Rattle.lease_manager.specs.declared.view.LeaseMode.TheVariants.{Free}
 use Rattle.fresh_system.specs.Fresh.{CountsNone}
 
 -- a fresh one counts nothing
@@ -15,6 +16,7 @@ pub fresh_counts_none : (table : TableId) (k : ℕ) → CountsNone table (fresh 
 fresh_counts_none table k = record {
   of = refl;
   none = λ i has. get_or-replicate 1024 (lease_place i) 0 0 (omega (arith, has.0, has.1));
+  free = λ i has. get_or-replicate 1024 (lease_place i) Free Free (omega (arith, has.0, has.1));
 }
 
 -- so does each of them

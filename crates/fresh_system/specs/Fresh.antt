@@ -1,11 +1,17 @@
 -- What a system begins with.
-use Rattle.std.specs.Prelude.{◌≡◌, ℕ, List}
+use Rattle.std.specs.Prelude.{◌≡◌, ℕ, false, List, [], None}
 use Rattle.tier_device.specs.declared.media.Tier.{Tier}
 use Rattle.tier_device.specs.declared.media.Tier.TheVariants.{Fast, Block, Slow}
 use Rattle.tier_device.specs.Media.{AtRest}
 use Rattle.atomic_table.specs.Seated.{TableId}
-use Rattle.lease_manager.specs.Passes.{PassView, records_of}
+use Rattle.lease_manager.specs.Passes.{PassView, lease_of, records_of}
 use Rattle.lease_manager.specs.Words.{HasWord}
+use Rattle.lease_manager.specs.declared.view.LeaseMode.TheVariants.{Free}
+use Rattle.kernel_book.specs.Book.{out_of}
+use Rattle.kernel_fs.specs.KernelView.{KernelView}
+use Rattle.libfs.specs.Holding.{known_to}
+use Rattle.event_steps.specs.Refusals.{no_refusals}
+use Rattle.event_steps.specs.View.{SeatView, undigested_on}
 
 -- A medium at rest that holds these bytes.
 pub record Holds {M : Type 0} (seen : M → Tier → List ℕ) (moment : M → ℕ) (left : M → ℕ → Tier → List ℕ → Type 0) (fast block slow : List ℕ) (m : M) : Type 0 where
@@ -14,7 +20,28 @@ pub record Holds {M : Type 0} (seen : M → Tier → List ℕ) (moment : M → �
   pub in_slow : seen m Slow ≡ slow
   pub rests : (t : Tier) → AtRest (seen m) (left m (moment m)) t
 
--- A pass of that table, which counts no record.
+-- A pass of that table, which counts no record and holds no lease.
 pub record CountsNone (table : TableId) (p : PassView) : Type 0 where
   pub of : p.table ≡ table
   pub none : (i : ℕ) → HasWord i → records_of p i ≡ 0
+  pub free : (i : ℕ) → HasWord i → lease_of p i ≡ Free
+
+-- A client that has all its regions, has logged nothing, holds and knows nothing, was granted nothing, and was refused nothing.
+pub record IsFreshSeat {M : Type 0} (seen : M → Tier → List ℕ) (s : SeatView M) : Type 0 where
+  pub home : s.away ≡ None
+  pub refused : s.refused ≡ no_refusals
+  pub free : (i : ℕ) → HasWord i → lease_of s.client.pass i ≡ Free
+  pub closed : (number : ℕ) → (known_to s.client).own number ≡ None
+  pub copies : (i : ℕ) → (known_to s.client).copies i ≡ None
+  pub numbers : (i : ℕ) → (known_to s.client).granted i ≡ false
+  pub pins : s.client.pins ≡ []
+  pub spare : s.client.spare ≡ 0
+  pub idle : s.client.begun ≡ None
+  pub going : s.client.log.failed ≡ false
+  pub nothing : undigested_on seen s ≡ 0
+
+-- A kernel that has not failed and has given nothing out.
+pub record IsFreshKernel {M : Type 0} (k : KernelView M) : Type 0 where
+  pub going : k.area.failed ≡ false
+  pub out : out_of k.book ≡ 0
+  pub opening : k.opening ≡ k.area

@@ -1,13 +1,14 @@
 // Clients that have logged nothing.
-ghost use Rattle.std.specs.Prelude.{◌≡◌, IfOk};
+ghost use Rattle.std.specs.Prelude.{◌≡◌, false, IfOk};
 ghost use Rattle.std.specs.List.{All};
 ghost use Rattle.tier_device.specs.declared.media.Tier.TheVariants.{Fast};
 ghost use Rattle.tier_device.specs.Media.{AtRest};
-ghost use Rattle.fresh_system.specs.Fresh.{CountsNone};
+ghost use Rattle.libfs.specs.Opening.{IsBlank};
+ghost use Rattle.fresh_system.specs.Fresh.{CountsNone, IsFreshSeat};
 
 use crate::error::OpenError;
 use crate::media_maker::MediaMaker;
-use client_log::ClientLog;
+use client_log::{ClientLog, LogError};
 use event_steps::Seat;
 use fresh_media::empty_region;
 use lease_manager::{CLIENTS, Leases, Opened, Pass};
@@ -21,7 +22,9 @@ use update_log::{Region, RegionError};
 pub fn fresh_seats<M: Media + Drop, B: MediaMaker<M>>(
     alloc: Global,
     maker: &mut B,
-) -> Result<Vec<Seat<M>>, OpenError> {
+) -> Result<Vec<Seat<M>>, OpenError>
+    ensures { IfOk result (λ seats. All (IsFreshSeat M.seen) seats.items) }
+{
     let Opened {
         leases,
         handles,
@@ -40,13 +43,15 @@ fn seat_all<M: Media + Drop, B: MediaMaker<M>>(
 ) -> Result<Vec<Seat<M>>, OpenError>
     requires handles { All (λ h. h ≡ leases.now) handles.items }
     requires passes { All (CountsNone leases.now) passes.items }
+    ensures { IfOk result (λ seats. All (IsFreshSeat M.seen) seats.items) }
 {
     let (mut handles, mut passes) = (handles, passes);
     let mut seats = Vec::new(alloc);
     for _ in 0..CLIENTS {
         let seat = next_seat(alloc, maker, leases, &mut handles, &mut passes)?;
-        if seats.push(seat).is_err() {
-            return Err(OpenError::Memory);
+        match seats.push(seat) {
+            Ok(()) => {}
+            Err(_) => return Err(OpenError::Memory),
         }
     }
     Ok(seats)
@@ -65,6 +70,7 @@ fn next_seat<M: Media + Drop, B: MediaMaker<M>>(
     requires passes { All (CountsNone leases.now) passes.old.items }
     ensures handles { All (λ h. h ≡ leases.now) handles.new.items }
     ensures passes { All (CountsNone leases.now) passes.new.items }
+    ensures fresh { IfOk result (IsFreshSeat M.seen) }
 {
     if passes.is_empty() {
         return Err(OpenError::Damaged);
@@ -82,17 +88,32 @@ fn fresh_seat<M: Media + Drop, B: MediaMaker<M>>(
     pass: Pass,
 ) -> Result<Seat<M>, OpenError>
     requires { CountsNone leases pass }
+    ensures { IfOk result (IsFreshSeat M.seen) }
 {
     let even = fresh_region(alloc, maker, 0)?;
     let odd = fresh_region(alloc, maker, 1)?;
-    let Ok(log) = ClientLog::open(alloc, (even, odd), 0) else {
-        return Err(OpenError::Memory);
-    };
+    let log = fresh_log(alloc, even, odd)?;
     let Ok(client) = Client::open(alloc, leases, pass, log) else {
         return Err(OpenError::Memory);
     };
     match Seat::new(client) {
         Ok(seat) => Ok(seat),
+        Err(_) => Err(OpenError::Damaged),
+    }
+}
+
+// The log of the regions of even and of odd generations, which is at generation 0.
+fn fresh_log<M: Media + Drop>(
+    alloc: Global,
+    even: Region<M>,
+    odd: Region<M>,
+) -> Result<ClientLog<M>, OpenError>
+    ensures blank { IfOk result (IsBlank M.seen) }
+    ensures going { IfOk result (λ log. log.failed ≡ false) }
+{
+    match ClientLog::open(alloc, (even, odd), 0) {
+        Ok(log) => Ok(log),
+        Err((LogError::DeviceFault, _)) => Err(OpenError::DeviceFault),
         Err(_) => Err(OpenError::Damaged),
     }
 }

@@ -2,6 +2,7 @@
 ghost use Rattle.std.specs.Prelude.{IfOk};
 ghost use Rattle.tier_device.specs.declared.media.Tier.{Tier};
 ghost use Rattle.tier_device.specs.Media.{AtRest};
+ghost use Rattle.fresh_system.specs.Fresh.{IsFreshKernel};
 
 use crate::error::OpenError;
 use crate::media_maker::MediaMaker;
@@ -16,7 +17,9 @@ pub fn fresh_kernel<M: Media + Drop, B: MediaMaker<M>>(
     alloc: Global,
     maker: &mut B,
     geometry: &Geometry,
-) -> Result<Kernel<M>, OpenError> {
+) -> Result<Kernel<M>, OpenError>
+    ensures { IfOk result IsFreshKernel }
+{
     let media = fresh_area(alloc, maker, geometry)?;
     match Shared::reopen(alloc, media) {
         Ok(area) => over(alloc, area),
@@ -24,7 +27,9 @@ pub fn fresh_kernel<M: Media + Drop, B: MediaMaker<M>>(
     }
 }
 
-fn over<M: Media + Drop>(alloc: Global, area: Shared<M>) -> Result<Kernel<M>, OpenError> {
+fn over<M: Media + Drop>(alloc: Global, area: Shared<M>) -> Result<Kernel<M>, OpenError>
+    ensures { IfOk result IsFreshKernel }
+{
     match Kernel::open(alloc, area) {
         Ok(kernel) => Ok(kernel),
         Err((error, _)) => Err(OpenError::from(error)),

@@ -1,4 +1,8 @@
 // The system of both.
+ghost use Rattle.std.specs.Prelude.{IfOk};
+ghost use Rattle.std.specs.List.{All};
+ghost use Rattle.fresh_system.specs.Fresh.{IsFreshKernel, IsFreshSeat};
+
 use crate::clients::fresh_seats;
 use crate::error::OpenError;
 use crate::kernel::fresh_kernel;
@@ -13,7 +17,10 @@ pub fn open_fresh<M: Media + Drop, B: MediaMaker<M>>(
     alloc: Global,
     maker: &mut B,
     geometry: &Geometry,
-) -> Result<System<M>, OpenError> {
+) -> Result<System<M>, OpenError>
+    ensures kernel { IfOk result (λ w. IsFreshKernel w.kernel) }
+    ensures seats { IfOk result (λ w. All (IsFreshSeat M.seen) w.seats) }
+{
     let kernel = fresh_kernel(alloc, maker, geometry)?;
     let seats = fresh_seats(alloc, maker)?;
     match System::new(alloc, kernel, seats) {
