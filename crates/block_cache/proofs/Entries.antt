@@ -24,7 +24,7 @@ Entry = Place × List ℕ
 abbrev pub AreApart : List Entry → Type 0
 AreApart es = IsDistinct same_place (keys_of es)
 
-same_is : (p q : Place) → same_place p q ≡ true → p ≡ q
+pub same_is : (p q : Place) → same_place p q ≡ true → p ≡ q
 same_is p q e =
     let parts = and_parts (p.inode == q.inode) (p.block == q.block) e in
     let i = eqb-true p.inode q.inode parts.0 in

@@ -5,7 +5,8 @@ ghost use Rattle.block_cache.specs.declared.bytes.TheConstants.{BLOCK_SIZE};
 ghost use Rattle.block_cache.specs.Cached.{IsCache, bytes_at, put as put_first, used, without_file};
 
 use crate::bytes::{BLOCK_SIZE, BlockBytes};
-use crate::turning::drop_blocks;
+use crate::dropping::drop_kept;
+use crate::span::{Span, clear_span, no_spans, widen_span};
 use lru::LruCache;
 use std::alloc::{AllocError, Global};
 use std::marker::Model;
@@ -27,6 +28,8 @@ pub struct Place {
 pub struct Blocks {
     alloc: Global,
     cache: LruCache<Place, BlockBytes>,
+    // in which span the blocks of a file lie, by its inode
+    spans: Vec<Option<Span>>,
 }
 
 impl Model for Blocks {
@@ -34,12 +37,13 @@ impl Model for Blocks {
     ghost use Rattle.block_cache.specs.declared.blocks.TheConstants.{MOST_BLOCKS};
     ghost use Rattle.block_cache.specs.Cached.{Block};
     ghost use Rattle.block_cache.specs.Entries.{blocks_in};
+    ghost use Rattle.block_cache.specs.Spans.{AreIn};
 
     ghost Value = { List Block };
 
     ghost view = { λ b. blocks_in b.cache.entries };
 
-    ghost invariant = { λ b. b.cache.cap ≡ MOST_BLOCKS };
+    ghost invariant = { λ b. (b.cache.cap ≡ MOST_BLOCKS) × AreIn b.spans.items b.cache.entries };
 }
 
 impl Blocks {
@@ -51,7 +55,12 @@ impl Blocks {
     {
         let most = NonZeroUsize::new(MOST_BLOCKS).unwrap();
         let cache = LruCache::new(alloc, most)?;
-        Ok(Blocks { alloc, cache })
+        let spans = no_spans(alloc)?;
+        Ok(Blocks {
+            alloc,
+            cache,
+            spans,
+        })
     }
 
     /// Puts a block in front, in place of what the cache had of it; past 256 blocks the last goes. Where there is no memory for it,
@@ -64,6 +73,7 @@ impl Blocks {
         // That no place is kept twice is known from here.
         let _ = self.cache.len();
         let copy = BlockBytes::copy_of(self.alloc, bytes)?;
+        widen_span(&mut self.spans, inode, block);
         match self.cache.put(Place { inode, block }, copy) {
             Ok(_) => Ok(()),
             Err(_) => Err(AllocError),
@@ -112,7 +122,8 @@ impl Blocks {
     pub fn drop_file(&mut self, inode: u32)
         ensures { self.new ≡ without_file inode self.old }
     {
-        drop_blocks(&mut self.cache, inode);
+        drop_kept(&mut self.cache, &self.spans, inode);
+        clear_span(&mut self.spans, inode);
     }
 
     /// How many blocks there are.

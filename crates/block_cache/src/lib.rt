@@ -6,7 +6,9 @@
 
 mod blocks;
 mod bytes;
+mod dropping;
 mod laws;
+mod span;
 mod turning;
 
 pub use blocks::{Blocks, MOST_BLOCKS};

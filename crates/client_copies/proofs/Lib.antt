@@ -1,4 +1,5 @@
 pub mod Agreement
+pub mod Alone
 pub mod Copied
 pub mod Forgetting
 pub mod Inodes

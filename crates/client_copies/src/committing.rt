@@ -2,16 +2,15 @@
 ghost use Rattle.std.specs.Prelude.{◌≡◌, ◌==◌, ℕ, true, None, IfOk, OnErr, if◌then◌else◌};
 ghost use Rattle.std.specs.Option.{ForSome};
 ghost use Rattle.std.specs.List.{AllByRecursion};
-ghost use Rattle.std.specs.Ordering.{nat_cmp};
-ghost use Rattle.std.specs.BTreeMap.{get};
 ghost use Rattle.file_graph.specs.Numbers.{is_inode};
 ghost use Rattle.log_record.specs.Grammar.{Fits, IsRecord};
 ghost use Rattle.client_plan.specs.Planned.{OpensInRange};
 ghost use Rattle.client_copies.specs.Held.{knows};
 ghost use Rattle.client_copies.specs.Logged.{knows_logged, put_over, with_change, with_effects, with_made};
-ghost use Rattle.client_copies.specs.Prepared.{IsPreparedFor, any_known, nodes_after};
+ghost use Rattle.client_copies.specs.Prepared.{IsPreparedFor, any_known, copy_in, nodes_after};
 
 use crate::copies::ClientCopies;
+use crate::node_copies::NodeCopies;
 use crate::own_change::OwnChange;
 use crate::preparing::nodes_after;
 use client_plan::DescriptorChange;
@@ -19,7 +18,6 @@ use file_graph::Effect;
 use log_record::Record;
 use record_check::NodeSummary;
 use std::alloc::AllocError;
-use std::collections::BTreeMap;
 
 impl ClientCopies {
     /// Prepares a change of the client's own by what it knows: its record, the number of the node that it makes, and the descriptor
@@ -89,14 +87,14 @@ impl ClientCopies {
     }
 
     // The copies of what effects touch are put in the place of those before them.
-    fn put_nodes(&mut self, effects: &[Effect], mut nodes: BTreeMap<u32, Option<NodeSummary>>)
+    fn put_nodes(&mut self, effects: &[Effect], mut nodes: NodeCopies)
         requires fit { AllByRecursion Fits effects.now }
-        requires nodes { (i : ℕ) → get nat_cmp nodes i ≡ nodes_after effects.now (knows self.old).copies i }
+        requires nodes { (i : ℕ) → copy_in nodes i ≡ nodes_after effects.now (knows self.old).copies i }
         ensures { knows self.new ≡ with_effects (knows self.old) effects.now }
     {
         for effect in effects {
             let inode = effect.subject();
-            let node = take_node(&mut nodes, inode);
+            let node = nodes.take(inode);
             self.put_over(inode, node);
         }
     }
@@ -109,15 +107,4 @@ impl ClientCopies {
             self.put_view(inode, node);
         }
     }
-}
-
-// What there is of an inode is taken out.
-fn take_node(
-    nodes: &mut BTreeMap<u32, Option<NodeSummary>>,
-    inode: u32,
-) -> Option<Option<NodeSummary>>
-    ensures taken { result ≡ get nat_cmp nodes.old inode }
-    ensures rest { (i : ℕ) → get nat_cmp nodes.new i ≡ (if i == inode then None else get nat_cmp nodes.old i) }
-{
-    nodes.remove(&inode)
 }

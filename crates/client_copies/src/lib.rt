@@ -20,6 +20,7 @@ mod answers;
 mod committing;
 mod copies;
 mod laws;
+mod node_copies;
 mod own_change;
 mod preparing;
 mod reading;

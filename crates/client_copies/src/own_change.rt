@@ -1,9 +1,8 @@
 ghost use Rattle.std.specs.Prelude.{◌≡◌};
 
+use crate::node_copies::NodeCopies;
 use client_plan::DescriptorChange;
 use log_record::Record;
-use record_check::NodeSummary;
-use std::collections::BTreeMap;
 
 /// A change that a client makes by a record of its own, with the copies that it has after the record, for which all memory is taken.
 #[derive(Drop)]
@@ -11,7 +10,7 @@ pub struct OwnChange {
     pub(crate) entry: Record,
     pub(crate) made: Option<u32>,
     pub(crate) descriptor: Option<DescriptorChange>,
-    pub(crate) nodes: BTreeMap<u32, Option<NodeSummary>>,
+    pub(crate) nodes: NodeCopies,
 }
 
 impl OwnChange {

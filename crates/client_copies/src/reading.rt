@@ -58,9 +58,13 @@ fn read_file(
     if !are_kept(blocks, inode, size, at / UNIT, touched) {
         return Ok(None);
     }
-    let mut joined = Vec::new(alloc);
-    join(&mut joined, blocks, inode, size, at / UNIT, touched)?;
-    Ok(Some(Bytes::copy_of(alloc, range(&joined, at % UNIT, count))?))
+    let mut bytes = Vec::with_capacity(alloc, count as usize)?;
+    let part = Part {
+        skip: at % UNIT,
+        len: count,
+    };
+    join(&mut bytes, blocks, inode, size, at / UNIT, touched, part)?;
+    Ok(Some(Bytes::from_vec(bytes)))
 }
 
 fn blocks_touched(at: u64, count: u64) -> u64
@@ -113,7 +117,27 @@ fn are_kept(blocks: &Blocks, inode: u32, size: u64, first: u64, count: u64) -> b
     }
 }
 
-// Puts so many blocks, which are kept, behind the bytes.
+// Which bytes of some blocks are asked for: so many, behind some that are skipped.
+#[derive(Clone, Copy)]
+struct Part {
+    skip: u64,
+    len: u64,
+}
+
+impl Part {
+    // What is asked for of the blocks behind one, once its part is taken.
+    fn behind(self, block: usize, taken: usize) -> Part
+        ensures skip { result.skip ≡ self.skip - block }
+        ensures len { result.len ≡ self.len - taken }
+    {
+        Part {
+            skip: self.skip.saturating_sub(block as u64),
+            len: self.len.saturating_sub(taken as u64),
+        }
+    }
+}
+
+// Puts a part of so many blocks, which are kept, behind the bytes.
 fn join(
     bytes: &mut Vec<u8>,
     blocks: &Blocks,
@@ -121,16 +145,19 @@ fn join(
     size: u64,
     first: u64,
     count: u64,
+    part: Part,
 ) -> Result<(), AllocError>
-    ensures { OnOk result ((joined : List ℕ) → blocks_joined (file_block size blocks.now inode) first count ≡ Some joined → bytes.new.items ≡ bytes.old.items ++ joined) }
+    ensures { OnOk result ((joined : List ℕ) → blocks_joined (file_block size blocks.now inode) first count ≡ Some joined → bytes.new.items ≡ bytes.old.items ++ range part.skip part.len joined) }
 {
     if count == 0 {
         return Ok(());
     }
     match file_block(blocks, inode, size, first) {
         Some(block) => {
-            bytes.extend_from_slice(block)?;
-            join(bytes, blocks, inode, size, first + 1, count - 1)
+            let taken = range(block, part.skip, part.len);
+            bytes.extend_from_slice(taken)?;
+            let rest = part.behind(block.len(), taken.len());
+            join(bytes, blocks, inode, size, first + 1, count - 1, rest)
         }
         None => Ok(()),
     }

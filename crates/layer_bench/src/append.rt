@@ -17,13 +17,24 @@ use update_log::{REGION_SIZE, Region, RegionError};
 /// the same place, and the second time counts, when that is in the cache.
 pub fn run(desk: &mut Desk<'_>, bytes: usize, times: u64, over: Over<'_>) -> Result<(), Failure> {
     keep_room(desk.alloc(), 64 * REGION_SIZE)?;
+    let (append, copy) = append_times(desk, bytes, times, over)?;
+    desk.tell_sized("append", bytes, "bytes", append);
+    desk.tell_sized("copy", bytes, "bytes", copy);
+    desk.tell_ratio("ratio", append, copy);
+    Ok(())
+}
+
+/// The nanoseconds of an append of a record that writes so many bytes, and of a copy of them, as `time_appends` tells them.
+pub fn append_times(
+    desk: &mut Desk<'_>,
+    bytes: usize,
+    times: u64,
+    over: Over<'_>,
+) -> Result<(u128, u128), Failure> {
     let entry = write_of(desk.alloc(), bytes)?;
     let copies = Copies::new(desk.alloc(), bytes)?;
     let (append, copy) = time_both(desk, entry, copies, times, over)?;
-    desk.tell_sized("append", bytes, "bytes", append.each());
-    desk.tell_sized("copy", bytes, "bytes", copy.each());
-    desk.tell_ratio("ratio", append.each(), copy.each());
-    Ok(())
+    Ok((append.each(), copy.each()))
 }
 
 fn time_both(

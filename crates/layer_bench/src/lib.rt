@@ -5,15 +5,13 @@
 
 mod append;
 mod batch;
-mod calls;
 mod desk;
 mod failure;
 mod leases;
 mod regions;
 
-pub use append::run as time_appends;
+pub use append::{append_times, run as time_appends};
 pub use batch::run as time_batches;
-pub use calls::run as time_calls;
 pub use desk::{Desk, Sum, add, bytes_of, keep_room};
 pub use failure::Failure;
 pub use leases::run as time_leases;

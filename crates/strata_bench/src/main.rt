@@ -6,7 +6,8 @@ mod script;
 
 use anyhow::{Context, Result, bail};
 use area_bench::{time_changes, time_digests, time_openings};
-use layer_bench::{Desk, Failure, Over, time_appends, time_batches, time_calls, time_leases};
+use client_bench::time_calls;
+use layer_bench::{Desk, Failure, time_appends, time_batches, time_leases};
 use options::Asked;
 use std::env;
 use std::process::ExitCode;
@@ -52,21 +53,13 @@ fn measure<R: Threads + Sync>(
     if asked.leases {
         time_leases(threads, desk)?;
     }
-    if asked.append.is_some() || asked.calls {
-        measure_logged(desk, asked, asked.over()?)?;
-    }
-    measure_rest(desk, asked)
-}
-
-// What is logged to a medium.
-fn measure_logged(desk: &mut Desk<'_>, asked: &Asked<'_>, over: Over<'_>) -> Result<(), Failure> {
     if let Some(bytes) = asked.append {
-        time_appends(desk, bytes as usize, asked.times, over)?;
+        time_appends(desk, bytes as usize, asked.times, asked.over()?)?;
     }
     if asked.calls {
-        return time_calls(desk, asked.times, over);
+        time_calls(desk)?;
     }
-    Ok(())
+    measure_rest(desk, asked)
 }
 
 fn measure_rest(desk: &mut Desk<'_>, asked: &Asked<'_>) -> Result<(), Failure> {

@@ -3,7 +3,7 @@ use clap::{Arg, ArgAction, ArgMatches, Command, Error, value_parser};
 use layer_bench::{Failure, Over, add};
 use std::alloc::{AllocError, Global};
 
-/// How many appends or calls are made at least over one medium.
+/// How many appends are made at least over one medium.
 const APPENDS: u64 = 630;
 
 const ABOUT: &str = "Times the layers of Strata beside plain work on the same bytes";
@@ -120,12 +120,12 @@ const WORDS: [Word; 10] = [
     Word {
         name: "times",
         form: Form::Number("COUNT", 0, i64::MAX),
-        help: "Over ram or file make at least so many appends or calls, by default 630",
+        help: "Over ram or file make at least so many appends, by default 630",
     },
     Word {
         name: "calls",
         form: Form::Flag,
-        help: "Time calls that are decided over a graph and logged, before they are answered",
+        help: "Time the calls of a client that has its leases and copies, in trees of ten and of a thousand files",
     },
     Word {
         name: "batch",

@@ -9,4 +9,4 @@ pub returns-clause-cache : goal.returns-clause-cache
 returns-clause-cache c =
     let es = c.self.inside.cache.entries in
     let valid = c.len.ensures.valid in
-    subst IsCache c.self.view_is (record { few = omega (arith, valid.1, c.self.invariant, length-map es block_of); once = once es valid.0 })
+    subst IsCache c.self.view_is (record { few = omega (arith, valid.1, c.self.invariant.0, length-map es block_of); once = once es valid.0 })

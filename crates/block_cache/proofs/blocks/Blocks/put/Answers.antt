@@ -1,8 +1,10 @@
-use Rattle.std.proofs.Common.{◌∙◌, ap}
+use Rattle.std.proofs.Common.{◌∙◌, ap, sym, subst}
 use Rattle.block_cache.specs.declared.blocks.Place.{Place}
 use Rattle.block_cache.specs.Cached.{put}
 use Rattle.block_cache.specs.Entries.{blocks_in}
 use Rattle.block_cache.proofs.Entries.{put_is_put}
+use Rattle.block_cache.specs.Spans.{AreIn}
+use Rattle.block_cache.proofs.Spans.{put_in, wider}
 use Rattle.block_cache.proofs.blocks.Blocks.put.Goals as goal
 
 pub returns-in-Ok-clause-put : goal.returns-in-Ok-clause-put
@@ -10,5 +12,22 @@ returns-in-Ok-clause-put c =
     let p : Place = record { inode = c.args.inode; block = c.args.block } in
     let cache = c.self.inside.cache in
     ap (λ q. blocks_in q.entries) c.in-Ok.ensures.entries
-    ∙ put_is_put p cache c.in_ok-copy.copy c.self.invariant c.len.ensures.valid.0 c.len.ensures.valid.1
+    ∙ put_is_put p cache c.in_ok-copy.copy c.self.invariant.0 c.len.ensures.valid.0 c.len.ensures.valid.1
     ∙ (λ k. put c.args.inode c.args.block (c.in_ok-copy.ensures k) (c.self.view_is k))
+
+pub invariant_of-self : goal.invariant_of-self
+invariant_of-self c =
+    let p : Place = record { inode = c.args.inode; block = c.args.block } in
+    let cache = c.self.inside.cache in
+    let spans = c.widen_span.new.spans.items in
+    let all = wider c.self.inside.spans.items spans c.widen_span.ensures.more cache.entries c.self.invariant.1 in (
+      ap (λ q. q.cap) c.in-Ok.ensures.entries ∙ c.self.invariant.0,
+      subst (AreIn spans) (sym (ap (λ q. q.entries) c.in-Ok.ensures.entries)) (put_in cache p c.in_ok-copy.copy spans c.widen_span.ensures.here all),
+    )
+
+pub invariant_of-self-2 : goal.invariant_of-self-2
+invariant_of-self-2 c =
+    let cache = c.self.inside.cache in
+    let spans = c.widen_span.new.spans.items in
+    let all = wider c.self.inside.spans.items spans c.widen_span.ensures.more cache.entries c.self.invariant.1 in
+    (ap (λ q. q.cap) c.in-Err.ensures.err ∙ c.self.invariant.0, subst (AreIn spans) (sym (ap (λ q. q.entries) c.in-Err.ensures.err)) all)

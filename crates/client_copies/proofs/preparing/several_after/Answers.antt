@@ -7,7 +7,7 @@ use Rattle.client_copies.specs.Held.{copy_at}
 use Rattle.client_copies.specs.Logged.{is_made}
 use Rattle.record_check.proofs.Taken.{on_error}
 use Rattle.client_copies.proofs.Room.{room_is_for_known}
-use Rattle.client_copies.proofs.preparing.nodes_after.Goals as goal
+use Rattle.client_copies.proofs.preparing.several_after.Goals as goal
 
 pub returns-clause-nodes : goal.returns-clause-nodes
 returns-clause-nodes c = λ i. ap (λ (f : ℕ → Option (Option NodeView)). f i) c.in_ok-take_effects.ensures.known ∙ ap (option_map (view_after c.args.effects.now i)) (c.in_ok-nodes.ensures.nodes i)

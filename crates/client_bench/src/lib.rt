@@ -1,0 +1,13 @@
+//! Timings of a client's calls, beside plain work on the same bytes: an append of the record that a write logs, and a copy of the bytes that a read answers.
+//!
+//! The client has its leases and copies in a running system of its own (`Tree`), whose events are played one by one. `time_calls` takes its times by a `Desk`, which has the clock and the output, and tells them
+//! there, a line each. All are timed in turn; of each the least time is told.
+#![tactic(auto)]
+
+mod calls;
+mod table;
+mod times;
+mod tree;
+mod turns;
+
+pub use table::time_calls;

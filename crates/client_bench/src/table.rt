@@ -1,0 +1,41 @@
+// What is told of the times.
+use crate::times::Times;
+use crate::tree::tree_of;
+use crate::turns::least_of;
+use layer_bench::{Desk, Failure, keep_room};
+
+/// More than all that a turn takes, so that no page is asked of the system while it is timed.
+const ROOM: usize = 60_000_000;
+
+/// How many files a tree has, and how many records the log.
+const TREES: [(u32, u32); 4] = [(10, 0), (1_000, 0), (10, 200), (1_000, 200)];
+
+/// Tells what the calls of a client take that has its leases and copies: a write of a block beside an append of its record, a read of a block that the client keeps beside a copy of it, `stat` and `open` of a
+/// path of four components. Each in a small tree and in a large one, with no record in the log and with 200, over media in memory that keep no record of their calls.
+pub fn time_calls(desk: &mut Desk<'_>) -> Result<(), Failure> {
+    keep_room(desk.alloc(), ROOM)?;
+    for (files, records) in &TREES {
+        time_tree(desk, *files, *records)?;
+    }
+    Ok(())
+}
+
+fn time_tree(desk: &mut Desk<'_>, files: u32, records: u32) -> Result<(), Failure> {
+    let mut tree = tree_of(desk.alloc(), files)?;
+    let times = least_of(desk, &mut tree, records)?;
+    desk.tell("files", u128::from(files), "");
+    desk.tell("records in the log", u128::from(records), "");
+    tell_all(desk, times);
+    Ok(())
+}
+
+fn tell_all(desk: &mut Desk<'_>, times: Times) {
+    desk.tell("append of 4096 bytes", times.append, " ns");
+    desk.tell("pwrite of 4096 bytes", times.write, " ns");
+    desk.tell_ratio("ratio", times.write, times.append);
+    desk.tell("copy of 4096 bytes", times.copy, " ns");
+    desk.tell("pread of 4096 bytes", times.read, " ns");
+    desk.tell_ratio("ratio", times.read, times.copy);
+    desk.tell("stat of a path of four components", times.stat, " ns");
+    desk.tell("open of a path of four components", times.open, " ns");
+}

@@ -1,0 +1,156 @@
+// A running system, in which one client made a tree of files.
+use crate::calls::{
+    BLOCK, BRANCHES, CLIENT, directory_path, file_path, open_of, read_of_all, shared, write_of,
+};
+use event_steps::{Event, Outcome, System};
+use fresh_system::{RamMaker, RamMedia, open_fresh};
+use layer_bench::Failure;
+use layout::Geometry;
+use posix_calls::{Bytes, Call, Reply};
+use served_calls::{Served, digest_all, serve_call, wipe_all};
+use std::alloc::{AllocError, Global};
+
+/// A running system, and whether a call was refused that should not be.
+#[derive(Drop)]
+pub struct Tree {
+    system: System<RamMedia>,
+    has_refused: bool,
+}
+
+/// A tree of so many files of a block each, in five directories, of which the client read all. The first file is open at descriptor 0, and all that the client logged is digested.
+pub fn tree_of(alloc: Global, files: u32) -> Result<Tree, Failure> {
+    let mut tree = Tree {
+        system: opened(alloc)?,
+        has_refused: false,
+    };
+    tree.make_directories(alloc)?;
+    tree.make_files(alloc, files)?;
+    tree.empty_log();
+    tree.read_files(alloc, files)?;
+    Ok(tree)
+}
+
+fn opened(alloc: Global) -> Result<System<RamMedia>, Failure> {
+    let Some(geometry) = Geometry::new(2_048, 1_024, 1_024, 1_024) else {
+        return Err(Failure::new("there are no such media"));
+    };
+    match open_fresh(alloc, &mut RamMaker, &geometry) {
+        Ok(system) => Ok(system),
+        Err(_) => Err(Failure::new("the system is not opened")),
+    }
+}
+
+impl Tree {
+    fn make_directories(&mut self, alloc: Global) -> Result<(), AllocError> {
+        for branch in 0..BRANCHES {
+            for rest in ["", "/a", "/a/b"] {
+                let path = directory_path(alloc, branch, rest)?;
+                self.make_directory(path);
+            }
+        }
+        Ok(())
+    }
+
+    fn make_directory(&mut self, path: Bytes) {
+        self.serve(Call::Mkdir { path });
+    }
+
+    fn make_files(&mut self, alloc: Global, files: u32) -> Result<(), AllocError> {
+        for file in 0..files {
+            self.open(alloc, file)?;
+            self.write(alloc, BLOCK)?;
+            self.close(0);
+        }
+        Ok(())
+    }
+
+    // Reads each file, so that the client has as many of their blocks as it keeps.
+    fn read_files(&mut self, alloc: Global, files: u32) -> Result<(), AllocError> {
+        for file in 0..files {
+            self.open(alloc, file)?;
+            self.read();
+            self.close(0);
+        }
+        self.open(alloc, 0)
+    }
+
+    fn open(&mut self, alloc: Global, file: u32) -> Result<(), AllocError> {
+        let path = file_path(alloc, file)?;
+        self.serve(open_of(path));
+        Ok(())
+    }
+
+    /// Writes so many bytes to the file that is open at descriptor 0.
+    pub fn write(&mut self, alloc: Global, bytes: usize) -> Result<(), AllocError> {
+        let bytes = shared(alloc, bytes)?;
+        self.serve(write_of(bytes));
+        Ok(())
+    }
+
+    /// Reads the file that is open at descriptor 0.
+    pub fn read(&mut self) {
+        self.serve(read_of_all());
+    }
+
+    pub fn close(&mut self, descriptor: u32) {
+        self.serve(Call::Close { descriptor });
+    }
+
+    // Asks a call with all that it needs.
+    fn serve(&mut self, call: Call) {
+        let served = serve_call(&mut self.system, CLIENT, call, true);
+        self.has_refused |= !is_done(&served);
+    }
+
+    /// Digests all that the client logged, and wipes its regions.
+    pub fn empty_log(&mut self) {
+        let digested = digest_all(&mut self.system, CLIENT);
+        let wiped = wipe_all(&mut self.system, CLIENT);
+        self.has_refused |= digested.is_err() || wiped.is_err();
+    }
+
+    /// Starts a call that needs nothing, and has it make its device calls, if it makes some.
+    pub fn ask(&mut self, call: &Event) {
+        let outcome = self.system.play(call);
+        if !is_answer(&outcome) {
+            self.make_steps();
+        }
+    }
+
+    // Four device calls append a record, and the last of them answers the call.
+    fn make_steps(&mut self) {
+        let step = Event::Step { client: CLIENT };
+        for _ in 0..3 {
+            let _ = self.system.play(&step);
+        }
+        let outcome = self.system.play(&step);
+        self.has_refused |= !is_answer(&outcome);
+    }
+
+    /// Whether no call was refused.
+    pub fn end(&self) -> Result<(), Failure> {
+        if self.has_refused {
+            return Err(Failure::new("a call was refused"));
+        }
+        Ok(())
+    }
+}
+
+// Whether a call was answered, and not refused.
+fn is_answer(outcome: &Outcome) -> bool {
+    match outcome {
+        Outcome::Reply { reply } => !is_refusal(reply),
+        _ => false,
+    }
+}
+
+fn is_done(served: &Served) -> bool {
+    match served {
+        Served::Reply(reply) => !is_refusal(reply),
+        _ => false,
+    }
+}
+
+fn is_refusal(reply: &Reply) -> bool {
+    matches!(reply, Reply::Failed { .. })
+}
