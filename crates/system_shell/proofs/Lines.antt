@@ -1,10 +1,12 @@
 -- Lines that were answered.
-use Rattle.std.proofs.Common.{◌≡◌, ℕ, suc, List, sym}
-use Rattle.std.proofs.lemmas.Bool.{true≢false}
-use Rattle.std.specs.Prelude.{Option, Some, Result, Ok, Err, IsErr, OnOk}
+use Rattle.std.proofs.Common.{◌≡◌, ◌∙◌, ℕ, suc, List, inr, refl, sym, ap, subst}
+use Rattle.std.proofs.lemmas.Result.{err_from_is_err_and}
+use Rattle.std.specs.Prelude.{Option, Some, Result, Err, IsErrAnd}
 use Rattle.script_lines.specs.SystemLines.{Asked, system_line}
-use Rattle.workload_cli.specs.Reading.{LosesLine}
-use Rattle.system_shell.specs.Script.{IsAnsweredTo}
+use Rattle.workload_cli.specs.Reading.{BeginsTooLong, LosesLine}
+use Rattle.workload_cli.specs.declared.script.reader.ScriptError.{ScriptError}
+use Rattle.workload_cli.specs.declared.script.reader.ScriptError.TheVariants as stops
+use Rattle.system_shell.specs.Script.{EndsAt, IsAnsweredTo}
 use Rattle.system_shell.specs.declared.answer.Answer.{Answer}
 
 -- one line more
@@ -13,7 +15,11 @@ pub one_more : {S : Type 0} (answers : S → Option Asked → Answer → S → T
 one_more answers before old between mid after new line asks answer (n, run) read understood answered =
     (suc n, (between, mid, run, record { line = line; read = read; asks = asks; understood = understood; answer = answer; answered = answered }))
 
--- what holds of an Ok that is none
-pub none_ok : {T E : Type 0} (r : Result T E) (P : Type 0) → IsErr r → OnOk r P
-none_ok (Ok x) P is = absurd (true≢false (sym is))
-none_ok (Err e) P is = tt
+-- the exit of a `?`
+pub ends_err : (r : Result (Unit {0}) ScriptError) (e : ScriptError) (behind : Option (List ℕ)) → IsErrAnd r (λ y. y ≡ e) → EndsAt (Err e) behind → EndsAt r behind
+ends_err r e behind is ends = let p = err_from_is_err_and r is in subst (λ (z : Result (Unit {0}) ScriptError). EndsAt z behind) (sym (p.1 ∙ ap (λ (y : ScriptError). Err y) p.2)) ends
+
+-- a line that is not read is too long, or the run ends in a fault
+pub unread_ends : (e : ScriptError) (behind : Option (List ℕ)) → ((n : ℕ) → e ≡ stops.Unreadable n → BeginsTooLong behind) → EndsAt (Err e) behind
+unread_ends (stops.Unreadable n) behind long = inr (long n refl)
+unread_ends (stops.Run fault) behind long = tt

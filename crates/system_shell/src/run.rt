@@ -1,8 +1,7 @@
 // A run of `strata_sh`.
-ghost use Rattle.std.specs.Prelude.{◌≡◌, ℕ, List, Option, OnOk};
-ghost use Rattle.std.specs.Io.KnownBytes.{IsAtEnd};
+ghost use Rattle.std.specs.Prelude.{ℕ, List, Option};
 ghost use Rattle.system_shell.specs.Answering.{IsAnswerTo};
-ghost use Rattle.system_shell.specs.Script.{IsAnsweredTo};
+ghost use Rattle.system_shell.specs.Script.{EndsAt, IsAnsweredTo};
 
 use crate::answer::{Answer, write_answer};
 use crate::opening::open_system;
@@ -80,7 +79,7 @@ fn answer_all<S: Running, R: BufRead + Drop, O: Write>(
     lines: &mut ScriptLines<R>,
     out: &mut O,
 ) -> Result<(), ScriptError>
-    ensures { (behind : Option (List ℕ)) × IsAnsweredTo (IsAnswerTo S.plays S.owes S.leases S.waits S.broken S.dead S.tree S.lies S.figures_in S.looks) (R.remaining lines.old.reader) system.old behind system.new × OnOk result (IsAtEnd behind) }
+    ensures { (behind : Option (List ℕ)) × IsAnsweredTo (IsAnswerTo S.plays S.owes S.leases S.waits S.broken S.dead S.tree S.lies S.figures_in S.looks) (R.remaining lines.old.reader) system.old behind system.new × EndsAt result behind }
 {
     for _ in 0..u64::MAX {
         if !lines.read_next(out)? {

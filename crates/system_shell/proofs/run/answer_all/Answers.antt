@@ -1,17 +1,19 @@
-use Rattle.std.proofs.Common.{◌∙◌, zero, refl, ap, sym}
-use Rattle.std.specs.Prelude.{Ok}
-use Rattle.std.specs.Io.KnownBytes.{IsAtEnd}
+use Rattle.std.proofs.Common.{◌∙◌, inl, zero, refl, ap, subst, sym}
+use Rattle.std.specs.Prelude.{Ok, Err}
 use Rattle.script_lines.specs.Seen.{system_line_seen}
 use Rattle.script_lines.specs.SystemLines.{system_line}
+use Rattle.workload_cli.specs.declared.script.reader.ScriptError.{ScriptError}
+use Rattle.workload_cli.specs.declared.script.reader.ScriptError.TheVariants as stops
 use Rattle.system_shell.specs.Answering.{IsAnswerTo}
-use Rattle.system_shell.proofs.Lines.{none_ok, one_more}
+use Rattle.system_shell.specs.Script.{EndsAt, IsUnreadable}
+use Rattle.system_shell.proofs.Lines.{ends_err, one_more, unread_ends}
 use Rattle.system_shell.proofs.run.answer_all.Goals as goal
 
 pub loop-init : goal.loop-init
 loop-init g c = (zero, (refl, refl))
 
 pub returns-in_err-read_next : goal.returns-in_err-read_next
-returns-in_err-read_next g c = let behind = g.R.Read.remaining c.loop.lines.reader in (behind, c.loop.invariant, none_ok c.from_residual.result (IsAtEnd behind) c.from_residual.ensures.0)
+returns-in_err-read_next g c = let behind = g.R.Read.remaining c.loop.lines.reader in (behind, c.loop.invariant, ends_err c.from_residual.result c.in_err-read_next.field-0.0 behind c.from_residual.ensures.1 (unread_ends c.in_err-read_next.field-0.0 behind (λ n is. c.read_next.ensures.too_long n (c.in_err-read_next.was ∙ ap Err is))))
 
 pub returns-then-not-branch : goal.returns-then-not-branch
 returns-then-not-branch g c = let behind = g.R.Read.remaining c.loop.lines.reader in (behind, c.loop.invariant, c.read_next.ensures.end (c.in_ok-read_next.was ∙ ap Ok c.if-not-branch.true))
@@ -24,11 +26,14 @@ returns-in_err-printed-in-Some g c =
       behind,
       (one_more answers (g.R.Read.remaining c.args.lines.now.reader) c.args.system.now (g.R.Read.remaining c.loop.lines.reader) c.loop.system behind c.answer_line.new.system c.read_next.new.self.line.items (system_line_seen c.in-Some.line) c.answer_line.result c.loop.invariant
           (c.read_next.ensures.line (c.in_ok-read_next.was ∙ ap Ok c.if-not-branch.false)) (ap system_line (sym c.line.ensures) ∙ sym c.in-Some.ensures) c.answer_line.ensures),
-      none_ok r.result (IsAtEnd behind) r.ensures.0,
+      ends_err r.result (stops.Run c.in_err-printed-in-Some.field-0.0) behind r.ensures.1 tt,
     )
 
 pub returns-in-None : goal.returns-in-None
-returns-in-None g c = (g.R.Read.remaining c.loop.lines.reader, c.loop.invariant, tt)
+returns-in-None g c =
+    let behind = g.R.Read.remaining c.loop.lines.reader in
+    let none : IsUnreadable behind = inl (c.read_next.new.self.line.items, g.R.Read.remaining c.read_next.new.self.reader, c.read_next.ensures.line (c.in_ok-read_next.was ∙ ap Ok c.if-not-branch.false), ap system_line (sym c.line.ensures) ∙ sym c.in-None.ensures) in
+    (behind, c.loop.invariant, subst (λ (e : ScriptError). EndsAt (Err e) behind) (sym c.unreadable.ensures) none)
 
 pub loop-preserved : goal.loop-preserved
 loop-preserved g c =
