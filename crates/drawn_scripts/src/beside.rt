@@ -104,7 +104,10 @@ impl Beside {
         if printed != "pending" {
             return text.strip_suffix(b"\n") == Some(printed.as_bytes());
         }
-        match (self.waiting.get_mut(client as usize), String::from_utf8(text)) {
+        match (
+            self.waiting.get_mut(client as usize),
+            String::from_utf8(text),
+        ) {
             (Some(waits), Ok(text)) => {
                 *waits = text;
                 true
