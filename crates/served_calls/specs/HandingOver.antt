@@ -1,5 +1,5 @@
 -- Other clients give back what a call needs.
-use Rattle.std.specs.Prelude.{◌≡◌, ◌≢◌, ◌⊎◌, ◌<◌, ℕ, zero, suc, Bool, true}
+use Rattle.std.specs.Prelude.{◌≡◌, ◌≢◌, ◌⊎◌, ◌<◌, ℕ, zero, suc, Bool, true, false}
 use Rattle.lease_manager.specs.declared.layout.TheConstants.{CLIENTS}
 use Rattle.lease_manager.specs.declared.view.LeaseMode.{LeaseMode}
 use Rattle.lease_manager.specs.declared.view.LeaseMode.TheVariants.{Free}
@@ -53,7 +53,7 @@ module _ {S : Type 0} (plays : S → Event → Outcome → S → Type 0) (owes :
   IsUndigested other turn s t = (why : Refusal) × IsRefusedIn plays (IsDigesting other) why s t × (turn ≡ without_digest why)
 
   abbrev pub HandsOver : ℕ → ℕ → Turn → S → S → Type 0
-  HandsOver other inode turn s t = IsInTheWay other turn s t ⊎ (IsUndigested other turn s t ⊎ Yields other inode turn s t)
+  HandsOver other inode turn s t = IsInTheWay other turn s t ⊎ ((waits s other ≡ false) × (broken s other ≡ false) × (IsUndigested other turn s t ⊎ Yields other inode turn s t))
 
   -- One that does not hold it, or is the client itself, has nothing to do.
   abbrev pub GivesWay : ℕ → ℕ → ℕ → Turn → S → S → Type 0
