@@ -1,7 +1,6 @@
 -- What is unknown of a node or of bytes, and that an operation's record and growth are never refused.
-use Rattle.std.proofs.Common.{◌≡◌, ◌⊎◌, inl, inr, ℕ, refl, Some, None, Option, Result, Ok, Err, Bool, true, false, cond, ap, sym, ◌∙◌, ◌==◌}
+use Rattle.std.proofs.Common.{◌≡◌, ◌⊎◌, inl, inr, ℕ, refl, Some, None, Option, Err, Bool, true, false, cond, ap, sym, ◌∙◌, ◌==◌}
 use Rattle.posix_calls.specs.declared.errno.Errno.{Errno}
-use Rattle.posix_calls.specs.declared.operation.Missing.{Missing}
 use Rattle.posix_calls.specs.declared.operation.Missing.TheVariants as missing
 use Rattle.posix_calls.specs.declared.operation.Operation.{Operation}
 use Rattle.posix_calls.specs.declared.operation.Operation.TheVariants.{Tell, NewDir, NewFile, OpenFile, CloseFile, Write, Resize, RemoveDir, AddName, DropName, Move}

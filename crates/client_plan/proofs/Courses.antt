@@ -5,14 +5,14 @@ use Rattle.std.proofs.lemmas.Result.{err_from_is_err_and}
 use Rattle.posix_calls.specs.declared.errno.Errno.{Errno}
 use Rattle.posix_calls.specs.declared.operation.DecideError.{DecideError}
 use Rattle.posix_calls.specs.declared.operation.DecideError.TheVariants as why
-use Rattle.posix_calls.specs.Query.{Query, Part, run_part}
+use Rattle.posix_calls.specs.Query.{Query, Part}
 use Rattle.posix_calls.specs.Answers.{Tells}
 use Rattle.client_plan.specs.declared.need.Need.{Need}
 use Rattle.client_plan.specs.declared.stop.Stop.{Stop}
 use Rattle.client_plan.specs.declared.stop.Stop.TheVariants as stop
 use Rattle.client_plan.specs.Course.{Course, Goes, Refuses, Lacks, ◌>>=◌, unless, Comes}
 use Rattle.client_plan.specs.Holdings.{Holdings}
-use Rattle.client_plan.specs.Lacking.{first_look, found, looked, stop_at}
+use Rattle.client_plan.specs.Lacking.{found, looked, stop_at}
 
 -- ---- what a result tells
 

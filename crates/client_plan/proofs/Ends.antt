@@ -1,7 +1,6 @@
 -- A call that lacks nothing and is not refused: what holds of it, and what it comes to.
-use Rattle.std.proofs.Common.{◌≡◌, ◌⊎◌, inl, inr, ℕ, ◌-◌, ◌≤◌, List, [], ◌∷◌, length, refl, Some, None, Option, Result, Ok, Err, Bool, true, false, cond, ap, sym, ◌∙◌, subst, arith, ◌==◌, ◌||◌}
+use Rattle.std.proofs.Common.{◌≡◌, ◌⊎◌, inl, inr, ℕ, ◌-◌, ◌≤◌, List, [], ◌∷◌, length, refl, Some, None, Option, Ok, Err, Bool, true, false, cond, ap, sym, ◌∙◌, subst, ◌==◌, ◌||◌}
 use Rattle.std.specs.Prelude.{◌&&◌, nat_le, is_some}
-use Rattle.std.specs.List.{list_any}
 use Rattle.std.proofs.lemmas.Bool.{leb-true, eqb-true, true≢false}
 use Rattle.posix_calls.specs.declared.errno.Errno.{Errno}
 use Rattle.posix_calls.specs.declared.descriptor.Descriptor.{Descriptor}
@@ -20,8 +19,8 @@ use Rattle.call_effects.specs.Subjects.{subjects_of}
 use Rattle.client_plan.specs.declared.need.Need.TheVariants.{Lease, View, Units, Pin, Room}
 use Rattle.client_plan.specs.declared.need.Mode.TheVariants.{Write}
 use Rattle.client_plan.specs.declared.outcome.Outcome.{Outcome}
-use Rattle.client_plan.specs.declared.outcome.Outcome.TheVariants.{Reply, Log}
-use Rattle.client_plan.specs.Course.{Course, Goes, Refuses, Lacks, ◌>>=◌, unless}
+use Rattle.client_plan.specs.declared.outcome.Outcome.TheVariants.{Log}
+use Rattle.client_plan.specs.Course.{Course, Goes, Refuses, unless}
 use Rattle.client_plan.specs.Holdings.{Holdings}
 use Rattle.client_plan.specs.Lacking.{root_alone, not_refused, given_back, unpinned, found, looked, numbered, is_new, held, written, paid, pinned, roomy, is_record, fitting}
 use Rattle.client_plan.specs.Planned.{recorded, logged, answered, settled, planned, course, made_by, change_of}

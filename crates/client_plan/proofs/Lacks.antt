@@ -1,7 +1,7 @@
 -- What stops a call is lacking.
-use Rattle.std.proofs.Common.{◌≡◌, ◌⊎◌, inl, inr, ℕ, ◌+◌, ◌-◌, ◌<◌, ◌≤◌, List, [], ◌∷◌, length, refl, Some, None, Option, Result, Ok, Err, Bool, true, false, cond, ap, sym, ◌∙◌, subst, arith, ◌==◌, ◌||◌, eq-eqb}
+use Rattle.std.proofs.Common.{◌≡◌, ◌⊎◌, inl, inr, ℕ, ◌-◌, List, [], ◌∷◌, length, refl, Some, None, Option, Ok, Err, Bool, true, false, cond, ap, sym, ◌∙◌, subst, arith, ◌==◌, ◌||◌, eq-eqb}
 use Rattle.std.specs.Prelude.{◌&&◌, nat_le, is_some}
-use Rattle.std.proofs.lemmas.Bool.{or_parts, or_right, leb-false, leb-true, true≢false}
+use Rattle.std.proofs.lemmas.Bool.{or_parts, or_right, leb-false, true≢false}
 use Rattle.posix_calls.specs.declared.descriptor.Descriptor.{Descriptor}
 use Rattle.posix_calls.specs.declared.call.Call.{Call}
 use Rattle.posix_calls.specs.declared.call.Call.TheVariants as calls
@@ -22,12 +22,12 @@ use Rattle.client_plan.specs.declared.need.Need.TheVariants.{Unpin, Lease, View,
 use Rattle.client_plan.specs.declared.need.Mode.TheVariants.{Read, Write}
 use Rattle.client_plan.specs.declared.outcome.Outcome.{Outcome}
 use Rattle.client_plan.specs.declared.outcome.Outcome.TheVariants.{Log}
-use Rattle.client_plan.specs.Course.{Course, Goes, Refuses, Lacks, ◌>>=◌, unless}
+use Rattle.client_plan.specs.Course.{Course, Goes, Lacks, ◌>>=◌, unless}
 use Rattle.client_plan.specs.Holdings.{Holdings, may_read, first_unused}
 use Rattle.client_plan.specs.Lacking.{root_alone, not_refused, given_back, unpinned, found, looked, numbered, is_new, held, written, paid, pinned, roomy, is_record, fitting}
 use Rattle.client_plan.specs.Planned.{recorded, logged, answered, settled, planned, course, made_by, change_of}
-use Rattle.client_plan.specs.Served.{IsShort, IsTooLong, HasNumber, IsLacking}
-use Rattle.client_plan.proofs.Courses.{lacks_where, goes_where, unless_lacks, unless_goes}
+use Rattle.client_plan.specs.Served.{HasNumber, IsLacking}
+use Rattle.client_plan.proofs.Courses.{lacks_where, goes_where, unless_lacks}
 use Rattle.client_plan.proofs.Asking.{node_unknown, bytes_unknown}
 
 -- ---- small facts

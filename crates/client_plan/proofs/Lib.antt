@@ -3,8 +3,10 @@ pub mod Courses
 pub mod Ends
 pub mod Lacks
 pub mod Outcomes
+pub mod PlainWrite
 pub mod RootAlone
 pub mod Serving
 pub mod Spelled
 pub mod Stepping
 pub mod Whole
+pub mod WriteAsked

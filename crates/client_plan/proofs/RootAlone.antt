@@ -1,5 +1,5 @@
 -- Who knows nothing but that the root is a directory decides no call otherwise than who knows more, and takes no memory that this one doesn't.
-use Rattle.std.proofs.Common.{◌≡◌, inl, inr, ℕ, List, Bool, true, false, refl, Some, None, Option, Result, Ok, Err, cond, ap, sym, ◌∙◌, subst, ◌==◌}
+use Rattle.std.proofs.Common.{◌≡◌, inl, inr, ℕ, List, Bool, true, false, refl, Some, None, Option, Result, Ok, Err, cond, ap, sym, ◌∙◌, subst}
 use Rattle.std.proofs.lemmas.Bool.Decides.{eqb_tells}
 use Rattle.std.specs.Prelude.{◌&&◌, ◌||◌, nat_le}
 use Rattle.posix_calls.specs.declared.errno.Errno.{Errno}
@@ -11,8 +11,8 @@ use Rattle.posix_calls.specs.declared.limits.TheConstants.{MAX_TRANSFER}
 use Rattle.posix_calls.specs.Path.{reading, comes_to_name}
 use Rattle.posix_calls.specs.Tree.{Own}
 use Rattle.posix_calls.specs.Walk.{is_root}
-use Rattle.posix_calls.specs.Query.{Query, Gives, Refuses, IsDir, Look, Range, Part, Found, Known, Unknown, blocks_missing, run_part}
-use Rattle.posix_calls.specs.Memory.{takes_memory, reads_bytes, has_bytes, lists_root, has_names}
+use Rattle.posix_calls.specs.Query.{Query, Gives, Refuses, IsDir, Look, Range, Part, Found, Known, Unknown, run_part}
+use Rattle.posix_calls.specs.Memory.{takes_memory, reads_bytes, lists_root}
 use Rattle.client_plan.specs.Lacking.{root_alone}
 
 root_answer : (i : ℕ) (o : Option Bool) → root_alone.is_dir i ≡ Some o → (i ≡ 1) × (o ≡ Some true)

@@ -1,12 +1,10 @@
 -- A need that is served is lacking no longer.
-use Rattle.std.proofs.Common.{◌≡◌, ◌≢◌, ◌⊎◌, inl, inr, ℕ, ◌+◌, ◌<◌, List, [], ◌∷◌, refl, Some, None, Option, Ok, Bool, true, false, cond, ap, sym, ◌∙◌, subst, arith, ◌==◌, ◌||◌, eq-eqb}
+use Rattle.std.proofs.Common.{◌≡◌, ◌≢◌, inl, inr, ℕ, ◌+◌, ◌<◌, List, [], ◌∷◌, refl, Some, None, Option, Ok, true, false, cond, ap, sym, ◌∙◌, subst, arith, ◌==◌, ◌||◌, eq-eqb}
 use Rattle.std.specs.Prelude.{option_map}
-use Rattle.std.proofs.lemmas.Bool.{or_from, or_left, or_right, true≢false}
+use Rattle.std.proofs.lemmas.Bool.{or_from, or_left, true≢false}
 use Rattle.std.proofs.lemmas.Bool.Decides.{eqb_tells}
-use Rattle.posix_calls.specs.Query.{Query, Gives, Range, Part, Found, Known, Unknown, blocks_missing, run_part}
-use Rattle.posix_calls.specs.Decide.{decide}
+use Rattle.posix_calls.specs.Query.{Gives, Range, Part, Found, Known, Unknown, blocks_missing, run_part}
 use Rattle.posix_calls.specs.declared.call.Call.{Call}
-use Rattle.posix_calls.specs.declared.operation.Missing.TheVariants as missing
 use Rattle.posix_calls.specs.declared.operation.Operation.{Operation}
 use Rattle.file_graph.specs.Graph.{is_among}
 use Rattle.file_graph.specs.declared.effect.Kind.TheVariants as kind

@@ -1,5 +1,5 @@
 -- The test for a record that has a spelling decides it.
-use Rattle.std.proofs.Common.{◌≡◌, inl, inr, ℕ, List, [], ◌∷◌, length, Bool, true, false, refl}
+use Rattle.std.proofs.Common.{◌≡◌, inl, inr, List, [], ◌∷◌, length, true, false, refl}
 use Rattle.std.specs.Prelude.{◌&&◌, nat_le, nat_lt}
 use Rattle.std.specs.List.{AllByRecursion}
 use Rattle.std.proofs.lemmas.Bool.{and_parts, and_from, leb-true, le-leb, ltb-true, lt-ltb, cases_Bool}

@@ -1,8 +1,8 @@
 -- The course of a call is what is left of it where no pin is to be given back.
-use Rattle.std.proofs.Common.{◌≡◌, refl, Some, true, Result, Ok, Err, ap, sym, ◌∙◌, subst}
+use Rattle.std.proofs.Common.{◌≡◌, refl, Some, true, Ok, Err, ap, sym}
 use Rattle.posix_calls.specs.declared.call.Call.{Call}
 use Rattle.posix_calls.specs.declared.operation.Operation.{Operation}
-use Rattle.posix_calls.specs.Query.{Query, Part, Found, Known, Unknown, run_part}
+use Rattle.posix_calls.specs.Query.{Part, Found, Known, Unknown, run_part}
 use Rattle.posix_calls.specs.Decide.{decide}
 use Rattle.client_plan.specs.declared.outcome.Outcome.{Outcome}
 use Rattle.client_plan.specs.Course.{Course, Goes, ◌>>=◌}

@@ -1,5 +1,5 @@
 -- Which calls take memory as they are planned.
-use Rattle.std.specs.Prelude.{Bool, true, false, ◌||◌, Ok, Err}
+use Rattle.std.specs.Prelude.{Bool, false, ◌||◌, Ok, Err}
 use Rattle.posix_calls.specs.Tree.{Own}
 use Rattle.posix_calls.specs.Query.{Part, Found, Known, Unknown, run_part}
 use Rattle.posix_calls.specs.Decide.{decide}

@@ -1,5 +1,5 @@
 -- What a call comes to, by what a client knows and has.
-use Rattle.std.specs.Prelude.{ℕ, ◌<◌, Bool, true, false, Option, Some, None, IsSome, if◌then◌else◌}
+use Rattle.std.specs.Prelude.{ℕ, ◌<◌, Option, Some, None, IsSome, if◌then◌else◌}
 use Rattle.posix_calls.specs.Tree.{Own, set_own}
 use Rattle.posix_calls.specs.Query.{Part, run_part}
 use Rattle.posix_calls.specs.Decide.{decide}

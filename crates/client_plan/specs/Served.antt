@@ -1,5 +1,5 @@
 -- What each need says of a client, and what the client has once it is served.
-use Rattle.std.specs.Prelude.{◌≡◌, ◌⊎◌, ℕ, ◌+◌, ◌<◌, ◌==◌, ◌||◌, ◌&&◌, nat_le, List, [], ◌∷◌, length, Bool, true, false, Option, Some, None, Ok, if◌then◌else◌}
+use Rattle.std.specs.Prelude.{◌≡◌, ◌⊎◌, ℕ, ◌+◌, ◌<◌, ◌==◌, ◌||◌, ◌&&◌, nat_le, List, [], ◌∷◌, length, true, false, Some, None, Ok, if◌then◌else◌}
 use Rattle.posix_calls.specs.Tree.{has_open}
 use Rattle.posix_calls.specs.Query.{Part, Known, blocks_missing, run_part}
 use Rattle.posix_calls.specs.Decide.{decide}
@@ -8,7 +8,6 @@ use Rattle.posix_calls.specs.declared.call.Call.{Call}
 use Rattle.posix_calls.specs.declared.operation.Missing.TheVariants as missing
 use Rattle.posix_calls.specs.declared.operation.Operation.{Operation}
 use Rattle.file_graph.specs.Graph.{is_among}
-use Rattle.file_graph.specs.declared.effect.Effect.{Effect}
 use Rattle.log_record.specs.Grammar.{spelling}
 use Rattle.log_record.specs.declared.format.Record.{Record}
 use Rattle.call_effects.specs.Records.{effects_asked, units_asked}

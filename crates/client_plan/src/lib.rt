@@ -8,6 +8,7 @@
 mod laws;
 mod need;
 mod outcome;
+mod plain_write;
 mod planning;
 mod stop;
 mod supplies;

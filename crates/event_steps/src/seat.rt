@@ -50,6 +50,14 @@ impl<M: Media> Seat<M> {
         })
     }
 
+    /// The client, and the region that it handed over, if that is not back.
+    pub fn into_parts(self) -> (Client<M>, Option<Away<M>>)
+        ensures client { result.0 ≡ self.client }
+        ensures away { result.1 ≡ self.away }
+    {
+        (self.client, self.away)
+    }
+
     // The client's number.
     pub(crate) fn number(&self) -> u32
         ensures { result ≡ number_of self.now }

@@ -132,6 +132,17 @@ impl<M: Media> System<M> {
     }
 }
 
+impl<M: Media> System<M> {
+    /// The kernel, and the seats of clients 1 to 8, in the order of their numbers.
+    pub fn into_parts(self) -> (Kernel<M>, Vec<Seat<M>>)
+        ensures kernel { result.0 ≡ self.kernel }
+        ensures seats { result.1.items ≡ self.seats }
+        ensures right { AreSeats self.seats }
+    {
+        (self.kernel, self.seats)
+    }
+}
+
 // Whether these are the seats of clients 1 to 8.
 fn are_in_order<M: Media>(seats: &[Seat<M>]) -> bool
     ensures { IsTrue result ↔ AreSeats seats.now }

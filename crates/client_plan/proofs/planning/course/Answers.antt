@@ -1,4 +1,4 @@
-use Rattle.std.proofs.Common.{◌≡◌, refl, Ok, Err, ap, sym, ◌∙◌, subst}
+use Rattle.std.proofs.Common.{refl, Ok, Err, ap, sym, ◌∙◌, subst}
 use Rattle.std.proofs.lemmas.Bool.{or_right}
 use Rattle.posix_calls.specs.Answers.{Tells}
 use Rattle.posix_calls.specs.Decide.{decide}

@@ -1,0 +1,128 @@
+// A write for which nothing is lacking, as for most: it is planned at once, without its operation.
+ghost use Rattle.std.specs.Prelude.{◌≡◌, ◌≢◌, ◌<◌, ◌≤◌, ◌+◌, ◌&&◌, nat_le, max, length, IfOk, IfSome, Some, None, true};
+ghost use Rattle.posix_calls.specs.declared.limits.TheConstants.{MAX_FILE, MAX_TRANSFER};
+ghost use Rattle.posix_calls.specs.Content.{file_units};
+ghost use Rattle.log_record.specs.Grammar.{is_write};
+ghost use Rattle.call_effects.specs.Records.{file_rise};
+ghost use Rattle.client_plan.specs.PlainWrite.{IsPlainWrite, IsWritable, has_place, write_logged};
+
+use crate::outcome::Outcome;
+use crate::planning::first_unused;
+use crate::supplies::Supplies;
+use file_graph::{Effect, Effects, is_inode};
+use log_record::Record;
+use posix_calls::{MAX_FILE, MAX_TRANSFER, Reply, SharedBytes, TreeAnswers, UNIT_BYTES};
+use std::alloc::{AllocError, Global};
+
+// The bytes that the record of a write has beside those that are written.
+const BESIDE: usize = 22;
+
+/// Where a write goes, and by how many units it raises the file.
+#[derive(Clone, Copy)]
+pub struct PlainWrite {
+    pub inode: u32,
+    pub units: u32,
+}
+
+/// A write of so many bytes at an offset of what is open at a number, where nothing is lacking; else `None`, and the call is planned step by step.
+pub fn plain_write<T: TreeAnswers, S: Supplies>(
+    tree: &T,
+    has: &S,
+    number: u32,
+    at: u64,
+    count: usize,
+) -> Option<PlainWrite>
+    ensures { IfSome result (IsPlainWrite (T.part tree.now) (S.holdings has.now) number at count) }
+{
+    let inode = writable_inode(has, number)?;
+    if !is_write(at, count) || !has_place(has.room(), count) {
+        return None;
+    }
+    let Some(size) = tree.file_size(inode) else {
+        return None;
+    };
+    let units = rise(size, at + count as u64);
+    if has.spare() < units {
+        return None;
+    }
+    Some(PlainWrite { inode, units })
+}
+
+// What is open at a number, where it may be written and no pin has to be given back first.
+fn writable_inode<S: Supplies>(has: &S, number: u32) -> Option<u32>
+    ensures { IfSome result (IsWritable (S.holdings has.now) number) }
+{
+    let open = has.own().get(number)?;
+    if !open.writes || !is_inode(open.inode) || !has.may_write(open.inode) {
+        return None;
+    }
+    match first_unused(has.own(), has.pins()) {
+        Some(_) => None,
+        None => Some(open.inode),
+    }
+}
+
+// Whether it is a write of some bytes that ends within the greatest file.
+fn is_write(at: u64, count: usize) -> bool
+    ensures { result ≡ is_write at count }
+{
+    1 <= count && count <= MAX_TRANSFER && at <= MAX_FILE && at + count as u64 <= MAX_FILE
+}
+
+// Whether there is room for its record.
+fn has_place(most: Option<usize>, count: usize) -> bool
+    ensures { result ≡ has_place most count }
+{
+    match most {
+        Some(most) => BESIDE <= most && count <= most - BESIDE,
+        None => false,
+    }
+}
+
+// The rise of a file of a size that is written up to an end.
+fn rise(size: u64, end: u64) -> u32
+    requires { end ≤ MAX_FILE }
+    ensures { result ≡ file_rise size (max size end) }
+{
+    if end <= size {
+        return 0;
+    }
+    (file_units(end) - file_units(size)) as u32
+}
+
+fn file_units(len: u64) -> u64
+    requires { len ≤ MAX_FILE }
+    ensures units { result ≡ file_units len }
+    ensures small { result < 1000 }
+{
+    1 + (len + (UNIT_BYTES as u64 - 1)) / UNIT_BYTES as u64
+}
+
+/// What the write comes to: its record, and what is answered once that is in the log. Memory is taken for the record.
+pub fn log_write(
+    alloc: Global,
+    write: PlainWrite,
+    at: u64,
+    bytes: &SharedBytes,
+) -> Result<Outcome, AllocError>
+    requires { length bytes.now ≤ MAX_TRANSFER }
+    ensures { IfOk result (λ o. o ≡ write_logged write at bytes.now) }
+{
+    let effect = Effect::Bytes {
+        inode: write.inode,
+        at,
+        bytes: bytes.share()?,
+    };
+    let effects = Vec::from_array(alloc, [effect])?;
+    Ok(Outcome::Log {
+        record: Record {
+            units: write.units,
+            effects: Effects::from_vec(effects),
+        },
+        reply: Reply::Wrote {
+            count: bytes.len() as u32,
+        },
+        made: None,
+        change: None,
+    })
+}
