@@ -1,11 +1,10 @@
 // The calls that are made of the tree, and what makes it.
-use event_steps::Event;
 use layer_bench::bytes_of;
 use posix_calls::{Bytes, Call, Flags, SharedBytes, UNIT_BYTES};
 use std::alloc::{AllocError, Global};
 
-/// The client that makes all calls.
-pub const CLIENT: u32 = 1;
+/// The client that makes all calls: the last of a system, so that it is taken out and put back at the end of its seats.
+pub const CLIENT: u32 = 8;
 
 /// How many directories have files; each lies in two others.
 pub const BRANCHES: u32 = 5;
@@ -25,10 +24,10 @@ const MAKE: Flags = Flags {
 /// The calls that are timed, of the first file, which is open at descriptor 0.
 #[derive(Drop)]
 pub struct Calls {
-    pub write: Event,
-    pub read: Event,
-    pub stat: Event,
-    pub open: Event,
+    pub write: Call,
+    pub read: Call,
+    pub stat: Call,
+    pub open: Call,
 }
 
 impl Calls {
@@ -37,19 +36,11 @@ impl Calls {
         let opened = file_path(alloc, 0)?;
         let bytes = shared(alloc, BLOCK)?;
         Ok(Calls {
-            write: start(write_of(bytes)),
-            read: start(read_of_all()),
-            stat: start(Call::Stat { path }),
-            open: start(open_of(opened)),
+            write: write_of(bytes),
+            read: read_of_all(),
+            stat: Call::Stat { path },
+            open: open_of(opened),
         })
-    }
-}
-
-// The event that starts a call of the client.
-fn start(call: Call) -> Event {
-    Event::Start {
-        client: CLIENT,
-        call,
     }
 }
 

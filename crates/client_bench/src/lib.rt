@@ -5,7 +5,9 @@
 #![tactic(auto)]
 
 mod calls;
+mod own_log;
 mod table;
+mod timed_client;
 mod times;
 mod tree;
 mod turns;

@@ -21,8 +21,8 @@ pub fn time_calls(desk: &mut Desk<'_>) -> Result<(), Failure> {
 }
 
 fn time_tree(desk: &mut Desk<'_>, files: u32, records: u32) -> Result<(), Failure> {
-    let mut tree = tree_of(desk.alloc(), files)?;
-    let times = least_of(desk, &mut tree, records)?;
+    let tree = tree_of(desk.alloc(), files)?;
+    let times = least_of(desk, tree, records)?;
     desk.tell("files", u128::from(files), "");
     desk.tell("records in the log", u128::from(records), "");
     tell_all(desk, times);

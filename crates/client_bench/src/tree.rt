@@ -2,7 +2,8 @@
 use crate::calls::{
     BLOCK, BRANCHES, CLIENT, directory_path, file_path, open_of, read_of_all, shared, write_of,
 };
-use event_steps::{Event, Outcome, System};
+use crate::timed_client::TimedClient;
+use event_steps::System;
 use fresh_system::{RamMaker, RamMedia, open_fresh};
 use layer_bench::Failure;
 use layout::Geometry;
@@ -19,10 +20,7 @@ pub struct Tree {
 
 /// A tree of so many files of a block each, in five directories, of which the client read all. The first file is open at descriptor 0, and all that the client logged is digested.
 pub fn tree_of(alloc: Global, files: u32) -> Result<Tree, Failure> {
-    let mut tree = Tree {
-        system: opened(alloc)?,
-        has_refused: false,
-    };
+    let mut tree = Tree::of(opened(alloc)?, false);
     tree.make_directories(alloc)?;
     tree.make_files(alloc, files)?;
     tree.empty_log();
@@ -109,22 +107,24 @@ impl Tree {
         self.has_refused |= digested.is_err() || wiped.is_err();
     }
 
-    /// Starts a call that needs nothing, and has it make its device calls, if it makes some.
-    pub fn ask(&mut self, call: &Event) {
-        let outcome = self.system.play(call);
-        if !is_answer(&outcome) {
-            self.make_steps();
+    /// The client that makes the calls, taken out of its system.
+    pub fn into_client(self) -> Result<TimedClient, Failure> {
+        let (kernel, mut seats) = self.system.into_parts();
+        let Some(seat) = seats.pop() else {
+            return Err(Failure::new("there is no client"));
+        };
+        match seat.into_parts() {
+            (client, None) => Ok(TimedClient::new(kernel, seats, client, self.has_refused)),
+            (_, Some(_)) => Err(Failure::new("a region of the client is away")),
         }
     }
 
-    // Four device calls append a record, and the last of them answers the call.
-    fn make_steps(&mut self) {
-        let step = Event::Step { client: CLIENT };
-        for _ in 0..3 {
-            let _ = self.system.play(&step);
+    /// The tree of a system, and whether a call was refused.
+    pub fn of(system: System<RamMedia>, has_refused: bool) -> Self {
+        Tree {
+            system,
+            has_refused,
         }
-        let outcome = self.system.play(&step);
-        self.has_refused |= !is_answer(&outcome);
     }
 
     /// Whether no call was refused.
@@ -136,14 +136,6 @@ impl Tree {
     }
 }
 
-// Whether a call was answered, and not refused.
-fn is_answer(outcome: &Outcome) -> bool {
-    match outcome {
-        Outcome::Reply { reply } => !is_refusal(reply),
-        _ => false,
-    }
-}
-
 fn is_done(served: &Served) -> bool {
     match served {
         Served::Reply(reply) => !is_refusal(reply),
@@ -151,6 +143,7 @@ fn is_done(served: &Served) -> bool {
     }
 }
 
-fn is_refusal(reply: &Reply) -> bool {
+/// Whether a call was refused.
+pub fn is_refusal(reply: &Reply) -> bool {
     matches!(reply, Reply::Failed { .. })
 }

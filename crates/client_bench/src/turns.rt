@@ -1,15 +1,17 @@
 // The calls of a client, timed again and again.
 use crate::calls::{BLOCK, Calls};
+use crate::own_log::OwnLog;
+use crate::timed_client::TimedClient;
 use crate::times::{MOST, Times};
 use crate::tree::Tree;
-use event_steps::Event;
 use layer_bench::{Desk, Failure, Over, append_times};
+use posix_calls::Call;
 use std::alloc::{AllocError, Global};
 
 /// How often all are timed.
-const TURNS: u32 = 21;
+const TURNS: u32 = 101;
 
-/// The writes of a turn. Behind the records that are there before, a region has room for them.
+/// The writes of a turn, and the appends. Behind the records that are there before, a region has room for them.
 const WRITES: u32 = 40;
 
 /// The reads of a turn, and how often it asks what a path leads to.
@@ -18,20 +20,25 @@ const READS: u32 = 1_000;
 /// How often a turn opens the file once more.
 const OPENS: u32 = 16;
 
-/// The appends of a turn at least.
+/// The appends beside which copies are timed.
 const APPENDS: u64 = 120;
 
 /// The bytes that each record writes that is there before.
 const FEW: usize = 16;
 
 /// The least times, with so many records in the log before each turn's writes.
-pub fn least_of(desk: &mut Desk<'_>, tree: &mut Tree, records: u32) -> Result<Times, Failure> {
+pub fn least_of(desk: &mut Desk<'_>, tree: Tree, records: u32) -> Result<Times, Failure> {
     let calls = Calls::new(desk.alloc())?;
+    let mut log = OwnLog::new(desk.alloc())?;
     let mut least = MOST;
+    let mut tree = tree;
     for _ in 0..TURNS {
-        log_some(desk.alloc(), tree, records)?;
-        least = least.least(one_turn(desk, tree, &calls)?);
+        log_some(desk.alloc(), &mut tree, records)?;
+        let (back, times) = one_turn(desk, tree, &mut log, &calls)?;
+        tree = back;
+        least = least.least(times);
     }
+    log.end()?;
     tree.end()?;
     Ok(least)
 }
@@ -46,34 +53,53 @@ fn log_some(alloc: Global, tree: &mut Tree, records: u32) -> Result<(), AllocErr
     Ok(())
 }
 
-fn one_turn(desk: &mut Desk<'_>, tree: &mut Tree, calls: &Calls) -> Result<Times, Failure> {
-    let read = time_of(desk, tree, &calls.read, READS);
-    let stat = time_of(desk, tree, &calls.stat, READS);
-    let open = time_of(desk, tree, &calls.open, OPENS);
-    close_all(tree);
-    let (append, copy) = append_times(desk, BLOCK, APPENDS, Over::Ram)?;
-    let write = time_of(desk, tree, &calls.write, WRITES);
-    Ok(Times {
+// The copies come first: what they put into the caches is neither region's.
+fn one_turn(
+    desk: &mut Desk<'_>,
+    tree: Tree,
+    log: &mut OwnLog,
+    calls: &Calls,
+) -> Result<(Tree, Times), Failure> {
+    let (_, copy) = append_times(desk, BLOCK, APPENDS, Over::Ram)?;
+    let mut client = tree.into_client()?;
+    let read = time_of(desk, &mut client, &calls.read, READS);
+    let stat = time_of(desk, &mut client, &calls.stat, READS);
+    let open = time_of(desk, &mut client, &calls.open, OPENS);
+    close_all(&mut client);
+    let append = time_of_appends(desk, log);
+    let write = time_of(desk, &mut client, &calls.write, WRITES);
+    let times = Times {
         append,
         copy,
         write,
         read,
         stat,
         open,
-    })
+    };
+    Ok((client.into_tree(desk.alloc())?, times))
 }
 
 // The nanoseconds of one of so many calls.
-fn time_of(desk: &mut Desk<'_>, tree: &mut Tree, call: &Event, count: u32) -> u128 {
+fn time_of(desk: &mut Desk<'_>, client: &mut TimedClient, call: &Call, count: u32) -> u128 {
     let start = desk.now();
     for _ in 0..count {
-        tree.ask(call);
+        client.ask(call);
     }
     desk.since(start) / u128::from(count.max(1))
 }
 
-fn close_all(tree: &mut Tree) {
+// The nanoseconds of one append to a region that is as empty as the client's was.
+fn time_of_appends(desk: &mut Desk<'_>, log: &mut OwnLog) -> u128 {
+    log.wipe();
+    let start = desk.now();
+    for _ in 0..WRITES {
+        log.append();
+    }
+    desk.since(start) / u128::from(WRITES)
+}
+
+fn close_all(client: &mut TimedClient) {
     for descriptor in 1..OPENS + 1 {
-        tree.close(descriptor);
+        client.ask(&Call::Close { descriptor });
     }
 }

@@ -20,6 +20,7 @@ mod sealing;
 mod seat;
 mod system;
 
+pub use away::Away;
 pub use event::Event;
 pub use outcome::{Outcome, Refusal};
 pub use seat::Seat;

@@ -31,7 +31,7 @@ pub fn append_times(
     times: u64,
     over: Over<'_>,
 ) -> Result<(u128, u128), Failure> {
-    let entry = write_of(desk.alloc(), bytes)?;
+    let entry = write_record(desk.alloc(), bytes)?;
     let copies = Copies::new(desk.alloc(), bytes)?;
     let (append, copy) = time_both(desk, entry, copies, times, over)?;
     Ok((append.each(), copy.each()))
@@ -114,8 +114,8 @@ fn count_at_end(count: u64, error: RegionError) -> Result<u64, Failure> {
     Err(Failure::from(error))
 }
 
-// The record of a write of so many bytes.
-fn write_of(alloc: Global, bytes: usize) -> Result<Record, Failure> {
+/// The record of a write of so many bytes.
+pub fn write_record(alloc: Global, bytes: usize) -> Result<Record, Failure> {
     let bytes = SharedBytes::from_vec(bytes_of(alloc, 0x61, bytes)?)?;
     let effects = [Effect::Bytes {
         inode: 2,

@@ -10,9 +10,9 @@ mod failure;
 mod leases;
 mod regions;
 
-pub use append::{append_times, run as time_appends};
+pub use append::{append_times, run as time_appends, write_record};
 pub use batch::run as time_batches;
 pub use desk::{Desk, Sum, add, bytes_of, keep_room};
 pub use failure::Failure;
 pub use leases::run as time_leases;
-pub use regions::Over;
+pub use regions::{Over, append as append_to, ram_region};

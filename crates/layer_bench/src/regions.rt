@@ -177,12 +177,18 @@ fn reopened<M: Media + Drop>(alloc: Global, media: M) -> Result<Region<M>, Failu
     }
 }
 
-/// Appends a record, where one may be begun.
+/// Appends a record, where one may be begun and the record has a spelling.
 pub fn append<M: Media>(region: &mut Region<M>, entry: &Record) -> Result<(), RegionError> {
     if region.stage() != Stage::Resting || !entry.has_spelling() {
         return Err(RegionError::Damaged);
     }
     region.append(entry)
+}
+
+/// An empty region over a medium in memory that keeps no record of its calls.
+pub fn ram_region(alloc: Global) -> Result<Region<RamMedia>, Failure> {
+    let media = ram(alloc)?;
+    reopened(alloc, media)
 }
 
 // ---- empty media of a region's size
