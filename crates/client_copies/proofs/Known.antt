@@ -48,14 +48,17 @@ blocks_without h i cs j b same = elim (cases_eq j i) [
 others_of_set : (cs : List (Option (Option NodeView))) (i : ℕ) (c : Option (Option NodeView)) (k : ℕ) → k ≢ i → copy_at (set cs i c) k ≡ copy_at cs k
 others_of_set cs i c k other = get_or-set_other cs i k c None other
 
-pub put_is_known : (h : Held) (i : ℕ) (v : Option NodeView) → i < length h.copies → knows (record h { copies = set h.copies i (Some v); blocks = without_file i h.blocks }) ≡ with_copy (without_blocks (knows h) i) i v
-put_is_known h i v inside = λ t. record {
+pub set_is_known : (h : Held) (i : ℕ) (c : Option (Option NodeView)) → i < length h.copies → knows (record h { copies = set h.copies i c; blocks = without_file i h.blocks }) ≡ record (without_blocks (knows h) i) { copies = λ j. if j == i then c else copy_at h.copies j }
+set_is_known h i c inside = λ t. record {
   client = h.client;
   own = (knows h).own;
-  copies = λ j. slot_changed h.copies i (Some v) j inside t;
-  blocks = λ j b. blocks_without h i (set h.copies i (Some v)) j b (others_of_set h.copies i (Some v)) t;
+  copies = λ j. slot_changed h.copies i c j inside t;
+  blocks = λ j b. blocks_without h i (set h.copies i c) j b (others_of_set h.copies i c) t;
   granted = (knows h).granted;
 }
+
+pub put_is_known : (h : Held) (i : ℕ) (v : Option NodeView) → i < length h.copies → knows (record h { copies = set h.copies i (Some v); blocks = without_file i h.blocks }) ≡ with_copy (without_blocks (knows h) i) i v
+put_is_known h i v inside = set_is_known h i (Some v) inside
 
 -- where no copy was, no block was known
 pub nothing_to_lose : (h : Held) (i : ℕ) → copy_at h.copies i ≡ None → without_blocks (knows h) i ≡ knows h

@@ -1,10 +1,11 @@
 -- What was prepared for a record is right as long as the copies stay that it was made of.
-use Rattle.std.proofs.Common.{◌≡◌, ◌⊎◌, inl, inr, ℕ, true, false, cond, Option, Some, None, refl, ap, sym, ◌∙◌}
+use Rattle.std.proofs.Common.{◌≡◌, ◌⊎◌, inl, inr, ℕ, List, true, false, cond, Option, Some, None, refl, ap, sym, ◌∙◌}
 use Rattle.std.specs.Prelude.{option_map, IsSome}
 use Rattle.std.proofs.lemmas.Bool.{eq-eqb}
 use Rattle.posix_calls.specs.declared.call.Call.{Call}
 use Rattle.posix_calls.specs.declared.call.Reply.{Reply}
 use Rattle.file_graph.specs.Graph.{is_among, touches}
+use Rattle.file_graph.specs.declared.effect.Effect.{Effect}
 use Rattle.call_effects.specs.NodeView.{NodeView, view_after}
 use Rattle.call_effects.specs.Known.{Knowledge, part_of}
 use Rattle.client_plan.specs.declared.outcome.Outcome.TheVariants as outcomes
@@ -13,12 +14,19 @@ use Rattle.client_plan.specs.Planned.{outcome}
 use Rattle.client_plan.specs.Steps.{IsOf, IsReady}
 use Rattle.client_plan.proofs.Stepping.{logged_ready}
 use Rattle.client_copies.specs.Logged.{is_made, with_made}
-use Rattle.client_copies.specs.Prepared.{IsPreparedFor, touched}
+use Rattle.client_copies.specs.Prepared.{AreReady, IsPreparedFor, touched}
+use Rattle.client_copies.specs.declared.node_copies.NodeCopies.{NodeCopies}
+use Rattle.client_copies.specs.declared.node_copies.NodeCopies.TheVariants as held
 use Rattle.client_copies.specs.declared.own_change.OwnChange.{OwnChange}
 
 there : {X : Type 0} (o : Option X) → IsSome o → (x : X) × (o ≡ Some x)
 there None some = absurd (cc)
 there (Some x) some = (x, refl)
+
+-- what is ready for effects rests on what is known of the inodes that they touch alone
+still_ready : (n : NodeCopies) (es : List Effect) (before after : ℕ → Option (Option NodeView)) → ((i : ℕ) → touched es before i ≡ touched es after i) → AreReady n es before → AreReady n es after
+still_ready held.InPlace es before after same was = was
+still_ready (held.Several nodes) es before after same was = λ i. was i ∙ ap (option_map (view_after es i)) (same i)
 
 module _ (k more : Knowledge) (h : Holdings) (call : Call) (reply : Reply) (c : OwnChange) (of : IsOf k h) (comes : outcome (part_of k) h call ≡ outcomes.Log c.entry reply c.made c.descriptor) (kept : (i : ℕ) (copy : Option NodeView) → k.copies i ≡ Some copy → more.copies i ≡ Some copy) where
   ready : IsReady k h call c.entry reply c.made c.descriptor
@@ -43,5 +51,5 @@ module _ (k more : Knowledge) (h : Holdings) (call : Call) (reply : Reply) (c : 
     spelled = was.spelled;
     made = was.made;
     number = was.number;
-    nodes = λ i. was.nodes i ∙ ap (option_map (view_after c.entry.effects i)) (same_touched i);
+    nodes = still_ready c.nodes c.entry.effects (with_made k c.made).copies (with_made more c.made).copies same_touched was.nodes;
   }

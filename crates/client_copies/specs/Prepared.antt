@@ -1,5 +1,5 @@
 -- What a client prepares before a record of its own.
-use Rattle.std.specs.Prelude.{◌≡◌, ℕ, List, Bool, true, false, ◌==◌, Option, Some, None, is_some, option_map, if◌then◌else◌}
+use Rattle.std.specs.Prelude.{◌≡◌, ℕ, List, [], ◌∷◌, Bool, true, false, not, Option, None, is_some, option_map, if◌then◌else◌}
 use Rattle.std.specs.List.{list_any}
 use Rattle.std.specs.Option.{ForSome}
 use Rattle.std.specs.Ordering.{nat_cmp}
@@ -11,6 +11,7 @@ use Rattle.log_record.specs.Grammar.{IsRecord}
 use Rattle.call_effects.specs.NodeView.{NodeView, view_after}
 use Rattle.call_effects.specs.Known.{Knowledge}
 use Rattle.client_plan.specs.Planned.{OpensInRange}
+use Rattle.record_check.specs.Memory.{is_enter}
 use Rattle.client_copies.specs.Logged.{with_made}
 use Rattle.client_copies.specs.declared.node_copies.NodeCopies.{NodeCopies}
 use Rattle.client_copies.specs.declared.node_copies.NodeCopies.TheVariants as held
@@ -28,21 +29,20 @@ nodes_after es copies i = option_map (view_after es i) (touched es copies i)
 abbrev pub any_known : List Effect → (ℕ → Option (Option NodeView)) → Bool
 any_known es copies = list_any (λ i. is_some (copies i)) (touches es)
 
--- the copy that there is of an inode
-abbrev pub copy_in : NodeCopies → ℕ → Option (Option NodeView)
-copy_in held.Empty i = None
-copy_in (held.Alone j copy) i = if i == j then Some copy else None
-copy_in (held.Several nodes) i = get nat_cmp nodes i
+-- whether effects are done in place: one alone, which enters no name, and so takes no memory
+abbrev pub acts_in_place : List Effect → Bool
+acts_in_place [] = false
+acts_in_place (e ∷ []) = not (is_enter e)
+acts_in_place (e ∷ f ∷ es) = false
 
--- whether it is the copy of this inode alone
-abbrev pub is_alone : NodeCopies → ℕ → Bool
-is_alone held.Empty i = false
-is_alone (held.Alone j copy) i = j == i
-is_alone (held.Several nodes) i = false
+-- what effects need over these copies is ready: nothing, where they are done in place, or else what is known after them
+abbrev pub AreReady : NodeCopies → List Effect → (ℕ → Option (Option NodeView)) → Type 0
+AreReady held.InPlace es copies = acts_in_place es ≡ true
+AreReady (held.Several nodes) es copies = (i : ℕ) → get nat_cmp nodes i ≡ nodes_after es copies i
 
 -- a change that was prepared by what a client knows
 pub record IsPreparedFor (k : Knowledge) (c : OwnChange) : Type 0 where
   pub spelled : IsRecord c.entry
   pub made : ForSome c.made (λ n. is_inode n ≡ true)
   pub number : ForSome c.descriptor OpensInRange
-  pub nodes : (i : ℕ) → copy_in c.nodes i ≡ nodes_after c.entry.effects (with_made k c.made).copies i
+  pub nodes : AreReady c.nodes c.entry.effects (with_made k c.made).copies

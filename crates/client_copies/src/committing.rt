@@ -1,15 +1,19 @@
 //! What a client knows after a record of its own.
-ghost use Rattle.std.specs.Prelude.{◌≡◌, ◌==◌, ℕ, true, None, IfOk, OnErr, if◌then◌else◌};
+ghost use Rattle.std.specs.Prelude.{◌≡◌, ◌==◌, ◌∷◌, [], ℕ, true, false, None, IfOk, OnErr, if◌then◌else◌};
 ghost use Rattle.std.specs.Option.{ForSome};
 ghost use Rattle.std.specs.List.{AllByRecursion};
+ghost use Rattle.std.specs.Ordering.{nat_cmp};
+ghost use Rattle.std.specs.BTreeMap.{get};
 ghost use Rattle.file_graph.specs.Numbers.{is_inode};
 ghost use Rattle.log_record.specs.Grammar.{Fits, IsRecord};
 ghost use Rattle.client_plan.specs.Planned.{OpensInRange};
+ghost use Rattle.record_check.specs.Memory.{is_enter};
 ghost use Rattle.client_copies.specs.Held.{knows};
 ghost use Rattle.client_copies.specs.Logged.{knows_logged, put_over, with_change, with_effects, with_made};
-ghost use Rattle.client_copies.specs.Prepared.{IsPreparedFor, any_known, copy_in, nodes_after};
+ghost use Rattle.client_copies.specs.Prepared.{AreReady, IsPreparedFor, acts_in_place, any_known, nodes_after};
 
 use crate::copies::ClientCopies;
+use crate::in_place::act_on;
 use crate::node_copies::NodeCopies;
 use crate::own_change::OwnChange;
 use crate::preparing::nodes_after;
@@ -18,11 +22,12 @@ use file_graph::Effect;
 use log_record::Record;
 use record_check::NodeSummary;
 use std::alloc::AllocError;
+use std::collections::BTreeMap;
 
 impl ClientCopies {
     /// Prepares a change of the client's own by what it knows: its record, the number of the node that it makes, and the descriptor
     /// that it changes, as `plan_call` tells them. All memory is taken that what it knows after the record needs, and nothing changes. None is
-    /// asked for where nothing is known of what the record touches.
+    /// asked for where nothing is known of what the record touches, nor for one effect alone that enters no name.
     pub fn prepare(
         &self,
         entry: Record,
@@ -35,6 +40,7 @@ impl ClientCopies {
         ensures same { IfOk result (λ c. (c.entry ≡ entry) × (c.made ≡ made) × (c.descriptor ≡ descriptor)) }
         ensures prepared { IfOk result (IsPreparedFor (knows self.now)) }
         ensures memory { OnErr result (any_known entry.effects (with_made (knows self.now) made).copies ≡ true) }
+        ensures not_in_place { OnErr result (acts_in_place entry.effects ≡ false) }
     {
         let effects = entry.effects.as_slice();
         let nodes = nodes_after(self.alloc, &self.copies, made, effects)?;
@@ -86,15 +92,50 @@ impl ClientCopies {
         }
     }
 
-    // The copies of what effects touch are put in the place of those before them.
-    fn put_nodes(&mut self, effects: &[Effect], mut nodes: NodeCopies)
+    // The copies of what effects touch become what the effects leave.
+    fn put_nodes(&mut self, effects: &[Effect], nodes: NodeCopies)
         requires fit { AllByRecursion Fits effects.now }
-        requires nodes { (i : ℕ) → copy_in nodes i ≡ nodes_after effects.now (knows self.old).copies i }
+        requires ready { AreReady nodes effects.now (knows self.old).copies }
+        ensures { knows self.new ≡ with_effects (knows self.old) effects.now }
+    {
+        match nodes {
+            NodeCopies::InPlace => self.act_alone(effects),
+            NodeCopies::Several { nodes } => self.put_several(effects, nodes),
+        }
+    }
+
+    // The one effect of a record is done in place.
+    fn act_alone(&mut self, effects: &[Effect])
+        requires fit { AllByRecursion Fits effects.now }
+        requires alone { acts_in_place effects.now ≡ true }
+        ensures { knows self.new ≡ with_effects (knows self.old) effects.now }
+    {
+        match effects {
+            [effect] => self.act_in_place(effect),
+            _ => unreachable!(),
+        }
+    }
+
+    // What is known of an effect's inode is as the effect leaves it, without moving it, and no block of it stays.
+    fn act_in_place(&mut self, effect: &Effect)
+        requires fits { Fits effect.now }
+        requires room { is_enter effect.now ≡ false }
+        ensures { knows self.new ≡ with_effects (knows self.old) (effect.now ∷ []) }
+    {
+        let inode = effect.subject();
+        act_on(self.alloc, &mut self.copies[inode as usize], effect);
+        self.blocks.drop_file(inode);
+    }
+
+    // The copies of what effects touch are put in the place of those before them.
+    fn put_several(&mut self, effects: &[Effect], mut nodes: BTreeMap<u32, Option<NodeSummary>>)
+        requires fit { AllByRecursion Fits effects.now }
+        requires nodes { (i : ℕ) → get nat_cmp nodes i ≡ nodes_after effects.now (knows self.old).copies i }
         ensures { knows self.new ≡ with_effects (knows self.old) effects.now }
     {
         for effect in effects {
             let inode = effect.subject();
-            let node = nodes.take(inode);
+            let node = take_node(&mut nodes, inode);
             self.put_over(inode, node);
         }
     }
@@ -107,4 +148,15 @@ impl ClientCopies {
             self.put_view(inode, node);
         }
     }
+}
+
+// What there is of an inode is taken out.
+fn take_node(
+    nodes: &mut BTreeMap<u32, Option<NodeSummary>>,
+    inode: u32,
+) -> Option<Option<NodeSummary>>
+    ensures taken { result ≡ get nat_cmp nodes.old inode }
+    ensures rest { (i : ℕ) → get nat_cmp nodes.new i ≡ (if i == inode then None else get nat_cmp nodes.old i) }
+{
+    nodes.remove(&inode)
 }

@@ -10,15 +10,17 @@
 //!
 //! A record of the client's own is prepared before it is begun (`prepare`): what the client has of the inodes that the record touches is made beside, as
 //! the record leaves it, with all memory that this takes, and nothing changes. Once the record is in the log the change is committed (`commit`), which
-//! takes no memory: then the client knows what the record left (`specs/Logged.antt`), and no block of what it touched.
+//! takes no memory: then the client knows what the record left (`specs/Logged.antt`), and no block of what it touched. For a record of one effect that
+//! enters no name, as a write has, nothing has to be made beside, since no memory is wanted: the commit changes the copy in its place.
 //!
-//! To come: a directory that is changed in place, in room that was taken ahead, where today it is copied; blocks that are written over where a record
+//! To come: a directory into which a name is entered in place, in room that was taken ahead, where today it is copied; blocks that are written over where a record
 //! writes them; and a count of the entries that tell a kind, so that the kind of an inode without a copy is not looked for in all copied directories.
 #![tactic(auto)]
 
 mod answers;
 mod committing;
 mod copies;
+mod in_place;
 mod laws;
 mod node_copies;
 mod own_change;

@@ -4,7 +4,7 @@ use crate::node_copies::NodeCopies;
 use client_plan::DescriptorChange;
 use log_record::Record;
 
-/// A change that a client makes by a record of its own, with the copies that it has after the record, for which all memory is taken.
+/// A change that a client makes by a record of its own, with what has to be ready for its commit, for which all memory is taken.
 #[derive(Drop)]
 pub struct OwnChange {
     pub(crate) entry: Record,

@@ -1,19 +1,19 @@
 //! The copies that a client has after a record, made beside those that it has.
-ghost use Rattle.std.specs.Prelude.{◌≡◌, ◌==◌, ◌&&◌, ◌∷◌, [], ℕ, true, Some, None, IfOk, OnErr, OnOk, is_some, if◌then◌else◌};
+ghost use Rattle.std.specs.Prelude.{◌≡◌, ◌==◌, ◌&&◌, ℕ, true, false, Some, None, IfOk, OnErr, OnOk, is_some, if◌then◌else◌};
 ghost use Rattle.std.specs.List.{AllByRecursion};
 ghost use Rattle.std.specs.FinMap as fin;
 ghost use Rattle.std.specs.Ordering.{nat_cmp};
 ghost use Rattle.std.specs.Cmp.Lexicographic.{slice_cmp};
 ghost use Rattle.std.specs.BTreeMap.{get};
 ghost use Rattle.posix_calls.specs.Content.{Entries};
-ghost use Rattle.file_graph.specs.Plain.{is_drop, pairs};
+ghost use Rattle.file_graph.specs.Plain.{pairs};
 ghost use Rattle.file_graph.specs.declared.effect.Kind.{Kind};
 ghost use Rattle.log_record.specs.Grammar.{Fits};
 ghost use Rattle.client_copies.specs.Held.{copy_at};
 ghost use Rattle.client_copies.specs.Logged.{is_made};
-ghost use Rattle.client_copies.specs.Prepared.{any_known, copy_in, nodes_after, touched};
-ghost use Rattle.call_effects.specs.NodeView.{view_acted};
+ghost use Rattle.client_copies.specs.Prepared.{AreReady, acts_in_place, any_known, nodes_after, touched};
 
+use crate::in_place::acts_in_place;
 use crate::node_copies::NodeCopies;
 use crate::slots::{Slot, slot_at};
 use file_graph::{Child, Effect, PlainEntry};
@@ -22,7 +22,8 @@ use record_check::{NodeCounts, NodeSummary, take_effects};
 use std::alloc::{AllocError, Global};
 use std::collections::BTreeMap;
 
-/// What is known of the inodes that effects touch, after the effects; nothing stands yet at the number of a node that is made.
+/// What has to be ready before effects are committed; nothing stands yet at the number of a node that is made. For one effect that enters no
+/// name that is nothing, and for all others what is known of the inodes that they touch, after them.
 pub fn nodes_after(
     alloc: Global,
     slots: &[Slot],
@@ -30,76 +31,31 @@ pub fn nodes_after(
     effects: &[Effect],
 ) -> Result<NodeCopies, AllocError>
     requires { AllByRecursion Fits effects.now }
-    ensures nodes { IfOk result (λ nodes. (i : ℕ) → copy_in nodes i ≡ nodes_after effects.now (λ j. if is_made made j then Some None else copy_at slots.now j) i) }
+    ensures ready { IfOk result (λ nodes. AreReady nodes effects.now (λ j. if is_made made j then Some None else copy_at slots.now j)) }
     ensures memory { OnErr result (any_known effects.now (λ j. if is_made made j then Some None else copy_at slots.now j) ≡ true) }
+    ensures not_in_place { OnErr result (acts_in_place effects.now ≡ false) }
 {
-    match effects {
-        [effect] => node_after(alloc, slots, made, effect),
-        _ => several_after(alloc, slots, made, effects),
+    if acts_in_place(effects) {
+        return Ok(NodeCopies::InPlace);
     }
+    let nodes = several_after(alloc, slots, made, effects)?;
+    Ok(NodeCopies::Several { nodes })
 }
 
-// After one effect.
-fn node_after(
-    alloc: Global,
-    slots: &[Slot],
-    made: Option<u32>,
-    effect: &Effect,
-) -> Result<NodeCopies, AllocError>
-    requires { Fits effect.now }
-    ensures nodes { IfOk result (λ nodes. (i : ℕ) → copy_in nodes i ≡ nodes_after (effect.now ∷ []) (λ j. if is_made made j then Some None else copy_at slots.now j) i) }
-    ensures memory { OnErr result (any_known (effect.now ∷ []) (λ j. if is_made made j then Some None else copy_at slots.now j) ≡ true) }
-{
-    let inode = effect.subject();
-    let Some(mut node) = known_copy(alloc, slots, made, inode)? else {
-        return Ok(NodeCopies::Empty);
-    };
-    take_effect(alloc, &mut node, effect)?;
-    Ok(NodeCopies::Alone { inode, node })
-}
-
-// After several effects.
+// What is known of the inodes that effects touch, after the effects.
 fn several_after(
     alloc: Global,
     slots: &[Slot],
     made: Option<u32>,
     effects: &[Effect],
-) -> Result<NodeCopies, AllocError>
+) -> Result<BTreeMap<u32, Option<NodeSummary>>, AllocError>
     requires { AllByRecursion Fits effects.now }
-    ensures nodes { IfOk result (λ nodes. (i : ℕ) → copy_in nodes i ≡ nodes_after effects.now (λ j. if is_made made j then Some None else copy_at slots.now j) i) }
+    ensures nodes { IfOk result (λ nodes. (i : ℕ) → get nat_cmp nodes i ≡ nodes_after effects.now (λ j. if is_made made j then Some None else copy_at slots.now j) i) }
     ensures memory { OnErr result (any_known effects.now (λ j. if is_made made j then Some None else copy_at slots.now j) ≡ true) }
 {
     let mut nodes = touched(alloc, slots, made, effects)?;
     take_effects(alloc, &mut nodes, effects)?;
-    Ok(NodeCopies::Several { nodes })
-}
-
-// What an effect makes of what stands at its inode.
-fn take_effect(
-    alloc: Global,
-    node: &mut Option<NodeSummary>,
-    effect: &Effect,
-) -> Result<(), AllocError>
-    requires { Fits effect.now }
-    ensures { OnOk result (node.new ≡ view_acted effect.now node.old) }
-{
-    if is_drop(effect) {
-        *node = None;
-        return Ok(());
-    }
-    if let Some(summary) = node {
-        return summary.act(alloc, effect);
-    }
-    if let Effect::Make { kind, .. } = effect {
-        *node = Some(NodeSummary::empty(alloc, *kind));
-    }
-    Ok(())
-}
-
-fn is_drop(effect: &Effect) -> bool
-    ensures { result ≡ is_drop effect.now }
-{
-    matches!(effect, Effect::Drop { .. })
+    Ok(nodes)
 }
 
 // What is known of the inodes that effects touch.
