@@ -1,11 +1,9 @@
 // A client that is out of its system while its calls are timed.
 use crate::tree::{Tree, is_refusal};
-use event_steps::{Seat, System};
 use fresh_system::RamMedia;
-use kernel_fs::Kernel;
 use layer_bench::Failure;
-use libfs::{Client, Now};
 use posix_calls::{Call, Reply};
+use served_calls::{Client, Kernel, Now, Seat, System};
 use std::alloc::Global;
 
 /// The client, and the rest of its system.

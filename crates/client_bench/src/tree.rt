@@ -3,12 +3,11 @@ use crate::calls::{
     BLOCK, BRANCHES, CLIENT, directory_path, file_path, open_of, read_of_all, shared, write_of,
 };
 use crate::timed_client::TimedClient;
-use event_steps::System;
 use fresh_system::{RamMaker, RamMedia, open_fresh};
 use layer_bench::Failure;
 use layout::Geometry;
 use posix_calls::{Bytes, Call, Reply};
-use served_calls::{Served, digest_all, serve_call, wipe_all};
+use served_calls::{Served, System, digest_all, serve_call, wipe_all};
 use std::alloc::{AllocError, Global};
 
 /// A running system, and whether a call was refused that should not be.

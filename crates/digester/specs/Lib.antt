@@ -4,4 +4,21 @@ pub mod Errors
 pub mod Marking
 pub mod SealedLog
 -- Passed on to the crates above, which so need not list those below.
+pub use Rattle.shared_area.specs.ApplyError
+pub use Rattle.shared_area.specs.Applying
+pub use Rattle.shared_area.specs.AreaError
+pub use Rattle.shared_area.specs.ChangeApplying
+pub use Rattle.shared_area.specs.Found
+pub use Rattle.shared_area.specs.Looks
+pub use Rattle.shared_area.specs.Map
+pub use Rattle.shared_area.specs.Moving
+pub use Rattle.shared_area.specs.Next
+pub use Rattle.shared_area.specs.Parts
+pub use Rattle.shared_area.specs.Reading
+pub use Rattle.shared_area.specs.Reads
+pub use Rattle.shared_area.specs.Ready
+pub use Rattle.shared_area.specs.RelocateError
+pub use Rattle.shared_area.specs.RunMoving
+pub use Rattle.shared_area.specs.Spelled
 pub use Rattle.shared_area.specs.Store
+pub use Rattle.shared_area.specs.Wanted

@@ -24,3 +24,6 @@ pub use marking::{
 };
 pub use sealed_log::SealedLog;
 pub use testing::capacity_of;
+
+// Passed on to the crates above, which so need not list those below.
+pub use shared_area::{ApplyError, AreaError, RelocateError, Shared};

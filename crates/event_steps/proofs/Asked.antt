@@ -3,7 +3,7 @@ use Rattle.std.proofs.Common.{◌≡◌, ◌≢◌, ◌⊎◌, inl, inr, ℕ, Bo
 use Rattle.std.specs.Prelude.{Result, Ok, Err, OnOk, OnErr, IfErr, IsErrOf}
 use Rattle.std.proofs.lemmas.Bool.{true≢false}
 use Rattle.tier_device.specs.declared.media.Tier.{Tier}
-use Rattle.kernel_fs.specs.KernelView.{KernelView}
+use Rattle.libfs.specs.KernelView.{KernelView}
 use Rattle.libfs.specs.View.{ClientView}
 use Rattle.libfs.specs.declared.denying.Denied.{Denied}
 use Rattle.libfs.specs.declared.denying.Denied.TheVariants as denied

@@ -12,22 +12,22 @@ use Rattle.update_log.specs.Frames.{before_gate, spelled}
 use Rattle.client_log.specs.Calls.{IsOnlyRead}
 use Rattle.client_log.specs.View.{HandedView}
 use Rattle.coalescer.specs.Weight.{IsLongestRun}
-use Rattle.digester.specs.Chunk.{IsChunkOf, is_next}
-use Rattle.digester.specs.SealedLog.{StandsAtMark, undone}
-use Rattle.digester.specs.declared.chunk.Chunk.{Chunk}
-use Rattle.digester.specs.declared.error.DigestError.{DigestError}
-use Rattle.digester.specs.declared.error.DigestError.TheVariants as digests
-use Rattle.digester.specs.declared.sealed_log.SealedLog.{SealedLog}
+use Rattle.libfs.specs.Chunk.{IsChunkOf, is_next}
+use Rattle.libfs.specs.SealedLog.{StandsAtMark, undone}
+use Rattle.libfs.specs.DeclaredChunk.{Chunk}
+use Rattle.libfs.specs.DigestError.{DigestError}
+use Rattle.libfs.specs.DigestError.TheVariants as digests
+use Rattle.libfs.specs.DeclaredSealedLog.{SealedLog}
 use Rattle.kernel_book.specs.Book.{waiting_of}
-use Rattle.kernel_fs.specs.Accepting.{client_of as client_in}
-use Rattle.kernel_fs.specs.KernelView.{KernelView}
-use Rattle.kernel_fs.specs.declared.error.AcceptError.{AcceptError}
-use Rattle.kernel_fs.specs.declared.error.AcceptError.TheVariants as accepts
-use Rattle.shared_area.specs.Store.{store_of}
-use Rattle.kernel_fs.specs.declared.digesting.Digestion.{Digestion}
-use Rattle.kernel_fs.specs.declared.digesting.Digestion.TheVariants as digestion
-use Rattle.kernel_fs.specs.declared.error.KernelError.{KernelError}
-use Rattle.kernel_fs.specs.declared.error.KernelError.TheVariants as kernel
+use Rattle.libfs.specs.Accepting.{client_of as client_in}
+use Rattle.libfs.specs.KernelView.{KernelView}
+use Rattle.libfs.specs.AcceptError.{AcceptError}
+use Rattle.libfs.specs.AcceptError.TheVariants as accepts
+use Rattle.libfs.specs.Store.{store_of}
+use Rattle.libfs.specs.Digestion.{Digestion}
+use Rattle.libfs.specs.Digestion.TheVariants as digestion
+use Rattle.libfs.specs.KernelError.{KernelError}
+use Rattle.libfs.specs.KernelError.TheVariants as kernel
 use Rattle.lease_manager.specs.Passes.{client_of}
 use Rattle.libfs.specs.HandingOver.{HasTakenBack}
 use Rattle.libfs.specs.View.{ClientView}

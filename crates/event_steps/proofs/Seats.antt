@@ -2,7 +2,7 @@
 use Rattle.std.proofs.Common.{◌≡◌, ℕ, zero, suc, ◌+◌, ◌-◌, ◌<◌, ◌≤◌, List, [], ◌∷◌, drop, get_or, length, Option, Some, refl, ap, sym, ◌∙◌, subst, arith}
 use Rattle.std.specs.Prelude.{slice_get, slice_index_or, slice_set, IfSome}
 use Rattle.tier_device.specs.declared.media.Tier.{Tier}
-use Rattle.kernel_fs.specs.KernelView.{KernelView}
+use Rattle.libfs.specs.KernelView.{KernelView}
 use Rattle.lease_manager.specs.Words.{IsClient}
 use Rattle.event_steps.specs.Played.{Carries, Makes, MakesAt}
 use Rattle.event_steps.specs.Sound.{AreFrom, AreSeats, number_of}

@@ -5,8 +5,8 @@ use Rattle.file_graph.specs.Units.{charge}
 use Rattle.kernel_book.specs.Book.{out_of, is_free}
 use Rattle.kernel_book.specs.Free.{count_of}
 use Rattle.kernel_book.specs.Nodes.{nodes_in}
-use Rattle.kernel_fs.specs.KernelView.{KernelView}
-use Rattle.kernel_fs.specs.Standing.{IsKernelOf}
+use Rattle.libfs.specs.KernelView.{KernelView}
+use Rattle.libfs.specs.Standing.{IsKernelOf}
 use Rattle.lease_manager.specs.Passes.{client_of}
 use Rattle.world_facts.specs.Machine.{Machine, book_pin, unbook_pin}
 use Rattle.libfs.specs.Serving.{HasFetched, HasFetchedBlocks, HasThem, HasGivenBack, HasLooked, HasRefilled, pinned, shared_by, unpinned}

@@ -3,26 +3,26 @@ use Rattle.std.specs.Prelude.{◌≡◌, ◌⊎◌, ◌≤◌, ◌+◌, ℕ, Lis
 use Rattle.tier_device.specs.declared.media.Tier.{Tier}
 use Rattle.file_graph.specs.declared.effect.Effect.TheVariants as effect
 use Rattle.graph_change.specs.Change.{coalesced}
-use Rattle.shared_area.specs.ChangeApplying.{MakesFewCalls}
-use Rattle.shared_area.specs.Found.{HasFileRun}
-use Rattle.shared_area.specs.Map.{WantsMemory}
-use Rattle.shared_area.specs.Moving.{HasTooFew, HasEnough, StaysOpen, MovesOrStays}
-use Rattle.shared_area.specs.RelocateError.{RelocateError}
-use Rattle.shared_area.specs.RelocateError.TheVariants as moves
-use Rattle.shared_area.specs.RunMoving.{CanMove, IsMoved}
-use Rattle.shared_area.specs.Store.{store_of, graph}
+use Rattle.libfs.specs.ChangeApplying.{MakesFewCalls}
+use Rattle.libfs.specs.Found.{HasFileRun}
+use Rattle.libfs.specs.Map.{WantsMemory}
+use Rattle.libfs.specs.Moving.{HasTooFew, HasEnough, StaysOpen, MovesOrStays}
+use Rattle.libfs.specs.RelocateError.{RelocateError}
+use Rattle.libfs.specs.RelocateError.TheVariants as moves
+use Rattle.libfs.specs.RunMoving.{CanMove, IsMoved}
+use Rattle.libfs.specs.Store.{store_of, graph}
 use Rattle.kernel_book.specs.Book.{is_pinned}
 use Rattle.world_facts.specs.KernelSteps.{CanReclaim}
 use Rattle.world_facts.specs.Logs.{IsNameless}
 use Rattle.world_facts.specs.Machine.{Machine, reclaim as reclaimed}
-use Rattle.kernel_fs.specs.Answering.{Answers}
-use Rattle.kernel_fs.specs.KernelView.{KernelView}
-use Rattle.kernel_fs.specs.Reclaiming.{IsReclaimed, IsUnused, ReclaimsOrStays, StaysOrReclaims}
-use Rattle.kernel_fs.specs.Standing.{IsKernelOf}
-use Rattle.kernel_fs.specs.declared.error.KernelError.{KernelError}
-use Rattle.kernel_fs.specs.declared.error.KernelError.TheVariants as kernel
-use Rattle.kernel_fs.specs.declared.error.ReclaimError.{ReclaimError}
-use Rattle.kernel_fs.specs.declared.error.ReclaimError.TheVariants as reclaims
+use Rattle.libfs.specs.Answering.{Answers}
+use Rattle.libfs.specs.KernelView.{KernelView}
+use Rattle.libfs.specs.Reclaiming.{IsReclaimed, IsUnused, ReclaimsOrStays, StaysOrReclaims}
+use Rattle.libfs.specs.Standing.{IsKernelOf}
+use Rattle.libfs.specs.KernelError.{KernelError}
+use Rattle.libfs.specs.KernelError.TheVariants as kernel
+use Rattle.libfs.specs.ReclaimError.{ReclaimError}
+use Rattle.libfs.specs.ReclaimError.TheVariants as reclaims
 use Rattle.event_steps.specs.declared.outcome.Outcome.{Outcome}
 use Rattle.event_steps.specs.declared.outcome.Outcome.TheVariants as outcomes
 use Rattle.event_steps.specs.declared.outcome.Refusal.TheVariants as refusals

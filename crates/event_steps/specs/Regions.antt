@@ -8,26 +8,26 @@ use Rattle.client_log.specs.Calls.{IsOnlyRead}
 use Rattle.client_log.specs.Steps.{WipesCurrent, WipesOther}
 use Rattle.client_log.specs.declared.error.LogError.{LogError}
 use Rattle.client_leases.specs.Held.{AreWritten}
-use Rattle.digester.specs.Digesting.{IsDigested, IsToldBad, StaysOrDigests, DigestsOrStays}
-use Rattle.digester.specs.SealedLog.{IsDoneBy, StandsAtMark, undone}
-use Rattle.digester.specs.declared.error.DigestError.{DigestError}
-use Rattle.digester.specs.declared.error.DigestError.TheVariants as digests
-use Rattle.digester.specs.declared.sealed_log.SealedLog.{SealedLog}
+use Rattle.libfs.specs.Digesting.{IsDigested, IsToldBad, StaysOrDigests, DigestsOrStays}
+use Rattle.libfs.specs.SealedLog.{IsDoneBy, StandsAtMark, undone}
+use Rattle.libfs.specs.DigestError.{DigestError}
+use Rattle.libfs.specs.DigestError.TheVariants as digests
+use Rattle.libfs.specs.DeclaredSealedLog.{SealedLog}
 use Rattle.coalescer.specs.Weight.{IsLongestRun}
-use Rattle.shared_area.specs.Store.{store_of}
+use Rattle.libfs.specs.Store.{store_of}
 use Rattle.file_graph.specs.Units.{charge}
 use Rattle.kernel_book.specs.Book.{out_of, units_of, waiting_of}
 use Rattle.world_facts.specs.Logs.{units_in}
 use Rattle.world_facts.specs.Machine.{Machine, Sealed, CanAccept, IsRunning, StandsSealed, accept as accept_step, digest as digest_step}
-use Rattle.kernel_fs.specs.Accepting.{client_of as client_in, HasAsManyWaiting, IsRegionOf}
-use Rattle.kernel_fs.specs.Answering.{Answers, OnRefusal}
-use Rattle.kernel_fs.specs.KernelView.{KernelView}
-use Rattle.kernel_fs.specs.Standing.{IsKernelOf}
-use Rattle.kernel_fs.specs.declared.digesting.Digestion.{Digestion}
-use Rattle.kernel_fs.specs.declared.digesting.Digestion.TheVariants as digestion
-use Rattle.kernel_fs.specs.declared.error.AcceptError.{AcceptError}
-use Rattle.kernel_fs.specs.declared.error.KernelError.{KernelError}
-use Rattle.kernel_fs.specs.declared.error.KernelError.TheVariants as kernel
+use Rattle.libfs.specs.Accepting.{client_of as client_in, HasAsManyWaiting, IsRegionOf}
+use Rattle.libfs.specs.Answering.{Answers, OnRefusal}
+use Rattle.libfs.specs.KernelView.{KernelView}
+use Rattle.libfs.specs.Standing.{IsKernelOf}
+use Rattle.libfs.specs.Digestion.{Digestion}
+use Rattle.libfs.specs.Digestion.TheVariants as digestion
+use Rattle.libfs.specs.AcceptError.{AcceptError}
+use Rattle.libfs.specs.KernelError.{KernelError}
+use Rattle.libfs.specs.KernelError.TheVariants as kernel
 use Rattle.file_graph.specs.Graph.{is_among}
 use Rattle.lease_manager.specs.Passes.{client_of}
 use Rattle.libfs.specs.HandingOver.{HasSealed, HasTakenBack}

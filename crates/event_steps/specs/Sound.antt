@@ -7,7 +7,7 @@ use Rattle.tier_device.specs.declared.media.Tier.{Tier}
 use Rattle.log_record.specs.Grammar.{IsRecord}
 use Rattle.update_log.specs.Counting.{next_generation}
 use Rattle.update_log.specs.View.{records_of}
-use Rattle.digester.specs.declared.sealed_log.SealedLog.{SealedLog}
+use Rattle.libfs.specs.DeclaredSealedLog.{SealedLog}
 use Rattle.lease_manager.specs.Passes.{client_of}
 use Rattle.lease_manager.specs.Words.{IsClient}
 use Rattle.libfs.specs.View.{ClientView}

@@ -2,8 +2,8 @@
 use Rattle.std.specs.Prelude.{◌≡◌, ℕ, ◌-◌, ◌++◌, List, length, Option, Some, None, slice_get}
 use Rattle.tier_device.specs.declared.media.Tier.{Tier}
 use Rattle.client_log.specs.View.{HandedView, written}
-use Rattle.digester.specs.declared.sealed_log.SealedLog.{SealedLog}
-use Rattle.kernel_fs.specs.KernelView.{KernelView}
+use Rattle.libfs.specs.DeclaredSealedLog.{SealedLog}
+use Rattle.libfs.specs.KernelView.{KernelView}
 use Rattle.libfs.specs.View.{ClientView}
 use Rattle.event_steps.specs.declared.refusals.Refusals.{Refusals}
 

@@ -3,8 +3,8 @@ ghost use Rattle.std.specs.Prelude.{◌≡◌, ◌⊎◌, ◌<◌, [], length, N
 ghost use Rattle.tier_device.specs.Media.{Rose};
 ghost use Rattle.client_log.specs.Calls.{IsOnlyRead};
 ghost use Rattle.update_log.specs.View.{records_of};
-ghost use Rattle.digester.specs.SealedLog.{IsSealed};
-ghost use Rattle.digester.specs.declared.sealed_log.SealedLog.{SealedLog};
+ghost use Rattle.libfs.specs.SealedLog.{IsSealed};
+ghost use Rattle.libfs.specs.DeclaredSealedLog.{SealedLog};
 ghost use Rattle.event_steps.specs.Sound.{IsLogOf};
 ghost use Rattle.event_steps.specs.Regions.{HasAccepted, HasLog, IsAwayRead, IsNotAcceptedFor, IsNotReadFor, refusal_to_accept};
 ghost use Rattle.event_steps.specs.declared.outcome.Refusal.TheVariants as refusals;
@@ -12,7 +12,7 @@ ghost use Rattle.event_steps.specs.declared.outcome.Refusal.TheVariants as refus
 use crate::away::Away;
 use crate::outcome::Refusal;
 use client_log::{HandedOver, LogError};
-use kernel_fs::{AcceptError, Kernel, KernelError, SealedLog};
+use libfs::{AcceptError, Kernel, KernelError, SealedLog};
 use log_record::Record;
 use std::alloc::Global;
 use std::mem;

@@ -14,9 +14,8 @@ use crate::outcome::{Outcome, Refusal};
 use crate::refusals::Refusals;
 use crate::seat::Seat;
 use client_leases::is_inode;
-use kernel_fs::Kernel;
 use lease_manager::LeaseMode;
-use libfs::Denied;
+use libfs::{Denied, Kernel};
 use tier_device::Media;
 
 impl<M: Media> Seat<M> {

@@ -2,8 +2,7 @@ ghost use Rattle.std.specs.Prelude.{◌≡◌};
 ghost use Rattle.event_steps.specs.View.{done_in};
 
 use client_log::HandedOver;
-use kernel_fs::SealedLog;
-use libfs::Sealed;
+use libfs::{Sealed, SealedLog};
 use std::marker::Model;
 use tier_device::Media;
 

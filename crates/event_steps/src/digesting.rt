@@ -1,14 +1,14 @@
 //! The region that a client handed over: digested chunk by chunk, and taken back.
 ghost use Rattle.std.specs.Prelude.{◌≡◌, ◌⊎◌, ◌<◌, ◌==◌, length, true, false, None, Some, Ok, Err, Result, is_some};
 ghost use Rattle.update_log.specs.Counting.{next_generation};
-ghost use Rattle.digester.specs.Chunk.{IsChunkOf, is_next};
-ghost use Rattle.digester.specs.SealedLog.{IsSealed};
-ghost use Rattle.digester.specs.declared.sealed_log.SealedLog.{SealedLog};
+ghost use Rattle.libfs.specs.Chunk.{IsChunkOf, is_next};
+ghost use Rattle.libfs.specs.SealedLog.{IsSealed};
+ghost use Rattle.libfs.specs.DeclaredSealedLog.{SealedLog};
 ghost use Rattle.lease_manager.specs.Passes.{client_of};
 ghost use Rattle.libfs.specs.HandingOver.{HasTakenBack};
-ghost use Rattle.digester.specs.declared.error.DigestError.{DigestError};
-ghost use Rattle.kernel_fs.specs.declared.digesting.Digestion.{Digestion};
-ghost use Rattle.kernel_fs.specs.declared.error.KernelError.{KernelError};
+ghost use Rattle.libfs.specs.DigestError.{DigestError};
+ghost use Rattle.libfs.specs.Digestion.{Digestion};
+ghost use Rattle.libfs.specs.KernelError.{KernelError};
 ghost use Rattle.event_steps.specs.Played.{Carries};
 ghost use Rattle.event_steps.specs.Sound.{number_of};
 ghost use Rattle.event_steps.specs.Regions.{ChunkCame, DigestsNext, IsDigestedOn, told_digest};
@@ -18,8 +18,7 @@ ghost use Rattle.event_steps.specs.declared.outcome.Refusal.TheVariants as refus
 use crate::away::Away;
 use crate::outcome::{Outcome, Refusal};
 use crate::seat::Seat;
-use kernel_fs::{Chunk, DigestError, Digestion, Kernel, KernelError, SealedLog, prepare};
-use libfs::Client;
+use libfs::{Chunk, Client, DigestError, Digestion, Kernel, KernelError, SealedLog, prepare};
 use std::alloc::Global;
 use tier_device::Media;
 

@@ -25,3 +25,8 @@ pub use event::Event;
 pub use outcome::{Outcome, Refusal};
 pub use seat::Seat;
 pub use system::System;
+
+// Passed on to the crates above, which so need not list those below.
+pub use libfs::{
+    AreaError, Client, Denied, Figures, Kernel, KernelError, NodeSummary, Now, Shared,
+};

@@ -4,7 +4,7 @@ ghost use Rattle.event_steps.specs.declared.outcome.Outcome.TheVariants as outco
 ghost use Rattle.event_steps.specs.Media.{IsMovedIn, IsReclaimedIn};
 
 use crate::outcome::{Outcome, Refusal};
-use kernel_fs::{Kernel, KernelError, ReclaimError, RelocateError};
+use libfs::{Kernel, KernelError, ReclaimError, RelocateError};
 use tier_device::{Media, Tier};
 
 pub fn reclaim<M: Media>(kernel: &mut Kernel<M>, inode: u32) -> Outcome

@@ -11,7 +11,7 @@ use crate::numbers::is_client;
 use crate::outcome::Outcome;
 use crate::seat::Seat;
 use crate::system::System;
-use kernel_fs::Kernel;
+use libfs::Kernel;
 use std::alloc::Global;
 use tier_device::Media;
 

@@ -1,17 +1,16 @@
 ghost use Rattle.std.specs.Prelude.{◌≡◌, ◌↔◌, length, IfErr, IfNone, IfOk, IfSome, IsTrue, OnErr, OnOk, Some, true};
 ghost use Rattle.call_effects.specs.NodeView.{view_at};
-ghost use Rattle.kernel_fs.specs.Answering.{Answers};
-ghost use Rattle.shared_area.specs.Looks.{Looks};
-ghost use Rattle.shared_area.specs.Parts.{IsTierOf};
-ghost use Rattle.shared_area.specs.Store.{graph, store_of};
+ghost use Rattle.libfs.specs.Answering.{Answers};
+ghost use Rattle.libfs.specs.Looks.{Looks};
+ghost use Rattle.libfs.specs.Parts.{IsTierOf};
+ghost use Rattle.libfs.specs.Store.{graph, store_of};
 ghost use Rattle.lease_manager.specs.Words.{IsClient};
 ghost use Rattle.event_steps.specs.Sound.{AreFrom, AreSeats};
 ghost use Rattle.event_steps.specs.View.{HasSeat, seat_of, undigested_on};
 
 use crate::numbers::{CLIENTS, is_client};
 use crate::seat::Seat;
-use kernel_fs::{AreaError, Fetched, Kernel, KernelError};
-use libfs::Client;
+use libfs::{AreaError, Client, Fetched, Kernel, KernelError};
 use std::alloc::Global;
 use std::marker::Model;
 use tier_device::{Media, Tier};

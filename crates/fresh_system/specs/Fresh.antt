@@ -8,8 +8,8 @@ use Rattle.lease_manager.specs.Passes.{PassView, lease_of, records_of}
 use Rattle.lease_manager.specs.Words.{HasWord}
 use Rattle.lease_manager.specs.declared.view.LeaseMode.TheVariants.{Free}
 use Rattle.kernel_book.specs.Book.{out_of}
-use Rattle.kernel_fs.specs.KernelView.{KernelView}
-use Rattle.libfs.specs.Holding.{known_to}
+use Rattle.event_steps.specs.KernelView.{KernelView}
+use Rattle.event_steps.specs.Holding.{known_to}
 use Rattle.event_steps.specs.Refusals.{no_refusals}
 use Rattle.event_steps.specs.View.{SeatView, undigested_on}
 

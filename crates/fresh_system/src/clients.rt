@@ -3,16 +3,15 @@ ghost use Rattle.std.specs.Prelude.{◌≡◌, false, IfOk};
 ghost use Rattle.std.specs.List.{All};
 ghost use Rattle.tier_device.specs.declared.media.Tier.TheVariants.{Fast};
 ghost use Rattle.tier_device.specs.Media.{AtRest};
-ghost use Rattle.libfs.specs.Opening.{IsBlank};
+ghost use Rattle.event_steps.specs.Opening.{IsBlank};
 ghost use Rattle.fresh_system.specs.Fresh.{CountsNone, IsFreshSeat};
 
 use crate::error::OpenError;
 use crate::media_maker::MediaMaker;
 use client_log::{ClientLog, LogError};
-use event_steps::Seat;
+use event_steps::{Client, Seat};
 use fresh_media::empty_region;
 use lease_manager::{CLIENTS, Leases, Opened, Pass};
-use libfs::Client;
 use std::alloc::{AllocError, Global};
 use tier_device::Media;
 use update_log::{Region, RegionError};

@@ -1,5 +1,5 @@
 // Why a system is not opened.
-use kernel_fs::AreaError;
+use event_steps::AreaError;
 use std::alloc::AllocError;
 use thiserror::Error;
 

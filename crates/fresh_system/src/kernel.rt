@@ -6,8 +6,8 @@ ghost use Rattle.fresh_system.specs.Fresh.{IsFreshKernel};
 
 use crate::error::OpenError;
 use crate::media_maker::MediaMaker;
+use event_steps::{Kernel, Shared};
 use fresh_media::{empty_tier, first_fast_tier};
-use kernel_fs::{Kernel, Shared};
 use layout::Geometry;
 use std::alloc::{AllocError, Global};
 use tier_device::{Media, Tier};

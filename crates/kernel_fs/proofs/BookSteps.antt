@@ -3,7 +3,7 @@ use Rattle.std.proofs.Common.{◌≡◌, ℕ, ◌≤◌, List, true, refl, sym, 
 use Rattle.tier_device.specs.declared.media.Tier.{Tier}
 use Rattle.posix_calls.specs.Operations.{is_client}
 use Rattle.batch_journal.specs.View.{JournalView}
-use Rattle.shared_area.specs.Store.{store_of}
+use Rattle.digester.specs.Store.{store_of}
 use Rattle.world_facts.specs.World.{Account, at}
 use Rattle.world_facts.specs.Machine.{Machine, with_account}
 use Rattle.world_facts.proofs.Kernels.{each}

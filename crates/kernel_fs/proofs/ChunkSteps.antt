@@ -6,7 +6,7 @@ use Rattle.file_graph.specs.Units.{charge}
 use Rattle.layout.specs.Places.{Sizes}
 use Rattle.log_record.specs.declared.format.Record.{Record}
 use Rattle.batch_journal.specs.View.{JournalView}
-use Rattle.shared_area.specs.Store.{Store, store_of, graph}
+use Rattle.digester.specs.Store.{Store, store_of, graph}
 use Rattle.digest_plan.specs.Plan.{AreGood, IsFirstBad}
 use Rattle.digester.specs.Digesting.{IsDigested, IsToldBad}
 use Rattle.digester.specs.SealedLog.{IsSealed, undone}

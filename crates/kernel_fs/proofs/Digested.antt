@@ -9,7 +9,7 @@ use Rattle.layout.specs.declared.marks.Mark.{Mark}
 use Rattle.layout.specs.declared.marks.Marks.{Marks}
 use Rattle.log_record.specs.declared.format.Record.{Record}
 use Rattle.batch_journal.specs.View.{JournalView}
-use Rattle.shared_area.specs.Store.{Store, store_of, graph, marks}
+use Rattle.digester.specs.Store.{Store, store_of, graph, marks}
 use Rattle.digester.specs.Digesting.{IsDigested}
 use Rattle.digester.specs.Marking.{mark_of, mark_after, marks_after}
 use Rattle.update_log.specs.Counting.{next_generation}

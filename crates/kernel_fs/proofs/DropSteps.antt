@@ -5,7 +5,7 @@ use Rattle.tier_device.specs.declared.media.Tier.{Tier}
 use Rattle.file_graph.specs.Graph.{Graph, set_node}
 use Rattle.layout.specs.Places.{Sizes}
 use Rattle.batch_journal.specs.View.{JournalView}
-use Rattle.shared_area.specs.Store.{store_of, graph}
+use Rattle.digester.specs.Store.{store_of, graph}
 use Rattle.world_facts.specs.KernelSteps.{CanReclaim}
 use Rattle.world_facts.specs.Logs.{IsNameless}
 use Rattle.world_facts.specs.LeaseSteps.{without}

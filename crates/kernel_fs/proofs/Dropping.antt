@@ -16,18 +16,18 @@ use Rattle.layout.specs.Places.{Sizes, is_inode}
 use Rattle.log_record.specs.Grammar.{IsInode}
 use Rattle.batch_journal.specs.Course.{Unmoved}
 use Rattle.call_effects.specs.NodeView.{FileView, view_at, view_of_body, view_of_node}
-use Rattle.shared_area.specs.Store.{Store, store_of, graph, inode, marks}
-use Rattle.shared_area.specs.Reads.{Loose}
-use Rattle.shared_area.specs.Ready.{OpensAs}
-use Rattle.shared_area.specs.ChangeApplying.{IsAppliedStore}
-use Rattle.shared_area.specs.Applying.{StaysOrChanges}
+use Rattle.digester.specs.Store.{Store, store_of, graph, inode, marks}
+use Rattle.digester.specs.Reads.{Loose}
+use Rattle.digester.specs.Ready.{OpensAs}
+use Rattle.digester.specs.ChangeApplying.{IsAppliedStore}
+use Rattle.digester.specs.Applying.{StaysOrChanges}
 use Rattle.coalescer.specs.Weight.{fits_chunk}
 use Rattle.coalescer.specs.Within.{images_of}
 use Rattle.digest_plan.proofs.Applied.{fit_images}
 use Rattle.posix_calls.proofs.Sums.{same_if, there_if}
-use Rattle.shared_area.specs.Next.{HasFewEntries, nodes_for}
-use Rattle.shared_area.specs.Wanted.{images_for, AreWritten}
-use Rattle.shared_area.proofs.Entries.{no_view}
+use Rattle.digester.specs.Next.{HasFewEntries, nodes_for}
+use Rattle.digester.specs.Wanted.{images_for, AreWritten}
+use Rattle.digester.proofs.Entries.{no_view}
 use Rattle.world_facts.specs.Logs.{IsNameless}
 use Rattle.world_facts.proofs.Reclaims.{charge_less}
 use Rattle.world_facts.proofs.Records.{either}

@@ -6,8 +6,8 @@ use Rattle.std.proofs.lemmas.Bool.Decides.{eqb_tells, nat_tests}
 use Rattle.file_graph.specs.Graph.{Graph, Node}
 use Rattle.layout.specs.Places.{Sizes, is_inode}
 use Rattle.call_effects.specs.NodeView.{NodeView, view_of_node}
-use Rattle.shared_area.specs.Store.{Store, graph}
-use Rattle.shared_area.proofs.Entries.{no_view}
+use Rattle.digester.specs.Store.{Store, graph}
+use Rattle.digester.proofs.Entries.{no_view}
 use Rattle.world_facts.specs.LeaseSteps.{also}
 use Rattle.kernel_book.specs.Nodes.{AreNodes, is_node}
 use Rattle.kernel_fs.specs.Opening.{AreNodesBelow}

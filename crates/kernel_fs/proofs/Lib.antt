@@ -11,3 +11,5 @@ pub mod Dropping
 pub mod Reclaimed
 pub mod DropSteps
 pub mod Runs
+-- Passed on to the crates above, which so need not list those below.
+pub use Rattle.digester.proofs.Looked

@@ -6,7 +6,7 @@ use Rattle.layout.specs.declared.marks.Marks.{Marks}
 use Rattle.layout.specs.Places.{Sizes}
 use Rattle.batch_journal.specs.View.{JournalView}
 use Rattle.batch_journal.proofs.Courses.{tiers_same}
-use Rattle.shared_area.specs.Store.{Store, store_of, graph, marks}
+use Rattle.digester.specs.Store.{Store, store_of, graph, marks}
 use Rattle.world_facts.specs.Machine.{Machine}
 use Rattle.kernel_book.specs.Book.{Accounts, IsBookOf}
 use Rattle.kernel_book.specs.Marks.{AreMarksOf}

@@ -7,12 +7,12 @@ use Rattle.tier_device.specs.Media.{Rose}
 use Rattle.batch_journal.specs.View.{JournalView}
 use Rattle.batch_journal.specs.Course.{Unmoved}
 use Rattle.batch_journal.proofs.Courses.{unmoved_on}
-use Rattle.shared_area.specs.AreaError.{AreaError}
-use Rattle.shared_area.specs.AreaError.TheVariants as area
-use Rattle.shared_area.specs.ApplyError.{ApplyError}
-use Rattle.shared_area.specs.ApplyError.TheVariants as apply
-use Rattle.shared_area.specs.Applying.{AppliesOrStays}
-use Rattle.shared_area.specs.Looks.{Looks}
+use Rattle.digester.specs.AreaError.{AreaError}
+use Rattle.digester.specs.AreaError.TheVariants as area
+use Rattle.digester.specs.ApplyError.{ApplyError}
+use Rattle.digester.specs.ApplyError.TheVariants as apply
+use Rattle.digester.specs.Applying.{AppliesOrStays}
+use Rattle.digester.specs.Looks.{Looks}
 use Rattle.digester.specs.Errors.{IsAreaTold, IsChangeTold}
 use Rattle.kernel_fs.specs.Reclaiming.{ReclaimsOrStays}
 use Rattle.kernel_fs.specs.declared.error.ReclaimError.{ReclaimError}

@@ -11,10 +11,10 @@ use Rattle.file_graph.specs.Units.{charge}
 use Rattle.layout.specs.declared.marks.Marks.{Marks}
 use Rattle.batch_journal.specs.View.{JournalView}
 use Rattle.batch_journal.proofs.Courses.{tiers_same}
-use Rattle.shared_area.specs.Store.{Store, store_of, graph, marks}
-use Rattle.shared_area.specs.Moving.{MovesOrStays}
-use Rattle.shared_area.specs.RelocateError.{RelocateError}
-use Rattle.shared_area.specs.RelocateError.TheVariants as moves
+use Rattle.digester.specs.Store.{Store, store_of, graph, marks}
+use Rattle.digester.specs.Moving.{MovesOrStays}
+use Rattle.digester.specs.RelocateError.{RelocateError}
+use Rattle.digester.specs.RelocateError.TheVariants as moves
 use Rattle.digester.specs.Digesting.{DigestsOrStays, IsDigested}
 use Rattle.digester.specs.SealedLog.{IsSealed, StandsAtMark, undone}
 use Rattle.digester.specs.declared.sealed_log.SealedLog.{SealedLog}

@@ -1,7 +1,7 @@
 -- Sealed regions: when the kernel accepts one, when it digests a chunk of it, and which region of its machine that is.
 use Rattle.std.specs.Prelude.{◌≡◌, ◌≤◌, ◌+◌, ℕ, Bool, true, length}
 use Rattle.file_graph.specs.Graph.{is_among}
-use Rattle.shared_area.specs.Store.{Store}
+use Rattle.digester.specs.Store.{Store}
 use Rattle.digester.specs.Chunk.{is_next}
 use Rattle.digester.specs.SealedLog.{StandsAtMark, undone}
 use Rattle.digester.specs.declared.chunk.Chunk.{Chunk}

@@ -1,7 +1,7 @@
 -- Where a kernel stands: at the end of a run of its machine, from the opening on.
 use Rattle.std.specs.Prelude.{◌≡◌, ℕ, List}
 use Rattle.tier_device.specs.declared.media.Tier.{Tier}
-use Rattle.shared_area.specs.Store.{store_of, graph}
+use Rattle.digester.specs.Store.{store_of, graph}
 use Rattle.world_facts.specs.Machine.{Machine}
 use Rattle.kernel_book.specs.Run.{Entry, IsRun}
 use Rattle.kernel_book.specs.Steps.{opened}

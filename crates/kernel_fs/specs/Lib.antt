@@ -6,9 +6,24 @@ pub mod Accepting
 pub mod Opening
 pub mod Reclaiming
 -- Passed on to the crates above, which so need not list those below.
+pub use Rattle.digester.specs.AreaError
+pub use Rattle.digester.specs.ChangeApplying
 pub use Rattle.digester.specs.Chunk
 pub use Rattle.digester.specs.Digesting
+pub use Rattle.digester.specs.Found
+pub use Rattle.digester.specs.Looks
+pub use Rattle.digester.specs.Map
+pub use Rattle.digester.specs.Moving
+pub use Rattle.digester.specs.Parts
+pub use Rattle.digester.specs.Reading
+pub use Rattle.digester.specs.Ready
+pub use Rattle.digester.specs.RelocateError
+pub use Rattle.digester.specs.RunMoving
 pub use Rattle.digester.specs.SealedLog
+pub use Rattle.digester.specs.Store
+pub use Rattle.digester.specs.declared.chunk.Chunk as DeclaredChunk
+pub use Rattle.digester.specs.declared.error.DigestError
+pub use Rattle.digester.specs.declared.sealed_log.SealedLog as DeclaredSealedLog
 pub use Rattle.kernel_book.specs.Book
 pub use Rattle.kernel_book.specs.Free
 pub use Rattle.kernel_book.specs.Inodes
@@ -17,13 +32,3 @@ pub use Rattle.kernel_book.specs.Run
 pub use Rattle.kernel_book.specs.Steps
 pub use Rattle.kernel_book.specs.declared.error.RefillError
 pub use Rattle.migrator.specs.Picking
-pub use Rattle.shared_area.specs.AreaError
-pub use Rattle.shared_area.specs.Found
-pub use Rattle.shared_area.specs.Looks
-pub use Rattle.shared_area.specs.Moving
-pub use Rattle.shared_area.specs.Parts
-pub use Rattle.shared_area.specs.Reading
-pub use Rattle.shared_area.specs.Ready
-pub use Rattle.shared_area.specs.RelocateError
-pub use Rattle.shared_area.specs.RunMoving
-pub use Rattle.shared_area.specs.Store

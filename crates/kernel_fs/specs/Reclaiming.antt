@@ -7,10 +7,10 @@ use Rattle.layout.specs.Places.{Sizes}
 use Rattle.batch_journal.specs.Course.{Unmoved}
 use Rattle.batch_journal.specs.View.{JournalView}
 use Rattle.batch_journal.specs.Volume.{IsVolume}
-use Rattle.shared_area.specs.Store.{Store, store_of, slot, place, graph, marks}
-use Rattle.shared_area.specs.Reads.{Loose}
-use Rattle.shared_area.specs.Spelled.{IsOpenable}
-use Rattle.shared_area.specs.Ready.{OpensAs}
+use Rattle.digester.specs.Store.{Store, store_of, slot, place, graph, marks}
+use Rattle.digester.specs.Reads.{Loose}
+use Rattle.digester.specs.Spelled.{IsOpenable}
+use Rattle.digester.specs.Ready.{OpensAs}
 use Rattle.call_effects.specs.NodeView.{NodeView, FileView}
 use Rattle.world_facts.specs.Logs.{IsNameless}
 use Rattle.kernel_book.specs.Book.{Accounts, is_pinned}

@@ -4,7 +4,7 @@ use Rattle.tier_device.specs.declared.media.Tier.{Tier}
 use Rattle.posix_calls.specs.Operations.{is_client}
 use Rattle.layout.specs.declared.marks.Mark.{Mark}
 use Rattle.layout.specs.declared.marks.Marks.{Marks}
-use Rattle.shared_area.specs.Store.{Store, store_of, graph, marks}
+use Rattle.digester.specs.Store.{Store, store_of, graph, marks}
 use Rattle.digester.specs.Marking.{mark_of}
 use Rattle.world_facts.specs.Machine.{Machine}
 use Rattle.batch_journal.specs.View.{JournalView}

@@ -7,8 +7,8 @@ ghost use Rattle.file_graph.specs.Graph.{Graph};
 ghost use Rattle.graph_change.specs.View.{changes_of};
 ghost use Rattle.layout.specs.declared.marks.TheConstants.{CLIENTS};
 ghost use Rattle.log_record.specs.Grammar.{IsRecord};
-ghost use Rattle.shared_area.specs.ChangeApplying.{MakesFewCalls};
-ghost use Rattle.shared_area.specs.Store.{store_of};
+ghost use Rattle.digester.specs.ChangeApplying.{MakesFewCalls};
+ghost use Rattle.digester.specs.Store.{store_of};
 ghost use Rattle.digester.specs.Chunk.{IsChunkOf, is_next};
 ghost use Rattle.digester.specs.Digesting.{IsDigested, IsToldBad, StaysOrDigests, DigestsOrStays};
 ghost use Rattle.digester.specs.SealedLog.{IsSealed, IsDoneBy, StandsAtMark, undone};
@@ -20,10 +20,9 @@ ghost use Rattle.kernel_book.specs.Nodes.{AreNodes};
 ghost use Rattle.kernel_fs.specs.Accepting.{client_of, BeginsAtMark, HasAsManyWaiting};
 
 use crate::accepting::client_of;
-use digester::{Chunk, DigestError, SealedLog, digest_chunk};
+use digester::{Chunk, DigestError, SealedLog, Shared, digest_chunk};
 use kernel_book::{Book, InodeSet};
 use log_record::Record;
-use shared_area::Shared;
 use std::alloc::Global;
 use tier_device::Media;
 

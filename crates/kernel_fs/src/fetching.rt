@@ -4,20 +4,19 @@ ghost use Rattle.std.specs.Prelude.{◌≡◌, ◌-◌, ◌*◌, ℕ, min, lengt
 ghost use Rattle.posix_calls.specs.Operations.{is_client};
 ghost use Rattle.posix_calls.specs.declared.limits.TheConstants.{UNIT_BYTES};
 ghost use Rattle.call_effects.specs.NodeView.{view_at};
-ghost use Rattle.shared_area.specs.Store.{store_of, graph};
-ghost use Rattle.shared_area.specs.Looks.{Looks};
-ghost use Rattle.shared_area.specs.Map.{WantsMemory};
-ghost use Rattle.shared_area.specs.AreaError.TheVariants.{Memory};
-ghost use Rattle.shared_area.specs.Parts.{IsNoDamage};
-ghost use Rattle.shared_area.specs.Reading.{bytes_of_inode, IsReadFrom};
+ghost use Rattle.digester.specs.Store.{store_of, graph};
+ghost use Rattle.digester.specs.Looks.{Looks};
+ghost use Rattle.digester.specs.Map.{WantsMemory};
+ghost use Rattle.digester.specs.AreaError.TheVariants.{Memory};
+ghost use Rattle.digester.specs.Parts.{IsNoDamage};
+ghost use Rattle.digester.specs.Reading.{bytes_of_inode, IsReadFrom};
 ghost use Rattle.digester.specs.Marking.{mark_of};
 ghost use Rattle.kernel_fs.specs.Standing.{IsMarkIn};
 
-use digester::mark_of;
+use digester::{AreaError, Shared, mark_of};
 use layout::{Mark, Marks};
 use posix_calls::UNIT_BYTES;
 use record_check::NodeSummary;
-use shared_area::{AreaError, Shared};
 use tier_device::Media;
 
 /// What stands at an inode of the shared graph, as a client fetches it.

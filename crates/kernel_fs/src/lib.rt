@@ -17,7 +17,7 @@ mod laws;
 mod opening;
 mod reclaiming;
 
-pub use digester::{Chunk, DigestError, SealedLog, prepare};
+pub use digester::{AreaError, Chunk, DigestError, RelocateError, SealedLog, Shared, prepare};
 pub use digesting::Digestion;
 pub use error::{AcceptError, KernelError, KernelFailed, ReclaimError};
 pub use fetching::{Fetched, FetchedBytes};
@@ -31,4 +31,3 @@ pub use laws::{
 pub use layout::Mark;
 pub use migrator::FileRun;
 pub use record_check::NodeSummary;
-pub use shared_area::{AreaError, RelocateError, Shared};

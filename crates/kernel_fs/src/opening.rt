@@ -1,18 +1,18 @@
 //! Which inodes are nodes of the shared graph, read once.
 
 ghost use Rattle.std.specs.Prelude.{◌≡◌, ◌≤◌, ◌<◌, ◌+◌, ℕ, false, IfOk, IfErr};
-ghost use Rattle.shared_area.specs.Store.{store_of, graph};
-ghost use Rattle.shared_area.specs.AreaError.TheVariants.{Memory};
-ghost use Rattle.shared_area.specs.Looks.{Looks};
-ghost use Rattle.shared_area.specs.Map.{WantsMemory};
-ghost use Rattle.shared_area.specs.Parts.{IsNoDamage};
+ghost use Rattle.digester.specs.Store.{store_of, graph};
+ghost use Rattle.digester.specs.AreaError.TheVariants.{Memory};
+ghost use Rattle.digester.specs.Looks.{Looks};
+ghost use Rattle.digester.specs.Map.{WantsMemory};
+ghost use Rattle.digester.specs.Parts.{IsNoDamage};
 ghost use Rattle.kernel_book.specs.Inodes.{IsInode, has};
 ghost use Rattle.kernel_book.specs.Nodes.{AreNodes, is_node};
 ghost use Rattle.kernel_fs.specs.Opening.{AreNodesBelow};
 
+use digester::{AreaError, Shared};
 use kernel_book::InodeSet;
 use posix_calls::MAX_INODE;
-use shared_area::{AreaError, Shared};
 use tier_device::Media;
 
 // Whether an inode is a node.

@@ -6,22 +6,21 @@ ghost use Rattle.graph_change.specs.Change.{coalesced};
 ghost use Rattle.graph_change.specs.Tidy.{AreTidyChanges};
 ghost use Rattle.graph_change.specs.View.{changes_of};
 ghost use Rattle.log_record.specs.Grammar.{IsInode};
-ghost use Rattle.shared_area.specs.Store.{store_of, graph};
-ghost use Rattle.shared_area.specs.ApplyError.TheVariants.{NoBlock};
-ghost use Rattle.shared_area.specs.ChangeApplying.{MakesFewCalls};
-ghost use Rattle.shared_area.specs.Map.{WantsMemory};
-ghost use Rattle.shared_area.specs.Parts.{IsNoDamage};
+ghost use Rattle.digester.specs.Store.{store_of, graph};
+ghost use Rattle.digester.specs.ApplyError.TheVariants.{NoBlock};
+ghost use Rattle.digester.specs.ChangeApplying.{MakesFewCalls};
+ghost use Rattle.digester.specs.Map.{WantsMemory};
+ghost use Rattle.digester.specs.Parts.{IsNoDamage};
 ghost use Rattle.digester.specs.Errors.{IsAreaTold, IsChangeTold};
 ghost use Rattle.world_facts.specs.Logs.{IsNameless};
 ghost use Rattle.kernel_fs.specs.Reclaiming.{IsNamelessView, IsReclaimed, StaysOrReclaims, ReclaimsOrStays};
 ghost use Rattle.kernel_fs.specs.declared.error.ReclaimError.TheVariants.{DeviceFault, InUse, Memory};
 
 use crate::error::ReclaimError;
-use digester::marks_can_be_written;
+use digester::{ApplyError, AreaError, Shared, marks_can_be_written};
 use file_graph::Effect;
 use graph_change::{GraphChange, changes_are_the_effects, changes_keep_to_the_limits};
 use record_check::{NodeCounts, NodeSummary};
-use shared_area::{ApplyError, AreaError, Shared};
 use std::alloc::Global;
 use tier_device::Media;
 

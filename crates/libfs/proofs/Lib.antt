@@ -7,5 +7,5 @@ pub mod Granted
 pub mod Behind
 pub mod FirstBlocks
 pub mod Lengths
-pub mod Fetched
+pub mod FetchedNodes
 pub mod Served

@@ -34,10 +34,10 @@ use Rattle.kernel_fs.specs.KernelView.{KernelView}
 use Rattle.kernel_fs.specs.Standing.{IsKernelOf, IsMarkIn}
 use Rattle.kernel_fs.specs.declared.error.KernelError.{KernelError}
 use Rattle.kernel_fs.specs.declared.error.KernelError.TheVariants as kernel
-use Rattle.shared_area.specs.Looks.{Looks}
-use Rattle.shared_area.specs.Store.{store_of, graph}
-use Rattle.shared_area.specs.AreaError.{AreaError}
-use Rattle.shared_area.specs.AreaError.TheVariants as area
+use Rattle.kernel_fs.specs.Looks.{Looks}
+use Rattle.kernel_fs.specs.Store.{store_of, graph}
+use Rattle.kernel_fs.specs.AreaError.{AreaError}
+use Rattle.kernel_fs.specs.AreaError.TheVariants as area
 use Rattle.libfs.specs.declared.denying.Denied.{Denied}
 use Rattle.libfs.specs.declared.denying.Denied.TheVariants as denied
 use Rattle.libfs.specs.View.{ClientView}

@@ -5,7 +5,7 @@ ghost use Rattle.posix_calls.specs.declared.limits.TheConstants.{UNIT_BYTES};
 ghost use Rattle.layout.specs.declared.marks.Mark.{Mark};
 ghost use Rattle.lease_manager.specs.Passes.{client_of};
 ghost use Rattle.client_copies.specs.Put.{IsBlockLong};
-ghost use Rattle.shared_area.specs.Store.{store_of};
+ghost use Rattle.kernel_fs.specs.Store.{store_of};
 ghost use Rattle.kernel_fs.specs.Standing.{IsMarkIn};
 ghost use Rattle.libfs.specs.declared.denying.Denied.TheVariants as denied;
 ghost use Rattle.libfs.specs.Holding.{known_to};

@@ -4,7 +4,7 @@ ghost use Rattle.lease_manager.specs.Words.{HasWord};
 ghost use Rattle.call_effects.specs.Known.{with_copy};
 ghost use Rattle.client_copies.specs.Forgotten.{without_blocks};
 ghost use Rattle.own_records.specs.After.{node_laid};
-ghost use Rattle.shared_area.specs.Parts.{IsNoDamage};
+ghost use Rattle.kernel_fs.specs.Parts.{IsNoDamage};
 ghost use Rattle.kernel_fs.specs.Answering.{OnRefusal};
 ghost use Rattle.libfs.specs.declared.denying.Denied.TheVariants as denied;
 ghost use Rattle.libfs.specs.Holding.{known_to};

@@ -36,3 +36,9 @@ pub use laws::{
     answered_start_is_a_step, begun_record_is_a_step, served_client_needs_it_no_longer,
 };
 pub use now::Now;
+
+// Passed on to the crates above, which so need not list those below.
+pub use kernel_fs::{
+    AcceptError, AreaError, Chunk, DigestError, Digestion, Fetched, Figures, Kernel, KernelError,
+    NodeSummary, ReclaimError, RelocateError, SealedLog, Shared, prepare,
+};

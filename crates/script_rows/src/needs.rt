@@ -1,13 +1,13 @@
 // What the calls of a script need.
 use crate::noting::Noting;
-use fresh_system::{RamMaker, open_fresh};
 use layout::Geometry;
 use posix_calls::Call;
 use script_lines::{SystemLine, read_system_line};
-use served_calls::{Events, Served, serve_call};
 use std::alloc::Global;
 use std::io::Write;
-use system_shell::{Running, answer_line, write_answer};
+use system_shell::{
+    Events, RamMaker, Running, Served, answer_line, open_fresh, serve_call, write_answer,
+};
 use workload_cli::write_reply;
 
 /// Answers a script over a fresh system. Before what a call is answered stands what it needed, need by need. It answers status 3 where there is no system.

@@ -1,10 +1,9 @@
 // A running system that notes what its calls need.
 use client_plan::{Mode, Need};
-use event_steps::{Event, Outcome};
 use lease_manager::LeaseMode;
-use served_calls::Events;
 use std::alloc::Global;
 use std::io::Write;
+use system_shell::{Event, Events, Outcome};
 
 /// A running system that notes each need of a call, in a line of its own.
 #[derive(Drop)]

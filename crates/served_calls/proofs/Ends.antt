@@ -4,7 +4,7 @@ use Rattle.std.specs.Prelude.{Result, Ok, Err}
 use Rattle.posix_calls.specs.declared.call.Call.{Call}
 use Rattle.client_plan.specs.declared.need.Need.{Need}
 use Rattle.lease_manager.specs.declared.view.LeaseMode.{LeaseMode}
-use Rattle.libfs.specs.declared.denying.Denied.{Denied}
+use Rattle.event_steps.specs.Denied.{Denied}
 use Rattle.event_steps.specs.declared.event.Event.{Event}
 use Rattle.event_steps.specs.declared.event.Event.TheVariants as kinds
 use Rattle.event_steps.specs.declared.outcome.Outcome.{Outcome}

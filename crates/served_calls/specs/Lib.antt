@@ -6,3 +6,14 @@ pub mod OfSystem
 pub mod Runs
 pub mod Serving
 pub mod Whose
+-- Passed on to the crates above, which so need not list those below.
+pub use Rattle.event_steps.specs.AreaError
+pub use Rattle.event_steps.specs.Figures
+pub use Rattle.event_steps.specs.KernelError
+pub use Rattle.event_steps.specs.KernelView
+pub use Rattle.event_steps.specs.Parts
+pub use Rattle.event_steps.specs.Store
+pub use Rattle.event_steps.specs.View
+pub use Rattle.event_steps.specs.declared.event.Event
+pub use Rattle.event_steps.specs.declared.outcome.Outcome
+pub use Rattle.event_steps.specs.declared.outcome.Refusal

@@ -5,7 +5,7 @@ use Rattle.client_plan.specs.declared.need.Need.{Need}
 use Rattle.client_plan.specs.declared.need.Need.TheVariants as needs
 use Rattle.lease_manager.specs.declared.view.LeaseMode.{LeaseMode}
 use Rattle.lease_manager.specs.declared.view.LeaseMode.TheVariants.{Free, Reading, Writing, Trying}
-use Rattle.libfs.specs.declared.denying.Denied.TheVariants as denied
+use Rattle.event_steps.specs.Denied.TheVariants as denied
 use Rattle.event_steps.specs.declared.event.Event.{Event}
 use Rattle.event_steps.specs.declared.event.Event.TheVariants as event
 use Rattle.event_steps.specs.declared.outcome.Outcome.{Outcome}

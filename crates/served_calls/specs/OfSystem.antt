@@ -5,7 +5,7 @@ use Rattle.posix_calls.specs.Operations.{is_client}
 use Rattle.lease_manager.specs.Passes.{lease_of}
 use Rattle.lease_manager.specs.declared.view.LeaseMode.{LeaseMode}
 use Rattle.lease_manager.specs.declared.view.LeaseMode.TheVariants.{Free}
-use Rattle.libfs.specs.View.{is_pending}
+use Rattle.event_steps.specs.Clients.{is_pending}
 use Rattle.event_steps.specs.Played.{Carries, Plays}
 use Rattle.event_steps.specs.Turns.{CanPlay}
 use Rattle.event_steps.specs.View.{SeatView, SystemView, seat_of, undigested_on}

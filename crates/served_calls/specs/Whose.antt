@@ -7,7 +7,7 @@ use Rattle.event_steps.specs.declared.event.Event.{Event}
 use Rattle.event_steps.specs.declared.event.Event.TheVariants as event
 use Rattle.event_steps.specs.declared.outcome.Outcome.{Outcome}
 use Rattle.event_steps.specs.declared.outcome.Outcome.TheVariants as outcome
-use Rattle.libfs.specs.declared.denying.Denied.{Denied}
+use Rattle.event_steps.specs.Denied.{Denied}
 use Rattle.served_calls.specs.declared.answering.Served.{Served}
 use Rattle.served_calls.specs.declared.answering.Served.TheVariants as served
 

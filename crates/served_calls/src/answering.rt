@@ -10,8 +10,7 @@ ghost use Rattle.served_calls.specs.Whose.{after_deny, after_start};
 
 use crate::events::Events;
 use client_plan::Need;
-use event_steps::{Event, Outcome};
-use libfs::Denied;
+use event_steps::{Denied, Event, Outcome};
 use posix_calls::Reply;
 
 /// What became of a served call.

@@ -14,3 +14,9 @@ pub use answering::{Served, step_call};
 pub use digests::{digest_all, digest_and_reclaim, wipe_all};
 pub use events::Events;
 pub use serving::{begin_call, serve_call};
+
+// Passed on to the crates above, which so need not list those below.
+pub use event_steps::{
+    AreaError, Client, Event, Figures, Kernel, KernelError, NodeSummary, Now, Outcome, Refusal,
+    Seat, System,
+};

@@ -14,9 +14,8 @@ use crate::events::Events;
 use crate::handing_over::{not_digested, others_hand_over};
 use crate::playing::{Did, carry_out};
 use client_plan::{Mode, Need};
-use event_steps::{Event, Refusal};
+use event_steps::{Denied, Event, Refusal};
 use lease_manager::LeaseMode;
-use libfs::Denied;
 
 /// What came of a need.
 #[derive(Clone, Copy)]

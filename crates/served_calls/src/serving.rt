@@ -10,9 +10,8 @@ ghost use Rattle.served_calls.specs.Whose.{IsOf, IsServing, IsAsking};
 use crate::answering::{Served, deny, start, step_call};
 use crate::events::Events;
 use crate::needs::{Turn, serve_need};
-use event_steps::Event;
+use event_steps::{Denied, Event};
 use lease_manager::INODES;
-use libfs::Denied;
 use posix_calls::Call;
 
 // More turns than any call has needs. An inode may be needed in five ways: unpinned, leased for reading and for writing, fetched and pinned, and a lease is asked for again once others have handed it over: that

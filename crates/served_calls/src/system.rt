@@ -4,9 +4,8 @@ ghost use Rattle.lease_manager.specs.Passes.{lease_of};
 ghost use Rattle.lease_manager.specs.declared.view.LeaseMode.TheVariants.{Free};
 
 use crate::events::Events;
-use event_steps::{Event, Outcome, System};
+use event_steps::{Client, Event, Outcome, System};
 use lease_manager::{INODES, LeaseMode};
-use libfs::Client;
 use tier_device::Media;
 
 impl<M: Media + Drop> Events for System<M> {

@@ -1,12 +1,11 @@
 ghost use Rattle.std.specs.Prelude.{◌≤◌};
 
-use fresh_system::{MediaMaker, RamMedia, open_fresh};
 use layout::Geometry;
 use script_lines::read_system_line;
 use std::alloc::{AllocError, Global};
 use std::io::{self, ErrorKind};
 use std::test::Fail;
-use system_shell::{Running, answer_line, write_answer};
+use system_shell::{MediaMaker, RamMedia, Running, answer_line, open_fresh, write_answer};
 use tier_device::{FaultMedia, Trip};
 
 // Two clients hand over, and what they logged is digested, wiped and moved down.

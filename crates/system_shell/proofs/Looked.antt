@@ -5,9 +5,9 @@ use Rattle.std.specs.Prelude.{Option}
 use Rattle.tier_device.specs.declared.media.Tier.{Tier}
 use Rattle.call_effects.specs.Wholes.{tree_of}
 use Rattle.layout.specs.Places.{Sizes}
-use Rattle.shared_area.specs.Parts.{IsTierOf}
-use Rattle.shared_area.specs.Store.{graph, store_of}
-use Rattle.event_steps.specs.View.{SystemView}
+use Rattle.served_calls.specs.Parts.{IsTierOf}
+use Rattle.served_calls.specs.Store.{graph, store_of}
+use Rattle.served_calls.specs.View.{SystemView}
 use Rattle.system_shell.specs.OfSystem.{HasLooked, LiesIn, tree_in}
 
 module _ {M : Type 0} (moment : M → ℕ) (seen : M → Tier → List ℕ) where

@@ -8,11 +8,11 @@ use Rattle.lease_manager.specs.declared.view.LeaseMode.{LeaseMode}
 use Rattle.script_lines.specs.SystemLines.{Asked, Calls, Steps, Digests, Wipes, Moves, Places, Books}
 use Rattle.script_lines.specs.declared.system_line.LowerTier.{LowerTier}
 use Rattle.script_lines.specs.declared.system_line.Manner.{Manner}
-use Rattle.kernel_fs.specs.declared.kernel.Figures.{Figures}
-use Rattle.event_steps.specs.declared.event.Event.{Event}
-use Rattle.event_steps.specs.declared.event.Event.TheVariants as event
-use Rattle.event_steps.specs.declared.outcome.Outcome.{Outcome}
-use Rattle.event_steps.specs.declared.outcome.Refusal.{Refusal}
+use Rattle.served_calls.specs.Figures.{Figures}
+use Rattle.served_calls.specs.Event.{Event}
+use Rattle.served_calls.specs.Event.TheVariants as event
+use Rattle.served_calls.specs.Outcome.{Outcome}
+use Rattle.served_calls.specs.Refusal.{Refusal}
 use Rattle.served_calls.specs.Digests.{IsCleared, IsWiped}
 use Rattle.served_calls.specs.Serving.{IsStepOf}
 use Rattle.served_calls.specs.declared.answering.Served.{Served}

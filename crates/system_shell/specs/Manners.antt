@@ -4,8 +4,8 @@ use Rattle.posix_calls.specs.declared.call.Call.{Call}
 use Rattle.lease_manager.specs.declared.view.LeaseMode.{LeaseMode}
 use Rattle.script_lines.specs.declared.system_line.Manner.{Manner}
 use Rattle.script_lines.specs.declared.system_line.Manner.TheVariants.{Served, Tried, Begun}
-use Rattle.event_steps.specs.declared.event.Event.{Event}
-use Rattle.event_steps.specs.declared.outcome.Outcome.{Outcome}
+use Rattle.served_calls.specs.Event.{Event}
+use Rattle.served_calls.specs.Outcome.{Outcome}
 use Rattle.served_calls.specs.Serving.{IsBegunCall, IsServedCall}
 use Rattle.served_calls.specs.declared.answering.Served as declared
 

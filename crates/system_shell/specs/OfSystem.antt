@@ -4,17 +4,17 @@ use Rattle.tier_device.specs.declared.media.Tier.{Tier}
 use Rattle.posix_calls.specs.Tree.{Tree}
 use Rattle.call_effects.specs.Wholes.{tree_of}
 use Rattle.file_graph.specs.Units.{charge}
-use Rattle.shared_area.specs.Parts.{IsTierOf}
-use Rattle.shared_area.specs.Store.{graph, store_of}
+use Rattle.served_calls.specs.Parts.{IsTierOf}
+use Rattle.served_calls.specs.Store.{graph, store_of}
 use Rattle.kernel_book.specs.Book.{out_of}
-use Rattle.kernel_fs.specs.KernelView.{KernelView}
-use Rattle.kernel_fs.specs.declared.kernel.Figures.{Figures}
-use Rattle.kernel_fs.specs.declared.error.KernelError.{KernelError}
-use Rattle.kernel_fs.specs.declared.error.KernelError.TheVariants as why
-use Rattle.shared_area.specs.AreaError.{AreaError}
-use Rattle.shared_area.specs.AreaError.TheVariants as errors
-use Rattle.event_steps.specs.View.{SystemView}
-use Rattle.event_steps.specs.declared.outcome.Refusal.TheVariants as refusals
+use Rattle.served_calls.specs.KernelView.{KernelView}
+use Rattle.served_calls.specs.Figures.{Figures}
+use Rattle.served_calls.specs.KernelError.{KernelError}
+use Rattle.served_calls.specs.KernelError.TheVariants as why
+use Rattle.served_calls.specs.AreaError.{AreaError}
+use Rattle.served_calls.specs.AreaError.TheVariants as errors
+use Rattle.served_calls.specs.View.{SystemView}
+use Rattle.served_calls.specs.Refusal.TheVariants as refusals
 use Rattle.system_shell.specs.declared.answer.Answer.{Answer}
 use Rattle.system_shell.specs.declared.answer.Answer.TheVariants as answers
 

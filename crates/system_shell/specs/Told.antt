@@ -7,11 +7,11 @@ use Rattle.posix_calls.specs.declared.errno.Errno.{Errno}
 use Rattle.posix_calls.specs.declared.errno.Errno.TheVariants.{NoMemory}
 use Rattle.script_lines.specs.declared.system_line.LowerTier.{LowerTier}
 use Rattle.script_lines.specs.declared.system_line.LowerTier.TheVariants as lower
-use Rattle.kernel_fs.specs.declared.kernel.Figures.{Figures}
-use Rattle.event_steps.specs.declared.outcome.Outcome.{Outcome}
-use Rattle.event_steps.specs.declared.outcome.Outcome.TheVariants as outcomes
-use Rattle.event_steps.specs.declared.outcome.Refusal.{Refusal}
-use Rattle.event_steps.specs.declared.outcome.Refusal.TheVariants as refusals
+use Rattle.served_calls.specs.Figures.{Figures}
+use Rattle.served_calls.specs.Outcome.{Outcome}
+use Rattle.served_calls.specs.Outcome.TheVariants as outcomes
+use Rattle.served_calls.specs.Refusal.{Refusal}
+use Rattle.served_calls.specs.Refusal.TheVariants as refusals
 use Rattle.served_calls.specs.declared.answering.Served.{Served}
 use Rattle.served_calls.specs.declared.answering.Served.TheVariants as served
 use Rattle.system_shell.specs.declared.answer.Answer.{Answer}

@@ -2,9 +2,8 @@
 ghost use Rattle.std.specs.Prelude.{◌≡◌};
 ghost use Rattle.system_shell.specs.Told.{told_failed};
 
-use event_steps::Refusal;
-use kernel_fs::Figures;
 use posix_calls::{Errno, Reply};
+use served_calls::{Figures, Refusal};
 use std::io::{self, Write};
 use tier_device::Tier;
 use workload_cli::write_reply;

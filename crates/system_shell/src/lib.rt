@@ -15,3 +15,7 @@ pub use answer::{Answer, write_answer};
 pub use run::run_sh;
 pub use running::Running;
 pub use shell::answer_line;
+
+// Passed on to the crates above, which so need not list those below.
+pub use fresh_system::{MediaMaker, RamMaker, RamMedia, open_fresh};
+pub use served_calls::{Event, Events, Outcome, Served, serve_call};

@@ -1,7 +1,7 @@
 // A system in memory tells of its shared area.
 ghost use Rattle.std.specs.Prelude.{◌≡◌, ◌⊎◌, Ok, Err, IfErr, IfOk, OnOk, false};
 ghost use Rattle.call_effects.specs.NodeView.{view_at};
-ghost use Rattle.shared_area.specs.Store.{graph, store_of};
+ghost use Rattle.served_calls.specs.Store.{graph, store_of};
 ghost use Rattle.posix_calls.specs.Path.{reading};
 ghost use Rattle.posix_calls.specs.Resolve as resolve;
 ghost use Rattle.posix_calls.specs.declared.errno.Errno.{Errno};
@@ -12,10 +12,9 @@ ghost use Rattle.system_shell.specs.Told.{IsNoFile, IsUnread, told_failed};
 
 use crate::answer::{Answer, failed};
 use crate::running::Running;
-use event_steps::{Refusal, System};
-use kernel_fs::{AreaError, Figures, KernelError, NodeSummary};
 use posix_calls::{Errno, Path, ROOT};
 use script_lines::PathText;
+use served_calls::{AreaError, Figures, KernelError, NodeSummary, Refusal, System};
 use std::alloc::Global;
 use tier_device::{Media, Tier};
 

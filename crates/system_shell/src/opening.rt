@@ -1,8 +1,8 @@
 // A running system over fresh media.
 use crate::options::Sizes;
-use event_steps::System;
 use fresh_system::{OpenError, RamMaker, RamMedia, open_fresh};
 use layout::Geometry;
+use served_calls::System;
 use std::alloc::Global;
 use workload_cli::RunError;
 

@@ -2,16 +2,15 @@
 ghost use Rattle.std.specs.Prelude.{◌≡◌, ℕ, Bool, false, Ok, Option, Some, None, IfErr, IfOk, OnOk};
 ghost use Rattle.tier_device.specs.declared.media.Tier.{Tier};
 ghost use Rattle.posix_calls.specs.Tree.{Tree};
-ghost use Rattle.event_steps.specs.declared.outcome.Refusal.TheVariants as refusals;
-ghost use Rattle.kernel_fs.specs.declared.kernel.Figures.{Figures};
+ghost use Rattle.served_calls.specs.Refusal.TheVariants as refusals;
+ghost use Rattle.served_calls.specs.Figures.{Figures};
 ghost use Rattle.script_lines.specs.Seen.{path_of};
 ghost use Rattle.system_shell.specs.Paths.{file_in};
 ghost use Rattle.system_shell.specs.Told.{IsNoFile};
 
 use crate::answer::Answer;
-use kernel_fs::Figures;
 use script_lines::PathText;
-use served_calls::Events;
+use served_calls::{Events, Figures};
 use std::alloc::Global;
 use tier_device::Tier;
 

@@ -1,15 +1,15 @@
 // Where the blocks of files lie.
 ghost use Rattle.std.specs.Prelude.{◌≡◌, ◌-◌, ◌^◌, min};
-ghost use Rattle.event_steps.specs.declared.event.Event.TheVariants as kinds;
-ghost use Rattle.event_steps.specs.declared.outcome.Outcome.{Outcome};
+ghost use Rattle.served_calls.specs.Event.TheVariants as kinds;
+ghost use Rattle.served_calls.specs.Outcome.{Outcome};
 ghost use Rattle.script_lines.specs.Seen.{path_of};
 ghost use Rattle.system_shell.specs.Answering.{IsMoveAnswered, IsPlaceAnswered};
 ghost use Rattle.system_shell.specs.Told.{tier_below, told_move};
 
 use crate::answer::Answer;
 use crate::running::Running;
-use event_steps::{Event, Outcome};
 use script_lines::{LowerTier, PathText};
+use served_calls::{Event, Outcome};
 use std::alloc::Global;
 use tier_device::Tier;
 

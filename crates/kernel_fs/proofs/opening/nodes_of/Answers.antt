@@ -1,9 +1,9 @@
 use Rattle.std.proofs.Common.{◌+◌, ◌∙◌, sym}
 use Rattle.layout.specs.Places.{Sizes}
-use Rattle.shared_area.specs.Store.{Store, store_of, graph}
-use Rattle.shared_area.specs.Looks.{looked}
-use Rattle.shared_area.specs.Map.{WantsMemory}
-use Rattle.shared_area.proofs.Looked.{carried, carried_back, looks_on, looks_none}
+use Rattle.digester.specs.Store.{Store, store_of, graph}
+use Rattle.digester.specs.Looks.{looked}
+use Rattle.digester.specs.Map.{WantsMemory}
+use Rattle.digester.proofs.Looked.{carried, carried_back, looks_on, looks_none}
 use Rattle.kernel_book.specs.Inodes.{has}
 use Rattle.kernel_fs.specs.Opening.{AreNodesBelow}
 use Rattle.kernel_fs.proofs.FirstNodes.{begins, ends}

@@ -1,5 +1,5 @@
-use Rattle.shared_area.specs.Store.{store_of, graph}
-use Rattle.shared_area.specs.Looks.{Looks, looked}
+use Rattle.digester.specs.Store.{store_of, graph}
+use Rattle.digester.specs.Looks.{Looks, looked}
 use Rattle.kernel_book.specs.Inodes.{has}
 use Rattle.kernel_fs.specs.Opening.{AreNodesBelow}
 use Rattle.kernel_fs.proofs.opening.nodes_of.Given as goal

@@ -7,8 +7,8 @@ use Rattle.graph_change.specs.Change.{coalesced}
 use Rattle.digester.proofs.Composed.{few_looked}
 use Rattle.call_effects.specs.NodeView.{NodeView, view_at}
 use Rattle.layout.specs.Places.{Sizes}
-use Rattle.shared_area.specs.Store.{Store, store_of, graph}
-use Rattle.shared_area.proofs.Looked.{carried_back}
+use Rattle.digester.specs.Store.{Store, store_of, graph}
+use Rattle.digester.proofs.Looked.{carried_back}
 use Rattle.world_facts.specs.Logs.{IsNameless}
 use Rattle.kernel_fs.specs.Reclaiming.{IsNamelessView, IsReclaimed, StaysOrReclaims}
 use Rattle.kernel_fs.specs.declared.error.ReclaimError.TheVariants as errors

@@ -4,8 +4,8 @@ use Rattle.file_graph.specs.declared.effect.Effect.TheVariants as effect
 use Rattle.graph_change.specs.Bounds.{AreBounded}
 use Rattle.graph_change.specs.Change.{Changes, Coalesces, coalesced}
 use Rattle.graph_change.specs.View.{changes_of}
-use Rattle.shared_area.specs.ChangeApplying.{MakesFewCalls}
-use Rattle.shared_area.specs.Store.{Store, store_of, graph}
+use Rattle.digester.specs.ChangeApplying.{MakesFewCalls}
+use Rattle.digester.specs.Store.{Store, store_of, graph}
 use Rattle.kernel_fs.proofs.Dropping.{charge_fits, few_entries, few_images, none_written, one_inode, reclaimed, then_reclaimed}
 use Rattle.kernel_fs.proofs.Reclaimed.{applied_stays, apply_stays, change_no_use}
 use Rattle.kernel_fs.proofs.reclaiming.drop_node.Goals as goal

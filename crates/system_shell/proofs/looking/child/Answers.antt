@@ -1,6 +1,6 @@
 use Rattle.std.proofs.Common.{◌∙◌, inl, inr, ap, sym}
 use Rattle.posix_calls.specs.declared.errno.Errno.TheVariants.{NoEntry}
-use Rattle.shared_area.specs.Store.{graph, store_of}
+use Rattle.served_calls.specs.Store.{graph, store_of}
 use Rattle.system_shell.proofs.Walks.{child_is, child_there}
 use Rattle.system_shell.proofs.looking.child.Goals as goal
 

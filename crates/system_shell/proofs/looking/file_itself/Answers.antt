@@ -1,6 +1,6 @@
 use Rattle.std.proofs.Common.{◌∙◌, inl, inr, sym}
 use Rattle.posix_calls.specs.declared.errno.Errno.TheVariants.{IsDirectory}
-use Rattle.shared_area.specs.Store.{graph, store_of}
+use Rattle.served_calls.specs.Store.{graph, store_of}
 use Rattle.system_shell.proofs.Walks.{directory_is_none}
 use Rattle.system_shell.proofs.looking.file_itself.Goals as goal
 

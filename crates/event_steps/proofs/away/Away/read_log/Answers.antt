@@ -3,8 +3,8 @@ use Rattle.std.specs.List.{AllByRecursion}
 use Rattle.std.specs.List.Sorted.{IsNonDecreasing}
 use Rattle.log_record.specs.Grammar.{IsRecord}
 use Rattle.log_record.specs.declared.format.Record.{Record}
-use Rattle.digester.specs.SealedLog.{IsSealed}
-use Rattle.digester.specs.declared.sealed_log.SealedLog.{SealedLog}
+use Rattle.libfs.specs.SealedLog.{IsSealed}
+use Rattle.libfs.specs.DeclaredSealedLog.{SealedLog}
 use Rattle.event_steps.specs.Sound.{IsLogOf}
 use Rattle.event_steps.specs.View.{AwayView}
 use Rattle.event_steps.proofs.Chunks.{has_some}

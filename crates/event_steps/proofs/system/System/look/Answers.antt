@@ -1,7 +1,7 @@
 use Rattle.std.proofs.Common.{◌≡◌, subst}
 use Rattle.std.specs.Prelude.{IfOk}
 use Rattle.call_effects.specs.NodeView.{view_at}
-use Rattle.shared_area.specs.Store.{graph, store_of}
+use Rattle.libfs.specs.Store.{graph, store_of}
 use Rattle.event_steps.specs.View.{SystemView}
 use Rattle.event_steps.proofs.system.System.look.Goals as goal
 

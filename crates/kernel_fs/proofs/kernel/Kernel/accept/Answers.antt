@@ -1,5 +1,5 @@
 use Rattle.std.proofs.Common.{◌≡◌, ◌∙◌, ◌+◌, ℕ, length, ap, sym, subst, refl}
-use Rattle.shared_area.specs.Store.{store_of}
+use Rattle.digester.specs.Store.{store_of}
 use Rattle.digester.specs.SealedLog.{StandsAtMark}
 use Rattle.world_facts.specs.Machine.{accept, Sealed}
 use Rattle.kernel_book.specs.Book.{IsBookOf, waiting_of}

@@ -1,5 +1,5 @@
 use Rattle.std.proofs.Common.{◌≡◌, ◌∙◌, ℕ, ◌≤◌, ◌+◌, true, false, refl, ap, sym, subst, take, arith, drop, length, ◌<◌, ◌-◌, List}
-use Rattle.shared_area.specs.Store.{store_of, graph}
+use Rattle.digester.specs.Store.{store_of, graph}
 use Rattle.digester.specs.SealedLog.{StandsAtMark, done_to, undone}
 use Rattle.digester.specs.declared.sealed_log.SealedLog.{SealedLog}
 use Rattle.file_graph.specs.Units.{charge}

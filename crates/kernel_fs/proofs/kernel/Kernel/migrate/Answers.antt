@@ -1,7 +1,7 @@
 use Rattle.std.proofs.Common.{◌∙◌, sym, subst}
-use Rattle.shared_area.specs.Store.{store_of}
-use Rattle.shared_area.specs.RunMoving.{CanMove}
-use Rattle.shared_area.specs.Moving.{HasTooFew}
+use Rattle.digester.specs.Store.{store_of}
+use Rattle.digester.specs.RunMoving.{CanMove}
+use Rattle.digester.specs.Moving.{HasTooFew}
 use Rattle.kernel_fs.specs.KernelView.{KernelView}
 use Rattle.kernel_fs.specs.Standing.{IsKernelOf}
 use Rattle.kernel_book.specs.Inodes.{has}

@@ -1,6 +1,6 @@
 use Rattle.std.proofs.Common.{ap}
 use Rattle.batch_journal.proofs.Courses.{tiers_same}
-use Rattle.shared_area.specs.Store.{store_of, graph}
+use Rattle.digester.specs.Store.{store_of, graph}
 use Rattle.kernel_book.specs.Inodes.{has}
 use Rattle.kernel_fs.proofs.MediaSteps.{moved_nodes, opened_kernel}
 use Rattle.kernel_fs.proofs.Runs.{begins}

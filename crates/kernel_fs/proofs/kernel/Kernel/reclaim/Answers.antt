@@ -1,7 +1,7 @@
 use Rattle.std.proofs.Common.{◌≡◌, ◌⊎◌, false, refl, ◌∙◌, sym, subst}
 use Rattle.std.specs.Prelude.{Ok, Err}
-use Rattle.shared_area.specs.Store.{store_of, graph}
-use Rattle.shared_area.specs.Map.{WantsMemory}
+use Rattle.digester.specs.Store.{store_of, graph}
+use Rattle.digester.specs.Map.{WantsMemory}
 use Rattle.world_facts.specs.Logs.{IsNameless}
 use Rattle.kernel_fs.specs.Answering.{Answers, told}
 use Rattle.kernel_fs.specs.Reclaiming.{IsUnused, ReclaimsOrStays, StaysOrReclaims}

@@ -1,7 +1,7 @@
 use Rattle.std.proofs.Common.{◌≡◌, ◌∙◌, ℕ, ◌+◌, ◌-◌, ◌<◌, ◌≤◌, ◌||◌, ◌&&◌, not, List, Bool, false, refl, sym, subst, ap}
 use Rattle.std.specs.Prelude.{◌↔◌, Ok, Err, IsErrOf}
 use Rattle.file_graph.specs.Units.{charge}
-use Rattle.shared_area.specs.Store.{store_of, graph}
+use Rattle.digester.specs.Store.{store_of, graph}
 use Rattle.kernel_book.specs.Book.{is_free, out_of, Accounts}
 use Rattle.kernel_book.specs.Free.{AreLowest, count_of}
 use Rattle.kernel_book.specs.Nodes.{nodes_in}

@@ -1,7 +1,7 @@
 use Rattle.std.proofs.Common.{◌<◌, ℕ, Option, take, refl, ap, sym, ◌∙◌, arith}
 use Rattle.std.specs.Prelude.{option_map}
 use Rattle.std.proofs.lemmas.Result.{on_ok_weaker}
-use Rattle.libfs.proofs.Fetched.{has_one, none_came, put_or_not}
+use Rattle.libfs.proofs.FetchedNodes.{has_one, none_came, put_or_not}
 use Rattle.libfs.proofs.client.Client.fetch_block.Goals as goal
 
 pub returns-in-Ok-Some-clause-fetched : goal.returns-in-Ok-Some-clause-fetched

@@ -1,5 +1,5 @@
 use Rattle.std.proofs.Common.{refl}
-use Rattle.libfs.proofs.Fetched.{none_came}
+use Rattle.libfs.proofs.FetchedNodes.{none_came}
 use Rattle.libfs.proofs.client.Client.fetch_blocks.Goals as goal
 
 pub returns-then-has_failed-clause-fetched : goal.returns-then-has_failed-clause-fetched

@@ -1,8 +1,8 @@
 use Rattle.std.proofs.Common.{◌≡◌, ◌+◌, ◌∙◌, subst, arith}
-use Rattle.shared_area.specs.Looks.{looked}
-use Rattle.shared_area.proofs.Looked.{looks_on, store_same}
+use Rattle.kernel_fs.specs.Looks.{looked}
+use Rattle.kernel_fs.proofs.Looked.{looks_on, store_same}
 use Rattle.libfs.specs.Serving.{HasThem}
-use Rattle.libfs.proofs.Fetched.{has_more, more_came, no_more_than}
+use Rattle.libfs.proofs.FetchedNodes.{has_more, more_came, no_more_than}
 use Rattle.libfs.proofs.client.Client.fetch_each.Goals as goal
 
 pub returns-in_err-fetch_block-clause-fetched : goal.returns-in_err-fetch_block-clause-fetched

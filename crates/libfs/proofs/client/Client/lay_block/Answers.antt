@@ -2,11 +2,11 @@ use Rattle.std.proofs.Common.{◌≡◌, ◌*◌, ℕ, take, ap, ◌∙◌, subs
 use Rattle.lease_manager.specs.Passes.{client_of}
 use Rattle.client_log.specs.View.{written}
 use Rattle.own_records.specs.After.{bytes_at}
-use Rattle.shared_area.specs.Store.{store_of}
+use Rattle.kernel_fs.specs.Store.{store_of}
 use Rattle.kernel_fs.specs.Standing.{IsMarkIn}
 use Rattle.libfs.specs.View.{ClientView}
 use Rattle.libfs.specs.Serving.{shared_by}
-use Rattle.libfs.proofs.Fetched.{laid_is}
+use Rattle.libfs.proofs.FetchedNodes.{laid_is}
 use Rattle.libfs.proofs.Lengths.{read_is_block}
 use Rattle.libfs.proofs.client.Client.lay_block.Goals as goal
 

@@ -13,7 +13,7 @@ use Rattle.layout.specs.declared.marks.Mark.{Mark}
 use Rattle.layout.specs.declared.marks.Marks.{Marks}
 use Rattle.layout.specs.Places.{Sizes}
 use Rattle.lease_manager.specs.Passes.{client_of}
-use Rattle.shared_area.specs.Store.{Store, store_of, graph, marks}
+use Rattle.kernel_fs.specs.Store.{Store, store_of, graph, marks}
 use Rattle.kernel_fs.specs.KernelView.{KernelView}
 use Rattle.kernel_fs.specs.Standing.{IsMarkIn}
 use Rattle.call_effects.specs.Blocks.{block_of}
