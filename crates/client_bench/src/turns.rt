@@ -26,21 +26,56 @@ const APPENDS: u64 = 120;
 /// The bytes that each record writes that is there before.
 const FEW: usize = 16;
 
+// What is timed, beside what, and the least times so far.
+#[derive(Drop)]
+struct Timing {
+    calls: Calls,
+    log: OwnLog,
+    least: Times,
+}
+
 /// The least times, with so many records in the log before each turn's writes.
 pub fn least_of(desk: &mut Desk<'_>, tree: Tree, records: u32) -> Result<Times, Failure> {
-    let calls = Calls::new(desk.alloc())?;
-    let mut log = OwnLog::new(desk.alloc())?;
-    let mut least = MOST;
+    let mut timing = timing_of(desk.alloc())?;
+    all_turns(desk, tree, &mut timing, records)?;
+    timing.log.end()?;
+    Ok(timing.least)
+}
+
+fn timing_of(alloc: Global) -> Result<Timing, Failure> {
+    let calls = Calls::new(alloc)?;
+    let log = OwnLog::new(alloc)?;
+    Ok(Timing {
+        calls,
+        log,
+        least: MOST,
+    })
+}
+
+fn all_turns(
+    desk: &mut Desk<'_>,
+    tree: Tree,
+    timing: &mut Timing,
+    records: u32,
+) -> Result<(), Failure> {
     let mut tree = tree;
     for _ in 0..TURNS {
-        log_some(desk.alloc(), &mut tree, records)?;
-        let (back, times) = one_turn(desk, tree, &mut log, &calls)?;
-        tree = back;
-        least = least.least(times);
+        tree = next_turn(desk, tree, timing, records)?;
     }
-    log.end()?;
-    tree.end()?;
-    Ok(least)
+    tree.end()
+}
+
+fn next_turn(
+    desk: &mut Desk<'_>,
+    tree: Tree,
+    timing: &mut Timing,
+    records: u32,
+) -> Result<Tree, Failure> {
+    let mut tree = tree;
+    log_some(desk.alloc(), &mut tree, records)?;
+    let (tree, times) = one_turn(desk, tree, &mut timing.log, &timing.calls)?;
+    timing.least = timing.least.least(times);
+    Ok(tree)
 }
 
 // The log has so many records, and the client keeps the block of its file.
