@@ -2,7 +2,7 @@
 use crate::tree::{Tree, is_refusal};
 use fresh_system::RamMedia;
 use layer_bench::Failure;
-use posix_calls::{Call, Reply};
+use posix_calls::Call;
 use served_calls::{Client, Kernel, Now, Seat, System};
 use std::alloc::Global;
 
@@ -38,27 +38,17 @@ impl TimedClient {
         }
         match self.client.start(call) {
             Now::Done { reply } => self.has_refused |= is_refusal(&reply),
-            Now::Pending => self.make_steps(),
+            Now::Pending => self.finish(),
             Now::Need { .. } => self.has_refused = true,
         }
     }
 
-    // Four device calls append a record, and the last of them answers the call.
-    fn make_steps(&mut self) {
-        for _ in 0..3 {
-            let _ = self.step();
+    // Its device calls append a record, and the last of them answers it.
+    fn finish(&mut self) {
+        if self.client.is_pending() {
+            let reply = self.client.finish();
+            self.has_refused |= is_refusal(&reply);
         }
-        match self.step() {
-            Some(reply) => self.has_refused |= is_refusal(&reply),
-            None => self.has_refused = true,
-        }
-    }
-
-    fn step(&mut self) -> Option<Reply> {
-        if !self.client.is_pending() {
-            return None;
-        }
-        self.client.step()
     }
 
     /// The tree again, with the client in its system.

@@ -4,6 +4,7 @@ use Rattle.tier_device.specs.declared.media.Tier.{Tier}
 use Rattle.tier_device.specs.declared.media.Tier.TheVariants.{Fast}
 use Rattle.tier_device.specs.Media.{Keeps, LeftSince, Puts, Rose}
 use Rattle.update_log.specs.Counting.{records_under}
+use Rattle.update_log.specs.Moments.{PastStays}
 use Rattle.update_log.specs.View.{RegionView, records_of}
 use Rattle.update_log.specs.Wipe.{wipe_next, wipe_progress, seen_wiped}
 use Rattle.update_log.specs.declared.format.TheConstants.{HEADER}
@@ -29,6 +30,16 @@ pub record IsMovedOnce {M T : Type 0} (moment : M → ℕ) (left : M → ℕ →
   pub one_call : OnOk result (moment new.media ≡ moment old.media + 1)
   pub at_most : moment new.media ≤ moment old.media + 1
   pub past : Keeps (moment old.media) (moment new.media) (left old.media) (left new.media)
+  pub fault : OnErr result (Rose (faults old.media) (faults new.media))
+  pub sound : OnOk result (faults new.media ≡ faults old.media)
+  pub faults_rise : faults old.media ≤ faults new.media
+  pub one_fault : faults new.media ≤ faults old.media + 1
+
+-- A region that was moved by so many writes and fences, which are counted where all of them succeeded. Only where the device does the last one fails.
+pub record IsMoved {M T : Type 0} (moment : M → ℕ) (left : M → ℕ → Tier → List ℕ → Type 0) (faults : M → ℕ) (calls : ℕ) (old new : RegionView M) (result : Result T LogError) : Type 0 where
+  pub all_calls : OnOk result (moment new.media ≡ moment old.media + calls)
+  pub at_most : moment new.media ≤ moment old.media + calls
+  pub past : PastStays (moment old.media) (moment new.media) (left old.media) (left new.media)
   pub fault : OnErr result (Rose (faults old.media) (faults new.media))
   pub sound : OnOk result (faults new.media ≡ faults old.media)
   pub faults_rise : faults old.media ≤ faults new.media

@@ -5,14 +5,14 @@ ghost use Rattle.log_record.specs.Grammar.{IsRecord, spelling};
 ghost use Rattle.update_log.specs.Calls.{ShowsCall};
 ghost use Rattle.update_log.specs.Counting.{next_generation};
 ghost use Rattle.update_log.specs.Frames.{end_behind};
-ghost use Rattle.update_log.specs.Stage.{next, progress};
+ghost use Rattle.update_log.specs.Stage.{calls_left, next, progress};
 ghost use Rattle.update_log.specs.View.{RegionView, records_of};
 ghost use Rattle.update_log.specs.declared.format.TheConstants.{REGION_SIZE};
 ghost use Rattle.update_log.specs.declared.stage.Progress.TheVariants as appends;
 ghost use Rattle.update_log.specs.declared.stage.Stage.TheVariants as stages;
 ghost use Rattle.update_log.specs.declared.stage.WipeProgress.TheVariants as wipes;
 ghost use Rattle.client_log.specs.declared.error.LogError.TheVariants.{DeviceFault, NotWiped, RegionFull, Memory};
-ghost use Rattle.client_log.specs.Calls.{IsOnlyRead, IsMovedOnce};
+ghost use Rattle.client_log.specs.Calls.{IsOnlyRead, IsMoved, IsMovedOnce};
 ghost use Rattle.client_log.specs.Counts.{AreLeft, CountOf};
 ghost use Rattle.client_log.specs.Regions.{AreWiped, CountsNothing, IsWiped, in_turn};
 ghost use Rattle.client_log.specs.Steps.{IsOpened, HasRoom, most_of, CanBeSealed, sealed_view, WipesCurrent, WipesOther};
@@ -182,6 +182,41 @@ impl<M: Media> ClientLog<M> {
         self.current.left_now();
         match stepped {
             Ok(progress) => Ok(progress),
+            Err(_) => {
+                self.failed = true;
+                Err(LogError::DeviceFault)
+            }
+        }
+    }
+
+    /// Makes the device calls that are left of the append that was begun, one after the other, each as `step` does. It takes no memory.
+    ///
+    /// Where the device fails, as for `step`, no further call is made; a log that has failed before makes none. The record stays begun then.
+    pub fn finish(&mut self) -> Result<(), LogError>
+        requires { IsSome self.old.current.begun }
+
+        // At each moment of the calls what counted before them counts, with the begun record or without.
+        ensures any_moment { (regions : ℕ → List ℕ) → AreLeft M.moment M.left self.old self.new regions → CountOf self.old.generation (is_some self.old.other) (written M.seen self.old) self.old.current.begun regions }
+
+        ensures appended { OnOk result (IfSome self.old.current.begun (λ r. turn_of M.seen self.new ≡ record_appended (turn_of M.seen self.old) r)) }
+        ensures unanswered { OnErr result (turn_of M.seen self.new ≡ turn_of M.seen self.old) }
+        ensures stage { OnOk result (self.new.current.stage ≡ stages.Resting) }
+        ensures stage_failed { self.old.failed ≡ false → OnErr result (self.new.current.stage ≡ stages.Failed) }
+        ensures moved { self.old.failed ≡ false → IsMoved M.moment M.left M.faults (calls_left self.old.current.stage) self.old.current self.new.current result }
+        ensures rest { self.new ≡ record self.old { current = self.new.current; failed = self.new.failed } }
+        ensures sound { OnOk result ((self.old.failed ≡ false) × (self.new.failed ≡ false)) }
+        ensures failed { OnErr result (self.new.failed ≡ true) }
+        ensures only { IfErr result (λ e. e ≡ DeviceFault) }
+        ensures stays_failed { self.old.failed ≡ true → (result ≡ Err DeviceFault) × (self.new ≡ self.old) }
+    {
+        self.current.left_now();
+        if self.failed {
+            return Err(LogError::DeviceFault);
+        }
+        let finished = self.current.finish();
+        self.current.left_now();
+        match finished {
+            Ok(()) => Ok(()),
             Err(_) => {
                 self.failed = true;
                 Err(LogError::DeviceFault)

@@ -1,16 +1,24 @@
-ghost use Rattle.std.specs.Prelude.{◌≡◌, ℕ, List, true, false, IfSome, is_some};
-ghost use Rattle.update_log.specs.Stage.{next, progress};
+ghost use Rattle.std.specs.Prelude.{◌≡◌, ◌++◌, ◌∷◌, [], ℕ, List, true, false, None, Some, IfSome, is_some};
+ghost use Rattle.std.specs.Option.{ForSome};
+ghost use Rattle.posix_calls.specs.declared.call.Reply.TheVariants as replies;
+ghost use Rattle.posix_calls.specs.declared.errno.Errno.TheVariants.{IoError};
+ghost use Rattle.update_log.specs.Stage.{calls_left, next, progress};
 ghost use Rattle.update_log.specs.Calls.{ShowsCall};
 ghost use Rattle.update_log.specs.declared.stage.Progress.TheVariants.{Going, Appended};
 ghost use Rattle.update_log.specs.declared.stage.Stage.TheVariants as stages;
-ghost use Rattle.client_log.specs.Calls.{IsMovedOnce};
+ghost use Rattle.client_log.specs.Calls.{IsMoved, IsMovedOnce};
 ghost use Rattle.client_log.specs.Counts.{AreLeft, CountOf};
 ghost use Rattle.client_log.specs.View.{written};
+ghost use Rattle.client_copies.specs.Held.{knows};
+ghost use Rattle.client_copies.specs.Logged.{knows_logged};
+ghost use Rattle.client_copies.specs.Prepared.{IsPreparedFor};
 ghost use Rattle.libfs.specs.View.{is_pending};
 ghost use Rattle.libfs.specs.Stepping.{IsGoing, HasReplied, HasFailed, call_answer};
 
 use crate::begun::Begun;
 use crate::client::Client;
+use client_copies::ClientCopies;
+use own_records::OwnRecords;
 use posix_calls::{Errno, Reply};
 use tier_device::Media;
 use update_log::Progress;
@@ -38,20 +46,72 @@ impl<M: Media> Client<M> {
     {
         match self.log.step() {
             Ok(Progress::Going) => None,
-            Ok(Progress::Appended) => match self.begun.take() {
-                Some(Begun { change, reply }) => {
-                    let entry = self.copies.commit(change);
-                    self.records.push(entry);
-                    Some(reply)
-                }
-                None => unreachable!(),
-            },
+            Ok(Progress::Appended) => Some(kept(
+                &mut self.begun,
+                &mut self.copies,
+                &mut self.records,
+            )),
             Err(_) => {
                 self.answered = true;
-                Some(Reply::Failed {
-                    errno: Errno::IoError,
-                })
+                Some(failed())
             }
         }
+    }
+
+    /// Makes all device calls that are left for the call that waits for its answer, one after the other, each as `step` does, and answers it: where all succeed its record is kept, and the
+    /// client knows what that left. A device that fails ends it at once with EIO, no further call is made, and the record stays begun. It takes no memory.
+    pub fn finish(&mut self) -> Reply
+        requires { is_pending self.old ≡ true }
+
+        // At each moment of the calls what counted before them counts, with the begun record or without.
+        ensures any_moment { (regions : ℕ → List ℕ) → AreLeft M.moment M.left self.old.log self.new.log regions → CountOf self.old.log.generation (is_some self.old.log.other) (written M.seen self.old.log) self.old.log.current.begun regions }
+
+        ensures replied { self.new.log.failed ≡ false → IfSome self.old.begun (λ b. HasReplied M.seen self.old b (Some result) self.new) }
+        ensures failed { self.new.log.failed ≡ true → HasFailed M.seen self.old (Some result) self.new }
+
+        // How many device calls it makes; a log that has failed before makes none.
+        ensures moved { self.old.log.failed ≡ false → IsMoved M.moment M.left M.faults (calls_left self.old.log.current.stage) self.old.log.current self.new.log.current (call_answer self.new.log.failed) }
+        ensures stage { self.new.log.failed ≡ false → self.new.log.current.stage ≡ stages.Resting }
+        ensures stage_failed { self.old.log.failed ≡ false → self.new.log.failed ≡ true → self.new.log.current.stage ≡ stages.Failed }
+        ensures rest { self.new.log ≡ record self.old.log { current = self.new.log.current; failed = self.new.log.failed } }
+        ensures stays_failed { self.old.log.failed ≡ true → self.new.log ≡ self.old.log }
+    {
+        match self.log.finish() {
+            Ok(()) => kept(&mut self.begun, &mut self.copies, &mut self.records),
+            Err(_) => {
+                self.answered = true;
+                failed()
+            }
+        }
+    }
+}
+
+// The begun record is kept: it counts among the client's, which knows what it left, and its call has this reply.
+fn kept(begun: &mut Option<Begun>, copies: &mut ClientCopies, records: &mut OwnRecords) -> Reply
+    requires begun { is_some begun.old ≡ true }
+    requires prepared { ForSome begun.old (λ b. IsPreparedFor (knows copies.old) b.change) }
+    requires room { records.old.has_room ≡ true }
+    ensures none { begun.new ≡ None }
+    ensures told { IfSome begun.old (λ b. result ≡ b.reply) }
+    ensures known { IfSome begun.old (λ b. knows copies.new ≡ knows_logged (knows copies.old) b.change.entry.effects b.change.made b.change.descriptor) }
+    ensures pushed { IfSome begun.old (λ b. records.new.current ≡ records.old.current ++ b.change.entry ∷ []) }
+    ensures away { records.new.away ≡ records.old.away }
+{
+    match begun.take() {
+        Some(Begun { change, reply }) => {
+            let entry = copies.commit(change);
+            records.push(entry);
+            reply
+        }
+        None => unreachable!(),
+    }
+}
+
+// A device failed.
+fn failed() -> Reply
+    ensures { result ≡ replies.Failed IoError }
+{
+    Reply::Failed {
+        errno: Errno::IoError,
     }
 }

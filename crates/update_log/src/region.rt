@@ -255,9 +255,13 @@ impl<M: Media> Region<M> {
         self.finish()
     }
 
-    // Makes the device calls that are left of an append.
-    fn finish(&mut self) -> Result<(), RegionError>
+    /// Makes the device calls that are left of an append, one after the other, each as `step` does. It takes no memory.
+    ///
+    /// Where the device fails, as `step` is, no further call is made, and the record stays begun.
+    pub fn finish(&mut self) -> Result<(), RegionError>
         requires { IsAppending self.old.stage }
+
+        // At each moment of the calls a stop leaves the records from before them, with the begun one or without.
         ensures any_moment { (c : List ℕ) → LeftSince (M.left self.new.media) (M.moment self.new.media) (M.moment self.old.media) Fast c
             → WithOrWithout (header_of M.seen self.old) (records_of M.seen self.old) (begun_of self.old) c }
         ensures past { PastStays (M.moment self.old.media) (M.moment self.new.media) (M.left self.old.media) (M.left self.new.media) }
