@@ -8,8 +8,8 @@ use Rattle.std.proofs.lemmas.Bool.Decides.{nat_tests}
 use Rattle.std.proofs.lemmas.List.{take-append-le, take_all}
 use Rattle.posix_calls.specs.Content.{resized}
 use Rattle.file_graph.specs.Numbers.{in_run}
-use Rattle.block_cache.specs.Cached.{Block, bytes_at, put, used}
-use Rattle.block_cache.proofs.Found.{put_found, put_others, used_stays}
+use Rattle.block_cache.specs.Cached.{Block, bytes_at, put, used_run}
+use Rattle.block_cache.proofs.Found.{put_found, put_others, used_run_stays}
 use Rattle.call_effects.specs.NodeView.{NodeView, FileView}
 use Rattle.call_effects.specs.Known.{IsForgetful, with_blocks}
 use Rattle.client_copies.specs.Held.{Held, copy_at, size_known, kept_at, file_block, block_by, block_known, knows}
@@ -105,10 +105,10 @@ module _ (h : Held) (i b : ℕ) (bytes chunk : List ℕ) (bs : List Block) (padd
   pub less_after : b < 4294967296 → IsBlockLong (knows h) i b bytes → IsForgetful (with_blocks (knows h) i b 1 (λ _. bytes)) (knows (record h { blocks = bs }))
   less_after low long = subst (λ (xs : List Block). IsForgetful (with_blocks (knows h) i b 1 (λ _. bytes)) (knows (record h { blocks = xs }))) (sym blocks_are) (put_is_less h i b bytes low long)
 
--- to use a block changes nothing that is known
-used_by : (s : Option ℕ) (bs : List Block) (i b j n : ℕ) → block_by s (used i b bs) j n ≡ block_by s bs j n
-used_by None bs i b j n = refl
-used_by (Some size) bs i b j n = ap (λ (o : Option (List ℕ)). option_map (take (size - 4096 * n)) (cond (nat_lt n 4294967296) o None)) (used_stays j n i b bs)
+-- to use blocks changes nothing that is known
+used_by : (s : Option ℕ) (bs : List Block) (i first count j n : ℕ) → block_by s (used_run i first count bs) j n ≡ block_by s bs j n
+used_by None bs i first count j n = refl
+used_by (Some size) bs i first count j n = ap (λ (o : Option (List ℕ)). option_map (take (size - 4096 * n)) (cond (nat_lt n 4294967296) o None)) (used_run_stays j n i first count bs)
 
-pub used_is_known : (h : Held) (i b : ℕ) → knows (record h { blocks = used i b h.blocks }) ≡ knows h
-used_is_known h i b = λ t. record { client = h.client; own = (knows h).own; copies = (knows h).copies; blocks = λ j n. used_by (size_known (copy_at h.copies j)) h.blocks i b j n t; granted = (knows h).granted }
+pub used_is_known : (h : Held) (i first count : ℕ) → knows (record h { blocks = used_run i first count h.blocks }) ≡ knows h
+used_is_known h i first count = λ t. record { client = h.client; own = (knows h).own; copies = (knows h).copies; blocks = λ j n. used_by (size_known (copy_at h.copies j)) h.blocks i first count j n t; granted = (knows h).granted }

@@ -1,6 +1,6 @@
-ghost use Rattle.std.specs.Prelude.{◌≡◌, ◌==◌, ◌<◌, ℕ, length, Some, None, IsSome, not, true, false, IfOk, OnOk, OnErr};
+ghost use Rattle.std.specs.Prelude.{◌≡◌, ◌==◌, ◌<◌, ◌+◌, ◌^◌, ℕ, length, Some, None, IsSome, not, true, false, IfOk, OnOk, OnErr};
 ghost use Rattle.std.specs.List.{filter};
-ghost use Rattle.block_cache.specs.Cached.{put as put_first, used, without_file};
+ghost use Rattle.block_cache.specs.Cached.{put as put_first, used_run, without_file};
 ghost use Rattle.block_cache.specs.declared.bytes.TheConstants.{BLOCK_SIZE};
 ghost use Rattle.file_graph.specs.Graph.{is_among};
 ghost use Rattle.file_graph.specs.Numbers.{is_inode};
@@ -96,11 +96,13 @@ impl ClientCopies {
         self.blocks.put(inode, block, padded.as_slice())
     }
 
-    /// A block that is kept is the one used last now, and nothing else changes (`used_block_is_known_as_before`). It takes no memory.
-    pub fn use_block(&mut self, inode: u32, block: u32)
-        ensures { self.new ≡ record self.old { blocks = used inode block self.old.blocks } }
+    /// So many blocks of a file from one on are used in turn, those that are kept: the last of them is the one used last now. Nothing
+    /// else changes, and nothing that is known (`used_blocks_are_known_as_before`). It takes no memory.
+    pub fn use_blocks(&mut self, inode: u32, first: u32, count: u32)
+        requires { first + count < 2 ^ 32 }
+        ensures { self.new ≡ record self.old { blocks = used_run inode first count self.old.blocks } }
     {
-        let _ = self.blocks.get(inode, block);
+        use_run(&mut self.blocks, inode, first, count);
     }
 
     /// What is known of an inode goes: the copy and the blocks, and no others. It takes no memory.
@@ -195,6 +197,16 @@ fn put_descriptor(own: &mut OwnDescriptors, number: u32, what: Option<Descriptor
     match what {
         Some(descriptor) => own.set(number, Some(descriptor)),
         None => own.clear(number),
+    }
+}
+
+// So many blocks of a file from one on are used in turn, those that are kept.
+fn use_run(blocks: &mut Blocks, inode: u32, first: u32, count: u32)
+    requires { first + count < 2 ^ 32 }
+    ensures { blocks.new ≡ used_run inode first count blocks.old }
+{
+    for block in first..first + count {
+        let _ = blocks.get(inode, block);
     }
 }
 
