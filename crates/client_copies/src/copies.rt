@@ -4,7 +4,7 @@ ghost use Rattle.block_cache.specs.Cached.{put as put_first, used_run, without_f
 ghost use Rattle.block_cache.specs.declared.bytes.TheConstants.{BLOCK_SIZE};
 ghost use Rattle.file_graph.specs.Graph.{is_among};
 ghost use Rattle.file_graph.specs.Numbers.{is_inode};
-ghost use Rattle.call_effects.specs.Known.{IsForgetful, with_blocks, with_copy, with_granted};
+ghost use Rattle.call_effects.specs.Known.{IsForgetful, with_blocks, with_copy};
 ghost use Rattle.posix_calls.specs.Content.{resized};
 ghost use Rattle.posix_calls.specs.declared.limits.TheConstants.{MAX_DESCRIPTORS};
 ghost use Rattle.posix_calls.specs.Own.{own_of};
@@ -92,8 +92,7 @@ impl ClientCopies {
         ensures granted { OnOk result ((knows self.new).granted ≡ (knows self.old).granted) }
         ensures refused { OnErr result (self.new ≡ self.old) }
     {
-        let padded = padded(self.alloc, bytes)?;
-        self.blocks.put(inode, block, padded.as_slice())
+        put_padded(self.alloc, &mut self.blocks, inode, block, bytes)
     }
 
     /// So many blocks of a file from one on are used in turn, those that are kept: the last of them is the one used last now. Nothing
@@ -120,19 +119,6 @@ impl ClientCopies {
         ensures rest { self.new ≡ record self.old { blocks = without_file inode self.old.blocks } }
     {
         self.blocks.drop_file(inode)
-    }
-
-    /// A number for a new node is granted. Where there is no memory for it, nothing changes.
-    pub fn grant(&mut self, number: u32) -> Result<(), AllocError>
-        ensures granted { OnOk result (knows self.new ≡ with_granted (knows self.old) number) }
-        ensures rest { self.new ≡ record self.old { numbers = self.new.numbers } }
-        ensures refused { OnErr result (self.new ≡ self.old) }
-    {
-        if self.numbers.contains(&number) {
-            return Ok(());
-        }
-        self.numbers.push(number)?;
-        Ok(())
     }
 
     /// These numbers are granted, in place of those that were. It takes no memory.
@@ -215,6 +201,24 @@ fn without_number(numbers: &mut Vec<u32>, number: u32)
     ensures { numbers.new.items ≡ filter (λ n. not (n == number)) numbers.old.items }
 {
     numbers.retain(|n| *n != number);
+}
+
+// A block is put with zeros up to its whole length, a whole one as it is.
+fn put_padded(
+    alloc: Global,
+    blocks: &mut Blocks,
+    inode: u32,
+    block: u32,
+    bytes: &[u8],
+) -> Result<(), AllocError>
+    ensures put { OnOk result (blocks.new ≡ put_first inode block (resized BLOCK_SIZE bytes.now) blocks.old) }
+    ensures refused { OnErr result (blocks.new ≡ blocks.old) }
+{
+    if bytes.len() == BLOCK_SIZE {
+        return blocks.put(inode, block, bytes);
+    }
+    let padded = padded(alloc, bytes)?;
+    blocks.put(inode, block, padded.as_slice())
 }
 
 // The bytes of a block, and zeros up to its whole length.
