@@ -9,3 +9,4 @@ pub mod FirstBlocks
 pub mod Lengths
 pub mod FetchedNodes
 pub mod Served
+mod Used

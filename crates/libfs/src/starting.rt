@@ -3,6 +3,7 @@ ghost use Rattle.posix_calls.specs.declared.call.Reply.TheVariants as replies;
 ghost use Rattle.posix_calls.specs.declared.errno.Errno.TheVariants.{IoError, NoMemory};
 ghost use Rattle.call_effects.specs.Known.{part_of};
 ghost use Rattle.client_plan.specs.Memory.{wants_memory};
+ghost use Rattle.client_copies.specs.Held.{knows};
 ghost use Rattle.client_copies.specs.Prepared.{IsPreparedFor};
 ghost use Rattle.libfs.specs.declared.now.Now.TheVariants as now;
 ghost use Rattle.posix_calls.specs.declared.call.Reply.{Reply};
@@ -45,7 +46,7 @@ impl<M: Media> Client<M> {
         }
         match self.plan(call) {
             Ok(Outcome::Reply { reply, change }) => {
-                self.use_read(call, &reply);
+                use_read(&mut self.copies, call, &reply);
                 self.copies.change_descriptor(change);
                 Now::Done { reply }
             }
@@ -59,25 +60,6 @@ impl<M: Media> Client<M> {
                 },
             ) => self.begin(entry, reply, made, change),
             Err(_) => answer(Errno::NoMemory),
-        }
-    }
-
-    // The blocks in which the bytes lie that a read tells are the ones used last now.
-    fn use_read(&mut self, call: &Call, reply: &Reply)
-        requires idle { self.old.begun ≡ None }
-        ensures used { self.new.copies ≡ record self.old.copies { blocks = used_by call.now reply.now (known_to self.old).own self.old.copies.blocks } }
-        ensures known { known_to self.new ≡ known_to self.old }
-        ensures rest { self.new ≡ record self.old { copies = self.new.copies } }
-    {
-        used_blocks_are_known_as_before();
-        let Call::Pread { descriptor, at, .. } = call else {
-            return;
-        };
-        let Reply::Read { bytes } = reply else {
-            return;
-        };
-        if let Some(open) = self.copies.own().get(*descriptor) {
-            use_range(&mut self.copies, open.inode, *at, bytes.len());
         }
     }
 
@@ -140,6 +122,23 @@ fn answer(errno: Errno) -> Now
 {
     Now::Done {
         reply: Reply::Failed { errno },
+    }
+}
+
+// The blocks in which the bytes lie that a read tells are the ones used last now.
+fn use_read(copies: &mut ClientCopies, call: &Call, reply: &Reply)
+    ensures used { copies.new ≡ record copies.old { blocks = used_by call.now reply.now (knows copies.old).own copies.old.blocks } }
+    ensures known { knows copies.new ≡ knows copies.old }
+{
+    used_blocks_are_known_as_before();
+    let Call::Pread { descriptor, at, .. } = call else {
+        return;
+    };
+    let Reply::Read { bytes } = reply else {
+        return;
+    };
+    if let Some(open) = copies.own().get(*descriptor) {
+        use_range(copies, open.inode, *at, bytes.len());
     }
 }
 
