@@ -1,6 +1,6 @@
 -- The words of the map beneath, in terms of the list of blocks.
 use Rattle.std.proofs.Common.{◌≡◌, inl, inr, ℕ, ◌+◌, ◌-◌, ◌≤◌, ◌<◌, Bool, true, false, cond, ◌&&◌, List, [], ◌∷◌, ◌++◌, length, take, drop, get_or, Option, Some, None, option_map, refl, sym, ◌∙◌, ap, subst, arith, append_assoc}
-use Rattle.std.specs.Prelude.{◌==◌, not}
+use Rattle.std.specs.Prelude.{◌==◌, not, is_some, slice_get}
 use Rattle.std.specs.List.{IsDistinct, AllByRecursion}
 use Rattle.std.specs.Map.{keys_of, lookup, lookup_entry, remove_entry}
 use Rattle.std.specs.Option.{option_map_or}
@@ -10,7 +10,7 @@ use Rattle.std.proofs.lemmas.List.{length-map, take_all, take-map, drop_more, ta
 use Rattle.lru.specs.LruCache.{LruCache, promoted, put_entries, last_entry}
 use Rattle.lru.proofs.Pairs.{last_of_push}
 use Rattle.block_cache.specs.declared.blocks.Place.{Place}
-use Rattle.block_cache.specs.Cached.{Block, bytes_at, without, in_front, used, put, without_file, is_same}
+use Rattle.block_cache.specs.Cached.{Block, bytes_at, bytes_if_first, without, in_front, used, put, without_file, is_same}
 use Rattle.block_cache.specs.Entries.{block_of, blocks_in, others_than, turned}
 
 -- whether two places are the same
@@ -118,6 +118,36 @@ module _ (p : Place) where
       ap (λ o. blocks_in (option_map_or (λ (e : Entry). e ∷ remove_entry (same_place p) es) o es)) (found_entry es)
       ∙ promoted_by es apart (lookup (same_place p) es) refl
       ∙ ap (λ o. option_map_or (λ bytes. in_front p.inode p.block bytes (blocks_in es)) o (blocks_in es)) (sym (found es))
+
+  -- the first entry
+  pub first_is : (es : List Entry) (q : Place) (v : List ℕ) → Some (q, v) ≡ slice_get es 0 → same_place p q ≡ true → Some v ≡ bytes_if_first p.inode p.block (blocks_in es)
+  first_is [] q v is same = absurd (cc is)
+  first_is (e ∷ es) q v is same =
+      let here : (q, v) ≡ e = cc is in
+      ap (λ (f : Entry). Some f.1) here ∙ sym (cond-true (same_place p e.0) (Some e.1) None (sym (ap (λ (f : Entry). same_place p f.0) here) ∙ same))
+
+  pub first_other : (es : List Entry) (q : Place) (v : List ℕ) → Some (q, v) ≡ slice_get es 0 → same_place p q ≡ false → None ≡ bytes_if_first p.inode p.block (blocks_in es)
+  first_other [] q v is other = absurd (cc is)
+  first_other (e ∷ es) q v is other =
+      let here : (q, v) ≡ e = cc is in
+      sym (cond-false (same_place p e.0) (Some e.1) None (sym (ap (λ (f : Entry). same_place p f.0) here) ∙ other))
+
+  pub first_none : (es : List Entry) → None ≡ slice_get es 0 → None ≡ bytes_if_first p.inode p.block (blocks_in es)
+  first_none [] none = refl
+  first_none (e ∷ es) none = absurd (cc none)
+
+  -- to use the first one changes nothing
+  promoted_first : (e : Entry) (es : List Entry) → same_place p e.0 ≡ true → promoted (same_place p) (e ∷ es) ≡ e ∷ es
+  promoted_first e es t =
+      ap (λ o. option_map_or (λ (f : Entry). f ∷ remove_entry (same_place p) (e ∷ es)) o (e ∷ es)) (cond-true (same_place p e.0) (Some e) (lookup_entry (same_place p) es) t)
+      ∙ ap (λ (l : List Entry). e ∷ l) (cond-true (same_place p e.0) es (e ∷ remove_entry (same_place p) es) t)
+
+  pub first_is_used : (es : List Entry) → AreApart es → is_some (bytes_if_first p.inode p.block (blocks_in es)) ≡ true → blocks_in es ≡ used p.inode p.block (blocks_in es)
+  first_is_used [] apart some = absurd (cc some)
+  first_is_used (e ∷ es) apart some = elim (cases_Bool (same_place p e.0)) [
+    | inl t ↦ ap blocks_in (sym (promoted_first e es t)) ∙ promoted_is_used (e ∷ es) apart
+    | inr f ↦ absurd (let no : false ≡ true = sym (ap is_some (cond-false (same_place p e.0) (Some e.1) None f)) ∙ some in cc no)
+  ]
 
   -- an entry that is put
   abbrev with_put : List Entry → List ℕ → Option Entry → List Entry

@@ -4,7 +4,7 @@ use Rattle.std.specs.Prelude.{◌==◌, not}
 use Rattle.std.specs.List.{filter}
 use Rattle.std.specs.Option.{option_map_or}
 use Rattle.std.proofs.lemmas.Bool.{cases_Bool, and_parts, and_from, eqb-true, eq-eqb, ne_eqb, cond-true, cond-false, not_from_true, not_from_false}
-use Rattle.block_cache.specs.Cached.{Block, is_at, bytes_at, without, in_front, used, used_run, put, without_file}
+use Rattle.block_cache.specs.Cached.{Block, is_at, bytes_at, bytes_if_first, without, in_front, used, used_run, put, without_file}
 
 module _ (i n : ℕ) where
   -- where a filter keeps each block of this place, the same is found
@@ -90,6 +90,21 @@ module _ (i n j m : ℕ) where
 
   pub used_stays : (bs : List Block) → bytes_at i n (used j m bs) ≡ bytes_at i n bs
   used_stays bs = used_by bs (bytes_at j m bs) refl
+
+-- a block that is used is the first, if it is there
+unfound_first : (i n : ℕ) (bs : List Block) → bytes_at i n bs ≡ None → bytes_if_first i n bs ≡ None
+unfound_first i n [] none = refl
+unfound_first i n (b ∷ bs) none = elim (cases_Bool (is_at i n b)) [
+  | inl t ↦ absurd (let no : Some b.bytes ≡ None = sym (cond-true (is_at i n b) (Some b.bytes) (bytes_at i n bs) t) ∙ none in cc no)
+  | inr f ↦ cond-false (is_at i n b) (Some b.bytes) None f
+]
+
+used_first_by : (i n : ℕ) (bs : List Block) (o : Option (List ℕ)) → bytes_at i n bs ≡ o → bytes_if_first i n (option_map_or (λ v. in_front i n v bs) o bs) ≡ o
+used_first_by i n bs None is = unfound_first i n bs is
+used_first_by i n bs (Some v) is = cond-true (is_at i n (record { inode = i; block = n; bytes = v })) (Some v) None (at_itself i n v)
+
+pub used_first : (i n : ℕ) (bs : List Block) → bytes_if_first i n (used i n bs) ≡ bytes_at i n bs
+used_first i n bs = used_first_by i n bs (bytes_at i n bs) refl
 
 -- blocks that are used one after the other
 pub used_run_stays : (i n j first count : ℕ) (bs : List Block) → bytes_at i n (used_run j first count bs) ≡ bytes_at i n bs

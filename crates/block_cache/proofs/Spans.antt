@@ -1,9 +1,9 @@
 -- The blocks of a file, taken out by the span in which they lie.
 use Rattle.std.proofs.Common.{◌≡◌, inl, inr, ℕ, ◌+◌, ◌≤◌, ◌<◌, Bool, true, false, cond, ◌&&◌, List, [], ◌∷◌, Option, Some, None, refl, sym, ◌∙◌, ap, subst, arith}
-use Rattle.std.specs.Prelude.{◌≢◌, ◌==◌, not, slice_get}
+use Rattle.std.specs.Prelude.{◌≢◌, ◌==◌, not, option_map, slice_get}
 use Rattle.std.specs.List.{AllByRecursion, IsDistinct}
 use Rattle.std.specs.Map.{keys_of, remove_entry}
-use Rattle.std.proofs.lemmas.Bool.{cases_Bool, and_parts, and_from, eqb-true, eq-eqb, ne_eqb, cond-true, cond-false, not_from_true, not_from_false}
+use Rattle.std.proofs.lemmas.Bool.{cases_Bool, cases_eq, and_parts, and_from, eqb-true, eq-eqb, ne_eqb, cond-true, cond-false, not_from_true, not_from_false}
 use Rattle.std.proofs.lemmas.Map.Keys.{IsDistinct-head, IsDistinct-tail}
 use Rattle.lru.specs.LruCache.{LruCache, promoted, put_entries}
 use Rattle.lru.proofs.Splits.{all_at, all_from}
@@ -11,7 +11,7 @@ use Rattle.lru.proofs.CallerLemmas.{Contains-promoted, Contains-put_entries}
 use Rattle.block_cache.specs.declared.blocks.Place.{Place}
 use Rattle.block_cache.specs.declared.span.Span.{Span}
 use Rattle.block_cache.specs.Entries.{others_than}
-use Rattle.block_cache.specs.Spans.{IsIn, AreIn, AreFromTo, others_at}
+use Rattle.block_cache.specs.Spans.{IsIn, AreIn, AreFromTo, others_at, widened}
 use Rattle.block_cache.proofs.Entries.{same_place, same_is}
 
 abbrev Entry : Type 0
@@ -123,6 +123,23 @@ pub wider : (spans more : List (Option Span)) → ((i b : ℕ) → IsIn (slice_g
 wider spans more wide [] in_all = tt
 wider spans more wide (e ∷ es) in_all = (wide e.0.inode e.0.block in_all.0, wider spans more wide es in_all.1)
 
+-- a widened span has the new block, and all that it had
+pub has_new : (o : Option (Option Span)) (block : ℕ) → IsIn (option_map (λ span. Some (widened span block)) o) block
+has_new None block = tt
+has_new (Some None) block = (omega arith, omega arith)
+has_new (Some (Some s)) block = (omega arith, omega arith)
+
+has_old : (o : Option (Option Span)) (block b : ℕ) → IsIn o b → IsIn (option_map (λ span. Some (widened span block)) o) b
+has_old None block b old = tt
+has_old (Some None) block b old = absurd old
+has_old (Some (Some s)) block b old = (omega (arith, old.0), omega (arith, old.1))
+
+pub widened_has : (spans more : List (Option Span)) (i block : ℕ) → slice_get more i ≡ option_map (λ span. Some (widened span block)) (slice_get spans i) → ((j : ℕ) → j ≢ i → slice_get more j ≡ slice_get spans j) → (j b : ℕ) → IsIn (slice_get spans j) b → IsIn (slice_get more j) b
+widened_has spans more i block here others j b old = elim (cases_eq j i) [
+  | inl same ↦ subst (λ (o : Option (Option Span)). IsIn o b) (ap (λ k. option_map (λ span. Some (widened span block)) (slice_get spans k)) same ∙ sym here ∙ ap (slice_get more) (sym same)) (has_old (slice_get spans j) block b old)
+  | inr other ↦ subst (λ (o : Option (Option Span)). IsIn o b) (sym (others j other)) old
+]
+
 pub promoted_in : (p : Place) (spans : List (Option Span)) (es : List Entry) → AreIn spans es → AreIn spans (promoted (same_place p) es)
 promoted_in p spans es in_all = all_from (Lies spans) (promoted (same_place p) es) (λ e there. all_at (Lies spans) es e in_all (Contains-promoted (same_place p) es e there))
 
@@ -135,12 +152,12 @@ put_in c p v spans here in_all = all_from (Lies spans) (put_entries same_place c
   ]
 ])
 
-pub others_in : (i : ℕ) (spans less : List (Option Span)) → ((j b : ℕ) → j ≢ i → IsIn (slice_get spans j) b → IsIn (slice_get less j) b) → (es : List Entry) → AreIn spans es → AreIn less (others_than i es)
+pub others_in : (i : ℕ) (spans less : List (Option Span)) → ((j : ℕ) → j ≢ i → slice_get less j ≡ slice_get spans j) → (es : List Entry) → AreIn spans es → AreIn less (others_than i es)
 others_in i spans less keeps [] in_all = tt
 others_in i spans less keeps (e ∷ es) in_all =
     let on = others_in i spans less keeps es in_all.1 in
     elim (cases_Bool (e.0.inode == i)) [
       | inl t ↦ subst (AreIn less) (sym (cond-false (is_other i e) (e ∷ others_than i es) (others_than i es) (not_from_true (e.0.inode == i) t))) on
       | inr f ↦ subst (AreIn less) (sym (cond-true (is_other i e) (e ∷ others_than i es) (others_than i es) (not_from_false (e.0.inode == i) f)))
-          (keeps e.0.inode e.0.block (λ same. let no : true ≡ false = sym (eq-eqb e.0.inode i same) ∙ f in cc no) in_all.0, on)
+          (subst (λ (o : Option (Option Span)). IsIn o e.0.block) (sym (keeps e.0.inode (λ same. let no : true ≡ false = sym (eq-eqb e.0.inode i same) ∙ f in cc no))) in_all.0, on)
     ]

@@ -19,6 +19,11 @@ abbrev pub bytes_at : ℕ → ℕ → List Block → Option (List ℕ)
 bytes_at inode block [] = None
 bytes_at inode block (b ∷ bs) = if is_at inode block b then Some b.bytes else bytes_at inode block bs
 
+-- the bytes of a block, if it is the one used last
+abbrev pub bytes_if_first : ℕ → ℕ → List Block → Option (List ℕ)
+bytes_if_first inode block [] = None
+bytes_if_first inode block (b ∷ bs) = if is_at inode block b then Some b.bytes else None
+
 -- all others
 abbrev pub without : ℕ → ℕ → List Block → List Block
 without inode block bs = filter (λ b. not (is_at inode block b)) bs

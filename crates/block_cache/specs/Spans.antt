@@ -1,5 +1,5 @@
 -- In which span the blocks of a file are kept.
-use Rattle.std.specs.Prelude.{◌≤◌, ◌≡◌, ℕ, List, Option, Some, None, slice_get, ◌==◌, ◌&&◌, not}
+use Rattle.std.specs.Prelude.{◌≤◌, ◌≡◌, ℕ, List, Option, Some, None, slice_get, ◌==◌, ◌&&◌, not, min, max}
 use Rattle.std.specs.List.{AllByRecursion, filter}
 use Rattle.block_cache.specs.declared.blocks.Place.{Place}
 use Rattle.block_cache.specs.declared.span.Span.{Span}
@@ -9,6 +9,11 @@ abbrev pub IsIn : Option (Option Span) → ℕ → Type 0
 IsIn None b = Unit {0}
 IsIn (Some None) b = ⊥
 IsIn (Some (Some s)) b = (s.first ≤ b) × (b ≤ s.last)
+
+-- the least span of a file that has the blocks of its span and this one
+abbrev pub widened : Option Span → ℕ → Span
+widened None block = record { first = block; last = block }
+widened (Some s) block = record { first = min s.first block; last = max s.last block }
 
 -- each block that is kept lies in the span of its file
 abbrev pub AreIn : List (Option Span) → List (Place × List ℕ) → Type 0

@@ -2,7 +2,7 @@ ghost use Rattle.std.specs.Prelude.{◌≡◌, ◌==◌, [], length, option_map,
 ghost use Rattle.std.specs.Borrow.{sem, follows_so};
 ghost use mathlib.Core.Option.{none};
 ghost use Rattle.block_cache.specs.declared.bytes.TheConstants.{BLOCK_SIZE};
-ghost use Rattle.block_cache.specs.Cached.{IsCache, bytes_at, put as put_first, used, without_file};
+ghost use Rattle.block_cache.specs.Cached.{IsCache, bytes_at, bytes_if_first, put as put_first, used, without_file};
 
 use crate::bytes::{BLOCK_SIZE, BlockBytes};
 use crate::dropping::drop_kept;
@@ -80,24 +80,39 @@ impl Blocks {
         }
     }
 
-    /// The bytes of a block, if it is there. It is the first then.
+    /// The bytes of a block, if it is there. It is the first then. Where it is the first already it is not looked for.
     pub fn get(&mut self, inode: u32, block: u32) -> Option<&[u8]>
         ensures* moved { sem 𝓛 (follows_so the_row the_row self.entry.ghost_name none (λ _ _. ⊤) (λ last. last ≡ used inode block self.old)) }
         ensures bytes { option_map (λ b. b.now) result ≡ bytes_at inode block self.old }
         ensures whole { IfSome result (λ b. length b.now ≡ BLOCK_SIZE) }
     {
         self.move_to_front(inode, block);
-        self.peek(inode, block)
+        self.peek_if_first(inode, block)
     }
 
     // Moves a block in front, if it is there.
     fn move_to_front(&mut self, inode: u32, block: u32)
         ensures moved { self.new ≡ used inode block self.old }
-        ensures found { bytes_at inode block self.new ≡ bytes_at inode block self.old }
+        ensures found { bytes_if_first inode block self.new ≡ bytes_at inode block self.old }
     {
         // That no place is kept twice is known from here.
         let _ = self.cache.len();
+        if self.peek_if_first(inode, block).is_some() {
+            return;
+        }
         self.cache.promote(&Place { inode, block });
+    }
+
+    // The bytes of a block, if it is the first one.
+    fn peek_if_first(&self, inode: u32, block: u32) -> Option<&[u8]>
+        ensures bytes { option_map (λ b. b.now) result ≡ bytes_if_first inode block self.now }
+        ensures whole { IfSome result (λ b. length b.now ≡ BLOCK_SIZE) }
+    {
+        let place = Place { inode, block };
+        match self.cache.peek_mru() {
+            Some((first, bytes)) if place == *first => Some(bytes.as_slice()),
+            _ => None,
+        }
     }
 
     /// The bytes of a block, if it is there. The order stays as it is.

@@ -1,5 +1,5 @@
 // Dropping the blocks of a file by the span in which they lie.
-ghost use Rattle.std.specs.Prelude.{◌≡◌};
+ghost use Rattle.std.specs.Prelude.{◌≡◌, ◌-◌, nat_lt};
 ghost use Rattle.lru.specs.LruCache.{lru_cache};
 ghost use Rattle.block_cache.specs.Entries.{others_than};
 ghost use Rattle.block_cache.specs.Spans.{AreFromTo, AreIn, others_at};
@@ -22,7 +22,10 @@ pub fn drop_kept(cache: &mut LruCache<Place, BlockBytes>, spans: &[Option<Span>]
     }
 }
 
-fn is_short(span: Span, most: usize) -> bool {
+// Whether a span has so many blocks at most.
+fn is_short(span: Span, most: usize) -> bool
+    ensures { result ≡ nat_lt (span.last - span.first) most }
+{
     (span.last.saturating_sub(span.first) as usize) < most
 }
 

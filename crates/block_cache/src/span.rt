@@ -1,6 +1,7 @@
 // In which span the kept blocks of a file lie.
-ghost use Rattle.std.specs.Prelude.{◌≡◌, ◌≢◌, ◌≤◌, ℕ, Some, slice_get};
-ghost use Rattle.block_cache.specs.Spans.{IsIn};
+ghost use Rattle.std.specs.Prelude.{◌≡◌, ◌≢◌, ℕ, Some, None, IfOk, option_map, replicate, slice_get};
+ghost use Rattle.block_cache.specs.Spans.{widened};
+ghost use Rattle.block_cache.specs.declared.span.TheConstants.{FILES};
 
 use std::alloc::{AllocError, Global};
 
@@ -15,7 +16,9 @@ pub struct Span {
 }
 
 /// No file has blocks.
-pub fn no_spans(alloc: Global) -> Result<Vec<Option<Span>>, AllocError> {
+pub fn no_spans(alloc: Global) -> Result<Vec<Option<Span>>, AllocError>
+    ensures { IfOk result (λ spans. spans.items ≡ replicate FILES None) }
+{
     let files = FILES;
     vec![in alloc; None; files]
 }
@@ -29,8 +32,8 @@ pub fn span_of(spans: &[Option<Span>], inode: u32) -> Option<Option<Span>>
 
 /// A file may have this block too.
 pub fn widen_span(spans: &mut Vec<Option<Span>>, inode: u32, block: u32)
-    ensures here { IsIn (slice_get spans.new.items inode) block }
-    ensures more { (i b : ℕ) → IsIn (slice_get spans.old.items i) b → IsIn (slice_get spans.new.items i) b }
+    ensures here { slice_get spans.new.items inode ≡ option_map (λ span. Some (widened span block)) (slice_get spans.old.items inode) }
+    ensures others { (i : ℕ) → i ≢ inode → slice_get spans.new.items i ≡ slice_get spans.old.items i }
 {
     let place = inode as usize;
     if place < spans.len() {
@@ -38,9 +41,9 @@ pub fn widen_span(spans: &mut Vec<Option<Span>>, inode: u32, block: u32)
     }
 }
 
+// The least span that has this block too.
 fn widened(span: Option<Span>, block: u32) -> Span
-    ensures here { (result.first ≤ block) × (block ≤ result.last) }
-    ensures more { (b : ℕ) → IsIn (Some span) b → (result.first ≤ b) × (b ≤ result.last) }
+    ensures { result ≡ widened span block }
 {
     match span {
         Some(span) => Span {
@@ -56,7 +59,8 @@ fn widened(span: Option<Span>, block: u32) -> Span
 
 /// A file has no blocks.
 pub fn clear_span(spans: &mut Vec<Option<Span>>, inode: u32)
-    ensures { (i b : ℕ) → i ≢ inode → IsIn (slice_get spans.old.items i) b → IsIn (slice_get spans.new.items i) b }
+    ensures here { slice_get spans.new.items inode ≡ option_map (λ _. None) (slice_get spans.old.items inode) }
+    ensures others { (i : ℕ) → i ≢ inode → slice_get spans.new.items i ≡ slice_get spans.old.items i }
 {
     let place = inode as usize;
     if place < spans.len() {

@@ -13,5 +13,5 @@ pub invariant_of-self : goal.invariant_of-self
 invariant_of-self c =
     let spans = c.clear_span.new.spans.items in (
       ap (λ q. q.cap) c.drop_kept.ensures ∙ c.self.invariant.0,
-      subst (AreIn spans) (sym (ap (λ q. q.entries) c.drop_kept.ensures)) (others_in c.args.inode c.self.inside.spans.items spans c.clear_span.ensures c.self.inside.cache.entries c.self.invariant.1),
+      subst (AreIn spans) (sym (ap (λ q. q.entries) c.drop_kept.ensures)) (others_in c.args.inode c.self.inside.spans.items spans c.clear_span.ensures.others c.self.inside.cache.entries c.self.invariant.1),
     )

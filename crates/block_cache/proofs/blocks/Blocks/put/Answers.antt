@@ -1,10 +1,11 @@
-use Rattle.std.proofs.Common.{◌∙◌, ap, sym, subst}
+use Rattle.std.proofs.Common.{Option, slice_get, ◌∙◌, ap, sym, subst}
+use Rattle.block_cache.specs.declared.span.Span.{Span}
 use Rattle.block_cache.specs.declared.blocks.Place.{Place}
 use Rattle.block_cache.specs.Cached.{put}
 use Rattle.block_cache.specs.Entries.{blocks_in}
 use Rattle.block_cache.proofs.Entries.{put_is_put}
-use Rattle.block_cache.specs.Spans.{AreIn}
-use Rattle.block_cache.proofs.Spans.{put_in, wider}
+use Rattle.block_cache.specs.Spans.{AreIn, IsIn}
+use Rattle.block_cache.proofs.Spans.{has_new, put_in, widened_has, wider}
 use Rattle.block_cache.proofs.blocks.Blocks.put.Goals as goal
 
 pub returns-in-Ok-clause-put : goal.returns-in-Ok-clause-put
@@ -20,14 +21,15 @@ invariant_of-self c =
     let p : Place = record { inode = c.args.inode; block = c.args.block } in
     let cache = c.self.inside.cache in
     let spans = c.widen_span.new.spans.items in
-    let all = wider c.self.inside.spans.items spans c.widen_span.ensures.more cache.entries c.self.invariant.1 in (
+    let all = wider c.self.inside.spans.items spans (widened_has c.self.inside.spans.items spans c.args.inode c.args.block c.widen_span.ensures.here c.widen_span.ensures.others) cache.entries c.self.invariant.1 in
+    let here = subst (λ (o : Option (Option Span)). IsIn o c.args.block) (sym c.widen_span.ensures.here) (has_new (slice_get c.self.inside.spans.items c.args.inode) c.args.block) in (
       ap (λ q. q.cap) c.in-Ok.ensures.entries ∙ c.self.invariant.0,
-      subst (AreIn spans) (sym (ap (λ q. q.entries) c.in-Ok.ensures.entries)) (put_in cache p c.in_ok-copy.copy spans c.widen_span.ensures.here all),
+      subst (AreIn spans) (sym (ap (λ q. q.entries) c.in-Ok.ensures.entries)) (put_in cache p c.in_ok-copy.copy spans here all),
     )
 
 pub invariant_of-self-2 : goal.invariant_of-self-2
 invariant_of-self-2 c =
     let cache = c.self.inside.cache in
     let spans = c.widen_span.new.spans.items in
-    let all = wider c.self.inside.spans.items spans c.widen_span.ensures.more cache.entries c.self.invariant.1 in
+    let all = wider c.self.inside.spans.items spans (widened_has c.self.inside.spans.items spans c.args.inode c.args.block c.widen_span.ensures.here c.widen_span.ensures.others) cache.entries c.self.invariant.1 in
     (ap (λ q. q.cap) c.in-Err.ensures.err ∙ c.self.invariant.0, subst (AreIn spans) (sym (ap (λ q. q.entries) c.in-Err.ensures.err)) all)
