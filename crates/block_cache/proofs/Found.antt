@@ -1,10 +1,10 @@
 -- What is found in a list of blocks once it was changed.
-use Rattle.std.proofs.Common.{◌≡◌, ◌≢◌, ◌⊎◌, inl, inr, ℕ, zero, suc, Bool, true, false, cond, ◌&&◌, List, [], ◌∷◌, take, Option, Some, None, refl, sym, ◌∙◌, ap}
+use Rattle.std.proofs.Common.{◌≡◌, ◌≢◌, ◌⊎◌, inl, inr, ℕ, ◌+◌, zero, suc, Bool, true, false, cond, ◌&&◌, List, [], ◌∷◌, take, Option, Some, None, refl, sym, ◌∙◌, ap}
 use Rattle.std.specs.Prelude.{◌==◌, not}
 use Rattle.std.specs.List.{filter}
 use Rattle.std.specs.Option.{option_map_or}
 use Rattle.std.proofs.lemmas.Bool.{cases_Bool, and_parts, and_from, eqb-true, eq-eqb, ne_eqb, cond-true, cond-false, not_from_true, not_from_false}
-use Rattle.block_cache.specs.Cached.{Block, is_at, bytes_at, without, in_front, used, put, without_file}
+use Rattle.block_cache.specs.Cached.{Block, is_at, bytes_at, without, in_front, used, used_run, put, without_file}
 
 module _ (i n : ℕ) where
   -- where a filter keeps each block of this place, the same is found
@@ -90,6 +90,11 @@ module _ (i n j m : ℕ) where
 
   pub used_stays : (bs : List Block) → bytes_at i n (used j m bs) ≡ bytes_at i n bs
   used_stays bs = used_by bs (bytes_at j m bs) refl
+
+-- blocks that are used one after the other
+pub used_run_stays : (i n j first count : ℕ) (bs : List Block) → bytes_at i n (used_run j first count bs) ≡ bytes_at i n bs
+used_run_stays i n j first zero bs = refl
+used_run_stays i n j first (suc count) bs = used_stays i n j (first + count) (used_run j first count bs) ∙ used_run_stays i n j first count bs
 
 pub file_gone : (bs : List Block) (i n : ℕ) → bytes_at i n (without_file i bs) ≡ None
 file_gone bs i n = dropped i n (λ b. not (b.inode == i)) bs (λ b at. not_from_true (b.inode == i) (eq-eqb b.inode i (sym (eqb-true i b.inode (and_parts (i == b.inode) (n == b.block) at).0))))

@@ -1,5 +1,5 @@
 -- The blocks of a cache as a list, the one used last first, and what each call makes of it.
-use Rattle.std.specs.Prelude.{◌≤◌, ℕ, List, [], ◌∷◌, length, take, Bool, ◌==◌, ◌&&◌, not, Option, Some, None, if◌then◌else◌}
+use Rattle.std.specs.Prelude.{◌≤◌, ℕ, zero, suc, ◌+◌, List, [], ◌∷◌, length, take, Bool, ◌==◌, ◌&&◌, not, Option, Some, None, if◌then◌else◌}
 use Rattle.std.specs.List.{filter, IsDistinct}
 use Rattle.std.specs.Option.{option_map_or}
 use Rattle.block_cache.specs.declared.blocks.TheConstants.{MOST_BLOCKS}
@@ -30,6 +30,11 @@ in_front inode block bytes bs = record { inode = inode; block = block; bytes = b
 -- a block that is there is used: it is the first now
 abbrev pub used : ℕ → ℕ → List Block → List Block
 used inode block bs = option_map_or (λ bytes. in_front inode block bytes bs) (bytes_at inode block bs) bs
+
+-- so many blocks of a file from one on are used in turn, those that are there: the last of them is the first now
+abbrev pub used_run : ℕ → ℕ → ℕ → List Block → List Block
+used_run inode first zero bs = bs
+used_run inode first (suc count) bs = used inode (first + count) (used_run inode first count bs)
 
 -- a block is put: it is the first now, and past the most that there may be the last is dropped
 abbrev pub put : ℕ → ℕ → List ℕ → List Block → List Block

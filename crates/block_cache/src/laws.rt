@@ -1,6 +1,6 @@
 // What is found in a cache after each call.
 ghost use Rattle.std.specs.Prelude.{◌≡◌, ◌≢◌, ◌⊎◌, ℕ, List, Some, None};
-ghost use Rattle.block_cache.specs.Cached.{Block, bytes_at, put, used, without_file};
+ghost use Rattle.block_cache.specs.Cached.{Block, bytes_at, put, used, used_run, without_file};
 
 /// A block that was put is found, and any other one that is found was there before.
 pub fn put_block_is_found()
@@ -9,9 +9,10 @@ pub fn put_block_is_found()
         → ((i ≡ inode) × (n ≡ block) × (found ≡ bytes)) ⊎ (bytes_at i n bs ≡ Some found) }
 {}
 
-/// To use a block changes nothing that is found.
+/// To use a block, or so many from one on, changes nothing that is found.
 pub fn used_block_stays()
-    ensures { (bs : List Block) (inode block i n : ℕ) → bytes_at i n (used inode block bs) ≡ bytes_at i n bs }
+    ensures one { (bs : List Block) (inode block i n : ℕ) → bytes_at i n (used inode block bs) ≡ bytes_at i n bs }
+    ensures run { (bs : List Block) (inode first count i n : ℕ) → bytes_at i n (used_run inode first count bs) ≡ bytes_at i n bs }
 {}
 
 /// Of a file that was dropped no block is found; of all others what was found before.

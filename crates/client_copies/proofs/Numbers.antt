@@ -1,36 +1,11 @@
--- The numbers that a client was granted, as they come and go.
-use Rattle.std.proofs.Common.{◌≡◌, ◌≢◌, ℕ, List, [], ◌∷◌, ◌++◌, refl, ap, sym, ◌∙◌, true, false, Bool, inl, inr}
+-- The numbers that a client was granted, as they go.
+use Rattle.std.proofs.Common.{◌≡◌, ◌≢◌, ℕ, List, [], ◌∷◌, refl, ap, sym, ◌∙◌, true, false, Bool, inl, inr}
 use Rattle.std.specs.Prelude.{◌==◌, ◌||◌, ◌&&◌, not}
 use Rattle.std.proofs.lemmas.Bool.{cases_eq, eq-eqb, ne_eqb, cond-true, cond-false}
 use Rattle.std.specs.List.{filter}
 use Rattle.file_graph.specs.Graph.{is_among}
-use Rattle.call_effects.specs.Known.{with_granted}
 use Rattle.client_copies.specs.Held.{Held, knows}
 use Rattle.client_copies.specs.Forgotten.{without_granted}
-
-eq_back : (a b : ℕ) → (a == b) ≡ (b == a)
-eq_back a b = elim (cases_eq a b) [
-  | inl same ↦ eq-eqb a b same ∙ sym (eq-eqb b a (sym same))
-  | inr other ↦ ne_eqb a b other ∙ sym (ne_eqb b a (λ e. other (sym e)))
-]
-
-or_swap : (a b c : Bool) → (a || (b || c)) ≡ (b || (a || c))
-or_swap true true c = refl
-or_swap true false c = refl
-or_swap false true c = refl
-or_swap false false c = refl
-
--- one more behind the others
-pub among_more : (i n : ℕ) (ns : List ℕ) → is_among i (ns ++ n ∷ []) ≡ ((i == n) || is_among i ns)
-among_more i n [] = ap (λ b. b || false) (eq_back n i)
-among_more i n (m ∷ ns) = ap (λ b. (m == i) || b) (among_more i n ns) ∙ or_swap (m == i) (i == n) (is_among i ns)
-
--- one that is among them already
-pub among_same : (i n : ℕ) (ns : List ℕ) → is_among n ns ≡ true → is_among i ns ≡ ((i == n) || is_among i ns)
-among_same i n ns is = elim (cases_eq i n) [
-  | inl same ↦ ap (λ k. is_among k ns) same ∙ is ∙ sym (ap (λ b. b || is_among i ns) (eq-eqb i n same))
-  | inr other ↦ sym (ap (λ b. b || is_among i ns) (ne_eqb i n other))
-]
 
 and_false : (a b : Bool) → b ≡ false → (a && b) ≡ false
 and_false true b e = e
@@ -65,9 +40,6 @@ among_less i n (m ∷ ns) = elim (cases_eq m n) [
           ap (λ b. b || (is_among i ns && not (i == n))) (eq-eqb m i at) ∙ sym (and_true ((m == i) || is_among i ns) (not (i == n)) far ∙ ap (λ b. b || is_among i ns) (eq-eqb m i at))
       | inr other ↦ ap (λ b. b || (is_among i ns && not (i == n))) (ne_eqb m i other) ∙ sym (ap (λ b. (b || is_among i ns) && not (i == n)) (ne_eqb m i other))
     ]
-
-pub granted_is_known : (h : Held) (n : ℕ) (ns : List ℕ) → ((i : ℕ) → is_among i ns ≡ ((i == n) || is_among i h.numbers)) → knows (record h { numbers = ns }) ≡ with_granted (knows h) n
-granted_is_known h n ns more = λ t. record { client = h.client; own = (knows h).own; copies = (knows h).copies; blocks = (knows h).blocks; granted = λ i. more i t }
 
 pub used_is_known : (h : Held) (n : ℕ) (ns : List ℕ) → ((i : ℕ) → is_among i ns ≡ (is_among i h.numbers && not (i == n))) → knows (record h { numbers = ns }) ≡ without_granted (knows h) n
 used_is_known h n ns less = λ t. record { client = h.client; own = (knows h).own; copies = (knows h).copies; blocks = (knows h).blocks; granted = λ i. less i t }

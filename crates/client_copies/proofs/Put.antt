@@ -8,8 +8,8 @@ use Rattle.std.proofs.lemmas.Bool.Decides.{nat_tests}
 use Rattle.std.proofs.lemmas.List.{take-append-le, take_all}
 use Rattle.posix_calls.specs.Content.{resized}
 use Rattle.file_graph.specs.Numbers.{in_run}
-use Rattle.block_cache.specs.Cached.{Block, bytes_at, put, used}
-use Rattle.block_cache.proofs.Found.{put_found, put_others, used_stays}
+use Rattle.block_cache.specs.Cached.{Block, bytes_at, put, used_run}
+use Rattle.block_cache.proofs.Found.{put_found, put_others, used_run_stays}
 use Rattle.call_effects.specs.NodeView.{NodeView, FileView}
 use Rattle.call_effects.specs.Known.{IsForgetful, with_blocks}
 use Rattle.client_copies.specs.Held.{Held, copy_at, size_known, kept_at, file_block, block_by, block_known, knows}
@@ -92,23 +92,26 @@ module _ (h : Held) (i b : ℕ) (bytes : List ℕ) (low : b < 4294967296) (long 
 
 -- ---- as the code has it
 
-module _ (h : Held) (i b : ℕ) (bytes chunk : List ℕ) (bs : List Block) (padded : chunk ≡ resized 4096 bytes) (after : bs ≡ put i b chunk h.blocks) where
-  blocks_are : bs ≡ put i b (resized 4096 bytes) h.blocks
-  blocks_are = after ∙ ap (λ (xs : List ℕ). put i b xs h.blocks) padded
+-- a whole block gets no zeros behind it
+pub whole_is_padded : (unit : ℕ) (bytes : List ℕ) → length bytes ≡ unit → resized unit bytes ≡ bytes
+whole_is_padded unit bytes whole =
+    let none : unit - length bytes ≡ 0 = omega (arith, whole) in
+    ap (λ n. take unit bytes ++ replicate n 0) none ∙ append-nil (take unit bytes) ∙ take_all unit bytes (omega (arith, whole))
 
+module _ (h : Held) (i b : ℕ) (bytes : List ℕ) (bs : List Block) (after : bs ≡ put i b (resized 4096 bytes) h.blocks) where
   pub kept_after : record h { blocks = bs } ≡ record h { blocks = put i b (resized 4096 bytes) h.blocks }
-  kept_after = ap (λ (xs : List Block). record h { blocks = xs }) blocks_are
+  kept_after = ap (λ (xs : List Block). record h { blocks = xs }) after
 
   pub there_after : b < 4294967296 → IsBlockLong (knows h) i b bytes → block_known (record h { blocks = bs }) i b ≡ Some bytes
-  there_after low long = ap (λ (xs : List Block). block_known (record h { blocks = xs }) i b) blocks_are ∙ block_there h i b bytes low long
+  there_after low long = ap (λ (xs : List Block). block_known (record h { blocks = xs }) i b) after ∙ block_there h i b bytes low long
 
   pub less_after : b < 4294967296 → IsBlockLong (knows h) i b bytes → IsForgetful (with_blocks (knows h) i b 1 (λ _. bytes)) (knows (record h { blocks = bs }))
-  less_after low long = subst (λ (xs : List Block). IsForgetful (with_blocks (knows h) i b 1 (λ _. bytes)) (knows (record h { blocks = xs }))) (sym blocks_are) (put_is_less h i b bytes low long)
+  less_after low long = subst (λ (xs : List Block). IsForgetful (with_blocks (knows h) i b 1 (λ _. bytes)) (knows (record h { blocks = xs }))) (sym after) (put_is_less h i b bytes low long)
 
--- to use a block changes nothing that is known
-used_by : (s : Option ℕ) (bs : List Block) (i b j n : ℕ) → block_by s (used i b bs) j n ≡ block_by s bs j n
-used_by None bs i b j n = refl
-used_by (Some size) bs i b j n = ap (λ (o : Option (List ℕ)). option_map (take (size - 4096 * n)) (cond (nat_lt n 4294967296) o None)) (used_stays j n i b bs)
+-- to use blocks changes nothing that is known
+used_by : (s : Option ℕ) (bs : List Block) (i first count j n : ℕ) → block_by s (used_run i first count bs) j n ≡ block_by s bs j n
+used_by None bs i first count j n = refl
+used_by (Some size) bs i first count j n = ap (λ (o : Option (List ℕ)). option_map (take (size - 4096 * n)) (cond (nat_lt n 4294967296) o None)) (used_run_stays j n i first count bs)
 
-pub used_is_known : (h : Held) (i b : ℕ) → knows (record h { blocks = used i b h.blocks }) ≡ knows h
-used_is_known h i b = λ t. record { client = h.client; own = (knows h).own; copies = (knows h).copies; blocks = λ j n. used_by (size_known (copy_at h.copies j)) h.blocks i b j n t; granted = (knows h).granted }
+pub used_is_known : (h : Held) (i first count : ℕ) → knows (record h { blocks = used_run i first count h.blocks }) ≡ knows h
+used_is_known h i first count = λ t. record { client = h.client; own = (knows h).own; copies = (knows h).copies; blocks = λ j n. used_by (size_known (copy_at h.copies j)) h.blocks i first count j n t; granted = (knows h).granted }

@@ -1,10 +1,10 @@
-ghost use Rattle.std.specs.Prelude.{◌≡◌, ◌==◌, ◌<◌, ℕ, length, Some, None, IsSome, not, true, false, IfOk, OnOk, OnErr};
+ghost use Rattle.std.specs.Prelude.{◌≡◌, ◌==◌, ◌<◌, ◌+◌, ◌^◌, ℕ, length, Some, None, IsSome, not, true, false, IfOk, OnOk, OnErr};
 ghost use Rattle.std.specs.List.{filter};
-ghost use Rattle.block_cache.specs.Cached.{put as put_first, used, without_file};
+ghost use Rattle.block_cache.specs.Cached.{put as put_first, used_run, without_file};
 ghost use Rattle.block_cache.specs.declared.bytes.TheConstants.{BLOCK_SIZE};
 ghost use Rattle.file_graph.specs.Graph.{is_among};
 ghost use Rattle.file_graph.specs.Numbers.{is_inode};
-ghost use Rattle.call_effects.specs.Known.{IsForgetful, with_blocks, with_copy, with_granted};
+ghost use Rattle.call_effects.specs.Known.{IsForgetful, with_blocks, with_copy};
 ghost use Rattle.posix_calls.specs.Content.{resized};
 ghost use Rattle.posix_calls.specs.declared.limits.TheConstants.{MAX_DESCRIPTORS};
 ghost use Rattle.posix_calls.specs.Own.{own_of};
@@ -92,15 +92,16 @@ impl ClientCopies {
         ensures granted { OnOk result ((knows self.new).granted ≡ (knows self.old).granted) }
         ensures refused { OnErr result (self.new ≡ self.old) }
     {
-        let padded = padded(self.alloc, bytes)?;
-        self.blocks.put(inode, block, padded.as_slice())
+        put_padded(self.alloc, &mut self.blocks, inode, block, bytes)
     }
 
-    /// A block that is kept is the one used last now, and nothing else changes (`used_block_is_known_as_before`). It takes no memory.
-    pub fn use_block(&mut self, inode: u32, block: u32)
-        ensures { self.new ≡ record self.old { blocks = used inode block self.old.blocks } }
+    /// So many blocks of a file from one on are used in turn, those that are kept: the last of them is the one used last now. Nothing
+    /// else changes, and nothing that is known (`used_blocks_are_known_as_before`). It takes no memory.
+    pub fn use_blocks(&mut self, inode: u32, first: u32, count: u32)
+        requires { first + count < 2 ^ 32 }
+        ensures { self.new ≡ record self.old { blocks = used_run inode first count self.old.blocks } }
     {
-        let _ = self.blocks.get(inode, block);
+        use_run(&mut self.blocks, inode, first, count);
     }
 
     /// What is known of an inode goes: the copy and the blocks, and no others. It takes no memory.
@@ -118,19 +119,6 @@ impl ClientCopies {
         ensures rest { self.new ≡ record self.old { blocks = without_file inode self.old.blocks } }
     {
         self.blocks.drop_file(inode)
-    }
-
-    /// A number for a new node is granted. Where there is no memory for it, nothing changes.
-    pub fn grant(&mut self, number: u32) -> Result<(), AllocError>
-        ensures granted { OnOk result (knows self.new ≡ with_granted (knows self.old) number) }
-        ensures rest { self.new ≡ record self.old { numbers = self.new.numbers } }
-        ensures refused { OnErr result (self.new ≡ self.old) }
-    {
-        if self.numbers.contains(&number) {
-            return Ok(());
-        }
-        self.numbers.push(number)?;
-        Ok(())
     }
 
     /// These numbers are granted, in place of those that were. It takes no memory.
@@ -198,11 +186,39 @@ fn put_descriptor(own: &mut OwnDescriptors, number: u32, what: Option<Descriptor
     }
 }
 
+// So many blocks of a file from one on are used in turn, those that are kept.
+fn use_run(blocks: &mut Blocks, inode: u32, first: u32, count: u32)
+    requires { first + count < 2 ^ 32 }
+    ensures { blocks.new ≡ used_run inode first count blocks.old }
+{
+    for block in first..first + count {
+        let _ = blocks.get(inode, block);
+    }
+}
+
 // A number is among these no longer.
 fn without_number(numbers: &mut Vec<u32>, number: u32)
     ensures { numbers.new.items ≡ filter (λ n. not (n == number)) numbers.old.items }
 {
     numbers.retain(|n| *n != number);
+}
+
+// A block is put with zeros up to its whole length, a whole one as it is.
+fn put_padded(
+    alloc: Global,
+    blocks: &mut Blocks,
+    inode: u32,
+    block: u32,
+    bytes: &[u8],
+) -> Result<(), AllocError>
+    ensures put { OnOk result (blocks.new ≡ put_first inode block (resized BLOCK_SIZE bytes.now) blocks.old) }
+    ensures refused { OnErr result (blocks.new ≡ blocks.old) }
+{
+    if bytes.len() == BLOCK_SIZE {
+        return blocks.put(inode, block, bytes);
+    }
+    let padded = padded(alloc, bytes)?;
+    blocks.put(inode, block, padded.as_slice())
 }
 
 // The bytes of a block, and zeros up to its whole length.

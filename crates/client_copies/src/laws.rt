@@ -1,7 +1,7 @@
 //! What holds of every client's knowledge.
 ghost use Rattle.std.specs.Prelude.{◌≡◌, ℕ, List, true, false, Option, Some};
 ghost use Rattle.std.specs.Option.{ForSome};
-ghost use Rattle.block_cache.specs.Cached.{used};
+ghost use Rattle.block_cache.specs.Cached.{used_run};
 ghost use Rattle.posix_calls.specs.Tree.{Descriptors, with_own};
 ghost use Rattle.posix_calls.specs.Operations.{makes};
 ghost use Rattle.posix_calls.specs.declared.call.Call.{Call};
@@ -33,9 +33,9 @@ pub fn forgetting_leaves_no_more()
     ensures number { (k : Knowledge) (n : ℕ) → IsForgetful k (without_granted k n) }
 {}
 
-/// Which block was used last changes nothing that is known.
-pub fn used_block_is_known_as_before()
-    ensures { (h : Held) (inode block : ℕ) → knows (record h { blocks = used inode block h.blocks }) ≡ knows h }
+/// Which blocks were used last changes nothing that is known.
+pub fn used_blocks_are_known_as_before()
+    ensures { (h : Held) (inode first count : ℕ) → knows (record h { blocks = used_run inode first count h.blocks }) ≡ knows h }
 {}
 
 /// The record that a call comes to has a spelling, and the node that it makes has the number of an inode, as `prepare` demands.

@@ -32,6 +32,6 @@ pub use copies::ClientCopies;
 pub use laws::{
     committed_change_tells_no_more_than_the_effects, forgetting_leaves_no_more,
     logged_call_can_be_prepared, logged_call_keeps_agreement, prepared_change_stays,
-    used_block_is_known_as_before,
+    used_blocks_are_known_as_before,
 };
 pub use own_change::OwnChange;

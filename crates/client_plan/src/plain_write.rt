@@ -1,10 +1,11 @@
 // A write for which nothing is lacking, as for most: it is planned at once, without its operation.
-ghost use Rattle.std.specs.Prelude.{◌≡◌, ◌≢◌, ◌<◌, ◌≤◌, ◌+◌, ◌&&◌, nat_le, max, length, IfOk, IfSome, Some, None, true};
+ghost use Rattle.std.specs.Prelude.{◌≡◌, ◌≢◌, ◌<◌, ◌≤◌, ◌+◌, ◌&&◌, nat_le, max, length, ℕ, IfNone, IfOk, IfSome, Some, None, true};
 ghost use Rattle.posix_calls.specs.declared.limits.TheConstants.{MAX_FILE, MAX_TRANSFER};
 ghost use Rattle.posix_calls.specs.Content.{file_units};
 ghost use Rattle.log_record.specs.Grammar.{is_write};
 ghost use Rattle.call_effects.specs.Records.{file_rise};
 ghost use Rattle.client_plan.specs.PlainWrite.{IsPlainWrite, IsWritable, has_place, write_logged};
+ghost use Rattle.client_plan.specs.declared.plain_write.PlainWrite.{PlainWrite};
 
 use crate::outcome::Outcome;
 use crate::planning::first_unused;
@@ -32,9 +33,12 @@ pub fn plain_write<T: TreeAnswers, S: Supplies>(
     at: u64,
     count: usize,
 ) -> Option<PlainWrite>
-    ensures { IfSome result (IsPlainWrite (T.part tree.now) (S.holdings has.now) number at count) }
+    ensures plain { IfSome result (IsPlainWrite (T.part tree.now) (S.holdings has.now) number at count) }
+    ensures none { IfNone result ((w : PlainWrite) → IsPlainWrite (T.part tree.now) (S.holdings has.now) number at count w → ⊥) }
 {
-    let inode = writable_inode(has, number)?;
+    let Some(inode) = writable_inode(has, number) else {
+        return None;
+    };
     if !is_write(at, count) || !has_place(has.room(), count) {
         return None;
     }
@@ -50,7 +54,8 @@ pub fn plain_write<T: TreeAnswers, S: Supplies>(
 
 // What is open at a number, where it may be written and no pin has to be given back first.
 fn writable_inode<S: Supplies>(has: &S, number: u32) -> Option<u32>
-    ensures { IfSome result (IsWritable (S.holdings has.now) number) }
+    ensures writable { IfSome result (IsWritable (S.holdings has.now) number) }
+    ensures none { IfNone result ((i : ℕ) → IsWritable (S.holdings has.now) number i → ⊥) }
 {
     let open = has.own().get(number)?;
     if !open.writes || !is_inode(open.inode) || !has.may_write(open.inode) {

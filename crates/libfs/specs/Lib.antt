@@ -4,6 +4,7 @@ pub mod Holding
 pub mod Sound
 pub mod Starting
 pub mod Stepping
+pub mod Used
 pub mod Leasing
 pub mod HandingOver
 pub mod Opening

@@ -1,10 +1,14 @@
-ghost use Rattle.std.specs.Prelude.{◌≡◌, ◌⊎◌, ℕ, true, false, None, IfOk, IfErr};
+ghost use Rattle.std.specs.Prelude.{◌≡◌, ◌⊎◌, ◌/◌, ℕ, true, false, None, IfOk, IfErr};
 ghost use Rattle.posix_calls.specs.declared.call.Reply.TheVariants as replies;
 ghost use Rattle.posix_calls.specs.declared.errno.Errno.TheVariants.{IoError, NoMemory};
 ghost use Rattle.call_effects.specs.Known.{part_of};
 ghost use Rattle.client_plan.specs.Memory.{wants_memory};
 ghost use Rattle.client_copies.specs.Prepared.{IsPreparedFor};
 ghost use Rattle.libfs.specs.declared.now.Now.TheVariants as now;
+ghost use Rattle.posix_calls.specs.declared.call.Reply.{Reply};
+ghost use Rattle.posix_calls.specs.declared.limits.TheConstants.{UNIT_BYTES};
+ghost use Rattle.block_cache.specs.Cached.{used_run};
+ghost use Rattle.libfs.specs.Used.{blocks_read, used_by};
 ghost use Rattle.libfs.specs.View.{is_pending};
 ghost use Rattle.libfs.specs.Holding.{holdings_of, known_to, outcome_for};
 ghost use Rattle.libfs.specs.Starting.{HasBegun, HasStarted, IsOutOfMemory, IsReadyToBegin, MayGoOn};
@@ -12,11 +16,13 @@ ghost use Rattle.libfs.specs.Starting.{HasBegun, HasStarted, IsOutOfMemory, IsRe
 use crate::begun::Begun;
 use crate::client::Client;
 use crate::now::Now;
-use client_copies::{OwnChange, logged_call_can_be_prepared};
+use client_copies::{
+    ClientCopies, OwnChange, logged_call_can_be_prepared, used_blocks_are_known_as_before,
+};
 use client_leases::note_effects;
 use client_plan::{DescriptorChange, Outcome, logged_call_is_a_step, plan_call};
 use log_record::Record;
-use posix_calls::{Call, Errno, Reply};
+use posix_calls::{Call, Errno, MAX_FILE, MAX_TRANSFER, Reply, UNIT_BYTES};
 use std::alloc::AllocError;
 use tier_device::Media;
 
@@ -30,12 +36,16 @@ impl<M: Media> Client<M> {
         requires idle { is_pending self.old ≡ false }
         ensures failed { self.old.log.failed ≡ true → (result ≡ now.Done (replies.Failed IoError)) × (self.new ≡ self.old) }
         ensures started { self.old.log.failed ≡ false → HasStarted M.seen self.old (outcome_for M.seen self.old call.now) result self.new ⊎ IsOutOfMemory M.seen self.old call.now result self.new }
+
+        // A read that is answered uses the blocks in which its bytes lie.
+        ensures used { (reply : Reply) → result ≡ now.Done reply → self.new.copies.blocks ≡ used_by call.now reply (known_to self.old).own self.old.copies.blocks }
     {
         if self.log.has_failed() {
             return answer(Errno::IoError);
         }
         match self.plan(call) {
             Ok(Outcome::Reply { reply, change }) => {
+                self.use_read(call, &reply);
                 self.copies.change_descriptor(change);
                 Now::Done { reply }
             }
@@ -49,6 +59,25 @@ impl<M: Media> Client<M> {
                 },
             ) => self.begin(entry, reply, made, change),
             Err(_) => answer(Errno::NoMemory),
+        }
+    }
+
+    // The blocks in which the bytes lie that a read tells are the ones used last now.
+    fn use_read(&mut self, call: &Call, reply: &Reply)
+        requires idle { self.old.begun ≡ None }
+        ensures used { self.new.copies ≡ record self.old.copies { blocks = used_by call.now reply.now (known_to self.old).own self.old.copies.blocks } }
+        ensures known { known_to self.new ≡ known_to self.old }
+        ensures rest { self.new ≡ record self.old { copies = self.new.copies } }
+    {
+        used_blocks_are_known_as_before();
+        let Call::Pread { descriptor, at, .. } = call else {
+            return;
+        };
+        let Reply::Read { bytes } = reply else {
+            return;
+        };
+        if let Some(open) = self.copies.own().get(*descriptor) {
+            use_range(&mut self.copies, open.inode, *at, bytes.len());
         }
     }
 
@@ -112,4 +141,16 @@ fn answer(errno: Errno) -> Now
     Now::Done {
         reply: Reply::Failed { errno },
     }
+}
+
+// The kept blocks in which so many bytes of a file from an offset on lie are the ones used last now.
+fn use_range(copies: &mut ClientCopies, inode: u32, at: u64, count: usize)
+    ensures { copies.new ≡ record copies.old { blocks = used_run inode (at / UNIT_BYTES) (blocks_read at count) copies.old.blocks } }
+{
+    if count == 0 || at > MAX_FILE || count > MAX_TRANSFER {
+        return;
+    }
+    let first = at / UNIT_BYTES as u64;
+    let last = (at + (count as u64 - 1)) / UNIT_BYTES as u64;
+    copies.use_blocks(inode, first as u32, (1 + last - first) as u32);
 }

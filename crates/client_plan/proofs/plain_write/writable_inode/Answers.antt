@@ -5,8 +5,8 @@ use Rattle.posix_calls.specs.Tree.{Own}
 use Rattle.client_plan.specs.Holdings.{first_unused}
 use Rattle.client_plan.proofs.plain_write.writable_inode.Goals as goal
 
-pub returns-in-None : goal.returns-in-None
-returns-in-None g c =
+pub returns-in-None-clause-writable : goal.returns-in-None-clause-writable
+returns-in-None-clause-writable g c =
     let h = g.S.Supplies.holdings c.args.has.now in
     record {
       descriptor = c.in_ok-open.open;

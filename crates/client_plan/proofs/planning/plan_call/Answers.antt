@@ -10,6 +10,6 @@ pub returns-in-Some-clause-exact : goal.returns-in-Some-clause-exact
 returns-in-Some-clause-exact g c =
     let p = g.T.TreeAnswers.part c.args.tree.now in
     let h = g.S.Supplies.holdings c.args.has.now in
-    let plain = subst (λ (n : ℕ). IsPlainWrite p h c.in-Pwrite.descriptor c.in-Pwrite.at n c.in-Some.write) c.len.ensures c.in-Some.ensures in
+    let plain = subst (λ (n : ℕ). IsPlainWrite p h c.in-Pwrite.descriptor c.in-Pwrite.at n c.in-Some.write) c.len.ensures c.in-Some.ensures.plain in
     let is = ap (outcome p h) c.in-Pwrite.is ∙ write_is_logged p h c.in-Pwrite.descriptor c.in-Pwrite.at c.in-Pwrite.bytes c.in-Some.write plain in
     subst (λ (z : Outcome). IfOk c.log_write.result (λ o. o ≡ z)) (sym is) c.log_write.ensures
