@@ -10,6 +10,7 @@ pub mod Regions
 pub mod Media
 pub mod Played
 -- Passed on to the crates above, which so need not list those below.
+pub use Rattle.libfs.specs.Answering
 pub use Rattle.libfs.specs.AreaError
 pub use Rattle.libfs.specs.Figures
 pub use Rattle.libfs.specs.Holding

@@ -1,8 +1,8 @@
 ghost use Rattle.std.specs.Prelude.{◌≡◌, ◌↔◌, length, IfErr, IfNone, IfOk, IfSome, IsTrue, OnErr, OnOk, Some, true};
 ghost use Rattle.call_effects.specs.NodeView.{view_at};
-ghost use Rattle.libfs.specs.Answering.{Answers};
+ghost use Rattle.libfs.specs.Answering.{Answers, OnRefusal};
 ghost use Rattle.libfs.specs.Looks.{Looks};
-ghost use Rattle.libfs.specs.Parts.{IsTierOf};
+ghost use Rattle.libfs.specs.Parts.{IsNoDamage, IsTierOf};
 ghost use Rattle.libfs.specs.Store.{graph, store_of};
 ghost use Rattle.lease_manager.specs.Words.{IsClient};
 ghost use Rattle.event_steps.specs.Sound.{AreFrom, AreSeats};
@@ -71,9 +71,10 @@ impl<M: Media> System<M> {
         &self.kernel
     }
 
-    /// What stands at an inode of the shared graph, as client 1 would fetch it. `Failed` exactly where a device of the kernel has failed; else refused as `Kernel::fetch` is.
+    /// What stands at an inode of the shared graph, as client 1 would fetch it. `Failed` exactly where a device of the kernel has failed; else refused as `Kernel::fetch` is, and never for damage.
     pub fn look(&mut self, inode: u32) -> Result<Fetched, KernelError<AreaError>>
         ensures node { IfOk result (λ x. x.node ≡ view_at (graph self.old.kernel.area.geometry (store_of (M.seen self.old.kernel.area.media))) inode) }
+        ensures only { IfErr result (λ e. OnRefusal e IsNoDamage) }
         ensures looks { Answers self.old.kernel.area.failed self.old.kernel self.new.kernel result (Looks M.moment M.seen M.left M.faults self.old.kernel.area self.new.kernel.area) }
         ensures book { self.new.kernel.book ≡ self.old.kernel.book }
         ensures seats { self.new.seats ≡ self.old.seats }
@@ -81,13 +82,14 @@ impl<M: Media> System<M> {
         self.kernel.fetch(1, inode)
     }
 
-    /// The tier that has a logical block of an inode of the shared graph; `None` where no tier does, or there is no such inode. Refused as `Kernel::tier_of` is.
+    /// The tier that has a logical block of an inode of the shared graph; `None` where no tier does, or there is no such inode. Refused as `Kernel::tier_of` is, and never for damage.
     pub fn tier_of(
         &mut self,
         inode: u32,
         block: u64,
     ) -> Result<Option<Tier>, KernelError<AreaError>>
         ensures tier { IfOk result (IsTierOf self.old.kernel.area.geometry (store_of (M.seen self.old.kernel.area.media)) inode block) }
+        ensures only { IfErr result (λ e. OnRefusal e IsNoDamage) }
         ensures looks { Answers self.old.kernel.area.failed self.old.kernel self.new.kernel result (Looks M.moment M.seen M.left M.faults self.old.kernel.area self.new.kernel.area) }
         ensures book { self.new.kernel.book ≡ self.old.kernel.book }
         ensures seats { self.new.seats ≡ self.old.seats }

@@ -7,6 +7,7 @@ pub mod Runs
 pub mod Serving
 pub mod Whose
 -- Passed on to the crates above, which so need not list those below.
+pub use Rattle.event_steps.specs.Answering
 pub use Rattle.event_steps.specs.AreaError
 pub use Rattle.event_steps.specs.Figures
 pub use Rattle.event_steps.specs.KernelError

@@ -1,8 +1,17 @@
-//! Tests of a shell's run over inputs and outputs that fail, of when what was printed is flushed, and of a running system whose
-//! devices fail. What the runs print is told by the rows of `script_rows`.
+//! Tests of a shell's run over inputs and outputs that fail, of when what was printed is flushed, of a running system whose
+//! devices fail, and of scripts that are drawn, beside a plain file tree. What the runs print is told by the rows of
+//! `script_rows`.
 #![tactic(auto)]
 
 #[cfg(test)]
+mod beside;
+#[cfg(test)]
+mod drawn;
+#[cfg(test)]
+mod draws;
+#[cfg(test)]
 mod failures;
+#[cfg(test)]
+mod script;
 #[cfg(test)]
 mod streams;

@@ -38,9 +38,9 @@ pub record HasLooked {M : Type 0} (moment : M → ℕ) (seen : M → Tier → Li
   pub clock : moment new.kernel.area.media ≡ moment old.kernel.area.media
   pub reads : (t : Tier) → seen new.kernel.area.media t ≡ seen old.kernel.area.media t
 
--- how it is told that the shared media could not be read
-abbrev pub told_error : KernelError AreaError → Answer
-told_error why.Failed = answers.Refused refusals.KernelFailed
-told_error (why.Refused errors.DeviceFault) = answers.Refused refusals.DeviceFault
-told_error (why.Refused errors.Memory) = answers.Refused refusals.Memory
-told_error (why.Refused (errors.Damaged what block)) = answers.Damaged
+-- It is told so that the shared media could not be read, which is never for damage.
+abbrev pub IsErrorTold : KernelError AreaError → Answer → Type 0
+IsErrorTold why.Failed answer = answer ≡ answers.Refused refusals.KernelFailed
+IsErrorTold (why.Refused errors.DeviceFault) answer = answer ≡ answers.Refused refusals.DeviceFault
+IsErrorTold (why.Refused errors.Memory) answer = answer ≡ answers.Refused refusals.Memory
+IsErrorTold (why.Refused (errors.Damaged what block)) answer = ⊥

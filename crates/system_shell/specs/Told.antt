@@ -66,12 +66,12 @@ abbrev pub tier_below : LowerTier → Tier
 tier_below lower.Block = tiers.Block
 tier_below lower.Slow = tiers.Slow
 
--- The shared area could not be read, by whether a device of it has failed before and after: one had failed, or does now, or memory is wanted, or the media are damaged.
+-- The shared area could not be read, by whether a device of it has failed before and after: one had failed, or does now, or memory is wanted.
 abbrev pub IsUnread : Bool → Bool → Answer → Type 0
 IsUnread before after answer =
     ((answer ≡ answers.Refused refusals.KernelFailed) × (before ≡ true))
     ⊎ (((answer ≡ answers.Refused refusals.DeviceFault) × (before ≡ false) × (after ≡ true))
-    ⊎ (((answer ≡ answers.Refused refusals.Memory) ⊎ (answer ≡ answers.Damaged)) × (before ≡ false) × (after ≡ false)))
+    ⊎ ((answer ≡ answers.Refused refusals.Memory) × (before ≡ false) × (after ≡ false)))
 
 -- A path leads to no file, which is told by its error, or memory is wanted to read it, or the shared area could not be read.
 abbrev pub IsNoFile : Result ℕ Errno → Bool → Bool → Answer → Type 0

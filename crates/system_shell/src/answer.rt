@@ -34,8 +34,6 @@ pub enum Answer {
     Lies(Option<Tier>),
     Book(Figures),
     Refused(Refusal),
-    /// The shared media are damaged.
-    Damaged,
 }
 
 /// Prints an answer: nothing, or a line.
@@ -47,7 +45,6 @@ pub fn write_answer<W: Write>(out: &mut W, answer: &Answer) -> io::Result<()> {
         Answer::Moved(count) => writeln!(out, "moved {count}"),
         Answer::Book(figures) => write_book(out, *figures),
         Answer::Refused(refusal) => writeln!(out, "refused {}", refusal.number()),
-        Answer::Damaged => writeln!(out, "refused 3"),
         answer => writeln!(out, "{}", word_of(answer)),
     }
 }

@@ -1,12 +1,14 @@
 // A system in memory tells of its shared area.
 ghost use Rattle.std.specs.Prelude.{◌≡◌, ◌⊎◌, Ok, Err, IfErr, IfOk, OnOk, false};
 ghost use Rattle.call_effects.specs.NodeView.{view_at};
+ghost use Rattle.served_calls.specs.Answering.{OnRefusal};
+ghost use Rattle.served_calls.specs.Parts.{IsNoDamage};
 ghost use Rattle.served_calls.specs.Store.{graph, store_of};
 ghost use Rattle.posix_calls.specs.Path.{reading};
 ghost use Rattle.posix_calls.specs.Resolve as resolve;
 ghost use Rattle.posix_calls.specs.declared.errno.Errno.{Errno};
 ghost use Rattle.script_lines.specs.Seen.{path_of};
-ghost use Rattle.system_shell.specs.OfSystem.{HasLooked, told_error, tree_in};
+ghost use Rattle.system_shell.specs.OfSystem.{HasLooked, IsErrorTold, tree_in};
 ghost use Rattle.system_shell.specs.Paths.{child_in, file_along, unless_directory};
 ghost use Rattle.system_shell.specs.Told.{IsNoFile, IsUnread, told_failed};
 
@@ -150,13 +152,15 @@ fn node_at<M: Media + Drop>(
     }
 }
 
+// How it is told that the shared area could not be read; no damage is found on media that are opened.
 fn unread(error: KernelError<AreaError>) -> Answer
-    ensures { result ≡ told_error error }
+    requires { OnRefusal error IsNoDamage }
+    ensures { IsErrorTold error result }
 {
     match error {
         KernelError::Failed => Answer::Refused(Refusal::KernelFailed),
         KernelError::Refused(AreaError::DeviceFault) => Answer::Refused(Refusal::DeviceFault),
         KernelError::Refused(AreaError::Memory) => Answer::Refused(Refusal::Memory),
-        KernelError::Refused(AreaError::Damaged { .. }) => Answer::Damaged,
+        KernelError::Refused(AreaError::Damaged { .. }) => unreachable!(),
     }
 }

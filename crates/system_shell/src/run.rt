@@ -79,7 +79,7 @@ fn answer_all<S: Running, R: BufRead + Drop, O: Write>(
     lines: &mut ScriptLines<R>,
     out: &mut O,
 ) -> Result<(), ScriptError>
-    ensures { (behind : Option (List ℕ)) × IsAnsweredTo (IsAnswerTo S.plays S.owes S.leases S.waits S.broken S.dead S.tree S.lies S.figures_in S.looks) (R.remaining lines.old.reader) system.old behind system.new × EndsAt result behind }
+    ensures { (behind : Option (List ℕ)) × IsAnsweredTo (IsAnswerTo S.plays S.owes S.leases S.waits S.broken S.dead S.tree S.lies S.figures_in S.looks) lines.old.left system.old behind system.new × EndsAt result behind }
 {
     for _ in 0..u64::MAX {
         if !lines.read_next(out)? {

@@ -1,3 +1,4 @@
 pub mod Parts
 pub mod Printed
 pub mod Reading
+pub mod View

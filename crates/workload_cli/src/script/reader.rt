@@ -1,13 +1,13 @@
 // The lines of a script, one after the other.
-ghost use Rattle.std.specs.Prelude.{◌≡◌, ℕ, ◌≤◌, true, false, Ok, Err, IfOk, vec_len};
+ghost use Rattle.std.specs.Prelude.{◌≡◌, ℕ, [], true, false, Ok, Err, IfOk};
 ghost use Rattle.std.specs.Io.KnownBytes.{IsAtEnd};
-ghost use Rattle.workload_cli.specs.declared.script.part.TheConstants.{MAX_LINE};
 ghost use Rattle.workload_cli.specs.declared.script.reader.ScriptError.TheVariants as stops;
 
 use crate::run_error::RunError;
 use crate::script::part::{End, MAX_LINE, add_part};
 use std::alloc::Global;
 use std::io::{BufRead, Write};
+use std::marker::Model;
 
 /// Why a script is not read and answered to its end.
 #[derive(Clone, Copy)]
@@ -34,6 +34,8 @@ fn flush_if<O: Write>(is_dry: bool, out: &mut O) -> Result<(), RunError> {
 }
 
 /// The lines of a script, of which only the last that was read is kept.
+///
+/// Contracts see what is left of the script, that line, and its number (`specs/View.antt`).
 #[derive(Drop)]
 pub struct ScriptLines<R: BufRead + Drop> {
     reader: R,
@@ -41,7 +43,18 @@ pub struct ScriptLines<R: BufRead + Drop> {
     number: u64,
     // Whether the reader has nothing at hand, so that it may wait for more.
     is_dry: bool,
-    ghost within: { vec_len line ≤ MAX_LINE },
+}
+
+impl<R: BufRead + Drop> Model for ScriptLines<R> {
+    ghost use Rattle.std.specs.Prelude.{◌≤◌, vec_len};
+    ghost use Rattle.workload_cli.specs.declared.script.part.TheConstants.{MAX_LINE};
+    ghost use Rattle.workload_cli.specs.View.{LinesView};
+
+    ghost Value = { LinesView };
+
+    ghost view = { λ s. record { left = R.remaining s.reader; line = s.line.items; number = s.number } };
+
+    ghost invariant = { λ s. vec_len s.line ≤ MAX_LINE };
 }
 
 impl<R: BufRead + Drop> ScriptLines<R> {
@@ -49,7 +62,8 @@ impl<R: BufRead + Drop> ScriptLines<R> {
 
     /// The lines of what the reader gives. The memory of the longest line is taken at once, so that none is wanted later.
     pub fn new(alloc: Global, reader: R) -> Result<Self, RunError>
-        ensures reader { IfOk result (λ lines. lines.reader ≡ reader) }
+        ensures left { IfOk result (λ lines. lines.left ≡ R.remaining reader) }
+        ensures line { IfOk result (λ lines. lines.line ≡ []) }
         ensures number { IfOk result (λ lines. lines.number ≡ 0) }
     {
         let line = Vec::with_capacity(alloc, MAX_LINE)?;
@@ -65,9 +79,9 @@ impl<R: BufRead + Drop> ScriptLines<R> {
     /// where it is not empty. A line of more than `MAX_LINE` bytes is unreadable. Whenever the reader has nothing at hand, what
     /// was written is flushed first, since it may wait for more.
     pub fn read_next<O: Write>(&mut self, out: &mut O) -> Result<bool, ScriptError>
-        ensures line { result ≡ Ok true → LosesLine (R.remaining self.old.reader) (R.remaining self.new.reader) self.new.line.items }
-        ensures end { result ≡ Ok false → IsAtEnd (R.remaining self.old.reader) }
-        ensures too_long { (n : ℕ) → result ≡ Err (ScriptError.Unreadable n) → BeginsTooLong (R.remaining self.old.reader) }
+        ensures line { result ≡ Ok true → LosesLine self.old.left self.new.left self.new.line }
+        ensures end { result ≡ Ok false → IsAtEnd self.old.left }
+        ensures too_long { (n : ℕ) → result ≡ Err (ScriptError.Unreadable n) → BeginsTooLong self.old.left }
         ensures place { (n : ℕ) → result ≡ Err (ScriptError.Unreadable n) → n ≡ self.new.number }
         ensures number { self.new.number ≡ number_after self.old.number }
     {
@@ -82,7 +96,7 @@ impl<R: BufRead + Drop> ScriptLines<R> {
                     return Ok(true);
                 }
                 End::Input => return Ok(!self.line.is_empty()),
-                End::TooLong => return Err(self.unreadable()),
+                End::TooLong => return Err(ScriptError::Unreadable(self.number)),
             }
         }
         Err(ScriptError::Run(RunError::Device))
@@ -90,7 +104,7 @@ impl<R: BufRead + Drop> ScriptLines<R> {
 
     /// The line that was read last, without its newline.
     pub fn line(&self) -> &[u8]
-        ensures { result.now ≡ self.now.line.items }
+        ensures { result.now ≡ self.now.line }
     {
         self.line.as_slice()
     }

@@ -1,12 +1,14 @@
-use Rattle.std.proofs.Common.{◌≡◌}
+use Rattle.std.proofs.Common.{◌≡◌, ◌≤◌, vec_len}
 use Rattle.std.specs.Io.KnownBytes.{Consumes}
 use Rattle.workload_cli.specs.Reading.{number_after, IsWithinLine}
+use Rattle.workload_cli.specs.declared.script.part.TheConstants.{MAX_LINE}
 use Rattle.workload_cli.proofs.script.reader.ScriptLines.read_next.Given as goal
 
 -- what was read of the line so far
 abbrev pub invariant-loop : goal.invariant-loop
 invariant-loop g l = record {
-  number : l.self.number ≡ number_after l.fn.self.number;
-  within : IsWithinLine l.self.line.items;
-  read : Consumes (g.R.Read.remaining l.fn.self.reader) (g.R.Read.remaining l.self.reader) l.self.line.items;
+  number : l.self-inside.number ≡ number_after l.fn.self.number;
+  short : vec_len l.self-inside.line ≤ MAX_LINE;
+  within : IsWithinLine l.self-inside.line.items;
+  read : Consumes l.fn.self.left (g.R.Read.remaining l.self-inside.reader) l.self-inside.line.items;
 }
