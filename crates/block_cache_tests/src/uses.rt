@@ -1,4 +1,5 @@
 use block_cache::{Blocks, MOST_BLOCKS};
+use std::alloc::{AllocError, Global};
 use std::test::*;
 
 // The first byte of a block that is there.
@@ -41,5 +42,82 @@ fn a_file_goes_alone(rt: HostRuntime) -> Result<(), Fail> {
     assert_eq!(rt; blocks.len(), 4);
     assert_eq!(rt; first_of(blocks.get(2, 1)), None);
     assert_eq!(rt; first_of(blocks.get(3, 1)), Some(2));
+    Ok(())
+}
+
+// Inodes at both ends of the numbers, and on both sides of the last one for which a span is kept, each with a byte for its blocks.
+const FILES: [(u32, u8); 5] = [
+    (0, 0x10),
+    (1, 0x20),
+    (1_024, 0x30),
+    (1_025, 0x40),
+    (u32::MAX, 0x50),
+];
+
+// A block of a file, with the mark that its bytes have.
+type Marked = (u32, u8);
+
+// Each file with these blocks.
+fn filled(alloc: Global, marked: &[Marked]) -> Result<Blocks, AllocError> {
+    let mut blocks = Blocks::new(alloc)?;
+    for (inode, byte) in FILES {
+        put_file(&mut blocks, inode, byte, marked)?;
+    }
+    Ok(blocks)
+}
+
+fn put_file(
+    blocks: &mut Blocks,
+    inode: u32,
+    byte: u8,
+    marked: &[Marked],
+) -> Result<(), AllocError> {
+    for (block, mark) in marked {
+        blocks.put(inode, *block, &[byte | *mark; 4096])?;
+    }
+    Ok(())
+}
+
+// Whether each file has these blocks, and the one that was dropped has none of them.
+fn are_kept(blocks: &Blocks, marked: &[Marked], dropped: Option<u32>) -> bool {
+    for (inode, byte) in FILES {
+        if !is_kept(blocks, inode, byte, marked, dropped == Some(inode)) {
+            return false;
+        }
+    }
+    true
+}
+
+fn is_kept(blocks: &Blocks, inode: u32, byte: u8, marked: &[Marked], is_dropped: bool) -> bool {
+    for (block, mark) in marked {
+        let wanted = if is_dropped { None } else { Some(byte | *mark) };
+        if first_of(blocks.peek(inode, *block)) != wanted {
+            return false;
+        }
+    }
+    true
+}
+
+// Whether each file goes with these blocks of it, and the others stay.
+fn each_goes_alone(alloc: Global, marked: &[Marked]) -> Result<bool, AllocError> {
+    for (dropped, _) in FILES {
+        let mut blocks = filled(alloc, marked)?;
+        if !are_kept(&blocks, marked, None) {
+            return Ok(false);
+        }
+        blocks.drop_file(dropped);
+        if !are_kept(&blocks, marked, Some(dropped)) {
+            return Ok(false);
+        }
+    }
+    Ok(true)
+}
+
+#[test]
+fn a_file_goes_alone_at_both_ends_of_the_numbers(rt: HostRuntime) -> Result<(), Fail> {
+    let rows: [&[Marked]; 3] = [&[(0, 1)], &[(u32::MAX, 2)], &[(0, 1), (u32::MAX, 2)]];
+    for marked in rows {
+        assert_eq!(rt; each_goes_alone(rt.alloc(), marked)?, true);
+    }
     Ok(())
 }
