@@ -1,8 +1,11 @@
 ghost use Rattle.std.specs.Prelude.{◌≡◌, ◌↔◌, length, IfErr, IfNone, IfOk, IfSome, IsTrue, OnErr, OnOk, Some, true};
 ghost use Rattle.call_effects.specs.NodeView.{view_at};
 ghost use Rattle.libfs.specs.Answering.{Answers, OnRefusal};
+ghost use Rattle.libfs.specs.AreaError.TheVariants.{Memory};
 ghost use Rattle.libfs.specs.Looks.{Looks};
+ghost use Rattle.libfs.specs.Map.{WantsMemory};
 ghost use Rattle.libfs.specs.Parts.{IsNoDamage, IsTierOf};
+ghost use Rattle.libfs.specs.Standing.{IsMarkIn};
 ghost use Rattle.libfs.specs.Store.{graph, store_of};
 ghost use Rattle.lease_manager.specs.Words.{IsClient};
 ghost use Rattle.event_steps.specs.Sound.{AreFrom, AreSeats};
@@ -74,9 +77,12 @@ impl<M: Media> System<M> {
     /// What stands at an inode of the shared graph, as client 1 would fetch it. `Failed` exactly where a device of the kernel has failed; else refused as `Kernel::fetch` is, and never for damage.
     pub fn look(&mut self, inode: u32) -> Result<Fetched, KernelError<AreaError>>
         ensures node { IfOk result (λ x. x.node ≡ view_at (graph self.old.kernel.area.geometry (store_of (M.seen self.old.kernel.area.media))) inode) }
+        ensures mark { IfOk result (λ x. IsMarkIn (store_of (M.seen self.old.kernel.area.media)) 1 x.mark) }
         ensures only { IfErr result (λ e. OnRefusal e IsNoDamage) }
+        ensures memory { IfErr result (λ e. OnRefusal e (λ r. r ≡ Memory → WantsMemory self.old.kernel.area.geometry (store_of (M.seen self.old.kernel.area.media)) inode)) }
         ensures looks { Answers self.old.kernel.area.failed self.old.kernel self.new.kernel result (Looks M.moment M.seen M.left M.faults self.old.kernel.area self.new.kernel.area) }
         ensures book { self.new.kernel.book ≡ self.old.kernel.book }
+        ensures opening { self.new.kernel.opening ≡ self.old.kernel.opening }
         ensures seats { self.new.seats ≡ self.old.seats }
     {
         self.kernel.fetch(1, inode)
@@ -90,8 +96,10 @@ impl<M: Media> System<M> {
     ) -> Result<Option<Tier>, KernelError<AreaError>>
         ensures tier { IfOk result (IsTierOf self.old.kernel.area.geometry (store_of (M.seen self.old.kernel.area.media)) inode block) }
         ensures only { IfErr result (λ e. OnRefusal e IsNoDamage) }
+        ensures memory { IfErr result (λ e. OnRefusal e (λ r. r ≡ Memory → WantsMemory self.old.kernel.area.geometry (store_of (M.seen self.old.kernel.area.media)) inode)) }
         ensures looks { Answers self.old.kernel.area.failed self.old.kernel self.new.kernel result (Looks M.moment M.seen M.left M.faults self.old.kernel.area self.new.kernel.area) }
         ensures book { self.new.kernel.book ≡ self.old.kernel.book }
+        ensures opening { self.new.kernel.opening ≡ self.old.kernel.opening }
         ensures seats { self.new.seats ≡ self.old.seats }
     {
         self.kernel.tier_of(inode, block)
