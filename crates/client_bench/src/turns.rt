@@ -36,10 +36,30 @@ struct Timing {
 
 /// The least times, with so many records in the log before each turn's writes.
 pub fn least_of(desk: &mut Desk<'_>, tree: Tree, records: u32) -> Result<Times, Failure> {
-    let mut timing = timing_of(desk.alloc())?;
-    all_turns(desk, tree, &mut timing, records)?;
-    timing.log.end()?;
-    Ok(timing.least)
+    match timing_of(desk.alloc()) {
+        Ok(timing) => least_by(desk, tree, timing, records),
+        Err(failure) => Err(failure),
+    }
+}
+
+// The check of borrows is dear where tree and timing are both owned beside an exit, so only one of them is.
+fn least_by(
+    desk: &mut Desk<'_>,
+    tree: Tree,
+    mut timing: Timing,
+    records: u32,
+) -> Result<Times, Failure> {
+    let turned = all_turns(desk, tree, &mut timing, records);
+    timing.least_if(turned)
+}
+
+impl Timing {
+    // The least times, if all turns were made and no append failed.
+    fn least_if(&self, turned: Result<(), Failure>) -> Result<Times, Failure> {
+        turned?;
+        self.log.end()?;
+        Ok(self.least)
+    }
 }
 
 fn timing_of(alloc: Global) -> Result<Timing, Failure> {

@@ -23,6 +23,7 @@ use log_record::Record;
 use record_check::NodeSummary;
 use std::alloc::AllocError;
 use std::collections::BTreeMap;
+use std::mem;
 
 impl ClientCopies {
     /// Prepares a change of the client's own by what it knows: its record, the number of the node that it makes, and the descriptor
@@ -52,22 +53,17 @@ impl ClientCopies {
         })
     }
 
-    /// The record of a change is in the client's log: the client knows what it left, and gives the record back. It takes no memory, and cannot fail.
-    pub fn commit(&mut self, change: OwnChange) -> Record
-        requires { IsPreparedFor (knows self.old) change }
-        ensures known { knows self.new ≡ knows_logged (knows self.old) change.entry.effects change.made change.descriptor }
-        ensures entry { result ≡ change.entry }
+    /// The record of a change is in the client's log: the client knows what it left. It takes no memory, and cannot fail. The change stays where it is, with its record, which
+    /// is the caller's to take; what was ready for its commit is used.
+    pub fn commit(&mut self, change: &mut OwnChange)
+        requires { IsPreparedFor (knows self.old) change.old }
+        ensures known { knows self.new ≡ knows_logged (knows self.old) change.old.entry.effects change.old.made change.old.descriptor }
+        ensures entry { change.new.entry ≡ change.old.entry }
     {
-        let OwnChange {
-            entry,
-            made,
-            descriptor,
-            nodes,
-        } = change;
-        self.use_made(made);
-        self.change_descriptor(descriptor);
-        self.put_nodes(entry.effects.as_slice(), nodes);
-        entry
+        let nodes = mem::replace(&mut change.nodes, NodeCopies::InPlace);
+        self.use_made(change.made);
+        self.change_descriptor(change.descriptor);
+        self.put_nodes(change.entry.effects.as_slice(), nodes);
     }
 
     // The number of a node that is made is used, and nothing stands there yet.

@@ -1,5 +1,3 @@
-ghost use Rattle.std.specs.Prelude.{◌≡◌};
-
 use crate::node_copies::NodeCopies;
 use client_plan::DescriptorChange;
 use log_record::Record;
@@ -7,17 +5,11 @@ use log_record::Record;
 /// A change that a client makes by a record of its own, with what has to be ready for its commit, for which all memory is taken.
 #[derive(Drop)]
 pub struct OwnChange {
-    pub(crate) entry: Record,
-    pub(crate) made: Option<u32>,
-    pub(crate) descriptor: Option<DescriptorChange>,
-    pub(crate) nodes: NodeCopies,
-}
-
-impl OwnChange {
     /// The record, which goes into the client's log first.
-    pub fn entry(&self) -> &Record
-        ensures { result.now ≡ self.now.entry }
-    {
-        &self.entry
-    }
+    pub entry: Record,
+    /// The number of the node that it makes, if it makes one.
+    pub made: Option<u32>,
+    /// The descriptor that it changes, if it changes one.
+    pub descriptor: Option<DescriptorChange>,
+    pub(crate) nodes: NodeCopies,
 }

@@ -105,11 +105,11 @@ impl<M: Media> Client<M> {
             Ok(()) => {}
             Err(_) => return answer(Errno::NoMemory),
         }
-        match self.log.begin(change.entry()) {
+        match self.log.begin(&change.entry) {
             Ok(()) => {}
             Err(_) => unreachable!(),
         }
-        let entry = change.entry();
+        let entry = &change.entry;
         note_effects(&self.leases, &mut self.pass, entry.effects.as_slice());
         self.spare -= entry.units;
         self.begun = Some(Begun { change, reply });

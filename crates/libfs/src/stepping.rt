@@ -97,10 +97,13 @@ fn kept(begun: &mut Option<Begun>, copies: &mut ClientCopies, records: &mut OwnR
     ensures pushed { IfSome begun.old (λ b. records.new.current ≡ records.old.current ++ b.change.entry ∷ []) }
     ensures away { records.new.away ≡ records.old.away }
 {
+    match begun {
+        Some(begun) => copies.commit(&mut begun.change),
+        None => unreachable!(),
+    }
     match begun.take() {
         Some(Begun { change, reply }) => {
-            let entry = copies.commit(change);
-            records.push(entry);
+            records.push(change.entry);
             reply
         }
         None => unreachable!(),
