@@ -2,10 +2,8 @@
 use crate::times::Times;
 use crate::tree::tree_of;
 use crate::turns::least_of;
-use layer_bench::{Desk, Failure, keep_room};
-
-/// More than all that a turn takes, so that no page is asked of the system while it is timed.
-const ROOM: usize = 60_000_000;
+use layer_bench::{Desk, Failure};
+use std::alloc::Global;
 
 /// How many files a tree has, and how many records the log.
 const TREES: [(u32, u32); 4] = [(10, 0), (1_000, 0), (10, 200), (1_000, 200)];
@@ -13,11 +11,16 @@ const TREES: [(u32, u32); 4] = [(10, 0), (1_000, 0), (10, 200), (1_000, 200)];
 /// Tells what the calls of a client take that has its leases and copies: a write of a block beside an append of its record, a read of a block that the client keeps beside a copy of it, `stat` and `open` of a
 /// path of four components. Each in a small tree and in a large one, with no record in the log and with 200, over media in memory that keep no record of their calls.
 pub fn time_calls(desk: &mut Desk<'_>) -> Result<(), Failure> {
-    keep_room(desk.alloc(), ROOM)?;
+    settle(desk.alloc())?;
     for (files, records) in &TREES {
         time_tree(desk, *files, *records)?;
     }
     Ok(())
+}
+
+// Makes a tree and drops it: so the allocator learns how much is freed at once, and keeps its pages from then on, as it does in a system that has run for a while.
+fn settle(alloc: Global) -> Result<(), Failure> {
+    tree_of(alloc, 10)?.end()
 }
 
 fn time_tree(desk: &mut Desk<'_>, files: u32, records: u32) -> Result<(), Failure> {

@@ -20,11 +20,10 @@ pub struct Tree {
 /// A tree of so many files of a block each, in five directories, of which the client read all. The first file is open at descriptor 0, and all that the client logged is digested.
 pub fn tree_of(alloc: Global, files: u32) -> Result<Tree, Failure> {
     let mut tree = Tree::of(opened(alloc)?, false);
-    tree.make_directories(alloc)?;
-    tree.make_files(alloc, files)?;
-    tree.empty_log();
-    tree.read_files(alloc, files)?;
-    Ok(tree)
+    match tree.fill(alloc, files) {
+        Ok(()) => Ok(tree),
+        Err(error) => Err(Failure::from(error)),
+    }
 }
 
 fn opened(alloc: Global) -> Result<System<RamMedia>, Failure> {
@@ -38,6 +37,13 @@ fn opened(alloc: Global) -> Result<System<RamMedia>, Failure> {
 }
 
 impl Tree {
+    fn fill(&mut self, alloc: Global, files: u32) -> Result<(), AllocError> {
+        self.make_directories(alloc)?;
+        self.make_files(alloc, files)?;
+        self.empty_log();
+        self.read_files(alloc, files)
+    }
+
     fn make_directories(&mut self, alloc: Global) -> Result<(), AllocError> {
         for branch in 0..BRANCHES {
             for rest in ["", "/a", "/a/b"] {
