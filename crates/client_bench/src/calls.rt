@@ -12,6 +12,9 @@ pub const BRANCHES: u32 = 5;
 /// The bytes of each file.
 pub const BLOCK: usize = UNIT_BYTES as usize;
 
+/// The bytes that each record writes that is in a log before its writes are timed.
+pub const FEW: usize = 16;
+
 // A file is opened for reading and writing, and made where it is not there.
 const MAKE: Flags = Flags {
     read: true,

@@ -1,16 +1,19 @@
-// A log beside the client's, to which the record of its write is appended.
-use crate::calls::BLOCK;
+// A log beside the client's, to which the record of its write is appended. It has two regions, written in turn as the client's are: a region that is written again and again would lie nearer in the caches of the processor.
+use crate::calls::{BLOCK, FEW};
 use fresh_system::RamMedia;
 use layer_bench::{Failure, append_to, ram_region, write_record};
 use log_record::Record;
 use std::alloc::Global;
+use std::mem;
 use update_log::{Region, Stage, WipeProgress};
 
-/// A region of its own, and the record.
+/// The region that is written and the other one, the record of a write of a block, and that of a short write.
 #[derive(Drop)]
 pub struct OwnLog {
     region: Region<RamMedia>,
+    other: Region<RamMedia>,
     entry: Record,
+    few: Record,
     generation: u64,
     has_failed: bool,
 }
@@ -19,7 +22,9 @@ impl OwnLog {
     pub fn new(alloc: Global) -> Result<Self, Failure> {
         Ok(OwnLog {
             region: ram_region(alloc)?,
+            other: ram_region(alloc)?,
             entry: write_record(alloc, BLOCK)?,
+            few: write_record(alloc, FEW)?,
             generation: 0,
             has_failed: false,
         })
@@ -30,8 +35,16 @@ impl OwnLog {
         self.has_failed |= append_to(&mut self.region, &self.entry).is_err();
     }
 
-    /// Wipes the region to the next generation, as a client's is.
-    pub fn wipe(&mut self) {
+    /// Goes on in the other region, which is wiped to the next generation and then has so many short records.
+    pub fn turn(&mut self, records: u32) {
+        mem::swap(&mut self.region, &mut self.other);
+        self.wipe();
+        for _ in 0..records {
+            self.has_failed |= append_to(&mut self.region, &self.few).is_err();
+        }
+    }
+
+    fn wipe(&mut self) {
         self.generation = self.generation.wrapping_add(1);
         for _ in 0..4 {
             if self.wipe_call() {

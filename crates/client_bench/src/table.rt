@@ -1,7 +1,7 @@
 // What is told of the times.
-use crate::times::Times;
+use crate::times::{Times, WriteTime};
 use crate::tree::tree_of;
-use crate::turns::least_of;
+use crate::turns::times_of;
 use layer_bench::{Desk, Failure};
 use std::alloc::Global;
 
@@ -25,17 +25,17 @@ fn settle(alloc: Global) -> Result<(), Failure> {
 
 fn time_tree(desk: &mut Desk<'_>, files: u32, records: u32) -> Result<(), Failure> {
     let tree = tree_of(desk.alloc(), files)?;
-    let times = least_of(desk, tree, records)?;
+    let (times, median) = times_of(desk, tree, records)?;
     desk.tell("files", u128::from(files), "");
     desk.tell("records in the log", u128::from(records), "");
-    tell_all(desk, times);
+    tell_all(desk, times, median);
     Ok(())
 }
 
-fn tell_all(desk: &mut Desk<'_>, times: Times) {
-    desk.tell("append of 4096 bytes", times.append, " ns");
-    desk.tell("pwrite of 4096 bytes", times.write, " ns");
-    desk.tell_ratio("ratio", times.write, times.append);
+fn tell_all(desk: &mut Desk<'_>, times: Times, median: WriteTime) {
+    desk.tell("append of 4096 bytes", median.append, " ns");
+    desk.tell("pwrite of 4096 bytes", median.write, " ns");
+    desk.tell_ratio("ratio", median.write, median.append);
     desk.tell("copy of 4096 bytes", times.copy, " ns");
     desk.tell("pread of 4096 bytes", times.read, " ns");
     desk.tell_ratio("ratio", times.read, times.copy);

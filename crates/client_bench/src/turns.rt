@@ -1,8 +1,8 @@
 // The calls of a client, timed again and again.
-use crate::calls::{BLOCK, Calls};
+use crate::calls::{BLOCK, Calls, FEW};
 use crate::own_log::OwnLog;
 use crate::timed_client::TimedClient;
-use crate::times::{MOST, Times};
+use crate::times::{MOST, Times, WriteTime, median};
 use crate::tree::Tree;
 use layer_bench::{Desk, Failure, Over, append_times};
 use posix_calls::Call;
@@ -23,42 +23,47 @@ const OPENS: u32 = 16;
 /// The appends beside which copies are timed.
 const APPENDS: u64 = 120;
 
-/// The bytes that each record writes that is there before.
-const FEW: usize = 16;
-
-// What is timed, beside what, and the least times so far.
+// What is timed, beside what, the least times so far, and each turn's writes.
 #[derive(Drop)]
 struct Timing {
     calls: Calls,
     log: OwnLog,
     least: Times,
+    writes: Vec<WriteTime>,
 }
 
-/// The least times, with so many records in the log before each turn's writes.
-pub fn least_of(desk: &mut Desk<'_>, tree: Tree, records: u32) -> Result<Times, Failure> {
+/// The least times, and those of a write in the median turn, with so many records in the log before each turn's writes.
+pub fn times_of(
+    desk: &mut Desk<'_>,
+    tree: Tree,
+    records: u32,
+) -> Result<(Times, WriteTime), Failure> {
     match timing_of(desk.alloc()) {
-        Ok(timing) => least_by(desk, tree, timing, records),
+        Ok(timing) => times_by(desk, tree, timing, records),
         Err(failure) => Err(failure),
     }
 }
 
 // The check of borrows is dear where tree and timing are both owned beside an exit, so only one of them is.
-fn least_by(
+fn times_by(
     desk: &mut Desk<'_>,
     tree: Tree,
     mut timing: Timing,
     records: u32,
-) -> Result<Times, Failure> {
+) -> Result<(Times, WriteTime), Failure> {
     let turned = all_turns(desk, tree, &mut timing, records);
-    timing.least_if(turned)
+    timing.times_if(turned)
 }
 
 impl Timing {
-    // The least times, if all turns were made and no append failed.
-    fn least_if(&self, turned: Result<(), Failure>) -> Result<Times, Failure> {
+    // The times, if all turns were made and no append failed.
+    fn times_if(&mut self, turned: Result<(), Failure>) -> Result<(Times, WriteTime), Failure> {
         turned?;
         self.log.end()?;
-        Ok(self.least)
+        match median(&mut self.writes) {
+            Some(turn) => Ok((self.least, turn)),
+            None => Err(Failure::new("no turn was made")),
+        }
     }
 }
 
@@ -69,6 +74,7 @@ fn timing_of(alloc: Global) -> Result<Timing, Failure> {
         calls,
         log,
         least: MOST,
+        writes: Vec::with_capacity(alloc, TURNS as usize)?,
     })
 }
 
@@ -79,8 +85,8 @@ fn all_turns(
     records: u32,
 ) -> Result<(), Failure> {
     let mut tree = tree;
-    for _ in 0..TURNS {
-        tree = next_turn(desk, tree, timing, records)?;
+    for turn in 0..TURNS {
+        tree = next_turn(desk, tree, timing, records, turn)?;
     }
     tree.end()
 }
@@ -90,11 +96,14 @@ fn next_turn(
     tree: Tree,
     timing: &mut Timing,
     records: u32,
+    turn: u32,
 ) -> Result<Tree, Failure> {
     let mut tree = tree;
+    timing.log.turn(records);
     log_some(desk.alloc(), &mut tree, records)?;
-    let (tree, times) = one_turn(desk, tree, &mut timing.log, &timing.calls)?;
+    let (tree, times, write) = one_turn(desk, tree, &mut timing.log, &timing.calls, turn)?;
     timing.least = timing.least.least(times);
+    timing.writes.push(write)?;
     Ok(tree)
 }
 
@@ -114,24 +123,41 @@ fn one_turn(
     tree: Tree,
     log: &mut OwnLog,
     calls: &Calls,
-) -> Result<(Tree, Times), Failure> {
+    turn: u32,
+) -> Result<(Tree, Times, WriteTime), Failure> {
     let (_, copy) = append_times(desk, BLOCK, APPENDS, Over::Ram)?;
     let mut client = tree.into_client()?;
     let read = time_of(desk, &mut client, &calls.read, READS);
     let stat = time_of(desk, &mut client, &calls.stat, READS);
     let open = time_of(desk, &mut client, &calls.open, OPENS);
     close_all(&mut client);
-    let append = time_of_appends(desk, log);
-    let write = time_of(desk, &mut client, &calls.write, WRITES);
+    let write = time_writes(desk, &mut client, log, &calls.write, turn);
     let times = Times {
-        append,
         copy,
-        write,
         read,
         stat,
         open,
     };
-    Ok((client.into_tree(desk.alloc())?, times))
+    let tree = client.into_tree(desk.alloc())?;
+    Ok((tree, times, write))
+}
+
+// What comes second finds the code of an append in the caches: so writes and appends come first by turns, two by two, as each region is written in every second turn.
+fn time_writes(
+    desk: &mut Desk<'_>,
+    client: &mut TimedClient,
+    log: &mut OwnLog,
+    call: &Call,
+    turn: u32,
+) -> WriteTime {
+    if turn / 2 % 2 == 0 {
+        let append = time_of_appends(desk, log);
+        let write = time_of(desk, client, call, WRITES);
+        return WriteTime { write, append };
+    }
+    let write = time_of(desk, client, call, WRITES);
+    let append = time_of_appends(desk, log);
+    WriteTime { write, append }
 }
 
 // The nanoseconds of one of so many calls.
@@ -143,9 +169,8 @@ fn time_of(desk: &mut Desk<'_>, client: &mut TimedClient, call: &Call, count: u3
     desk.since(start) / u128::from(count.max(1))
 }
 
-// The nanoseconds of one append to a region that is as empty as the client's was.
+// The nanoseconds of one append to a region that has as many records as the client's, and was written as long ago.
 fn time_of_appends(desk: &mut Desk<'_>, log: &mut OwnLog) -> u128 {
-    log.wipe();
     let start = desk.now();
     for _ in 0..WRITES {
         log.append();

@@ -29,6 +29,8 @@ impl ClientCopies {
     /// Prepares a change of the client's own by what it knows: its record, the number of the node that it makes, and the descriptor
     /// that it changes, as `plan_call` tells them. All memory is taken that what it knows after the record needs, and nothing changes. None is
     /// asked for where nothing is known of what the record touches, nor for one effect alone that enters no name.
+    // A client's write is put together of this and `commit`: so neither moves the record or what is ready from call to call.
+    #[inline(always)]
     pub fn prepare(
         &self,
         entry: Record,
@@ -55,6 +57,7 @@ impl ClientCopies {
 
     /// The record of a change is in the client's log: the client knows what it left. It takes no memory, and cannot fail. The change stays where it is, with its record, which
     /// is the caller's to take; what was ready for its commit is used.
+    #[inline(always)]
     pub fn commit(&mut self, change: &mut OwnChange)
         requires { IsPreparedFor (knows self.old) change.old }
         ensures known { knows self.new ≡ knows_logged (knows self.old) change.old.entry.effects change.old.made change.old.descriptor }

@@ -35,7 +35,7 @@ pub record IsMovedOnce {M T : Type 0} (moment : M → ℕ) (left : M → ℕ →
   pub faults_rise : faults old.media ≤ faults new.media
   pub one_fault : faults new.media ≤ faults old.media + 1
 
--- A region that was moved by so many writes and fences, which are counted where all of them succeeded. Only where the device does the last one fails.
+-- A region that was moved by so many writes and fences, one after the other, which are counted where all of them succeeded. Where the device fails one, no further one is made.
 pub record IsMoved {M T : Type 0} (moment : M → ℕ) (left : M → ℕ → Tier → List ℕ → Type 0) (faults : M → ℕ) (calls : ℕ) (old new : RegionView M) (result : Result T LogError) : Type 0 where
   pub all_calls : OnOk result (moment new.media ≡ moment old.media + calls)
   pub at_most : moment new.media ≤ moment old.media + calls

@@ -3,7 +3,7 @@ pub mod Courses
 pub mod Ends
 pub mod Lacks
 pub mod Outcomes
-pub mod PlainWrite
+pub mod WriteLogged
 pub mod RootAlone
 pub mod Serving
 pub mod Spelled

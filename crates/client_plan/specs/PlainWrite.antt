@@ -11,7 +11,7 @@ use Rattle.log_record.specs.declared.format.Record.{Record}
 use Rattle.call_effects.specs.Records.{file_rise}
 use Rattle.client_plan.specs.declared.outcome.Outcome.{Outcome}
 use Rattle.client_plan.specs.declared.outcome.Outcome.TheVariants.{Log}
-use Rattle.client_plan.specs.declared.plain_write.PlainWrite.{PlainWrite}
+use Rattle.client_plan.specs.declared.plain_writes.PlainWrite.{PlainWrite}
 use Rattle.client_plan.specs.Holdings.{Holdings, first_unused}
 
 -- this inode is open for writing at a number, the client holds it for writing, and none of its pins is of a file that is not open
@@ -40,9 +40,10 @@ pub record IsPlainWrite (p : Part) (h : Holdings) (number at count : ℕ) (w : P
   pub paid : w.units ≤ h.spare
   pub small : w.units < 2 ^ 32
 
--- what it comes to
+-- its record
 abbrev pub written_by : PlainWrite → ℕ → List ℕ → Record
 written_by w at bytes = record { units = w.units; effects = Bytes w.inode at bytes ∷ [] }
 
+-- what it comes to: its record, answered with the number of its bytes
 abbrev pub write_logged : PlainWrite → ℕ → List ℕ → Outcome
 write_logged w at bytes = Log (written_by w at bytes) (Wrote (length bytes)) None None

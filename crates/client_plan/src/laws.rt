@@ -1,10 +1,11 @@
 //! What holds of every client and every call.
 
-ghost use Rattle.std.specs.Prelude.{◌≡◌, ◌≢◌, ◌⊎◌, ◌<◌, ◌≤◌, ℕ, List, Option, Some};
+ghost use Rattle.std.specs.Prelude.{◌≡◌, ◌≢◌, ◌⊎◌, ◌<◌, ◌≤◌, ℕ, List, Option, Some, length};
 ghost use Rattle.posix_calls.specs.Tree.{Descriptors, with_own};
 ghost use Rattle.posix_calls.specs.Query.{Part};
 ghost use Rattle.posix_calls.specs.Operations.{Step};
 ghost use Rattle.posix_calls.specs.declared.call.Call.{Call};
+ghost use Rattle.posix_calls.specs.declared.call.Call.TheVariants as calls;
 ghost use Rattle.posix_calls.specs.declared.call.Reply.{Reply};
 ghost use Rattle.file_graph.specs.Graph.{Graph, after_effects};
 ghost use Rattle.file_graph.specs.Units.{growth};
@@ -17,7 +18,9 @@ ghost use Rattle.client_plan.specs.declared.need.Need.TheVariants.{Unpin, Lease,
 ghost use Rattle.client_plan.specs.declared.need.Mode.{Mode};
 ghost use Rattle.client_plan.specs.declared.outcome.DescriptorChange.{DescriptorChange};
 ghost use Rattle.client_plan.specs.declared.outcome.Outcome.TheVariants as outcomes;
+ghost use Rattle.client_plan.specs.declared.plain_writes.PlainWrite.{PlainWrite};
 ghost use Rattle.client_plan.specs.Holdings.{Holdings};
+ghost use Rattle.client_plan.specs.PlainWrite.{IsPlainWrite, write_logged};
 ghost use Rattle.client_plan.specs.Planned.{outcome, own_changed};
 ghost use Rattle.client_plan.specs.Served.{IsLacking, without_pin, with_pin, with_lease, with_number, with_units};
 ghost use Rattle.client_plan.specs.Steps.{IsAnswered, IsOf, IsReady, IsRefused};
@@ -33,6 +36,11 @@ pub fn served_need_is_lacking_no_longer()
     ensures inodes { (p : Part) (h : Holdings) (call : Call) (new n : ℕ) → outcome p (with_number h new) call ≢ outcomes.Need (Inodes n) }
     ensures units { (p : Part) (h : Holdings) (call : Call) (n more : ℕ) → outcome p h call ≡ outcomes.Need (Units n) → outcome p (with_units h n) call ≢ outcomes.Need (Units more) }
     ensures pin { (p : Part) (h : Holdings) (call : Call) (i : ℕ) → outcome p (with_pin h i) call ≢ outcomes.Need (Pin i) }
+{}
+
+/// A write for which nothing is lacking comes to its record, and is answered with the number of its bytes.
+pub fn plain_write_is_logged()
+    ensures { (p : Part) (h : Holdings) (number at : ℕ) (bytes : List ℕ) (w : PlainWrite) → IsPlainWrite p h number at (length bytes) w → outcome p h (calls.Pwrite number at bytes) ≡ write_logged w at bytes }
 {}
 
 /// A call that is answered without a record is refused by what the client knows, or comes to an operation without effects, and what that opens is

@@ -2,20 +2,24 @@
 //!
 //! `plan_call` decides it, and changes nothing. What a call needs, and in which order it is asked for, is told line by line in
 //! `specs/Lacking.antt`, and put together in `specs/Planned.antt`. What the client knows of the tree is a `TreeAnswers` of `posix_calls`,
-//! and what it has beside that a `Supplies`. That this is right is told by the laws.
+//! and what it has beside that a `Supplies`. `plain_write` finds a write that lacks nothing at once, as most do. That this is right is told by the laws.
 #![tactic(auto)]
 
 mod laws;
 mod need;
 mod outcome;
-mod plain_write;
+mod plain_writes;
 mod planning;
 mod stop;
 mod supplies;
 mod words;
 
-pub use laws::{answered_call_is_a_step, logged_call_is_a_step, served_need_is_lacking_no_longer};
+pub use laws::{
+    answered_call_is_a_step, logged_call_is_a_step, plain_write_is_logged,
+    served_need_is_lacking_no_longer,
+};
 pub use need::{Mode, Need};
 pub use outcome::{DescriptorChange, Outcome};
+pub use plain_writes::{PlainWrite, plain_write, record_of_write};
 pub use planning::plan_call;
 pub use supplies::Supplies;

@@ -20,7 +20,6 @@ ghost use Rattle.client_plan.specs.Memory.{wants_memory};
 
 use crate::need::{Mode, Need};
 use crate::outcome::{DescriptorChange, Outcome};
-use crate::plain_write::{log_write, plain_write};
 use crate::stop::Stop;
 use crate::supplies::Supplies;
 use crate::words::WordsAlone;
@@ -38,32 +37,6 @@ use std::alloc::{AllocError, Global};
 /// more bytes than there is room for, and what is opened has the number of a descriptor. Memory is taken for the names and bytes of a call and for its record; where it is taken `AllocError` may
 /// stand in place of any outcome.
 pub fn plan_call<T: TreeAnswers, S: Supplies>(
-    alloc: Global,
-    tree: &T,
-    has: &S,
-    call: &Call,
-) -> Result<Outcome, AllocError>
-    requires { (T.part tree.now).is_dir ROOT ≡ Some (Some true) }
-    ensures exact { IfOk result (λ o. o ≡ outcome (T.part tree.now) (S.holdings has.now) call.now) }
-    ensures spelled { IfOk result (λ o. IfSome (record_in o) IsRecord) }
-    ensures number { IfOk result (λ o. ForSome (change_in o) OpensInRange) }
-    ensures memory { IfErr result (λ _. wants_memory (T.part tree.now) (S.holdings has.now).own call.now ≡ true) }
-{
-    if let Call::Pwrite {
-        descriptor,
-        at,
-        bytes,
-    } = call
-    {
-        if let Some(write) = plain_write(tree, has, *descriptor, *at, bytes.len()) {
-            return log_write(alloc, write, *at, bytes);
-        }
-    }
-    plan_in_full(alloc, tree, has, call)
-}
-
-// The same, step by step.
-fn plan_in_full<T: TreeAnswers, S: Supplies>(
     alloc: Global,
     tree: &T,
     has: &S,

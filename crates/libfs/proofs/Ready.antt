@@ -5,8 +5,11 @@ use Rattle.std.specs.Option.{ForSome}
 use Rattle.std.proofs.lemmas.Bool.{false≢true, and_parts, leb-true}
 use Rattle.std.proofs.lemmas.List.Sums.{count_by-le-length}
 use Rattle.tier_device.specs.declared.media.Tier.{Tier}
+use Rattle.posix_calls.specs.Query.{Part}
 use Rattle.posix_calls.specs.declared.call.Call.{Call}
+use Rattle.posix_calls.specs.declared.call.Call.TheVariants.{Pwrite}
 use Rattle.posix_calls.specs.declared.call.Reply.{Reply}
+use Rattle.posix_calls.specs.declared.limits.TheConstants.{MAX_FILE, MAX_TRANSFER}
 use Rattle.file_graph.specs.Numbers.{is_inode}
 use Rattle.log_record.specs.declared.format.Record.{Record}
 use Rattle.update_log.specs.Frames.{end_behind}
@@ -16,7 +19,9 @@ use Rattle.call_effects.specs.Known.{Knowledge, part_of}
 use Rattle.client_plan.specs.declared.outcome.DescriptorChange.{DescriptorChange}
 use Rattle.client_plan.specs.declared.outcome.Outcome.{Outcome}
 use Rattle.client_plan.specs.declared.outcome.Outcome.TheVariants as outcomes
+use Rattle.client_plan.specs.declared.plain_writes.PlainWrite.{PlainWrite}
 use Rattle.client_plan.specs.Holdings.{Holdings}
+use Rattle.client_plan.specs.PlainWrite.{IsPlainWrite, write_logged, written_by}
 use Rattle.client_plan.specs.Planned.{outcome, OpensInRange, change_in}
 use Rattle.client_plan.specs.Steps.{IsOf, IsReady}
 use Rattle.lease_manager.specs.declared.view.LeaseMode.{LeaseMode}
@@ -29,7 +34,7 @@ use Rattle.libfs.specs.View.{ClientView}
 use Rattle.client_leases.specs.Counted.{Counts, is_touched, touching}
 use Rattle.client_leases.specs.Held.{is_writing, writes}
 use Rattle.libfs.specs.Holding.{holdings_of, known_to, outcome_for}
-use Rattle.libfs.specs.Starting.{MayGoOn}
+use Rattle.libfs.specs.Starting.{IsReadyToBegin, MayGoOn}
 
 -- what a client has is of what it knows
 pub has_of : {M : Type 0} (seen : M → Tier → List ℕ) (v : ClientView M) → IsOf (known_to v) (holdings_of seen v)
@@ -54,6 +59,21 @@ may_go_on seen v call (outcomes.Log entry reply made change) is number ready mak
       room = r.room;
       fits = r.short;
     }
+
+-- a write for which nothing is lacking
+module _ {M : Type 0} (seen : M → Tier → List ℕ) (v : ClientView M) (number at : ℕ) (bytes : List ℕ) (w : PlainWrite) where
+  -- it has no more bytes than one call may write
+  pub plain_few : (p : Part) → IsPlainWrite p (holdings_of seen v) number at (length bytes) w → length bytes ≤ MAX_TRANSFER
+  plain_few p is =
+      let all = and_parts (nat_le 1 (length bytes) && nat_le (length bytes) MAX_TRANSFER) (nat_le (at + length bytes) MAX_FILE) is.write in
+      leb-true (length bytes) MAX_TRANSFER (and_parts (nat_le 1 (length bytes)) (nat_le (length bytes) MAX_TRANSFER) all.0).1
+
+  -- and its record may be begun
+  pub plain_ready : outcome_for seen v (Pwrite number at bytes) ≡ write_logged w at bytes
+      → ((k : Knowledge) (h : Holdings) (c : Call) (change : Record) (reply : Reply) (made : Option ℕ) (descriptor : Option DescriptorChange) → IsOf k h → outcome (part_of k) h c ≡ outcomes.Log change reply made descriptor → IsReady k h c change reply made descriptor)
+      → ((k : Knowledge) (h : Holdings) (c : Call) (entry : Record) (reply : Reply) (made : Option ℕ) (change : Option DescriptorChange) → IsOf k h → outcome (part_of k) h c ≡ outcomes.Log entry reply made change → ForSome made (λ n. is_inode n ≡ true))
+      → IsReadyToBegin seen v (written_by w at bytes) None None
+  plain_ready logged ready makes = may_go_on seen v (Pwrite number at bytes) (write_logged w at bytes) (sym logged) (λ x e. absurd (cc)) ready makes
 
 -- of an answer that is there both hold, and what follows from both
 pub if_ok_from_both : {T E : Type 0} (r : Result T E) (P Q R : T → Type 0) → ((x : T) → P x → Q x → R x) → IfOk r P → IfOk r Q → IfOk r R

@@ -1,13 +1,15 @@
-ghost use Rattle.std.specs.Prelude.{◌≡◌, ◌⊎◌, ◌/◌, ℕ, true, false, None, IfOk, IfErr};
+ghost use Rattle.std.specs.Prelude.{◌≡◌, ◌≤◌, ◌⊎◌, ◌/◌, ℕ, length, true, false, None, IfOk, IfErr, IfSome};
+ghost use Rattle.posix_calls.specs.declared.call.Call.TheVariants as calls;
 ghost use Rattle.posix_calls.specs.declared.call.Reply.TheVariants as replies;
 ghost use Rattle.posix_calls.specs.declared.errno.Errno.TheVariants.{IoError, NoMemory};
 ghost use Rattle.call_effects.specs.Known.{part_of};
 ghost use Rattle.client_plan.specs.Memory.{wants_memory};
+ghost use Rattle.client_plan.specs.PlainWrite.{write_logged, written_by};
 ghost use Rattle.client_copies.specs.Held.{knows};
 ghost use Rattle.client_copies.specs.Prepared.{IsPreparedFor};
 ghost use Rattle.libfs.specs.declared.now.Now.TheVariants as now;
 ghost use Rattle.posix_calls.specs.declared.call.Reply.{Reply};
-ghost use Rattle.posix_calls.specs.declared.limits.TheConstants.{UNIT_BYTES};
+ghost use Rattle.posix_calls.specs.declared.limits.TheConstants.{MAX_TRANSFER, UNIT_BYTES};
 ghost use Rattle.block_cache.specs.Cached.{used_run};
 ghost use Rattle.libfs.specs.Used.{blocks_read, used_by};
 ghost use Rattle.libfs.specs.View.{is_pending};
@@ -21,15 +23,19 @@ use client_copies::{
     ClientCopies, OwnChange, logged_call_can_be_prepared, used_blocks_are_known_as_before,
 };
 use client_leases::note_effects;
-use client_plan::{DescriptorChange, Outcome, logged_call_is_a_step, plan_call};
+use client_plan::{
+    DescriptorChange, Outcome, PlainWrite, logged_call_is_a_step, plain_write,
+    plain_write_is_logged, plan_call, record_of_write,
+};
 use log_record::Record;
-use posix_calls::{Call, Errno, MAX_FILE, MAX_TRANSFER, Reply, UNIT_BYTES};
+use posix_calls::{Call, Errno, MAX_FILE, MAX_TRANSFER, Reply, SharedBytes, UNIT_BYTES};
 use std::alloc::AllocError;
 use tier_device::Media;
 
 impl<M: Media> Client<M> {
     /// Starts a call, where none waits for its answer. A client of which a device has failed answers EIO. Else it comes to what `plan_call` decides by what the client knows and has: it is
-    /// answered at once, or needs what is lacking first, with nothing changed, or its record is begun, and `step` does the rest.
+    /// answered at once, or needs what is lacking first, with nothing changed, or its record is begun, and `step` does the rest. A read that is answered uses the kept blocks in which its bytes lie, so another
+    /// one goes first where the cache is full.
     ///
     /// Memory is taken for names and bytes that the call tells or has, and for all that its record needs until it is answered; where there is none the answer is ENOMEM, and nothing has
     /// changed. It makes no device call.
@@ -43,6 +49,16 @@ impl<M: Media> Client<M> {
     {
         if self.log.has_failed() {
             return answer(Errno::IoError);
+        }
+        if let Call::Pwrite {
+            descriptor,
+            at,
+            bytes,
+        } = call
+        {
+            if let Some(write) = self.plain_write(*descriptor, *at, bytes) {
+                return self.begin_write(write, *at, bytes);
+            }
         }
         match self.plan(call) {
             Ok(Outcome::Reply { reply, change }) => {
@@ -74,7 +90,53 @@ impl<M: Media> Client<M> {
         plan_call(self.alloc, &self.copies, self, call)
     }
 
+    // A write for which nothing is lacking: of its record all is there that it asks for.
+    fn plain_write(&self, number: u32, at: u64, bytes: &SharedBytes) -> Option<PlainWrite>
+        ensures logged { IfSome result (λ w. outcome_for M.seen self.now (calls.Pwrite number at bytes.now) ≡ write_logged w at bytes.now) }
+        ensures ready { IfSome result (λ w. IsReadyToBegin M.seen self.now (written_by w at bytes.now) None None) }
+        ensures few { IfSome result (λ w. length bytes.now ≤ MAX_TRANSFER) }
+    {
+        plain_write_is_logged();
+        logged_call_is_a_step();
+        logged_call_can_be_prepared();
+        plain_write(&self.copies, self, number, at, bytes.len())
+    }
+
+    // Begins the record of such a write. Most calls that log something come to this: so what it calls is put into it, and nothing is moved from call to call. It stands apart from `start`, which has a large frame.
+    #[inline(never)]
+    fn begin_write(&mut self, write: PlainWrite, at: u64, bytes: &SharedBytes) -> Now
+        requires idle { self.old.begun ≡ None }
+        requires going { self.old.log.failed ≡ false }
+        requires ready { IsReadyToBegin M.seen self.old (written_by write at bytes.now) None None }
+        requires few { length bytes.now ≤ MAX_TRANSFER }
+        ensures { ((result ≡ now.Pending) × HasBegun M.seen self.old (written_by write at bytes.now) (replies.Wrote (length bytes.now)) None None self.new) ⊎ ((result ≡ now.Done (replies.Failed NoMemory)) × (self.new ≡ self.old)) }
+    {
+        match self.record_of(write, at, bytes) {
+            Ok(entry) => {
+                let count = bytes.len() as u32;
+                self.begin(entry, Reply::Wrote { count }, None, None)
+            }
+            Err(_) => answer(Errno::NoMemory),
+        }
+    }
+
+    // The record of a write, in the list of effects of one that is digested, if there is one. Where the write is refused later, that list is freed.
+    #[inline(always)]
+    fn record_of(
+        &mut self,
+        write: PlainWrite,
+        at: u64,
+        bytes: &SharedBytes,
+    ) -> Result<Record, AllocError>
+        ensures is { IfOk result (λ entry. entry ≡ written_by write at bytes.now) }
+        ensures rest { self.new ≡ self.old }
+    {
+        let effects = self.records.effect_list()?;
+        record_of_write(effects, write, at, bytes)
+    }
+
     // Begins a record, for which all is there.
+    #[inline(always)]
     fn begin(
         &mut self,
         entry: Record,
@@ -94,6 +156,7 @@ impl<M: Media> Client<M> {
     }
 
     // Begins a record that is prepared.
+    #[inline(always)]
     fn begin_prepared(&mut self, change: OwnChange, reply: Reply) -> Now
         requires idle { self.old.begun ≡ None }
         requires going { self.old.log.failed ≡ false }

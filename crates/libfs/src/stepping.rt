@@ -86,7 +86,8 @@ impl<M: Media> Client<M> {
     }
 }
 
-// The begun record is kept: it counts among the client's, which knows what it left, and its call has this reply.
+// The begun record is kept: it counts among the client's, which knows what it left, and its call has this reply. It is put into its callers, so that what is begun is not moved once more.
+#[inline(always)]
 fn kept(begun: &mut Option<Begun>, copies: &mut ClientCopies, records: &mut OwnRecords) -> Reply
     requires begun { is_some begun.old ≡ true }
     requires prepared { ForSome begun.old (λ b. IsPreparedFor (knows copies.old) b.change) }

@@ -4,10 +4,11 @@ ghost use Rattle.std.specs.Option.{ForSome};
 ghost use Rattle.posix_calls.specs.declared.limits.TheConstants.{UNIT_BYTES};
 ghost use Rattle.log_record.specs.Grammar.{IsRecord};
 ghost use Rattle.own_records.specs.After.{block_laid, enter_at, node_laid};
-ghost use Rattle.own_records.specs.Kept.{beyond};
+ghost use Rattle.own_records.specs.Kept.{IsEmptied, beyond};
 
 use crate::blocks::block_after;
 use crate::nodes::node_after;
+use file_graph::{Effect, Effects};
 use log_record::Record;
 use record_check::NodeSummary;
 use std::alloc::{AllocError, Global};
@@ -20,19 +21,21 @@ pub struct OwnRecords {
     alloc: Global,
     away: Vec<Record>,
     current: Vec<Record>,
+    // records that were digested last: their lists of effects are empty, and keep their memory for the records to come
+    emptied: Vec<Record>,
 }
 
 impl Model for OwnRecords {
     ghost use Rattle.std.specs.Prelude.{nat_lt, length, vec_capacity};
     ghost use Rattle.std.specs.List.{AllByRecursion};
     ghost use Rattle.log_record.specs.Grammar.{IsRecord};
-    ghost use Rattle.own_records.specs.Kept.{Kept};
+    ghost use Rattle.own_records.specs.Kept.{IsEmptied, Kept};
 
     ghost Value = { Kept };
 
     ghost view = { λ o. record { away = o.away.items; current = o.current.items; has_room = nat_lt (length o.current.items) (vec_capacity o.current) } };
 
-    ghost invariant = { λ o. AllByRecursion IsRecord o.away.items × AllByRecursion IsRecord o.current.items };
+    ghost invariant = { λ o. AllByRecursion IsRecord o.away.items × AllByRecursion IsRecord o.current.items × AllByRecursion IsEmptied o.emptied.items };
 }
 
 impl OwnRecords {
@@ -45,6 +48,7 @@ impl OwnRecords {
             alloc,
             away: Vec::new(alloc),
             current: Vec::new(alloc),
+            emptied: Vec::new(alloc),
         }
     }
 
@@ -97,11 +101,25 @@ impl OwnRecords {
         self.current.clear();
     }
 
-    /// The region that was handed over is back, and all its records are digested. It takes no memory.
+    /// The region that was handed over is back, and all its records are digested. Their lists of effects are kept, emptied, and those that were kept before are freed. It takes
+    /// no memory.
     pub fn take_back(&mut self)
         ensures { self.new ≡ record self.old { away = [] } }
     {
+        mem::swap(&mut self.emptied, &mut self.away);
         self.away.clear();
+        empty_lists(self.alloc, &mut self.emptied);
+    }
+
+    /// An empty list for the effects of a record: one that is kept of a digested record, or a new one with room for one effect, for which alone memory is asked for.
+    pub fn effect_list(&mut self) -> Result<Vec<Effect>, AllocError>
+        ensures empty { IfOk result (λ list. list.items ≡ []) }
+        ensures rest { self.new ≡ self.old }
+    {
+        match self.emptied.pop() {
+            Some(entry) => Ok(entry.effects.into_vec()),
+            None => Vec::with_capacity(self.alloc, 1),
+        }
     }
 
     /// What stands at an inode after the records behind a mark, given what stood there at the mark: whether that is in the generation of the region that is written, or in the one before, and how many
@@ -144,6 +162,24 @@ impl OwnRecords {
         let before = block_after(rest(&self.away, done), inode, block, buffer, len);
         block_after(&self.current, inode, block, buffer, before)
     }
+}
+
+// The lists of effects of records are emptied, and keep their memory.
+fn empty_lists(alloc: Global, records: &mut [Record])
+    ensures { AllByRecursion IsEmptied records.new }
+{
+    for entry in records.iter_mut() {
+        empty_list(alloc, &mut entry.effects);
+    }
+}
+
+fn empty_list(alloc: Global, effects: &mut Effects)
+    ensures { effects.new ≡ [] }
+{
+    let none = Effects::from_vec(Vec::new(alloc));
+    let mut list = mem::replace(effects, none).into_vec();
+    list.clear();
+    *effects = Effects::from_vec(list);
 }
 
 // The records behind so many.

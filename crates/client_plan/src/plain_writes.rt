@@ -1,19 +1,18 @@
 // A write for which nothing is lacking, as for most: it is planned at once, without its operation.
-ghost use Rattle.std.specs.Prelude.{◌≡◌, ◌≢◌, ◌<◌, ◌≤◌, ◌+◌, ◌&&◌, nat_le, max, length, ℕ, IfNone, IfOk, IfSome, Some, None, true};
-ghost use Rattle.posix_calls.specs.declared.limits.TheConstants.{MAX_FILE, MAX_TRANSFER};
+ghost use Rattle.std.specs.Prelude.{◌≡◌, ◌<◌, ◌≤◌, max, ℕ, [], IfNone, IfOk, IfSome};
+ghost use Rattle.posix_calls.specs.declared.limits.TheConstants.{MAX_FILE};
 ghost use Rattle.posix_calls.specs.Content.{file_units};
 ghost use Rattle.log_record.specs.Grammar.{is_write};
 ghost use Rattle.call_effects.specs.Records.{file_rise};
-ghost use Rattle.client_plan.specs.PlainWrite.{IsPlainWrite, IsWritable, has_place, write_logged};
-ghost use Rattle.client_plan.specs.declared.plain_write.PlainWrite.{PlainWrite};
+ghost use Rattle.client_plan.specs.PlainWrite.{IsPlainWrite, IsWritable, has_place, written_by};
+ghost use Rattle.client_plan.specs.declared.plain_writes.PlainWrite.{PlainWrite};
 
-use crate::outcome::Outcome;
 use crate::planning::first_unused;
 use crate::supplies::Supplies;
 use file_graph::{Effect, Effects, is_inode};
 use log_record::Record;
-use posix_calls::{MAX_FILE, MAX_TRANSFER, Reply, SharedBytes, TreeAnswers, UNIT_BYTES};
-use std::alloc::{AllocError, Global};
+use posix_calls::{MAX_FILE, MAX_TRANSFER, SharedBytes, TreeAnswers, UNIT_BYTES};
+use std::alloc::AllocError;
 
 // The bytes that the record of a write has beside those that are written.
 const BESIDE: usize = 22;
@@ -25,7 +24,8 @@ pub struct PlainWrite {
     pub units: u32,
 }
 
-/// A write of so many bytes at an offset of what is open at a number, where nothing is lacking; else `None`, and the call is planned step by step.
+/// Finds a write for which nothing is lacking, of so many bytes at an offset of what is open at a number: it comes to the record that `record_of_write` makes. For any other call, `None`, `plan_call` tells what
+/// it comes to. Takes no memory.
 pub fn plain_write<T: TreeAnswers, S: Supplies>(
     tree: &T,
     has: &S,
@@ -103,31 +103,24 @@ fn file_units(len: u64) -> u64
     1 + (len + (UNIT_BYTES as u64 - 1)) / UNIT_BYTES as u64
 }
 
-/// What the write comes to: its record, and what is answered once that is in the log. Memory is taken for the record.
-pub fn log_write(
-    alloc: Global,
+/// The record of a write, its effect in the empty list that the caller gives. Memory is taken where that has no room; the bytes are shared, not copied.
+pub fn record_of_write(
+    effects: Vec<Effect>,
     write: PlainWrite,
     at: u64,
     bytes: &SharedBytes,
-) -> Result<Outcome, AllocError>
-    requires { length bytes.now ≤ MAX_TRANSFER }
-    ensures { IfOk result (λ o. o ≡ write_logged write at bytes.now) }
+) -> Result<Record, AllocError>
+    requires empty { effects.items ≡ [] }
+    ensures { IfOk result (λ entry. entry ≡ written_by write at bytes.now) }
 {
-    let effect = Effect::Bytes {
+    let mut effects = effects;
+    effects.push(Effect::Bytes {
         inode: write.inode,
         at,
         bytes: bytes.share()?,
-    };
-    let effects = Vec::from_array(alloc, [effect])?;
-    Ok(Outcome::Log {
-        record: Record {
-            units: write.units,
-            effects: Effects::from_vec(effects),
-        },
-        reply: Reply::Wrote {
-            count: bytes.len() as u32,
-        },
-        made: None,
-        change: None,
+    })?;
+    Ok(Record {
+        units: write.units,
+        effects: Effects::from_vec(effects),
     })
 }

@@ -18,7 +18,7 @@ use Rattle.client_plan.specs.declared.need.Need.{Need}
 use Rattle.client_plan.specs.declared.need.Need.TheVariants.{Lease, View, Units, Room}
 use Rattle.client_plan.specs.declared.need.Mode.TheVariants as mode
 use Rattle.client_plan.specs.declared.outcome.Outcome.{Outcome}
-use Rattle.client_plan.specs.declared.plain_write.PlainWrite.{PlainWrite}
+use Rattle.client_plan.specs.declared.plain_writes.PlainWrite.{PlainWrite}
 use Rattle.client_plan.specs.Course.{Course, Goes, ◌>>=◌, unless, end_of}
 use Rattle.client_plan.specs.Holdings.{Holdings, first_unused}
 use Rattle.client_plan.specs.Lacking.{root_alone, not_refused, given_back, found, looked, numbered, is_new, written, roomy, is_record}

@@ -3,7 +3,7 @@ use Rattle.std.proofs.lemmas.Bool.{not-false}
 use Rattle.posix_calls.specs.Own.{own_of}
 use Rattle.posix_calls.specs.Tree.{Own}
 use Rattle.client_plan.specs.Holdings.{first_unused}
-use Rattle.client_plan.proofs.plain_write.writable_inode.Goals as goal
+use Rattle.client_plan.proofs.plain_writes.writable_inode.Goals as goal
 
 pub returns-in-None-clause-writable : goal.returns-in-None-clause-writable
 returns-in-None-clause-writable g c =
