@@ -20,11 +20,13 @@ pub struct OwnLog {
 
 impl OwnLog {
     pub fn new(alloc: Global) -> Result<Self, Failure> {
+        let (region, other) = two_regions(alloc)?;
+        let (entry, few) = two_records(alloc)?;
         Ok(OwnLog {
-            region: ram_region(alloc)?,
-            other: ram_region(alloc)?,
-            entry: write_record(alloc, BLOCK)?,
-            few: write_record(alloc, FEW)?,
+            region,
+            other,
+            entry,
+            few,
             generation: 0,
             has_failed: false,
         })
@@ -70,4 +72,14 @@ impl OwnLog {
         }
         Ok(())
     }
+}
+
+fn two_regions(alloc: Global) -> Result<(Region<RamMedia>, Region<RamMedia>), Failure> {
+    let region = ram_region(alloc)?;
+    Ok((region, ram_region(alloc)?))
+}
+
+fn two_records(alloc: Global) -> Result<(Record, Record), Failure> {
+    let entry = write_record(alloc, BLOCK)?;
+    Ok((entry, write_record(alloc, FEW)?))
 }

@@ -1,7 +1,7 @@
 // What is told of the times.
 use crate::times::{Times, WriteTime};
 use crate::tree::tree_of;
-use crate::turns::times_of;
+use crate::turns::{Timing, all_turns};
 use layer_bench::{Desk, Failure};
 use std::alloc::Global;
 
@@ -23,13 +23,36 @@ fn settle(alloc: Global) -> Result<(), Failure> {
     tree_of(alloc, 10)?.end()
 }
 
+// The check of borrows is dear where a timing or a tree is owned beside several exits, so each is owned beside one.
 fn time_tree(desk: &mut Desk<'_>, files: u32, records: u32) -> Result<(), Failure> {
-    let tree = tree_of(desk.alloc(), files)?;
-    let (times, median) = times_of(desk, tree, records)?;
+    match Timing::new(desk.alloc()) {
+        Ok(mut timing) => tell_tree(desk, &mut timing, files, records),
+        Err(failure) => Err(failure),
+    }
+}
+
+fn tell_tree(
+    desk: &mut Desk<'_>,
+    timing: &mut Timing,
+    files: u32,
+    records: u32,
+) -> Result<(), Failure> {
+    make_turns(desk, timing, files, records)?;
+    let (times, median) = timing.times()?;
     desk.tell("files", u128::from(files), "");
     desk.tell("records in the log", u128::from(records), "");
     tell_all(desk, times, median);
     Ok(())
+}
+
+fn make_turns(
+    desk: &mut Desk<'_>,
+    timing: &mut Timing,
+    files: u32,
+    records: u32,
+) -> Result<(), Failure> {
+    let tree = tree_of(desk.alloc(), files)?;
+    all_turns(desk, tree, timing, records)
 }
 
 fn tell_all(desk: &mut Desk<'_>, times: Times, median: WriteTime) {

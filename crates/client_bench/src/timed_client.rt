@@ -55,17 +55,45 @@ impl TimedClient {
     pub fn into_tree(self, alloc: Global) -> Result<Tree, Failure> {
         let TimedClient {
             kernel,
-            mut others,
+            others,
             client,
             has_refused,
         } = self;
-        let Ok(seat) = Seat::new(client) else {
-            return Err(Failure::new("a region of the client is away"));
-        };
-        others.push(seat)?;
-        match System::new(alloc, kernel, others) {
-            Ok(system) => Ok(Tree::of(system, has_refused)),
-            Err(_) => Err(Failure::new("the clients are in another order")),
+        match all_seats(others, client) {
+            Ok(seats) => tree_of_seats(alloc, kernel, seats, has_refused),
+            Err(failure) => Err(failure),
         }
+    }
+}
+
+// The seats of all clients.
+fn all_seats(
+    others: Vec<Seat<RamMedia>>,
+    client: Client<RamMedia>,
+) -> Result<Vec<Seat<RamMedia>>, Failure> {
+    match Seat::new(client) {
+        Ok(seat) => with_seat(others, seat),
+        Err(_) => Err(Failure::new("a region of the client is away")),
+    }
+}
+
+fn with_seat(
+    others: Vec<Seat<RamMedia>>,
+    seat: Seat<RamMedia>,
+) -> Result<Vec<Seat<RamMedia>>, Failure> {
+    let mut seats = others;
+    seats.push(seat)?;
+    Ok(seats)
+}
+
+fn tree_of_seats(
+    alloc: Global,
+    kernel: Kernel<RamMedia>,
+    seats: Vec<Seat<RamMedia>>,
+    has_refused: bool,
+) -> Result<Tree, Failure> {
+    match System::new(alloc, kernel, seats) {
+        Ok(system) => Ok(Tree::of(system, has_refused)),
+        Err(_) => Err(Failure::new("the clients are in another order")),
     }
 }

@@ -7,7 +7,7 @@ use fresh_system::{RamMaker, RamMedia, open_fresh};
 use layer_bench::Failure;
 use layout::Geometry;
 use posix_calls::{Bytes, Call, Reply};
-use served_calls::{Served, System, digest_all, serve_call, wipe_all};
+use served_calls::{Client, Seat, Served, System, digest_all, serve_call, wipe_all};
 use std::alloc::{AllocError, Global};
 
 /// A running system, and whether a call was refused that should not be.
@@ -114,13 +114,10 @@ impl Tree {
 
     /// The client that makes the calls, taken out of its system.
     pub fn into_client(self) -> Result<TimedClient, Failure> {
-        let (kernel, mut seats) = self.system.into_parts();
-        let Some(seat) = seats.pop() else {
-            return Err(Failure::new("there is no client"));
-        };
-        match seat.into_parts() {
-            (client, None) => Ok(TimedClient::new(kernel, seats, client, self.has_refused)),
-            (_, Some(_)) => Err(Failure::new("a region of the client is away")),
+        let (kernel, seats) = self.system.into_parts();
+        match last_client(seats) {
+            Ok((client, others)) => Ok(TimedClient::new(kernel, others, client, self.has_refused)),
+            Err(failure) => Err(failure),
         }
     }
 
@@ -138,6 +135,24 @@ impl Tree {
             return Err(Failure::new("a call was refused"));
         }
         Ok(())
+    }
+}
+
+// The last client, and the seats of the others.
+fn last_client(
+    seats: Vec<Seat<RamMedia>>,
+) -> Result<(Client<RamMedia>, Vec<Seat<RamMedia>>), Failure> {
+    let mut seats = seats;
+    match seats.pop() {
+        Some(seat) => Ok((client_of(seat)?, seats)),
+        None => Err(Failure::new("there is no client")),
+    }
+}
+
+fn client_of(seat: Seat<RamMedia>) -> Result<Client<RamMedia>, Failure> {
+    match seat.into_parts() {
+        (client, None) => Ok(client),
+        (_, Some(_)) => Err(Failure::new("a region of the client is away")),
     }
 }
 

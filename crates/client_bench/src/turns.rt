@@ -23,43 +23,39 @@ const OPENS: u32 = 16;
 /// The appends beside which copies are timed.
 const APPENDS: u64 = 120;
 
-// What is timed, beside what, the least times so far, and each turn's writes.
+/// What is timed, beside what, the least times so far, and each turn's writes.
 #[derive(Drop)]
-struct Timing {
+pub struct Timing {
     calls: Calls,
     log: OwnLog,
     least: Times,
     writes: Vec<WriteTime>,
 }
 
-/// The least times, and those of a write in the median turn, with so many records in the log before each turn's writes.
-pub fn times_of(
-    desk: &mut Desk<'_>,
-    tree: Tree,
-    records: u32,
-) -> Result<(Times, WriteTime), Failure> {
-    match timing_of(desk.alloc()) {
-        Ok(timing) => times_by(desk, tree, timing, records),
-        Err(failure) => Err(failure),
-    }
-}
-
-// The check of borrows is dear where tree and timing are both owned beside an exit, so only one of them is.
-fn times_by(
-    desk: &mut Desk<'_>,
-    tree: Tree,
-    mut timing: Timing,
-    records: u32,
-) -> Result<(Times, WriteTime), Failure> {
-    let turned = all_turns(desk, tree, &mut timing, records);
-    timing.times_if(turned)
-}
-
 impl Timing {
-    // The times, if all turns were made and no append failed.
-    fn times_if(&mut self, turned: Result<(), Failure>) -> Result<(Times, WriteTime), Failure> {
-        turned?;
+    pub fn new(alloc: Global) -> Result<Self, Failure> {
+        let writes = Vec::with_capacity(alloc, TURNS as usize)?;
+        let (calls, log) = parts_of(alloc)?;
+        Ok(Timing {
+            calls,
+            log,
+            least: MOST,
+            writes,
+        })
+    }
+
+    // Notes what a turn took. There is room for all of them; one that is missing is seen at the end.
+    fn note(&mut self, times: Times, write: WriteTime) {
+        self.least = self.least.least(times);
+        let _ = self.writes.push(write);
+    }
+
+    /// The least times, and those of a write in the median turn, where all turns were made and no append failed.
+    pub fn times(&mut self) -> Result<(Times, WriteTime), Failure> {
         self.log.end()?;
+        if self.writes.len() < TURNS as usize {
+            return Err(Failure::new("a turn is missing"));
+        }
         match median(&mut self.writes) {
             Some(turn) => Ok((self.least, turn)),
             None => Err(Failure::new("no turn was made")),
@@ -67,18 +63,13 @@ impl Timing {
     }
 }
 
-fn timing_of(alloc: Global) -> Result<Timing, Failure> {
+fn parts_of(alloc: Global) -> Result<(Calls, OwnLog), Failure> {
     let calls = Calls::new(alloc)?;
-    let log = OwnLog::new(alloc)?;
-    Ok(Timing {
-        calls,
-        log,
-        least: MOST,
-        writes: Vec::with_capacity(alloc, TURNS as usize)?,
-    })
+    Ok((calls, OwnLog::new(alloc)?))
 }
 
-fn all_turns(
+/// Makes all turns, with so many records in the log before each turn's writes.
+pub fn all_turns(
     desk: &mut Desk<'_>,
     tree: Tree,
     timing: &mut Timing,
@@ -102,8 +93,7 @@ fn next_turn(
     timing.log.turn(records);
     log_some(desk.alloc(), &mut tree, records)?;
     let (tree, times, write) = one_turn(desk, tree, &mut timing.log, &timing.calls, turn)?;
-    timing.least = timing.least.least(times);
-    timing.writes.push(write)?;
+    timing.note(times, write);
     Ok(tree)
 }
 
