@@ -1,12 +1,11 @@
 #!/usr/bin/env python3
 """Runs the programs with each of their allocations failing in turn, and tells which runs did not end as they should:
-tools/failing_allocations.py [--quick] [PROGRAM..].
+tools/failing_allocations.py [--quick] [--rows N] [PROGRAM..].
 
-They are those that read scripts, records, blocks and media: `strata_sh` over its tour and the scripts of `script_rows`, `strata_first`
-with and without stops, `file_log` over files with and without records, and torn and damaged ones, `media_rows`, `format_rows`,
-`image_rows` and `area_rows` row by row over their tables, where damaged images and worlds are read; rows that must not hold are left
-out. Where they are named, also the test functions of `shared_tests`, `relocate_tests`, `migrator_tests`, `digester_tests` and
-`apply_tests`, each by itself. A run ends as it should where it tells the want of
+They are those that read scripts, records, blocks and media: `strata_sh` over its tour and over the scripts of its table, `strata_first`
+with and without stops, `file_log` over files with and without records, and torn and damaged ones, and `layer_rows` row by row over the
+sections `formats`, `media`, `areas` and `devices` of its table, where damaged images and worlds are read; rows that must not hold are
+left out. Where it is named, also the test functions of `area_tests`, each by itself. A run ends as it should where it tells the want of
 memory by its name, or says what it says with all memory there. It does not where it answers anything else: damage, no such entry, or
 fewer bytes. Nor does a row that tells a want of memory while no allocation failed. How each program tells it stands at its function
 below.
@@ -14,7 +13,8 @@ below.
 The programs are built by `rt run`, the tests by `rt test`; `tools/failing_allocations.c` makes their allocations fail. It takes four
 minutes without the tests, and those that a build takes; the gate does not run it. A test function takes up to ten seconds, and allocates
 thousands of times: at most 400 of its allocations fail, spread evenly. With --quick only each seventh allocation of a run fails, and 57
-of a test function. Exit status: 0 where all runs ended as they should, else 1.
+of a test function; with --rows only the first N of the rows of each table, and of the test functions. Exit status: 0 where all runs
+ended as they should, else 1.
 """
 import argparse
 import concurrent.futures
@@ -33,6 +33,8 @@ NOT_TO_HOLD = "must not hold"
 NAMES = ("out of memory", "ENOMEM", "the device failed")
 ROOM = tempfile.TemporaryDirectory(prefix="allocations-")
 STEP = 1
+# At most so many rows of a table are run; all where it is None.
+ROWS = None
 # At most so many allocations of a test function fail.
 MOST = 400
 
@@ -132,7 +134,7 @@ def tally(what, whole, runs, ends_well):
 PLAIN_CALL = re.compile(rb"[1-8] (?!try |begin )")
 
 
-def script(lines, words, what):
+def run_script(lines, words, what):
     """Runs a script, given as its lines in bytes."""
     calls = [at for at, line in enumerate(lines) if line.strip() and not line.startswith(b"#")]
     without = {}
@@ -166,13 +168,13 @@ def script(lines, words, what):
     return tally(what, whole, runs, ends_well)
 
 
-def tour():
-    with open(f"{CRATES}/strata_sh/stdin", "rb") as file:
-        return script(file.readlines(), (), "the tour")
+def run_tour():
+    with open(f"{CRATES}/strata_sh/tour.txt", "rb") as file:
+        return run_script(file.readlines(), (), "the tour")
 
 
-def spelled(text, number):
-    """The bytes that a text of a row of script_rows spells: the head of its table tells how."""
+def bytes_of(text, number):
+    """The bytes that a text of a row of strata_sh spells: the head of its table tells how."""
 
     def escaped(found):
         word = found[0].decode("utf-8")
@@ -185,7 +187,7 @@ def spelled(text, number):
     return re.sub(rb"\\\{[^}]*\}|\\x..|\\[ie]", escaped, front.encode("utf-8")) + (b"" if cut else b"\n")
 
 
-def script_row(row):
+def script_of(row):
     """A row's script, as the lines of its file, and the words of its command line."""
     lines, words = [], ["strata_sh"]
     for line in row.splitlines()[1:]:
@@ -197,20 +199,16 @@ def script_row(row):
             numbers, _, line = rest.partition(" ")
             numbers = range(*map(int, numbers.split("..")))
         if line and mark not in ("$", "!", "=>"):
-            lines += [spelled(line.partition(" => ")[0], number) for number in numbers]
+            lines += [bytes_of(line.partition(" => ")[0], number) for number in numbers]
     return b"".join(lines).splitlines(keepends=True), words
 
 
-def script_rows():
-    """The runs of the rows that are of strata_sh, as jobs."""
-    with open(f"{CRATES}/script_rows/stdin", encoding="utf-8") as file:
-        rows = file.read().split("\n== ")[1:]
-    for row in rows:
-        if row.startswith(NOT_TO_HOLD):
-            continue
-        lines, words = script_row(row)
-        if words[0] == "strata_sh":
-            yield script, (lines, words[1:], row.partition("\n")[0])
+def script_jobs():
+    """The runs of the rows of strata_sh, as jobs, but for those that print needs: the program alone does that, as it reads its table."""
+    with open(f"{CRATES}/strata_sh/stdin", encoding="utf-8") as file:
+        rows = [it for it in file.read().split("\n== ")[1:] if not it.startswith(NOT_TO_HOLD)]
+    runs = [(*script_of(row), row.partition("\n")[0]) for row in rows]
+    return [(run_script, (lines, words[1:], name)) for lines, words, name in runs if words[0] == "strata_sh"][:ROWS]
 
 
 # strata_first prints line by line, and ends with `fault 15` and status 3. Or a client's medium can't note a call: that client has then
@@ -227,7 +225,7 @@ def has_stopped(run, whole):
     return bool(is_told and (found[1] or found[2])) and all(found[it] or not before[it] for it in (1, 2))
 
 
-def first(words):
+def run_first(words):
     whole, runs = all_of("strata_first", words=words)
     if whole.status or whole.err:
         return Tally(0, 0, [f"strata_first {words} itself: status {whole.status}, {whole.err!r}"])
@@ -244,13 +242,13 @@ def ends_by_name(run):
     return run.status == 1 and bool(OUT_OF_MEMORY.match(run.err))
 
 
-def log_reads(path, what):
+def read_log(path, what):
     """Reads a file, which stays as it is."""
     whole, runs = all_of("file_log", words=("read", path))
     return tally(f"file_log read {what}", whole, runs, lambda it: ends_by_name(it) and whole.out.startswith(it.out))
 
 
-def log_appends(before):
+def append_to_log(before):
     """Appends three records to a file of some, which is made anew for each run."""
     path, found, told, number = f"{ROOM.name}/append-{before}", [], 0, 0
     while True:
@@ -274,7 +272,7 @@ def log_appends(before):
         number += STEP if number else 1
 
 
-def logs():
+def log_jobs():
     """The runs over files, as jobs."""
     files = {}
     for name, count in (("none", 0), ("some", 5)):
@@ -287,10 +285,11 @@ def logs():
         files[name] = f"{ROOM.name}/{name}"
         with open(files[name], "wb") as file:
             file.write(made)
-    return [(log_reads, (path, name)) for name, path in files.items()] + [(log_appends, (before,)) for before in (0, 4)]
+    return [(read_log, (path, name)) for name, path in files.items()] + [(append_to_log, (before,)) for before in (0, 4)]
 
 
-# A row of a table. What format_rows, image_rows and media_rows say in place of its answer stands between `says` and `not`.
+# A row of a section of layer_rows. The line that names the section comes first. What is said in place of the row's answer stands
+# between `says` and `not`.
 
 SAYS = re.compile(r"^(.*)\n  says (.*)\n  not  (.*)\n", re.M)
 
@@ -311,44 +310,54 @@ def said_well(said, answer):
     return len(rest) < len(found) and has_in_order(items(answer), rest)
 
 
-# format_rows, image_rows and area_rows tell the want of memory of what they try as the crates name it, and their own by one of these.
+HOLDS = "1 rows hold, 0 do not\n"
+# The sections of formats, media and areas tell the want of memory of what they try as the crates name it, and their own by one of these.
 OF_ITS_OWN = ("no memory for the report\n", "no memory for a row\n0 rows hold, 1 do not\n")
+
+
+def said_of(run):
+    """What is printed of a row behind the line that names its section."""
+    return re.sub(r"\A%% \w+\n", "", run.out)
 
 
 def row_ends_well(run):
     if run.status != 1:
         return False
-    if not run.out:
+    out = said_of(run)
+    if not out:
         return bool(OUT_OF_MEMORY.match(run.err))
-    found = SAYS.match(run.out)
+    found = SAYS.match(out)
     if not found:
-        return run.out in OF_ITS_OWN
+        return out in OF_ITS_OWN
     said = found[2]
-    return run.out.endswith("\n0 rows hold, 1 do not\n") and (said == "no memory for what is said" or said.endswith("the row can't be read") or said_well(said, found[3]))
+    return out.endswith("\n0 rows hold, 1 do not\n") and (said == "no memory for what is said" or said.endswith("the row can't be read") or said_well(said, found[3]))
 
 
-def row(program, text):
-    """A row of a table, by the program that reads it."""
-    data = f"{CRATES}/{program}/data"
-    whole, runs = all_of(program, text, folder=data if os.path.isdir(data) else None)
-    if whole.status or whole.out != "1 rows hold, 0 do not\n":
-        return Tally(0, 0, [f"the row itself: {text.partition(': ')[0]}"])
-    return tally(f"{program}, {text.partition(': ')[0]}", whole, runs, row_ends_well)
+def run_row(section, text):
+    """A row of a section of layer_rows, in the folder of its files."""
+    whole, runs = all_of("layer_rows", f"%% {section}\n{text}", folder=f"{CRATES}/layer_rows/data")
+    name = text.partition(": ")[0]
+    if whole.status or said_of(whole) != HOLDS:
+        return Tally(0, 0, [f"the row itself: {name}"])
+    return tally(f"{section}, {name}", whole, runs, row_ends_well)
 
 
-def rows_of(path):
-    """The rows of a table, each as its lines: one that begins with two spaces goes on with the row above it."""
+def rows_of(section):
+    """The rows of a section of layer_rows, each as its lines: one that begins with two spaces goes on with the row above it."""
+    with open(f"{CRATES}/layer_rows/stdin", encoding="utf-8") as file:
+        tables = dict(it.split("\n", 1) for it in file.read().removeprefix("%% ").split("\n%% "))
     rows = []
-    with open(path, encoding="utf-8") as file:
-        for line in file.read().splitlines():
-            if line.startswith("  ") and rows:
-                rows[-1] += f"{line}\n"
-            elif line and not line.startswith("#"):
-                rows.append(f"{line}\n")
-    return [it for it in rows if not it.startswith(NOT_TO_HOLD)]
+    for line in tables[section].splitlines():
+        if line.startswith("  ") and rows:
+            rows[-1] += f"{line}\n"
+        elif line and not line.startswith("#"):
+            rows.append(f"{line}\n")
+    return [it for it in rows if not it.startswith(NOT_TO_HOLD)][:ROWS]
 
 
-# A call of a medium that can't note it fails, and all others answer as if that call were not there.
+# A call of a medium that can't note it fails, and all others answer as if that call were not there. Where the row's medium fails or stops
+# at a call of its own, that call was counted all the same: so there each call answers by the row or fails, and a read gives the bytes
+# that were written.
 
 
 def without_call(text, at):
@@ -360,29 +369,38 @@ def without_call(text, at):
     if not left:
         return [" ".join("0" * int(size)) or "-" for size in sizes.split()]
     with tempfile.TemporaryDirectory(dir=ROOM.name) as folder:
-        [run] = sweep("media_rows", f"{name}: {sizes}: {'; '.join(left)} => {answer}\n", folder=folder, numbers=(0, 0, 1))
-    return items(SAYS.match(run.out)[2])
+        [run] = sweep("layer_rows", f"%% devices\n{name}: {sizes}: {'; '.join(left)} => {answer}\n", folder=folder, numbers=(0, 0, 1))
+    return items(SAYS.match(said_of(run))[2])
 
 
-def media_row_ends_well(run, text):
+FAILING = re.compile(r"[^:]*: \d+ \d+ \d+, (?:fail|stop) ")
+BYTES = re.compile(r"[\d ]+")
+
+
+def device_row_ends_well(run, text):
     if ends_by_name(run):
         return True
-    found = SAYS.match(run.out)
+    found = SAYS.match(said_of(run))
     if run.status != 1 or not found:
         return False
     said = items(found[2])
+    if FAILING.match(text):
+        answers = zip(found[2].split("; ")[:-1], found[3].split("; "))
+        return all(it in ("the device failed", other) or (BYTES.fullmatch(it) and BYTES.fullmatch(other)) for it, other in answers)
     if said.count("the device failed") == 1:
         at = said.index("the device failed")
         return said[:at] + said[at + 1 :] == without_call(text, at)
     return said_well(found[2], found[3])
 
 
-def media_row(text):
+def run_device_row(text):
+    """A row of device calls, in a folder of its own, where its medium's file is made."""
     with tempfile.TemporaryDirectory(dir=ROOM.name) as folder:
-        whole, runs = all_of("media_rows", text, folder=folder, clear="medium")
-    if whole.status or whole.out != "1 rows hold, 0 do not\n":
-        return Tally(0, 0, [f"the row itself: {text.partition(': ')[0]}, {whole.out!r}, {whole.err!r}"])
-    return tally(f"media_rows, {text.partition(': ')[0]}", whole, runs, lambda it: media_row_ends_well(it, text))
+        whole, runs = all_of("layer_rows", f"%% devices\n{text}", folder=folder, clear="medium")
+    name = text.partition(": ")[0]
+    if whole.status or said_of(whole) != HOLDS:
+        return Tally(0, 0, [f"the row itself: {name}, {whole.out!r}, {whole.err!r}"])
+    return tally(f"devices, {name}", whole, runs, lambda it: device_row_ends_well(it, text))
 
 
 # A test function passes all the same, or ends by an error that names the want of memory. As above, a `MemMedia` that can't keep a call
@@ -391,7 +409,7 @@ def media_row(text):
 TEST_ENDS = re.compile(r"error: (?:AllocError|Memory|DeviceFault)\nthe test failed: its result gives status 1\n")
 
 
-def test(program, name):
+def run_test(program, name):
     """Runs a test function. Loops in it allocate in step, so each time another of their allocations is to fail: an odd number of them is passed over."""
     [whole] = sweep(program, words=(name,), numbers=(0, 0, 1))
     if whole.status:
@@ -409,31 +427,31 @@ def tests_of(program):
 def jobs_of(program):
     """What is run of a program: functions and what they take."""
     if program in TESTS:
-        return [(test, (program, it)) for it in tests_of(program)]
+        return [(run_test, (program, it)) for it in tests_of(program)[:ROWS]]
     if program == "strata_sh":
-        return [(tour, ()), *script_rows()]
+        return [(run_tour, ()), *script_jobs()]
     if program == "strata_first":
         stops = [("--stop", str(call), "--fill", fill) for call in range(1, 9) for fill in ("00", "a5", "ff")]
-        return [(first, (words,)) for words in [(), *stops]]
+        return [(run_first, (words,)) for words in [(), *stops]]
     if program == "file_log":
-        return logs()
-    if program == "media_rows":
-        return [(media_row, (it,)) for it in rows_of(f"{CRATES}/media_rows/stdin")]
-    return [(row, (program, it)) for it in rows_of(f"{CRATES}/{program}/stdin")]
+        return log_jobs()
+    devices = [(run_device_row, (it,)) for it in rows_of("devices")]
+    return devices + [(run_row, (section, it)) for section in ("formats", "media", "areas") for it in rows_of(section)]
 
 
-TESTS = ("shared_tests", "relocate_tests", "migrator_tests", "digester_tests", "apply_tests")
-PROGRAMS = ("strata_sh", "strata_first", "file_log", "media_rows", "format_rows", "image_rows", "area_rows")
+TESTS = ("area_tests",)
+PROGRAMS = ("strata_sh", "strata_first", "file_log", "layer_rows")
 
 
 def main():
     words = argparse.ArgumentParser(description=__doc__.partition("\n")[0])
     words.add_argument("--quick", action="store_true", help="each seventh allocation alone fails, and 57 of a test function")
+    words.add_argument("--rows", type=int, metavar="N", help="only the first N rows of each table, and test functions")
     words.add_argument("--jobs", type=int, default=2, help="how many runs side by side (default: 2)")
     words.add_argument("programs", nargs="*", metavar="PROGRAM", help=f"of {', '.join(PROGRAMS)} (default: all of these), and of {', '.join(TESTS)}")
     asked = words.parse_args()
-    global STEP, MOST
-    STEP, MOST = (7, 57) if asked.quick else (1, 400)
+    global STEP, MOST, ROWS
+    STEP, MOST, ROWS = (*((7, 57) if asked.quick else (1, 400)), asked.rows)
     subprocess.run([os.environ.get("CC", "cc"), "-O2", "-shared", "-fPIC", "-o", f"{ROOM.name}/allocations.so", f"{TOP}/tools/failing_allocations.c"], check=True)
     bad, tried = 0, 0
     for program in asked.programs or PROGRAMS:

@@ -2,23 +2,23 @@
 use Rattle.std.proofs.Common.{◌≡◌, ◌≢◌, inl, inr, ℕ, List, true, refl, sym, ap, ◌∙◌, subst, arith, Option, Some, None}
 use Rattle.std.specs.Prelude.{◌==◌, nat_le, is_some, IsSome, IfSome, option_map}
 use Rattle.std.proofs.lemmas.Bool.{true≢false, false≢true, and_from, le-leb, ne_eqb, cond-false}
-use Rattle.tier_device.specs.declared.media.Tier.{Tier}
-use Rattle.tier_device.specs.declared.media.Tier.TheVariants.{Fast}
-use Rattle.layout.specs.declared.marks.Marks.{Marks}
-use Rattle.layout.specs.declared.slot.Slot.{Slot}
-use Rattle.layout.specs.Marks.{fits_marks, marks_of, marks_spelling}
-use Rattle.layout.specs.Places.{Sizes, is_inode, is_node}
-use Rattle.layout.specs.Slot.{slot_spelling}
-use Rattle.batch_journal.specs.Images.{image_for, or_else, with_images}
-use Rattle.block_map.specs.Map.{TierRuns, runs_in}
+use Rattle.area_image.specs.tier_device.declared.media.Tier.{Tier}
+use Rattle.area_image.specs.tier_device.declared.media.Tier.TheVariants.{Fast}
+use Rattle.area_image.specs.layout.declared.marks.Marks.{Marks}
+use Rattle.area_image.specs.layout.declared.slot.Slot.{Slot}
+use Rattle.area_image.specs.layout.Marks.{fits_marks, marks_of, marks_spelling}
+use Rattle.area_image.specs.layout.Places.{Sizes, is_inode, is_node}
+use Rattle.area_image.specs.layout.Slot.{slot_spelling}
+use Rattle.area_image.specs.batch_journal.Images.{image_for, or_else, with_images}
+use Rattle.area_image.specs.extent_tree.Map.{TierRuns, runs_in}
 use Rattle.area_image.specs.Store.{Store, slot_bytes, root_of, marks}
 use Rattle.area_image.specs.Reads.{Free}
 use Rattle.area_image.specs.Spelled.{IsSpelled}
 use Rattle.area_image.proofs.Rewriting.{free_unused}
 use Rattle.area_image.proofs.Shown.{slot_limits}
-use Rattle.area_rewrite.specs.Written.{IsWritten, IsListed, block_by}
-use Rattle.area_rewrite.specs.Many.{MayTake, KeepOrTakeFree, TakeFreeOnce, AreWrittenAnew}
-use Rattle.area_rewrite.proofs.Taking.{kept_apart, kept_taken}
+use Rattle.area_commit.specs.Written.{IsWritten, IsListed, block_by}
+use Rattle.area_commit.specs.Many.{MayTake, KeepOrTakeFree, TakeFreeOnce, AreWrittenAnew}
+use Rattle.area_commit.proofs.TakenPlaces.{kept_apart, kept_taken}
 use Rattle.area_commit.specs.declared.plan.Rewrite.{Rewrite}
 use Rattle.area_commit.specs.Plan.{is_rewritten, IsPlanned}
 use Rattle.area_commit.specs.Done.{IsCarriedOut}

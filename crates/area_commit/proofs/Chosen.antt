@@ -4,22 +4,22 @@ use Rattle.std.specs.Prelude.{◌==◌, nat_le, nat_lt}
 use Rattle.std.specs.List.{Contains}
 use Rattle.std.proofs.lemmas.Bool.{or_cases, or_left, or_right, eqb-true, eq-eqb, and_parts, leb-true, ltb-true, false≢true}
 use Rattle.std.proofs.lemmas.List.Elements.{Contains-append_cases}
-use Rattle.tier_device.specs.declared.media.Tier.{Tier}
-use Rattle.tier_device.specs.declared.media.Tier.TheVariants.{Fast, Block, Slow}
-use Rattle.layout.specs.Places.{Sizes, is_inode, is_node, node_end, data_first, tier_blocks}
-use Rattle.block_alloc.specs.Runs.{blocks_of, Rising}
-use Rattle.block_alloc.proofs.Blocks.{normal-rising}
+use Rattle.area_image.specs.tier_device.declared.media.Tier.{Tier}
+use Rattle.area_image.specs.tier_device.declared.media.Tier.TheVariants.{Fast, Block, Slow}
+use Rattle.area_image.specs.layout.Places.{Sizes, is_inode, is_node, node_end, data_first, tier_blocks}
+use Rattle.area_image.specs.block_alloc.Runs.{blocks_of, Rising}
+use Rattle.area_image.proofs.block_alloc_lemmas.Blocks.{normal-rising}
 use Rattle.area_image.specs.Store.{Store}
 use Rattle.area_image.specs.Reads.{IsRoom, Free}
 use Rattle.area_image.specs.Spelled.{Use, used}
 use Rattle.area_image.proofs.Rewriting.{free_unused}
-use Rattle.area_batch.specs.declared.slots.ChangedSlot.{ChangedSlot}
-use Rattle.area_batch.specs.Slots.{RiseIn}
-use Rattle.free_pools.specs.Value.{on_tier}
-use Rattle.free_pools.specs.declared.taking.Taken.{Taken}
-use Rattle.free_pools.specs.Taking.{taken_data, runs_of}
-use Rattle.free_pools.proofs.Members.{cons_cases, cons_here, cons_there, nothing}
-use Rattle.area_room.specs.Changing.{BlockIsTaken}
+use Rattle.area_commit.specs.declared.slots.ChangedSlot.{ChangedSlot}
+use Rattle.area_commit.specs.Slots.{RiseIn}
+use Rattle.area_commit.specs.Value.{on_tier}
+use Rattle.area_commit.specs.declared.taking.Taken.{Taken}
+use Rattle.area_commit.specs.Taking.{taken_data, runs_of}
+use Rattle.area_commit.proofs.Members.{cons_cases, cons_here, cons_there, nothing}
+use Rattle.area_commit.specs.Changing.{BlockIsTaken}
 use Rattle.area_commit.specs.Plan.{WereFree, is_changed}
 
 -- ---- inodes

@@ -1,18 +1,18 @@
 -- A plan is written: its data, and then its batch.
 use Rattle.std.proofs.Common.{◌≡◌, ◌≢◌, ◌≤◌, ◌*◌, ℕ, List, length, sym, ◌∙◌, arith}
-use Rattle.tier_device.specs.declared.media.Tier.{Tier}
-use Rattle.tier_device.specs.declared.media.Tier.TheVariants.{Fast}
-use Rattle.tier_device.specs.Media.{AtRest}
-use Rattle.layout.specs.declared.slot.Slot.{Slot}
-use Rattle.layout.specs.Places.{Sizes, tier_blocks}
-use Rattle.batch_journal.specs.Blocks.{home, after_batch}
-use Rattle.batch_journal.specs.Course.{Since, SameLengths, BeforeOrAfter}
-use Rattle.block_map.specs.Map.{TierRuns}
+use Rattle.area_image.specs.tier_device.declared.media.Tier.{Tier}
+use Rattle.area_image.specs.tier_device.declared.media.Tier.TheVariants.{Fast}
+use Rattle.area_image.specs.tier_device.Media.{AtRest}
+use Rattle.area_image.specs.layout.declared.slot.Slot.{Slot}
+use Rattle.area_image.specs.layout.Places.{Sizes, tier_blocks}
+use Rattle.area_image.specs.batch_journal.Blocks.{home, after_batch}
+use Rattle.area_image.specs.batch_journal.Course.{Since, SameLengths, BeforeOrAfter}
+use Rattle.area_image.specs.extent_tree.Map.{TierRuns}
 use Rattle.area_image.specs.Store.{store_of}
 use Rattle.area_image.specs.Reads.{Loose}
-use Rattle.area_batch.specs.Batches.{IsBatchOf}
-use Rattle.free_pools.specs.Taking.{taken_data}
-use Rattle.free_pools.specs.Writing.{HoldData, IsJournalLeft, StaysLoose}
+use Rattle.area_commit.specs.Batches.{IsBatchOf}
+use Rattle.area_commit.specs.Taking.{taken_data}
+use Rattle.area_commit.specs.Writing.{HoldData, IsJournalLeft, StaysLoose}
 use Rattle.area_commit.specs.declared.plan.Rewrite.{Rewrite}
 use Rattle.area_commit.specs.Plan.{IsPlanned}
 use Rattle.area_commit.specs.Done.{IsCarriedOut, AllOrNothing}

@@ -7,12 +7,43 @@ pub mod Moments
 pub mod Course
 pub mod Joined
 pub mod Read
+mod Fronts
+mod Seams
+mod Splits
+pub mod Members
+mod Courses
+pub mod Turns
+mod Held
+mod Stored
+pub mod Departed
+mod BatchPut
+mod SlotBytes
+mod Blocks
+mod Images
+mod ByNumber
+mod Listed
+pub mod Reading
+pub mod Places
+pub mod Moving
+pub mod ChangedNodes
+pub mod TakenPlaces
+pub mod Freeing
+mod RoomHeld
+mod Counting
+mod Allowed
+mod FilePlaces
+mod DataRoom
+mod NodeRoom
+mod Exchanged
+mod Differing
+mod Found
+pub mod Given
+pub mod GivenUp
 -- Passed on to the crates above, which so need not list those below.
-pub use Rattle.area_move.proofs.Fits
-pub use Rattle.area_move.proofs.Given
-pub use Rattle.area_move.proofs.GivenUp
-pub use Rattle.area_move.proofs.Roots
-pub use Rattle.area_move.proofs.Steps
-pub use Rattle.area_rewrite.proofs.Places
-pub use Rattle.free_pools.proofs.Members
-pub use Rattle.free_pools.proofs.Turns
+pub use Rattle.area_image.proofs as area_image_lemmas
+pub use Rattle.area_image.proofs.batch_journal_lemmas
+pub use Rattle.area_image.proofs.block_alloc_lemmas
+pub use Rattle.area_image.proofs.extent_tree_lemmas
+pub use Rattle.area_image.proofs.graph_change_lemmas
+pub use Rattle.area_image.proofs.layout_lemmas
+pub use Rattle.area_image.proofs.tree_blocks_lemmas

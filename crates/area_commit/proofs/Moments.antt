@@ -1,22 +1,22 @@
 -- What a stop leaves while a plan is carried out.
 use Rattle.std.proofs.Common.{◌≡◌, ◌≢◌, ◌≤◌, ◌<◌, ◌*◌, inl, inr, ℕ, List, Option, length, refl, ap, ◌∙◌, subst, arith}
 use Rattle.std.proofs.lemmas.Bool.{cases_lt}
-use Rattle.tier_device.specs.declared.media.Tier.{Tier}
-use Rattle.tier_device.specs.declared.media.Tier.TheVariants.{Fast, Block, Slow}
-use Rattle.tier_device.specs.Media.{AtRest}
-use Rattle.layout.specs.declared.marks.Marks.{Marks}
-use Rattle.layout.specs.declared.slot.Slot.{Slot}
-use Rattle.layout.specs.Places.{Sizes, tier_blocks}
-use Rattle.batch_journal.specs.Blocks.{Blocks, block_of, home, after_batch}
-use Rattle.batch_journal.specs.Course.{Since, Unmoved, BeforeOrAfter}
-use Rattle.block_map.specs.Map.{TierRuns}
+use Rattle.area_image.specs.tier_device.declared.media.Tier.{Tier}
+use Rattle.area_image.specs.tier_device.declared.media.Tier.TheVariants.{Fast, Block, Slow}
+use Rattle.area_image.specs.tier_device.Media.{AtRest}
+use Rattle.area_image.specs.layout.declared.marks.Marks.{Marks}
+use Rattle.area_image.specs.layout.declared.slot.Slot.{Slot}
+use Rattle.area_image.specs.layout.Places.{Sizes, tier_blocks}
+use Rattle.area_image.specs.batch_journal.Blocks.{Blocks, block_of, home, after_batch}
+use Rattle.area_image.specs.batch_journal.Course.{Since, Unmoved, BeforeOrAfter}
+use Rattle.area_image.specs.extent_tree.Map.{TierRuns}
 use Rattle.area_image.specs.Store.{Store, store_of, content_blocks}
 use Rattle.area_image.specs.Reads.{Loose}
-use Rattle.area_batch.specs.declared.slots.ChangedSlot.{ChangedSlot}
-use Rattle.area_batch.specs.Slots.{RiseIn}
-use Rattle.area_batch.specs.Batches.{IsBatchOf, IsPutIn}
-use Rattle.free_pools.specs.Taking.{taken_data}
-use Rattle.free_pools.specs.Writing.{HoldData, IsLooseLeft, IsJournalLeft, StaysLoose}
+use Rattle.area_commit.specs.declared.slots.ChangedSlot.{ChangedSlot}
+use Rattle.area_commit.specs.Slots.{RiseIn}
+use Rattle.area_commit.specs.Batches.{IsBatchOf, IsPutIn}
+use Rattle.area_commit.specs.Taking.{taken_data}
+use Rattle.area_commit.specs.Writing.{HoldData, IsLooseLeft, IsJournalLeft, StaysLoose}
 use Rattle.area_commit.specs.declared.plan.Rewrite.{Rewrite}
 use Rattle.area_commit.specs.Plan.{IsPlanned}
 use Rattle.area_commit.specs.Done.{IsCarriedOut, AllOrNothing}

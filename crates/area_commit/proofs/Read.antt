@@ -1,9 +1,9 @@
 -- A plan is written once the blocks of its slots are read.
 use Rattle.std.proofs.Common.{◌≡◌, ◌≤◌, ℕ, List, length, ap}
 use Rattle.std.specs.Prelude.{Result}
-use Rattle.tier_device.specs.declared.media.Tier.{Tier}
-use Rattle.layout.specs.Places.{Sizes}
-use Rattle.batch_journal.specs.View.{JournalView}
+use Rattle.area_image.specs.tier_device.declared.media.Tier.{Tier}
+use Rattle.area_image.specs.layout.Places.{Sizes}
+use Rattle.area_image.specs.batch_journal.View.{JournalView}
 use Rattle.area_image.specs.declared.error.AreaError.{AreaError}
 use Rattle.area_image.specs.Store.{Store, store_of}
 use Rattle.area_image.specs.Looks.{Looks}

@@ -3,25 +3,25 @@ use Rattle.std.proofs.Common.{◌≤◌, ◌<◌, ◌⊎◌, inl, inr, ℕ, Bool
 use Rattle.std.specs.Prelude.{◌↔◌}
 use Rattle.std.specs.List.{Contains}
 use Rattle.std.proofs.lemmas.List.Elements.{Contains-append_left, Contains-append_right}
-use Rattle.tier_device.specs.declared.media.Tier.{Tier}
-use Rattle.tier_device.specs.declared.media.Tier.TheVariants.{Fast, Block, Slow}
-use Rattle.layout.specs.declared.slot.Slot.{Slot}
-use Rattle.layout.specs.Places.{Sizes, node_end, data_first, tier_blocks}
-use Rattle.block_alloc.specs.declared.runs.Run.{Run}
-use Rattle.block_alloc.specs.Runs.{run_blocks, blocks_of}
-use Rattle.block_alloc.specs.Value.{FreeBlocks, InOrder}
-use Rattle.block_map.specs.Map.{TierRuns}
+use Rattle.area_image.specs.tier_device.declared.media.Tier.{Tier}
+use Rattle.area_image.specs.tier_device.declared.media.Tier.TheVariants.{Fast, Block, Slow}
+use Rattle.area_image.specs.layout.declared.slot.Slot.{Slot}
+use Rattle.area_image.specs.layout.Places.{Sizes, node_end, data_first, tier_blocks}
+use Rattle.area_image.specs.block_alloc.declared.runs.Run.{Run}
+use Rattle.area_image.specs.block_alloc.Runs.{run_blocks, blocks_of}
+use Rattle.area_image.specs.block_alloc.Value.{FreeBlocks, InOrder}
+use Rattle.area_image.specs.extent_tree.Map.{TierRuns}
 use Rattle.area_image.specs.Store.{Store}
 use Rattle.area_image.specs.Reads.{IsRoom, Free}
 use Rattle.area_image.specs.Spelled.{IsSpelled}
-use Rattle.free_pools.specs.Value.{PoolsView, data_pool, AreInOrder, HasRanges, AreFree}
-use Rattle.free_pools.specs.declared.taking.Taken.{Taken}
-use Rattle.free_pools.specs.Taking.{WasTaken, WereTaken, WasGiven, WasUndone, SameBlocks, SameFree, runs_of}
-use Rattle.free_pools.proofs.Departed.{taken_free, taken_apart, taken_left}
-use Rattle.free_pools.proofs.Members.{each_tier}
-use Rattle.area_room.specs.Changing.{Exchanges, BlockIsGivenUp, BlockIsTaken, WereGiven}
-use Rattle.area_move.specs.Given.{AreUsed, IsInUse, WereAdded}
-use Rattle.area_move.proofs.GivenUp.{run_used}
+use Rattle.area_commit.specs.Value.{PoolsView, data_pool, AreInOrder, HasRanges, AreFree}
+use Rattle.area_commit.specs.declared.taking.Taken.{Taken}
+use Rattle.area_commit.specs.Taking.{WasTaken, WereTaken, WasGiven, WasUndone, SameBlocks, SameFree, runs_of}
+use Rattle.area_commit.proofs.Departed.{taken_free, taken_apart, taken_left}
+use Rattle.area_commit.proofs.Members.{each_tier}
+use Rattle.area_commit.specs.Changing.{Exchanges, BlockIsGivenUp, BlockIsTaken, WereGiven}
+use Rattle.area_commit.specs.Given.{AreUsed, IsInUse, WereAdded}
+use Rattle.area_commit.proofs.GivenUp.{run_used}
 use Rattle.area_commit.specs.declared.plan.Rewrite.{Rewrite}
 use Rattle.area_commit.specs.Plan.{WereFree, LieApart, IsLost, lost_in, is_rewritten, IsPlanned}
 use Rattle.area_commit.specs.Room.{AreReadyFor}

@@ -2,21 +2,21 @@
 use Rattle.std.proofs.Common.{◌≡◌, ◌↔◌, inl, inr, ℕ, Bool, true, false, refl, sym, ap, ◌∙◌, subst, Option, Some, None}
 use Rattle.std.specs.Prelude.{◌==◌, option_map}
 use Rattle.std.proofs.lemmas.Bool.{true≢false, ne_eqb, cond-false}
-use Rattle.tier_device.specs.declared.media.Tier.{Tier}
-use Rattle.tier_device.specs.declared.media.Tier.TheVariants.{Fast}
-use Rattle.layout.specs.declared.slot.Slot.{Slot}
-use Rattle.layout.specs.Places.{Sizes, is_inode}
-use Rattle.block_map.specs.Map.{TierRuns}
+use Rattle.area_image.specs.tier_device.declared.media.Tier.{Tier}
+use Rattle.area_image.specs.tier_device.declared.media.Tier.TheVariants.{Fast}
+use Rattle.area_image.specs.layout.declared.slot.Slot.{Slot}
+use Rattle.area_image.specs.layout.Places.{Sizes, is_inode}
+use Rattle.area_image.specs.extent_tree.Map.{TierRuns}
 use Rattle.area_image.specs.Store.{Store, slot, root_of}
 use Rattle.area_image.specs.Reads.{IsRoom, Untouched}
 use Rattle.area_image.specs.Spelled.{Use, used, IsSpelled}
 use Rattle.area_image.proofs.Frames.{block_for-kept}
 use Rattle.area_image.proofs.Lists.{place_placed, slot_here_fits}
 use Rattle.area_image.proofs.Shown.{slot_limits}
-use Rattle.area_rewrite.specs.Written.{IsWritten, IsFit, block_by}
-use Rattle.area_rewrite.specs.Many.{MayTake, AreWrittenAnew}
-use Rattle.area_rewrite.proofs.Taking.{LieInPools, use_room}
-use Rattle.area_room.specs.Changing.{BlockIsGivenUp, Exchanges, BlockIsTaken}
+use Rattle.area_commit.specs.Written.{IsWritten, IsFit, block_by}
+use Rattle.area_commit.specs.Many.{MayTake, AreWrittenAnew}
+use Rattle.area_commit.proofs.TakenPlaces.{LieInPools, use_room}
+use Rattle.area_commit.specs.Changing.{BlockIsGivenUp, Exchanges, BlockIsTaken}
 use Rattle.area_commit.specs.declared.plan.Rewrite.{Rewrite}
 use Rattle.area_commit.specs.Plan.{IsLost, is_rewritten, IsPlanned}
 use Rattle.area_commit.proofs.Chosen.{no_use, taken_free}

@@ -1,13 +1,13 @@
 -- What stands between two changes of the media, and after one that is not made.
 use Rattle.std.specs.Prelude.{◌≡◌, ℕ, List, false}
-use Rattle.tier_device.specs.declared.media.Tier.{Tier}
-use Rattle.tier_device.specs.Media.{AtRest}
-use Rattle.layout.specs.Places.{Sizes}
-use Rattle.batch_journal.specs.Course.{Unmoved}
-use Rattle.batch_journal.specs.View.{JournalView}
+use Rattle.area_image.specs.tier_device.declared.media.Tier.{Tier}
+use Rattle.area_image.specs.tier_device.Media.{AtRest}
+use Rattle.area_image.specs.layout.Places.{Sizes}
+use Rattle.area_image.specs.batch_journal.Course.{Unmoved}
+use Rattle.area_image.specs.batch_journal.View.{JournalView}
 use Rattle.area_image.specs.Store.{store_of}
 use Rattle.area_image.specs.Spelled.{IsOpenable}
-use Rattle.free_pools.specs.Value.{PoolsView, HasRanges, AreFree}
+use Rattle.area_commit.specs.Value.{PoolsView, HasRanges, AreFree}
 
 -- The media spell a graph, and nothing is pending on them; the pools have the free blocks.
 pub record IsSettled (g : Sizes) (seen : Tier → List ℕ) (may_leave : Tier → List ℕ → Type 0) (pools : PoolsView) : Type 0 where

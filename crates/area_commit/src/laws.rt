@@ -2,35 +2,33 @@
 
 ghost use Rattle.std.specs.Prelude.{◌≡◌, ◌↔◌, ◌⊎◌, ◌++◌, ℕ, List, Some, None, true};
 ghost use Rattle.std.specs.List.{Contains};
-ghost use Rattle.tier_device.specs.declared.media.Tier.{Tier};
-ghost use Rattle.layout.specs.declared.marks.Marks.{Marks};
-ghost use Rattle.layout.specs.declared.slot.Slot.{Slot};
-ghost use Rattle.layout.specs.Marks.{fits_marks};
-ghost use Rattle.layout.specs.Places.{Sizes, IsAllowed};
-ghost use Rattle.block_alloc.specs.declared.runs.Run.{Run};
-ghost use Rattle.block_alloc.specs.Runs.{blocks_of};
-ghost use Rattle.block_alloc.specs.Value.{FreeBlocks};
-ghost use Rattle.block_map.specs.Map.{TierRuns};
+ghost use Rattle.area_image.specs.tier_device.declared.media.Tier.{Tier};
+ghost use Rattle.area_image.specs.layout.declared.marks.Marks.{Marks};
+ghost use Rattle.area_image.specs.layout.declared.slot.Slot.{Slot};
+ghost use Rattle.area_image.specs.layout.Marks.{fits_marks};
+ghost use Rattle.area_image.specs.layout.Places.{Sizes, IsAllowed};
+ghost use Rattle.area_image.specs.block_alloc.declared.runs.Run.{Run};
+ghost use Rattle.area_image.specs.block_alloc.Runs.{blocks_of};
+ghost use Rattle.area_image.specs.block_alloc.Value.{FreeBlocks};
+ghost use Rattle.area_image.specs.extent_tree.Map.{TierRuns};
 ghost use Rattle.area_image.specs.Store.{Store, store_of, graph, marks};
 ghost use Rattle.area_image.specs.Reads.{Loose};
 ghost use Rattle.area_image.specs.Spelled.{IsSpelled, IsOpenable};
-ghost use Rattle.area_rewrite.specs.Many.{AreWrittenAnew};
-ghost use Rattle.area_batch.specs.Batches.{IsPutIn};
-ghost use Rattle.free_pools.specs.Value.{PoolsView, data_pool, HasRanges, AreFree};
-ghost use Rattle.free_pools.specs.declared.taking.Taken.{Taken};
-ghost use Rattle.free_pools.specs.Taking.{taken_data, WereTaken, WasUndone, SameFree};
-ghost use Rattle.free_pools.specs.Writing.{HoldData};
-ghost use Rattle.area_room.specs.Changing.{Exchanges, BlockIsGivenUp, BlockIsTaken};
-ghost use Rattle.area_move.specs.Given.{AreUsed, WereAdded};
+ghost use Rattle.area_commit.specs.Many.{AreWrittenAnew};
+ghost use Rattle.area_commit.specs.Batches.{IsPutIn};
+ghost use Rattle.area_commit.specs.Value.{PoolsView, data_pool, HasRanges, AreFree};
+ghost use Rattle.area_commit.specs.declared.taking.Taken.{Taken};
+ghost use Rattle.area_commit.specs.Taking.{taken_data, WereTaken, WasUndone, SameFree};
+ghost use Rattle.area_commit.specs.Writing.{HoldData};
+ghost use Rattle.area_commit.specs.Changing.{Exchanges, BlockIsGivenUp, BlockIsTaken};
+ghost use Rattle.area_commit.specs.Given.{AreUsed, WereAdded};
 ghost use Rattle.area_commit.specs.declared.plan.Rewrite.{Rewrite};
 ghost use Rattle.area_commit.specs.Plan.{WereFree, LieApart, IsLost, lost_in, is_rewritten, IsPlanned};
 ghost use Rattle.area_commit.specs.Done.{IsCarriedOut, IsBeforeOrAfter};
 ghost use Rattle.area_commit.specs.Room.{AreReadyFor};
 
-use area_image::free_blocks_are_not_read;
-use area_rewrite::written_inode_is_read;
-use area_room::pools_after_change;
-use layout::marks_are_read;
+use crate::{pools_after_change, written_inode_is_read};
+use area_image::{free_blocks_are_not_read, marks_are_read};
 
 /// What was taken of pools that have exactly the free blocks was free.
 pub fn taken_blocks_were_free()

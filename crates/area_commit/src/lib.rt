@@ -1,33 +1,78 @@
-//! Where a change of some inodes on the shared media is carried out.
+//! Where a change of some inodes on the shared media is carried out: data to free blocks, a fence, one batch, and only then is free what it gives up.
 //!
-//! A change is planned in memory: slots, marks and node blocks, data for blocks that were taken from the pools, and the blocks that are given up. The data goes to its blocks
-//! first, and each tier that was written is fenced; then one batch of the journal writes all else; then what was given up is free. So a stop at any moment leaves the media as
-//! they were, or with all of the change.
+//! The blocks that are free stand in four pools (`Pools`): the node pool, and the data blocks of three tiers. A change is planned in memory: slots, marks and node
+//! blocks, data for blocks that were taken from the pools, and the blocks that are given up. The data goes to its blocks first, and each tier that was written is
+//! fenced; then one batch of the journal writes all else; then what was given up is free. So a stop at any moment leaves the media as they were, or with all of
+//! the change.
+//!
+//! Beside it stand laws: what is read of inodes that are written anew (`whole`, `many`, `written`, `moved`, `changed`), what a batch puts into a store
+//! (`batch_laws`), and how many blocks are free at least, and what becomes of them and of the charge (`room`, `changing`, `charges`).
 #![tactic(auto)]
 
+mod batch_laws;
+mod batches;
+mod changed;
+mod changing;
+mod charges;
+mod data_writing;
 mod giving;
 mod laws;
+mod lists;
+mod many;
+mod moved;
+mod nodes;
 mod plan;
+mod pool_laws;
+mod pools;
+mod returned_blocks;
+mod room;
+mod slots;
+mod taking;
+mod whole;
 mod writing;
+mod written;
 
+pub use batch_laws::{batch_is_put, put_slots_are_read};
+pub use batches::batch_of;
+pub use changed::{
+    written_directory_is_rewritten, written_file_is_rewritten, written_free_slot_is_inode_after,
+};
+pub use changing::{given_blocks_are_used, pools_after_change};
+pub use charges::charge_after_change;
+pub use data_writing::write_data;
 pub use laws::{
     batch_carries_out_the_plan, carried_out_blocks_are_exchanged,
     carried_out_inodes_are_written_anew, carried_out_marks, lost_blocks_can_be_given, moments_open,
     pools_have_the_free_blocks, runs_lie_apart, taken_blocks_were_free, undone_pools_are_as_before,
 };
+pub use lists::put_lists;
+pub use many::{
+    changed_inodes_are_the_graph_after, given_up_blocks_are_free, kept_and_free_blocks_lie_apart,
+    moved_inodes_are_the_same_graph, written_inodes_are_rewritten,
+};
+pub use moved::moved_inode_is_alike;
+pub use nodes::NodeImages;
 pub use plan::{Lost, Rewrite};
+pub use pool_laws::{fenced_blocks_stay_loose, taken_blocks_are_free};
+pub use pools::Pools;
+pub use returned_blocks::{give_data, give_nodes};
+pub use room::{data_never_runs_out, nodes_never_run_out, small_changes_find_blocks};
+pub use slots::ChangedSlot;
+pub use taking::Taken;
+pub use whole::{changed_store_spells_the_graph_after, moved_store_spells_the_same_graph};
 pub use writing::carry_out;
+pub use written::{
+    logical_blocks_are_read_where_they_lie, written_inode_is_read, written_inode_is_spelled,
+};
 
 // Passed on to the crates above, which so need not list those below.
-pub use area_batch::{ChangedSlot, NodeImages, put_lists};
-pub use area_move::{
-    MovableRun, RelocateError, extents_of, find_run, map_of, places_in, put_runs, read_run,
-    roots_left, slot_for, told,
+pub use area_image::{
+    AllocatorError, AreaError, BLOCK, BlockChange, BlockMap, CLIENTS, DirBlock, DirEntries,
+    DirEntry, Directory, EnterError, EntryRef, Extent, ExtentBlock, Geometry, GraphChange,
+    InodeExtents, InodeParts, Journal, JournalError, Kind, MARKS_BLOCK, Mark, Marks, Media,
+    NodeBase, NodeChange, NodeLength, Place, Run, SLOT_SIZE, Slot, Super, Tier, What,
+    WrittenBlocks, blank_block, block_number, block_spells_a_map, bounded_entries_lead_to_inodes,
+    change_block, few_blocks_are_few_runs, first_place, is_inode, length_of, open_area, push,
+    read_all_extents, read_block, read_parts, read_slot, rewritten_inodes_are_spelled, root_of,
+    units_of,
 };
-pub use area_rewrite::{
-    changed_store_spells_the_graph_after, moved_store_spells_the_same_graph,
-    written_directory_is_rewritten, written_file_is_rewritten, written_free_slot_is_inode_after,
-    written_inode_is_read,
-};
-pub use area_room::{charge_after_change, nodes_never_run_out, small_changes_find_blocks};
-pub use free_pools::{Pools, Taken};

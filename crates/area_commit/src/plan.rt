@@ -1,7 +1,5 @@
-use area_batch::{ChangedSlot, NodeImages};
-use block_alloc::Run;
-use free_pools::Taken;
-use layout::Marks;
+use crate::{ChangedSlot, NodeImages, Taken};
+use area_image::{Marks, Run};
 
 /// Blocks that are given up, as runs: of the node pool, and of the data blocks of each tier.
 #[derive(Debug, Drop)]

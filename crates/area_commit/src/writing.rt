@@ -1,17 +1,17 @@
 // A plan is written: data first, then the batch, then what was given up is free.
 ghost use Rattle.std.specs.Prelude.{◌≡◌, ◌≤◌, ◌+◌, ◌⊎◌, min, true, false, length, OnOk, OnErr, IfErr, IsErrOf};
-ghost use Rattle.tier_device.specs.declared.media.Tier.{Tier};
-ghost use Rattle.tier_device.specs.Media.{AtRest, Rose};
-ghost use Rattle.batch_journal.specs.Blocks.{AreJournaled};
-ghost use Rattle.batch_journal.specs.Volume.{KeepsGeometry};
+ghost use Rattle.area_image.specs.tier_device.declared.media.Tier.{Tier};
+ghost use Rattle.area_image.specs.tier_device.Media.{AtRest, Rose};
+ghost use Rattle.area_image.specs.batch_journal.Blocks.{AreJournaled};
+ghost use Rattle.area_image.specs.batch_journal.Volume.{KeepsGeometry};
 ghost use Rattle.area_image.specs.Store.{store_of};
 ghost use Rattle.area_image.specs.Spelled.{IsSpelled};
 ghost use Rattle.area_image.specs.Looks.{Looks};
 ghost use Rattle.area_image.specs.declared.error.AreaError.TheVariants.{DeviceFault, Memory};
-ghost use Rattle.area_batch.specs.Batches.{IsBatchOf};
-ghost use Rattle.free_pools.specs.Value.{HasRanges, AreFree};
-ghost use Rattle.free_pools.specs.Taking.{WasUndone};
-ghost use Rattle.free_pools.specs.Writing.{Went, calls_for, TakenInTurn};
+ghost use Rattle.area_commit.specs.Batches.{IsBatchOf};
+ghost use Rattle.area_commit.specs.Value.{HasRanges, AreFree};
+ghost use Rattle.area_commit.specs.Taking.{WasUndone};
+ghost use Rattle.area_commit.specs.Writing.{Went, calls_for, TakenInTurn};
 ghost use Rattle.area_commit.specs.Plan.{IsPlan};
 ghost use Rattle.area_commit.specs.Done.{IsCarriedOut, AllOrNothing};
 ghost use Rattle.area_commit.specs.Room.{AreReadyFor};
@@ -19,12 +19,9 @@ ghost use Rattle.area_commit.specs.Room.{AreReadyFor};
 use crate::giving::give_lost;
 use crate::laws::{lost_blocks_can_be_given, pools_have_the_free_blocks};
 use crate::plan::Rewrite;
-use area_batch::{batch_is_put, batch_of};
-use area_image::AreaError;
-use batch_journal::{Batch, Journal, JournalError};
-use free_pools::{Pools, write_data};
+use crate::{Pools, batch_is_put, batch_of, write_data};
+use area_image::{AreaError, Batch, Journal, JournalError, Media};
 use std::alloc::Global;
-use tier_device::Media;
 
 // Writes the data of a plan, and then its batch: no block of the batch before all data is kept.
 fn write_plan<M: Media>(

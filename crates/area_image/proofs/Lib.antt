@@ -16,3 +16,12 @@ pub mod Sharing
 pub mod Costs
 pub mod Among
 pub mod Apart
+-- Passed on to the crates above, which so need not list those below.
+pub use Rattle.batch_journal.proofs as batch_journal_lemmas
+pub use Rattle.extent_tree.proofs.block_alloc_lemmas
+pub use Rattle.extent_tree.proofs as extent_tree_lemmas
+pub use Rattle.batch_journal.proofs.file_graph_lemmas
+pub use Rattle.tree_blocks.proofs.graph_change_lemmas
+pub use Rattle.batch_journal.proofs.layout_lemmas
+pub use Rattle.batch_journal.proofs.posix_calls_lemmas
+pub use Rattle.tree_blocks.proofs as tree_blocks_lemmas

@@ -2,14 +2,14 @@
 use Rattle.std.proofs.Common.{◌≡◌, ◌≢◌, ◌≤◌, ◌+◌, ◌⊎◌, inl, inr, ℕ, List, true, false, refl, sym, ◌∙◌, ap, subst, arith}
 use Rattle.std.specs.Prelude.{Result, Ok, Err, IfErr}
 use Rattle.std.proofs.lemmas.Bool.{true≢false}
-use Rattle.tier_device.specs.declared.media.Tier.{Tier}
-use Rattle.tier_device.specs.Media.{Rose}
+use Rattle.batch_journal.specs.tier_device.declared.media.Tier.{Tier}
+use Rattle.batch_journal.specs.tier_device.Media.{Rose}
 use Rattle.batch_journal.specs.View.{JournalView}
 use Rattle.batch_journal.specs.Course.{Unmoved}
 use Rattle.batch_journal.proofs.Courses.{unmoved_on, tiers_same}
 use Rattle.area_image.specs.declared.error.AreaError.{AreaError}
 use Rattle.area_image.specs.declared.error.AreaError.TheVariants as errors
-use Rattle.layout.specs.Places.{Sizes}
+use Rattle.batch_journal.specs.layout.Places.{Sizes}
 use Rattle.area_image.specs.Store.{Store, store_of}
 use Rattle.area_image.specs.Looks.{Looks}
 

@@ -1,12 +1,12 @@
 -- Slot and extents of an inode, by the slot that was read.
 use Rattle.std.proofs.Common.{◌≡◌, ◌∙◌, inl, inr, ℕ, true, refl, sym, ap, Some}
 use Rattle.std.specs.Prelude.{unwrap_or}
-use Rattle.tier_device.specs.declared.media.Tier.{Tier}
-use Rattle.tier_device.specs.declared.media.Tier.TheVariants.{Fast}
-use Rattle.layout.specs.declared.error.What.{What}
-use Rattle.layout.specs.declared.slot.Slot.{Slot}
-use Rattle.layout.specs.declared.slot.Slot.TheVariants as slots
-use Rattle.layout.specs.Places.{Sizes, is_inode}
+use Rattle.batch_journal.specs.tier_device.declared.media.Tier.{Tier}
+use Rattle.batch_journal.specs.tier_device.declared.media.Tier.TheVariants.{Fast}
+use Rattle.batch_journal.specs.layout.declared.error.What.{What}
+use Rattle.batch_journal.specs.layout.declared.slot.Slot.{Slot}
+use Rattle.batch_journal.specs.layout.declared.slot.Slot.TheVariants as slots
+use Rattle.batch_journal.specs.layout.Places.{Sizes, is_inode}
 use Rattle.area_image.specs.declared.error.AreaError.{AreaError}
 use Rattle.area_image.specs.declared.error.AreaError.TheVariants as errors
 use Rattle.area_image.specs.declared.tiers.InodeExtents.{InodeExtents}

@@ -3,9 +3,9 @@ use Rattle.std.proofs.Common.{◌≡◌, ◌≢◌, ◌≤◌, ◌↔◌, ℕ, B
 use Rattle.std.specs.Prelude.{◌==◌, nat_le, if◌then◌else◌}
 use Rattle.std.specs.Option.{option_map}
 use Rattle.std.proofs.lemmas.Bool.{cases_Bool, cond-true, cond-false, and_parts, leb-true, eqb-false, ne_eqb}
-use Rattle.tier_device.specs.declared.media.Tier.{Tier}
-use Rattle.tier_device.specs.declared.media.Tier.TheVariants.{Fast}
-use Rattle.layout.specs.Places.{Sizes, is_inode, slot_block}
+use Rattle.batch_journal.specs.tier_device.declared.media.Tier.{Tier}
+use Rattle.batch_journal.specs.tier_device.declared.media.Tier.TheVariants.{Fast}
+use Rattle.batch_journal.specs.layout.Places.{Sizes, is_inode, slot_block}
 use Rattle.batch_journal.specs.Volume.{Spells}
 use Rattle.area_image.specs.Store.{Store, slot, root_of, place, inode}
 use Rattle.area_image.specs.Reads.{InodeReads, IsRoom, Free, Untouched}

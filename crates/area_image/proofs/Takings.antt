@@ -2,7 +2,7 @@
 use Rattle.std.proofs.Common.{◌≡◌, ℕ, true, false, refl, sym, ap, subst, ◌∙◌, Option, Some, inl, inr, ◌⊎◌}
 use Rattle.std.specs.Prelude.{◌↔◌}
 use Rattle.std.proofs.lemmas.Bool.{true≢false}
-use Rattle.tier_device.specs.declared.media.Tier.{Tier}
+use Rattle.batch_journal.specs.tier_device.declared.media.Tier.{Tier}
 use Rattle.area_image.specs.Used.{UsedMarks, is_marked, Adds, Takes, Clashes}
 
 abbrev pair : Tier → ℕ → Tier × ℕ

@@ -2,11 +2,11 @@
 use Rattle.std.proofs.Common.{◌≡◌, ◌≢◌, ◌<◌, ◌+◌, ℕ, Bool, true, false, refl, sym, ap, subst, ◌∙◌, arith, Option, Some, None, inl, inr, ◌⊎◌}
 use Rattle.std.specs.Prelude.{◌↔◌, ◌==◌, option_map, MatchBool}
 use Rattle.std.proofs.lemmas.Bool.{cases_eq, cond-true, cond-false, eq-eqb, ne_eqb}
-use Rattle.tier_device.specs.declared.media.Tier.{Tier}
-use Rattle.tier_device.specs.declared.media.Tier.TheVariants.{Fast, Block, Slow}
+use Rattle.batch_journal.specs.tier_device.declared.media.Tier.{Tier}
+use Rattle.batch_journal.specs.tier_device.declared.media.Tier.TheVariants.{Fast, Block, Slow}
 use Rattle.area_image.specs.Store.{root_of, length_of}
-use Rattle.layout.specs.Extents.{ExtentList}
-use Rattle.extent_nodes.specs.Places.{place_of}
+use Rattle.batch_journal.specs.layout.Extents.{ExtentList}
+use Rattle.extent_tree.specs.Places.{place_of}
 use Rattle.area_image.specs.Map.{place_by, in_tier, extents_in}
 use Rattle.area_image.specs.Used.{UsedMarks, is_marked, HasRoom, Adds, Takes, Clashes}
 use Rattle.area_image.specs.Parts.{InodeUse, part_block, part_for, IsRoot, IsPlace, IsOfTier, IsWithin, HasRoomFor}

@@ -11,3 +11,13 @@ pub mod Parts
 pub mod Whole
 pub mod Units
 pub mod Names
+-- Passed on to the crates above, which so need not list those below.
+pub use Rattle.batch_journal.specs as batch_journal
+pub use Rattle.extent_tree.specs.block_alloc
+pub use Rattle.extent_tree.specs as extent_tree
+pub use Rattle.batch_journal.specs.file_graph
+pub use Rattle.tree_blocks.specs.graph_change
+pub use Rattle.batch_journal.specs.layout
+pub use Rattle.batch_journal.specs.posix_calls
+pub use Rattle.batch_journal.specs.tier_device
+pub use Rattle.tree_blocks.specs as tree_blocks

@@ -1,7 +1,7 @@
 -- What a call that only reads leaves of a journal.
 use Rattle.std.specs.Prelude.{◌≡◌, ◌≢◌, ◌⊎◌, ◌≤◌, ◌+◌, ℕ, List, true, false, Result, Ok, Err, OnOk, IfErr}
-use Rattle.tier_device.specs.declared.media.Tier.{Tier}
-use Rattle.tier_device.specs.Media.{Rose}
+use Rattle.batch_journal.specs.tier_device.declared.media.Tier.{Tier}
+use Rattle.batch_journal.specs.tier_device.Media.{Rose}
 use Rattle.batch_journal.specs.View.{JournalView}
 use Rattle.batch_journal.specs.Course.{Unmoved}
 use Rattle.area_image.specs.declared.error.AreaError.{AreaError}

@@ -1,8 +1,8 @@
 -- The blocks that an inode takes, as its slot and extents tell.
 use Rattle.std.specs.Prelude.{◌≡◌, ◌<◌, ◌==◌, ◌⊎◌, ℕ, Option, Some, None, if◌then◌else◌}
 use Rattle.std.specs.Option.{option_map}
-use Rattle.tier_device.specs.declared.media.Tier.{Tier}
-use Rattle.tier_device.specs.declared.media.Tier.TheVariants as tiers
+use Rattle.batch_journal.specs.tier_device.declared.media.Tier.{Tier}
+use Rattle.batch_journal.specs.tier_device.declared.media.Tier.TheVariants as tiers
 use Rattle.area_image.specs.Store.{root_of, length_of}
 use Rattle.area_image.specs.Map.{place_by}
 use Rattle.area_image.specs.Used.{UsedMarks, HasRoom}

@@ -1,9 +1,9 @@
 -- Which blocks the inodes read, and which are free.
 use Rattle.std.specs.Prelude.{◌≡◌, ◌≢◌, ◌⊎◌, ◌≤◌, ◌<◌, ◌+◌, ◌*◌, true, ℕ, Some}
-use Rattle.tier_device.specs.declared.media.Tier.{Tier}
-use Rattle.tier_device.specs.declared.media.Tier.TheVariants as tiers
-use Rattle.layout.specs.declared.places.TheConstants.{BLOCK, FIRST_NODE_BLOCK}
-use Rattle.layout.specs.Places.{Sizes, is_inode, slot_block, tier_blocks}
+use Rattle.batch_journal.specs.tier_device.declared.media.Tier.{Tier}
+use Rattle.batch_journal.specs.tier_device.declared.media.Tier.TheVariants as tiers
+use Rattle.batch_journal.specs.layout.declared.places.TheConstants.{BLOCK, FIRST_NODE_BLOCK}
+use Rattle.batch_journal.specs.layout.Places.{Sizes, is_inode, slot_block, tier_blocks}
 use Rattle.batch_journal.specs.Blocks.{Blocks}
 use Rattle.area_image.specs.Store.{Store, slot_bytes, slot, root_of, place}
 

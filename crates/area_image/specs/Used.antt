@@ -1,7 +1,7 @@
 -- Which blocks of each tier are marked as used.
 use Rattle.std.specs.Prelude.{◌≡◌, ◌≢◌, ◌⊎◌, ◌↔◌, ◌<◌, ℕ, Bool, true, false, List, length, get_or, Option, Some}
-use Rattle.tier_device.specs.declared.media.Tier.{Tier}
-use Rattle.tier_device.specs.declared.media.Tier.TheVariants as tiers
+use Rattle.batch_journal.specs.tier_device.declared.media.Tier.{Tier}
+use Rattle.batch_journal.specs.tier_device.declared.media.Tier.TheVariants as tiers
 
 -- a mark for each block of a tier
 pub record UsedMarks : Type 0 where

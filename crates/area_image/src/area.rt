@@ -1,10 +1,10 @@
 // All inodes, and the blocks that they use.
 ghost use Rattle.std.specs.Prelude.{◌≡◌, ◌≤◌, ◌+◌, ◌⊎◌, ◌↔◌, ℕ, Some, true, false, length, OnOk, IfOk, IfErr};
-ghost use Rattle.file_graph.specs.Graph.{cost};
-ghost use Rattle.file_graph.specs.Units.{charge};
+ghost use Rattle.batch_journal.specs.file_graph.Graph.{cost};
+ghost use Rattle.batch_journal.specs.file_graph.Units.{charge};
 ghost use Rattle.area_image.specs.Store.{store_of, graph};
-ghost use Rattle.tier_device.specs.declared.media.Tier.{Tier};
-ghost use Rattle.layout.specs.Places.{is_inode, tier_blocks};
+ghost use Rattle.batch_journal.specs.tier_device.declared.media.Tier.{Tier};
+ghost use Rattle.batch_journal.specs.layout.Places.{is_inode, tier_blocks};
 ghost use Rattle.area_image.specs.Spelled.{SpellsInode, Use, AreUsedOnce, used as used_by};
 ghost use Rattle.area_image.specs.Used.{marks_in, is_marked, IsMarked};
 ghost use Rattle.area_image.specs.Damage.{OnDamage, IsDamaged};
@@ -20,11 +20,8 @@ use crate::sound::read_inode;
 use crate::taking::mark_inode;
 use crate::units::units_of;
 use crate::used::UsedBlocks;
-use batch_journal::Journal;
-use layout::What;
-use posix_calls::MAX_INODE;
+use batch_journal::{Journal, MAX_INODE, Media, What};
 use std::alloc::Global;
-use tier_device::Media;
 
 // Reads one more inode, and marks its blocks behind those of the inodes before it. `Damaged` names what the inode itself shows to be wrong, or the extent block in
 // a tier where a block has another use.

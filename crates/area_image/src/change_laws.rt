@@ -1,8 +1,8 @@
 //! What holds where some inodes of a store are rewritten.
 
 ghost use Rattle.std.specs.Prelude.{◌≡◌, ◌↔◌, ℕ, List, Bool, false, Some};
-ghost use Rattle.tier_device.specs.declared.media.Tier.{Tier};
-ghost use Rattle.layout.specs.Places.{Sizes};
+ghost use Rattle.batch_journal.specs.tier_device.declared.media.Tier.{Tier};
+ghost use Rattle.batch_journal.specs.layout.Places.{Sizes};
 ghost use Rattle.batch_journal.specs.Blocks.{Blocks};
 ghost use Rattle.area_image.specs.Store.{Store, store_of, content_blocks, inode};
 ghost use Rattle.area_image.specs.Reads.{IsRoom, Free, LooseIn};

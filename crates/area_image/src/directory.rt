@@ -1,6 +1,6 @@
 // A directory, all its blocks.
 ghost use Rattle.std.specs.Prelude.{◌≡◌, ◌≤◌, false, OnOk, IfErr};
-ghost use Rattle.posix_calls.specs.declared.limits.TheConstants.{MAX_ENTRIES};
+ghost use Rattle.batch_journal.specs.posix_calls.declared.limits.TheConstants.{MAX_ENTRIES};
 ghost use Rattle.tree_blocks.specs.Inode.{AreDirectoryBlocks};
 ghost use Rattle.area_image.specs.Store.{store_of, logical};
 ghost use Rattle.area_image.specs.Damage.{OnDamage};
@@ -13,10 +13,8 @@ use crate::error::AreaError;
 use crate::names::Names;
 use crate::slots::entry_blocks;
 use crate::tiers::InodeExtents;
-use batch_journal::Journal;
-use posix_calls::MAX_INODE;
+use batch_journal::{Journal, MAX_INODE, Media};
 use std::alloc::Global;
-use tier_device::Media;
 
 /// Whether a directory's blocks are its entries, each in its place and of a name of its own; each block is read once. `Damaged` names the slot where a block is
 /// missing, or the block that does not hold its part of the entries or has a name of a block before it. Each name is looked for in a sorted set of those before it;

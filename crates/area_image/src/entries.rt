@@ -1,8 +1,8 @@
 // The blocks of a directory.
 ghost use Rattle.std.specs.Prelude.{◌≡◌, ◌≢◌, ◌<◌, ◌≤◌, ℕ, length, ◌+◌, MatchBool, true, false, IfOk, OnOk, IfErr};
-ghost use Rattle.layout.specs.Directory.{AreEntries, listed};
-ghost use Rattle.layout.specs.Places.{slot_block};
-ghost use Rattle.layout.specs.declared.error.What.TheVariants as what;
+ghost use Rattle.batch_journal.specs.layout.Directory.{AreEntries, listed};
+ghost use Rattle.batch_journal.specs.layout.Places.{slot_block};
+ghost use Rattle.batch_journal.specs.layout.declared.error.What.TheVariants as what;
 ghost use Rattle.tree_blocks.specs.Inode.{IsDirectoryBlock, entries_in, blocks_for};
 ghost use Rattle.area_image.specs.Names.{AddsNames, SharesName};
 ghost use Rattle.area_image.specs.Store.{store_of};
@@ -17,11 +17,8 @@ use crate::places::first_place;
 use crate::reading::{blank_block, read_block};
 use crate::tail::block_number;
 use crate::tiers::InodeExtents;
-use batch_journal::Journal;
-use layout::{BLOCK, DirEntries, MAX_IN_BLOCK, What, slot_block};
-use posix_calls::MAX_INODE;
+use batch_journal::{BLOCK, DirEntries, Journal, MAX_IN_BLOCK, MAX_INODE, Media, What, slot_block};
 use std::alloc::{AllocError, Global};
-use tier_device::Media;
 
 // How many of so many entries stand in a block.
 fn entries_in(entries: u64, number: u64) -> u64

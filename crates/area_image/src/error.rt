@@ -1,7 +1,7 @@
 ghost use Rattle.std.specs.Prelude.{◌≡◌};
 ghost use Rattle.area_image.specs.declared.error.AreaError.TheVariants.{Memory};
 
-use layout::What;
+use batch_journal::What;
 use std::alloc::AllocError;
 use thiserror::Error;
 

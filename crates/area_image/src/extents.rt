@@ -1,24 +1,24 @@
 // Extents as they are read.
 ghost use Rattle.std.specs.Prelude.{◌≡◌, ◌≢◌, ◌≤◌, Some, None, IsSome, nat_le, true, IfOk, IfErr};
 ghost use Rattle.std.specs.List.{list_all};
-ghost use Rattle.layout.specs.declared.error.What.TheVariants as what;
-ghost use Rattle.layout.specs.Places.{is_node};
-ghost use Rattle.layout.specs.Extents.{extents_of};
-ghost use Rattle.extent_nodes.specs.Places.{end_of};
+ghost use Rattle.batch_journal.specs.layout.declared.error.What.TheVariants as what;
+ghost use Rattle.batch_journal.specs.layout.Places.{is_node};
+ghost use Rattle.batch_journal.specs.layout.Extents.{extents_of};
+ghost use Rattle.extent_tree.specs.Places.{end_of};
 ghost use Rattle.area_image.specs.Store.{store_of, is_own, own_extents, extents_by, root_of, space_of, length_of};
 ghost use Rattle.area_image.specs.Looks.{Looks};
 ghost use Rattle.area_image.specs.Map.{HasExtents, HasList, IsOwnList};
 ghost use Rattle.area_image.specs.Damage.{OnDamage};
 ghost use Rattle.area_image.specs.declared.error.AreaError.TheVariants.{DeviceFault, Memory};
-ghost use Rattle.tier_device.specs.declared.media.Tier.TheVariants as tiers;
+ghost use Rattle.batch_journal.specs.tier_device.declared.media.Tier.TheVariants as tiers;
 
 use crate::error::AreaError;
 use crate::reading::{blank_block, read_block};
 use crate::slots::{length_of, root_of, space_of};
-use batch_journal::Journal;
-use layout::{Extent, ExtentBlock, Geometry, LayoutError, Slot, Space, What};
+use batch_journal::{
+    Extent, ExtentBlock, Geometry, Journal, LayoutError, Media, Slot, Space, Tier, What,
+};
 use std::alloc::Global;
-use tier_device::{Media, Tier};
 
 /// The extents of an inode in a tier, as its slot leads to them; `None` where it has no extent block there. `Damaged` names the extent block, where it spells none
 /// that are the inode's and end within its logical blocks; that takes no memory. `Memory` where there was none for what it spells.

@@ -1,7 +1,7 @@
 // Slot and extents of an inode.
 ghost use Rattle.std.specs.Prelude.{◌≡◌, ◌≤◌, Some, true, IfOk, IfErr};
-ghost use Rattle.tier_device.specs.declared.media.Tier.TheVariants as tiers;
-ghost use Rattle.layout.specs.Slot.{fits_slot};
+ghost use Rattle.batch_journal.specs.tier_device.declared.media.Tier.TheVariants as tiers;
+ghost use Rattle.batch_journal.specs.layout.Slot.{fits_slot};
 ghost use Rattle.area_image.specs.Store.{store_of, slot_read};
 ghost use Rattle.area_image.specs.Damage.{OnDamage};
 ghost use Rattle.area_image.specs.Looks.{Looks};
@@ -12,11 +12,8 @@ ghost use Rattle.area_image.specs.declared.error.AreaError.TheVariants.{Memory};
 use crate::error::AreaError;
 use crate::slots::read_slot;
 use crate::tiers::{InodeExtents, read_all_extents};
-use batch_journal::Journal;
-use layout::Slot;
-use posix_calls::MAX_INODE;
+use batch_journal::{Journal, MAX_INODE, Media, Slot};
 use std::alloc::Global;
-use tier_device::Media;
 
 /// The slot of an inode, and its extent blocks.
 #[derive(Debug, Drop)]

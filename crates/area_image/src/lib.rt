@@ -45,3 +45,21 @@ pub use taking::mark_inode;
 pub use tiers::{InodeExtents, read_all_extents};
 pub use units::{slots_tell_the_units, units_of};
 pub use used::{UsedBlocks, unmarked_blocks_are_free};
+
+// Passed on to the crates above, which so need not list those below.
+pub use batch_journal::{
+    BLOCK, Batch, CLIENTS, DirBlock, DirEntries, DirEntry, EntryRef, Extent, ExtentBlock,
+    FIRST_IMAGE_BLOCK, FIRST_NODE_BLOCK, FIRST_SLOT_BLOCK, GATE_BLOCK, Geometry, HEAD_BLOCK, Image,
+    Journal, JournalError, Kind, LayoutError, MARKS_BLOCK, MAX_IMAGES, MAX_IN_BLOCK, Mark, Marks,
+    Media, SLOT_SIZE, SLOTS_IN_BLOCK, Slot, Space, Super, Tier, What, extents_are_read, is_inode,
+    marks_are_read, slot_block, slot_byte, slot_is_read,
+};
+pub use extent_tree::{
+    AllocatorError, BlockMap, FreeRuns, Place, Run, block_spells_a_map, few_blocks_are_few_runs,
+    push, whole_map_fits_a_block,
+};
+pub use tree_blocks::{
+    BlockChange, Directory, EnterError, GraphChange, NodeBase, NodeChange, NodeLength,
+    WrittenBlocks, alike_inodes_are_one_node, bounded_entries_lead_to_inodes, change_block,
+    inode_after_is_node_after, inodes_after_are_graph_after, rewritten_inode_is_inode_after,
+};

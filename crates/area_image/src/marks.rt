@@ -1,8 +1,8 @@
 // The marks as they are read.
 ghost use Rattle.std.specs.Prelude.{◌≡◌, ◌≢◌, Some, None, IfOk, IfErr};
-ghost use Rattle.layout.specs.declared.error.What.TheVariants as what;
-ghost use Rattle.layout.specs.declared.places.TheConstants.{MARKS_BLOCK};
-ghost use Rattle.layout.specs.Marks.{marks_of};
+ghost use Rattle.batch_journal.specs.layout.declared.error.What.TheVariants as what;
+ghost use Rattle.batch_journal.specs.layout.declared.places.TheConstants.{MARKS_BLOCK};
+ghost use Rattle.batch_journal.specs.layout.Marks.{marks_of};
 ghost use Rattle.area_image.specs.Store.{store_of, marks};
 ghost use Rattle.area_image.specs.Damage.{OnDamage, IsMarksDamage};
 ghost use Rattle.area_image.specs.Looks.{Looks};
@@ -10,9 +10,7 @@ ghost use Rattle.area_image.specs.declared.error.AreaError.TheVariants.{Damaged,
 
 use crate::error::AreaError;
 use crate::reading::{blank_block, read_block};
-use batch_journal::Journal;
-use layout::{MARKS_BLOCK, Marks, What};
-use tier_device::{Media, Tier};
+use batch_journal::{Journal, MARKS_BLOCK, Marks, Media, Tier, What};
 
 /// The marks of the clients, and the number of digests. `Damaged` names them, where their block spells none.
 pub fn read_marks<M: Media>(journal: &mut Journal<M>) -> Result<Marks, AreaError>

@@ -1,8 +1,8 @@
 // What is known of the shared media once they are opened.
 ghost use Rattle.std.specs.Prelude.{◌≡◌, ◌↔◌, ℕ, length, Some, IsSome, false, OnOk, IfOk, IfErr};
-ghost use Rattle.tier_device.specs.declared.media.Tier.{Tier};
-ghost use Rattle.file_graph.specs.Units.{charge};
-ghost use Rattle.layout.specs.Places.{tier_blocks};
+ghost use Rattle.batch_journal.specs.tier_device.declared.media.Tier.{Tier};
+ghost use Rattle.batch_journal.specs.file_graph.Units.{charge};
+ghost use Rattle.batch_journal.specs.layout.Places.{tier_blocks};
 ghost use Rattle.area_image.specs.Store.{store_of, graph, marks as marks_of};
 ghost use Rattle.area_image.specs.Spelled.{Use, used as used_by, IsOpenable};
 ghost use Rattle.area_image.specs.Used.{marks_in, IsMarked};
@@ -14,10 +14,8 @@ use crate::area::read_area;
 use crate::error::AreaError;
 use crate::marks::read_marks;
 use crate::used::UsedBlocks;
-use batch_journal::Journal;
-use layout::{Marks, SUPER_BLOCK, What};
+use batch_journal::{Journal, Marks, Media, SUPER_BLOCK, What};
 use std::alloc::Global;
-use tier_device::Media;
 
 /// What opened media tell beside their nodes: the blocks in use, the marks of the clients with the number of digests, and the units that the graph costs.
 #[derive(Drop)]

@@ -1,12 +1,11 @@
 // Where the logical blocks of an inode lie.
 ghost use Rattle.std.specs.Prelude.{◌≡◌, ◌≢◌, ◌<◌, ◌≤◌, ℕ, Some, None, IsSome, IfNone, IfSome};
-ghost use Rattle.tier_device.specs.declared.media.Tier.{Tier};
-ghost use Rattle.extent_nodes.specs.Places.{place_of};
+ghost use Rattle.batch_journal.specs.tier_device.declared.media.Tier.{Tier};
+ghost use Rattle.extent_tree.specs.Places.{place_of};
 ghost use Rattle.area_image.specs.Map.{extents_in, place_by, IsOnceAt, IsTwiceAt};
 
 use crate::tiers::InodeExtents;
-use layout::{Extent, ExtentBlock};
-use tier_device::Tier;
+use batch_journal::{Extent, ExtentBlock, Tier};
 
 // The place of a logical block in a list of extents.
 fn place_among(extents: &[Extent], block: u64) -> Option<u64>

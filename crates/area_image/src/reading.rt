@@ -1,18 +1,15 @@
 // Blocks as they are read.
 ghost use Rattle.std.specs.Prelude.{◌≡◌, ◌≤◌, ◌<◌, ◌+◌, ◌*◌, true, length, OnOk, OnErr, IfErr};
-ghost use Rattle.tier_device.specs.declared.media.Tier.TheVariants.{Fast};
-ghost use Rattle.layout.specs.declared.places.TheConstants.{BLOCK, SLOT_SIZE};
-ghost use Rattle.layout.specs.Places.{tier_blocks};
+ghost use Rattle.batch_journal.specs.tier_device.declared.media.Tier.TheVariants.{Fast};
+ghost use Rattle.batch_journal.specs.layout.declared.places.TheConstants.{BLOCK, SLOT_SIZE};
+ghost use Rattle.batch_journal.specs.layout.Places.{tier_blocks};
 ghost use Rattle.batch_journal.specs.Blocks.{home, block_of, is_home};
 ghost use Rattle.area_image.specs.Store.{store_of, slot_bytes};
 ghost use Rattle.area_image.specs.Looks.{Looks};
 ghost use Rattle.area_image.specs.declared.error.AreaError.TheVariants.{DeviceFault};
 
 use crate::error::AreaError;
-use batch_journal::Journal;
-use layout::{BLOCK, SLOT_SIZE, slot_block, slot_byte};
-use posix_calls::MAX_INODE;
-use tier_device::{Media, Tier};
+use batch_journal::{BLOCK, Journal, MAX_INODE, Media, SLOT_SIZE, Tier, slot_block, slot_byte};
 
 /// A block's worth of bytes, to read into.
 pub fn blank_block() -> [u8; BLOCK] {

@@ -1,11 +1,11 @@
 // Slots as they are read.
 ghost use Rattle.std.specs.Prelude.{◌≡◌, ◌≢◌, ◌≤◌, ◌+◌, ◌-◌, ◌/◌, ℕ, Some, None, true, length, IfOk, IfErr};
-ghost use Rattle.tier_device.specs.declared.media.Tier.{Tier};
-ghost use Rattle.layout.specs.declared.error.What.TheVariants as what;
-ghost use Rattle.layout.specs.declared.places.TheConstants.{SLOT_SIZE, BLOCK};
-ghost use Rattle.layout.specs.declared.directory.TheConstants.{MAX_IN_BLOCK};
-ghost use Rattle.layout.specs.Places.{slot_block};
-ghost use Rattle.layout.specs.Slot.{slot_of, fits_slot};
+ghost use Rattle.batch_journal.specs.tier_device.declared.media.Tier.{Tier};
+ghost use Rattle.batch_journal.specs.layout.declared.error.What.TheVariants as what;
+ghost use Rattle.batch_journal.specs.layout.declared.places.TheConstants.{SLOT_SIZE, BLOCK};
+ghost use Rattle.batch_journal.specs.layout.declared.directory.TheConstants.{MAX_IN_BLOCK};
+ghost use Rattle.batch_journal.specs.layout.Places.{slot_block};
+ghost use Rattle.batch_journal.specs.layout.Slot.{slot_of, fits_slot};
 ghost use Rattle.area_image.specs.Store.{store_of, slot_read, root_of, space_of, length_of};
 ghost use Rattle.area_image.specs.Damage.{OnDamage};
 ghost use Rattle.area_image.specs.Looks.{Looks};
@@ -13,12 +13,10 @@ ghost use Rattle.area_image.specs.declared.error.AreaError.TheVariants.{Damaged,
 
 use crate::error::AreaError;
 use crate::reading::read_slot_bytes;
-use batch_journal::Journal;
-use layout::{
-    BLOCK, Geometry, MAX_IN_BLOCK, SLOT_SIZE, Slot, Space, What, slot_block, slot_is_spelled,
+use batch_journal::{
+    BLOCK, Geometry, Journal, MAX_IN_BLOCK, MAX_INODE, Media, SLOT_SIZE, Slot, Space, Tier, What,
+    slot_block, slot_is_spelled,
 };
-use posix_calls::MAX_INODE;
-use tier_device::{Media, Tier};
 
 /// The extent block of a tier, 0 for none.
 pub fn root_of(slot: &Slot, tier: Tier) -> u32

@@ -1,7 +1,7 @@
 // All of one inode.
 ghost use Rattle.std.specs.Prelude.{◌≡◌, ◌≤◌, ◌⊎◌, ℕ, Some, true, false, OnOk, IfOk, IfErr};
-ghost use Rattle.tier_device.specs.declared.media.Tier.TheVariants as tiers;
-ghost use Rattle.layout.specs.Slot.{fits_slot};
+ghost use Rattle.batch_journal.specs.tier_device.declared.media.Tier.TheVariants as tiers;
+ghost use Rattle.batch_journal.specs.layout.Slot.{fits_slot};
 ghost use Rattle.tree_blocks.specs.Inode.{IsConsistent};
 ghost use Rattle.area_image.specs.Store.{store_of, slot_read, inode as inode_at};
 ghost use Rattle.area_image.specs.Spelled.{SpellsInode};
@@ -17,11 +17,8 @@ use crate::inode::{InodeParts, read_parts};
 use crate::places::mapped_twice;
 use crate::slots::{length_of, root_of};
 use crate::tail::check_file;
-use batch_journal::Journal;
-use layout::{Slot, What};
-use posix_calls::MAX_INODE;
+use batch_journal::{Journal, MAX_INODE, Media, Slot, What};
 use std::alloc::Global;
-use tier_device::Media;
 
 /// The slot and the extents of an inode, where all that it has is sound: no logical block is mapped by two tiers, a file is zero behind its end, and a directory's
 /// blocks are its entries. Of a file's data the last block alone is read, where the end is within it. `Damaged` names what the inode itself shows to be wrong; a block

@@ -1,9 +1,9 @@
 // The last block of a file, behind its end.
 ghost use Rattle.std.specs.Prelude.{◌≡◌, ◌≢◌, ◌<◌, true, false, drop, length, OnOk, IfErr};
-ghost use Rattle.layout.specs.Bytes.{are_zero};
-ghost use Rattle.layout.specs.Places.{tier_blocks};
-ghost use Rattle.layout.specs.declared.error.What.TheVariants as what;
-ghost use Rattle.layout.specs.declared.places.TheConstants.{BLOCK};
+ghost use Rattle.batch_journal.specs.layout.Bytes.{are_zero};
+ghost use Rattle.batch_journal.specs.layout.Places.{tier_blocks};
+ghost use Rattle.batch_journal.specs.layout.declared.error.What.TheVariants as what;
+ghost use Rattle.batch_journal.specs.layout.declared.places.TheConstants.{BLOCK};
 ghost use Rattle.tree_blocks.specs.Inode.{IsZeroFrom};
 ghost use Rattle.area_image.specs.Store.{store_of, logical};
 ghost use Rattle.area_image.specs.Reads.{IsRoom};
@@ -16,9 +16,7 @@ use crate::error::AreaError;
 use crate::places::first_place;
 use crate::reading::{blank_block, read_block};
 use crate::tiers::InodeExtents;
-use batch_journal::Journal;
-use layout::{BLOCK, Geometry, What, are_zero};
-use tier_device::{Media, Tier};
+use batch_journal::{BLOCK, Geometry, Journal, Media, Tier, What, are_zero};
 
 // The number of a block of a tier.
 pub fn block_number(geometry: &Geometry, tier: Tier, at: u64) -> u32

@@ -10,8 +10,7 @@ use crate::places::place_in;
 use crate::slots::{length_of, root_of};
 use crate::tiers::InodeExtents;
 use crate::used::UsedBlocks;
-use layout::ExtentBlock;
-use tier_device::Tier;
+use batch_journal::{ExtentBlock, Tier};
 
 // The extents in a tier.
 fn extents_in(found: &InodeExtents, tier: Tier) -> &Option<ExtentBlock>

@@ -1,7 +1,7 @@
 // The extent blocks of an inode in all tiers.
 ghost use Rattle.std.specs.Prelude.{◌≡◌, true, IfOk, IfErr};
-ghost use Rattle.tier_device.specs.declared.media.Tier.TheVariants as tiers;
-ghost use Rattle.layout.specs.Slot.{fits_slot};
+ghost use Rattle.batch_journal.specs.tier_device.declared.media.Tier.TheVariants as tiers;
+ghost use Rattle.batch_journal.specs.layout.Slot.{fits_slot};
 ghost use Rattle.area_image.specs.Store.{store_of};
 ghost use Rattle.area_image.specs.Damage.{OnDamage};
 ghost use Rattle.area_image.specs.Looks.{Looks};
@@ -10,10 +10,8 @@ ghost use Rattle.area_image.specs.declared.error.AreaError.TheVariants.{Memory};
 
 use crate::error::AreaError;
 use crate::extents::read_extents;
-use batch_journal::Journal;
-use layout::{ExtentBlock, Slot};
+use batch_journal::{ExtentBlock, Journal, Media, Slot, Tier};
 use std::alloc::Global;
-use tier_device::{Media, Tier};
 
 /// The extent blocks of an inode, where it has one in the tier.
 #[derive(Debug, Drop)]

@@ -1,18 +1,17 @@
 // Which blocks are in use.
 ghost use Rattle.std.specs.Prelude.{◌≡◌, ◌<◌, ◌+◌, ℕ, true, false, length, replicate, get_or, set, IfOk, Some, ◌≤◌, ◌↔◌};
-ghost use Rattle.tier_device.specs.declared.media.Tier.{Tier};
-ghost use Rattle.tier_device.specs.declared.media.Tier.TheVariants.{Fast};
-ghost use Rattle.layout.specs.declared.places.TheConstants.{FIRST_NODE_BLOCK};
-ghost use Rattle.layout.specs.Places.{Sizes, tier_blocks, data_blocks, data_first, node_blocks};
+ghost use Rattle.batch_journal.specs.tier_device.declared.media.Tier.{Tier};
+ghost use Rattle.batch_journal.specs.tier_device.declared.media.Tier.TheVariants.{Fast};
+ghost use Rattle.batch_journal.specs.layout.declared.places.TheConstants.{FIRST_NODE_BLOCK};
+ghost use Rattle.batch_journal.specs.layout.Places.{Sizes, tier_blocks, data_blocks, data_first, node_blocks};
 ghost use Rattle.area_image.specs.Store.{Store};
 ghost use Rattle.area_image.specs.Reads.{IsRoom, Free};
 ghost use Rattle.area_image.specs.Spelled.{Use, used};
 ghost use Rattle.area_image.specs.Used.{UsedMarks, marks_in, is_marked, IsMarked, HasRoom, Adds};
 
-use layout::{FIRST_NODE_BLOCK, Geometry};
+use batch_journal::{FIRST_NODE_BLOCK, Geometry, Tier};
 use std::alloc::{AllocError, Global};
 use std::marker::Model;
-use tier_device::Tier;
 
 /// A mark for each block of each tier, the journal's and the slots' among them.
 #[derive(Debug, Drop)]

@@ -6,3 +6,8 @@ pub mod Reading
 pub mod View
 pub mod Damage
 pub mod Opening
+-- Passed on to the crates above, which so need not list those below.
+pub use Rattle.layout.specs.file_graph
+pub use Rattle.layout.specs as layout
+pub use Rattle.layout.specs.posix_calls
+pub use Rattle.layout.specs.tier_device

@@ -1,8 +1,8 @@
 ghost use Rattle.std.specs.Prelude.{◌≡◌, ◌≢◌, ◌<◌, ◌≤◌, ◌+◌, ◌*◌, ◌⊎◌, ℕ, List, length, true, false, OnOk, OnErr, IfOk, IfErr, IsErrOf};
 ghost use Rattle.layout.specs.Places.{Sizes, tier_blocks, data_first};
-ghost use Rattle.tier_device.specs.declared.media.Tier.{Tier};
-ghost use Rattle.tier_device.specs.declared.media.Tier.TheVariants.{Fast};
-ghost use Rattle.tier_device.specs.Media.{AtRest, LeftSince, Puts, Rose, overwritten};
+ghost use Rattle.layout.specs.tier_device.declared.media.Tier.{Tier};
+ghost use Rattle.layout.specs.tier_device.declared.media.Tier.TheVariants.{Fast};
+ghost use Rattle.layout.specs.tier_device.Media.{AtRest, LeftSince, Puts, Rose, overwritten};
 ghost use Rattle.batch_journal.specs.Images.{slice};
 ghost use Rattle.batch_journal.specs.Blocks.{home, after_batch, block_of, is_home, is_gate_open, IsShutGate, AreJournaled, opening_calls, ShowsHome};
 ghost use Rattle.batch_journal.specs.Volume.{IsJournal, IsVolume, KeepsGeometry, SameJournal};
@@ -15,10 +15,9 @@ use crate::calls::{fetch, put, settle};
 use crate::error::JournalError;
 use crate::opening::open_medium;
 use crate::replay::write_batch;
-use layout::{BLOCK, Geometry, MAX_IMAGES};
+use layout::{BLOCK, Geometry, MAX_IMAGES, Media, Tier};
 use std::alloc::Global;
 use std::marker::Model;
-use tier_device::{Media, Tier};
 
 /// The shared medium behind its journal.
 ///
@@ -36,7 +35,7 @@ pub struct Journal<M: Media> {
 
 impl<M: Media> Model for Journal<M> {
     ghost use Rattle.std.specs.Prelude.{◌≡◌, false};
-    ghost use Rattle.tier_device.specs.declared.media.Tier.TheVariants.{Fast};
+    ghost use Rattle.layout.specs.tier_device.declared.media.Tier.TheVariants.{Fast};
     ghost use Rattle.batch_journal.specs.View.{JournalView, IsShut};
 
     ghost Value = { JournalView M };

@@ -8,6 +8,8 @@
 //! has a file open (`settling`).
 #![tactic(auto)]
 
+mod answer_laws;
+mod answers;
 mod changed;
 mod growth;
 mod known_laws;
@@ -15,8 +17,11 @@ mod laws;
 mod record;
 mod record_laws;
 mod settling;
+mod stored;
 mod touched;
 
+pub use answer_laws::answers_are_of_the_graph;
+pub use answers::GraphAnswers;
 pub use growth::growth_of;
 pub use known_laws::{
     copied_entries_tell_kinds, dropping_a_gone_file_keeps_all,
@@ -38,4 +43,13 @@ pub use record_laws::{
 pub use settling::{graph_without_a_client_is_sound, settled_graph_is_sound};
 pub use touched::{
     MAX_SUBJECTS, missing_nodes_are_subjects, subjects, subjects_are_what_the_effects_touch,
+};
+
+// Passed on to the crates above, which so need not list those below.
+pub use log_record::{
+    Bytes, Call, Child, DecideError, Description, Descriptor, Effect, Errno, FileGraphEffects,
+    Kind, MAX_CLIENTS, MAX_ENTRIES, MAX_FILE, MAX_INODE, MAX_NAMES, MAX_TRANSFER, Missing, Name,
+    NameMap, NamedInode, Names, Operation, OwnDescriptors, Path, PlainEntry, PlainGraph, ROOT,
+    Record, RecordError, Reply, SharedBytes, TreeAnswers, UNIT_BYTES, UNIT_ENTRIES, decide,
+    is_inode, is_payload, read_payload, read_record,
 };

@@ -1,17 +1,17 @@
 ghost use Rattle.std.specs.Prelude.{◌≡◌, ◌+◌, ◌<◌, ◌≤◌, ℕ, [], ◌∷◌, length, false, IfSome, IfNone, insert, if◌then◌else◌};
 ghost use Rattle.std.specs.List.Sorted.{IsStrictlyIncreasing};
 ghost use Rattle.arrayvec.specs.ArrayVec.{array_vec_len};
-ghost use Rattle.posix_calls.specs.Query.{Part, Unknown, run_part};
-ghost use Rattle.posix_calls.specs.declared.operation.Missing.{Missing};
-ghost use Rattle.posix_calls.specs.declared.operation.Operation.{Operation};
-ghost use Rattle.file_graph.specs.Graph.{is_among, touches};
+ghost use Rattle.log_record.specs.posix_calls.Query.{Part, Unknown, run_part};
+ghost use Rattle.log_record.specs.posix_calls.declared.operation.Missing.{Missing};
+ghost use Rattle.log_record.specs.posix_calls.declared.operation.Operation.{Operation};
+ghost use Rattle.log_record.specs.file_graph.Graph.{is_among, touches};
 ghost use Rattle.call_effects.specs.Changed.{changes};
 ghost use Rattle.call_effects.specs.Effects.{effects_by};
 ghost use Rattle.call_effects.specs.Records.{effects_asked, growth_asked};
 ghost use Rattle.call_effects.specs.Subjects.{put_in, rising, replaced_inode, subjects_of, IsSubjectMissing};
 
 use arrayvec::ArrayVec;
-use posix_calls::{Operation, Replaced};
+use log_record::{Operation, Replaced};
 
 /// No operation changes more inodes.
 pub const MAX_SUBJECTS: usize = 3;

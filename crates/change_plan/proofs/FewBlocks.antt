@@ -4,17 +4,17 @@ use Rattle.std.specs.Prelude.{not, ◌==◌, ◌&&◌, if◌then◌else◌}
 use Rattle.std.specs.List.{Contains}
 use Rattle.std.proofs.lemmas.Bool.{cases_lt}
 use Rattle.std.proofs.lemmas.Map.Made.{Contains-tail}
-use Rattle.graph_change.specs.Change.{Change}
-use Rattle.layout.specs.Places.{Sizes}
-use Rattle.block_alloc.specs.Runs.{Rising}
-use Rattle.tree_blocks.specs.Written.{TellsWritten}
-use Rattle.area_image.specs.Store.{Store}
-use Rattle.area_commit.proofs.Members.{cons_cases, nothing}
-use Rattle.file_plan.proofs.Rising.{sorted_rise}
-use Rattle.directory_plan.specs.Blocks.{spares_wanted}
-use Rattle.directory_plan.specs.Spare.{spares_for}
-use Rattle.directory_plan.specs.declared.blocks.DirectoryBlocks.{DirectoryBlocks}
-use Rattle.directory_plan.specs.declared.changing.ChangedDirectory.{ChangedDirectory}
+use Rattle.inode_plan.specs.graph_change.Change.{Change}
+use Rattle.inode_plan.specs.layout.Places.{Sizes}
+use Rattle.inode_plan.specs.block_alloc.Runs.{Rising}
+use Rattle.inode_plan.specs.tree_blocks.Written.{TellsWritten}
+use Rattle.inode_plan.specs.area_image.Store.{Store}
+use Rattle.inode_plan.proofs.area_commit_lemmas.Members.{cons_cases, nothing}
+use Rattle.inode_plan.proofs.Rising.{sorted_rise}
+use Rattle.inode_plan.specs.Blocks.{spares_wanted}
+use Rattle.inode_plan.specs.Spare.{spares_for}
+use Rattle.inode_plan.specs.declared.blocks.DirectoryBlocks.{DirectoryBlocks}
+use Rattle.inode_plan.specs.declared.directory_change.ChangedDirectory.{ChangedDirectory}
 use Rattle.change_plan.specs.Changed.{IsChangedFrom}
 use Rattle.change_plan.specs.Next.{nodes_for}
 

@@ -5,40 +5,40 @@ use Rattle.std.specs.List.{Contains}
 use Rattle.std.proofs.lemmas.Bool.{false≢true, cases_Bool, cond-true, cond-false, eqb-false}
 use Rattle.std.proofs.lemmas.List.{get_or-map, length-map}
 use Rattle.std.proofs.lemmas.List.Elements.{Contains-get_or}
-use Rattle.tier_device.specs.declared.media.Tier.{Tier}
-use Rattle.tier_device.specs.declared.media.Tier.TheVariants as tiers
-use Rattle.graph_change.specs.Change.{Change}
-use Rattle.graph_change.specs.Net.{Base, Kept, Made, Gone, names_after}
-use Rattle.layout.specs.declared.geometry.Space.TheVariants as space
-use Rattle.layout.specs.declared.slot.Slot.{Slot}
-use Rattle.layout.specs.Extents.{ExtentList, extents_spelling}
-use Rattle.layout.specs.Places.{Sizes, is_node, data_first, tier_blocks}
-use Rattle.layout.specs.Slot.{fits_slot}
-use Rattle.batch_journal.specs.Images.{image_for, or_else, with_images}
-use Rattle.extent_nodes.specs.Spelled.{LiesWithin}
-use Rattle.block_map.specs.Map.{TierRuns, runs_in, lies_at}
-use Rattle.tree_blocks.specs.After.{started}
-use Rattle.area_image.specs.Store.{Store, slot, root_of, place, inode}
-use Rattle.area_image.specs.Reads.{Free}
-use Rattle.area_image.specs.Spelled.{used}
-use Rattle.area_image.specs.Map.{in_tier}
-use Rattle.area_image.proofs.Lists.{slot_here_fits}
-use Rattle.area_image.proofs.Shown.{slot_limits}
-use Rattle.area_commit.specs.Written.{IsFit, IsListed, block_by}
-use Rattle.area_commit.specs.Changed.{IsFileWritten}
-use Rattle.area_commit.specs.Batches.{AreNodes}
-use Rattle.area_commit.specs.Lists.{HaveOwnRoots}
-use Rattle.area_commit.specs.MovedLists.{root_for}
-use Rattle.area_commit.specs.declared.plan.Lost.{Lost}
-use Rattle.area_commit.specs.Writing.{HoldData}
-use Rattle.file_plan.specs.Placed.{nth_number, nth_place}
-use Rattle.file_plan.specs.Mapped.{AreFresh, AreData, TakesPlace}
-use Rattle.file_plan.specs.Planned.{pair_of, pairs_of, HasData}
-use Rattle.file_plan.specs.Roots.{lacking, wanted_before, SparesFit, ListsStand}
-use Rattle.file_plan.proofs.After.{keeps_or_takes, after_within}
-use Rattle.file_plan.proofs.Stores.{from_kept, file_is_fit, as_changed}
-use Rattle.file_plan.proofs.Listed.{inside as spare_inside, all_listed, root_uses, all_used}
-use Rattle.file_plan.proofs.Vacant.{roots_differ}
+use Rattle.inode_plan.specs.tier_device.declared.media.Tier.{Tier}
+use Rattle.inode_plan.specs.tier_device.declared.media.Tier.TheVariants as tiers
+use Rattle.inode_plan.specs.graph_change.Change.{Change}
+use Rattle.inode_plan.specs.graph_change.Net.{Base, Kept, Made, Gone, names_after}
+use Rattle.inode_plan.specs.layout.declared.geometry.Space.TheVariants as space
+use Rattle.inode_plan.specs.layout.declared.slot.Slot.{Slot}
+use Rattle.inode_plan.specs.layout.Extents.{ExtentList, extents_spelling}
+use Rattle.inode_plan.specs.layout.Places.{Sizes, is_node, data_first, tier_blocks}
+use Rattle.inode_plan.specs.layout.Slot.{fits_slot}
+use Rattle.inode_plan.specs.batch_journal.Images.{image_for, or_else, with_images}
+use Rattle.inode_plan.specs.extent_tree.Spelled.{LiesWithin}
+use Rattle.inode_plan.specs.extent_tree.Map.{TierRuns, runs_in, lies_at}
+use Rattle.inode_plan.specs.tree_blocks.After.{started}
+use Rattle.inode_plan.specs.area_image.Store.{Store, slot, root_of, place, inode}
+use Rattle.inode_plan.specs.area_image.Reads.{Free}
+use Rattle.inode_plan.specs.area_image.Spelled.{used}
+use Rattle.inode_plan.specs.area_image.Map.{in_tier}
+use Rattle.inode_plan.proofs.area_image_lemmas.Lists.{slot_here_fits}
+use Rattle.inode_plan.proofs.area_image_lemmas.Shown.{slot_limits}
+use Rattle.inode_plan.specs.area_commit.Written.{IsFit, IsListed, block_by}
+use Rattle.inode_plan.specs.area_commit.Changed.{IsFileWritten}
+use Rattle.inode_plan.specs.area_commit.Batches.{AreNodes}
+use Rattle.inode_plan.specs.area_commit.Lists.{HaveOwnRoots}
+use Rattle.inode_plan.specs.Lists.{root_for}
+use Rattle.inode_plan.specs.area_commit.declared.plan.Lost.{Lost}
+use Rattle.inode_plan.specs.area_commit.Writing.{HoldData}
+use Rattle.inode_plan.specs.PlacedFile.{nth_number, nth_place}
+use Rattle.inode_plan.specs.Mapped.{AreFresh, AreData, TakesPlace}
+use Rattle.inode_plan.specs.PlannedFile.{pair_of, pairs_of, HasData}
+use Rattle.inode_plan.specs.Roots.{lacking, wanted_before, SparesFit, ListsStand}
+use Rattle.inode_plan.proofs.After.{keeps_or_takes, after_within}
+use Rattle.inode_plan.proofs.Stores.{from_kept, file_is_fit, as_changed}
+use Rattle.inode_plan.proofs.Listed.{inside as spare_inside, all_listed, root_uses, all_used}
+use Rattle.inode_plan.proofs.Vacant.{roots_differ}
 use Rattle.change_plan.specs.Laid.{IsLaid, nth_data}
 use Rattle.change_plan.specs.Part.{Share, IsIn, IsPut}
 use Rattle.change_plan.specs.File.{slot_from, IsPlannedFile}

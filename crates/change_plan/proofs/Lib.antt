@@ -31,10 +31,11 @@ pub mod Walked
 mod WrittenBlocks
 mod Lying
 -- Passed on to the crates above, which so need not list those below.
-pub use Rattle.area_commit.proofs.Chosen
-pub use Rattle.area_commit.proofs.Course
-pub use Rattle.area_commit.proofs.Given
-pub use Rattle.area_commit.proofs.Moments
-pub use Rattle.area_commit.proofs.Returned
-pub use Rattle.area_commit.proofs.Turns
-pub use Rattle.file_plan.proofs.Keys
+pub use Rattle.inode_plan.proofs.area_commit_lemmas
+pub use Rattle.inode_plan.proofs.area_image_lemmas
+pub use Rattle.inode_plan.proofs.batch_journal_lemmas
+pub use Rattle.inode_plan.proofs.block_alloc_lemmas
+pub use Rattle.inode_plan.proofs.graph_change_lemmas
+pub use Rattle.inode_plan.proofs as inode_plan_lemmas
+pub use Rattle.inode_plan.proofs.layout_lemmas
+pub use Rattle.inode_plan.proofs.tree_blocks_lemmas

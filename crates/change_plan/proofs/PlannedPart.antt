@@ -4,33 +4,33 @@ use Rattle.std.specs.Prelude.{IsSome, option_map, nat_le, nat_lt}
 use Rattle.std.specs.List.{Contains}
 use Rattle.std.proofs.lemmas.Bool.{eq-eqb, eqb-true, and_parts, ltb-true}
 use Rattle.std.proofs.lemmas.Option.{none-some}
-use Rattle.tier_device.specs.declared.media.Tier.{Tier}
-use Rattle.tier_device.specs.declared.media.Tier.TheVariants.{Fast}
-use Rattle.file_graph.specs.declared.effect.Kind.{Kind}
-use Rattle.file_graph.specs.declared.effect.Kind.TheVariants as kind
-use Rattle.graph_change.specs.Change.{Change}
-use Rattle.graph_change.specs.Net.{Base, Kept, Made, Gone}
-use Rattle.layout.specs.declared.slot.Slot.TheVariants as slots
-use Rattle.layout.specs.Places.{Sizes, is_node, node_end, data_first}
-use Rattle.block_alloc.specs.declared.runs.Run.{Run}
-use Rattle.block_alloc.specs.Runs.{blocks_of}
-use Rattle.block_alloc.specs.Value.{FreeBlocks}
-use Rattle.batch_journal.specs.Images.{image_for, with_images}
-use Rattle.block_map.specs.Map.{TierRuns, runs_in}
-use Rattle.area_image.specs.Store.{Store, root_of, touch_of}
-use Rattle.area_image.specs.Spelled.{Use, used}
-use Rattle.area_commit.specs.Written.{IsFit, IsListed, block_by}
-use Rattle.area_commit.specs.Changed.{IsDirectoryWritten}
-use Rattle.area_commit.specs.Batches.{AreNodes}
-use Rattle.area_commit.specs.Given.{AreUsed, IsInUse}
-use Rattle.area_commit.specs.declared.plan.Lost.{Lost}
-use Rattle.area_commit.specs.Plan.{Loses, IsLost, LieApart, HoldLost}
-use Rattle.area_commit.proofs.Chosen.{no_use}
-use Rattle.directory_plan.specs.Planned.{IsPlannedFrom, StandThere, on_fast}
-use Rattle.directory_plan.specs.Started.{use_from}
-use Rattle.directory_plan.specs.declared.started.StartedDirectory.{StartedDirectory}
-use Rattle.directory_plan.specs.declared.changing.ChangedDirectory.{ChangedDirectory}
-use Rattle.directory_plan.specs.declared.plan.DirectoryPlan.{DirectoryPlan}
+use Rattle.inode_plan.specs.tier_device.declared.media.Tier.{Tier}
+use Rattle.inode_plan.specs.tier_device.declared.media.Tier.TheVariants.{Fast}
+use Rattle.inode_plan.specs.file_graph.declared.effect.Kind.{Kind}
+use Rattle.inode_plan.specs.file_graph.declared.effect.Kind.TheVariants as kind
+use Rattle.inode_plan.specs.graph_change.Change.{Change}
+use Rattle.inode_plan.specs.graph_change.Net.{Base, Kept, Made, Gone}
+use Rattle.inode_plan.specs.layout.declared.slot.Slot.TheVariants as slots
+use Rattle.inode_plan.specs.layout.Places.{Sizes, is_node, node_end, data_first}
+use Rattle.inode_plan.specs.block_alloc.declared.runs.Run.{Run}
+use Rattle.inode_plan.specs.block_alloc.Runs.{blocks_of}
+use Rattle.inode_plan.specs.block_alloc.Value.{FreeBlocks}
+use Rattle.inode_plan.specs.batch_journal.Images.{image_for, with_images}
+use Rattle.inode_plan.specs.extent_tree.Map.{TierRuns, runs_in}
+use Rattle.inode_plan.specs.area_image.Store.{Store, root_of, touch_of}
+use Rattle.inode_plan.specs.area_image.Spelled.{Use, used}
+use Rattle.inode_plan.specs.area_commit.Written.{IsFit, IsListed, block_by}
+use Rattle.inode_plan.specs.area_commit.Changed.{IsDirectoryWritten}
+use Rattle.inode_plan.specs.area_commit.Batches.{AreNodes}
+use Rattle.inode_plan.specs.area_commit.Given.{AreUsed, IsInUse}
+use Rattle.inode_plan.specs.area_commit.declared.plan.Lost.{Lost}
+use Rattle.inode_plan.specs.area_commit.Plan.{Loses, IsLost, LieApart, HoldLost}
+use Rattle.inode_plan.proofs.area_commit_lemmas.Chosen.{no_use}
+use Rattle.inode_plan.specs.PlannedDirectory.{IsPlannedFrom, StandThere, on_fast}
+use Rattle.inode_plan.specs.Started.{use_from}
+use Rattle.inode_plan.specs.declared.started.StartedDirectory.{StartedDirectory}
+use Rattle.inode_plan.specs.declared.directory_change.ChangedDirectory.{ChangedDirectory}
+use Rattle.inode_plan.specs.declared.plan.DirectoryPlan.{DirectoryPlan}
 use Rattle.change_plan.specs.Part.{IsPart, IsIn, IsPut, is_one}
 use Rattle.change_plan.specs.Adding.{GivesAll, no_runs}
 use Rattle.change_plan.specs.Directory.{of_nodes, WereFreeNodes, LosesNodes, LosesFor}

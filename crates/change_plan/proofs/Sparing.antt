@@ -2,13 +2,13 @@
 use Rattle.std.proofs.Common.{◌<◌, ◌≡◌, ◌≤◌, ◌+◌, ◌-◌, ◌∙◌, ℕ, zero, suc, List, [], ◌∷◌, ◌++◌, ap, sym, arith}
 use Rattle.std.specs.List.{range_with_len}
 use Rattle.std.proofs.lemmas.List.{append_assoc}
-use Rattle.tier_device.specs.declared.media.Tier.{Tier}
-use Rattle.tier_device.specs.declared.media.Tier.TheVariants.{Fast, Block, Slow}
-use Rattle.block_alloc.specs.declared.runs.Run.{Run}
-use Rattle.block_alloc.specs.Runs.{AreNormalRuns}
-use Rattle.area_commit.specs.Taken.{Taken}
-use Rattle.area_commit.specs.Taking.{runs_of, tier_places, taken_data}
-use Rattle.area_commit.specs.Placed.{EndsFit}
+use Rattle.inode_plan.specs.tier_device.declared.media.Tier.{Tier}
+use Rattle.inode_plan.specs.tier_device.declared.media.Tier.TheVariants.{Fast, Block, Slow}
+use Rattle.inode_plan.specs.block_alloc.declared.runs.Run.{Run}
+use Rattle.inode_plan.specs.block_alloc.Runs.{AreNormalRuns}
+use Rattle.inode_plan.specs.area_commit.declared.taking.Taken.{Taken}
+use Rattle.inode_plan.specs.area_commit.Taking.{runs_of, tier_places, taken_data}
+use Rattle.inode_plan.specs.Placed.{EndsFit}
 
 range_more : (a n : ℕ) → range_with_len a (n + 1) ≡ range_with_len a n ++ (a + n) ∷ []
 range_more a zero = let e : a ≡ a + 0 = omega arith in ap (λ (x : ℕ). x ∷ []) e

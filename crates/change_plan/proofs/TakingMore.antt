@@ -1,10 +1,10 @@
 -- Blocks of the node pool are taken, and then more of them.
 use Rattle.std.proofs.Common.{refl, ◌∙◌}
-use Rattle.layout.specs.Places.{Sizes}
-use Rattle.area_image.specs.Store.{Store}
-use Rattle.area_commit.specs.PoolsValue.{PoolsView}
-use Rattle.area_commit.specs.Taking.{CanUndo}
-use Rattle.area_commit.specs.Taken.{Taken}
+use Rattle.inode_plan.specs.layout.Places.{Sizes}
+use Rattle.inode_plan.specs.area_image.Store.{Store}
+use Rattle.inode_plan.specs.area_commit.Value.{PoolsView}
+use Rattle.inode_plan.specs.area_commit.Taking.{CanUndo}
+use Rattle.inode_plan.specs.area_commit.declared.taking.Taken.{Taken}
 use Rattle.change_plan.specs.Adding.{HasTaken, TakesMoreNodes}
 
 pub takes_none : (left : PoolsView) (taken : Taken) → CanUndo left taken → TakesMoreNodes left taken left taken

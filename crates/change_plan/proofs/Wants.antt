@@ -3,15 +3,15 @@ use Rattle.std.proofs.Common.{◌≡◌, ◌≤◌, ◌<◌, ◌+◌, ◌*◌, i
 use Rattle.std.specs.List.{Contains}
 use Rattle.std.specs.FinMap as fin
 use Rattle.std.proofs.lemmas.List.{length-map}
-use Rattle.area_commit.proofs.Members.{cons_here, cons_there}
-use Rattle.graph_change.specs.Bounds.{IsBounded, AreBounded}
-use Rattle.graph_change.specs.Bytes.{end}
-use Rattle.graph_change.specs.Change.{Change, Changes}
-use Rattle.graph_change.specs.Tidy.{IsTidyChange, AreTidyChanges}
-use Rattle.layout.specs.Places.{Sizes, is_inode}
-use Rattle.area_image.specs.Store.{Store}
-use Rattle.file_plan.specs.Written.{AreNumbers}
-use Rattle.area_commit.proofs.Chosen.{inode_range}
+use Rattle.inode_plan.proofs.area_commit_lemmas.Members.{cons_here, cons_there}
+use Rattle.inode_plan.specs.graph_change.Bounds.{IsBounded, AreBounded}
+use Rattle.inode_plan.specs.graph_change.Bytes.{end}
+use Rattle.inode_plan.specs.graph_change.Change.{Change, Changes}
+use Rattle.inode_plan.specs.graph_change.Tidy.{IsTidyChange, AreTidyChanges}
+use Rattle.inode_plan.specs.layout.Places.{Sizes, is_inode}
+use Rattle.inode_plan.specs.area_image.Store.{Store}
+use Rattle.inode_plan.specs.Written.{AreNumbers}
+use Rattle.inode_plan.proofs.area_commit_lemmas.Chosen.{inode_range}
 use Rattle.change_plan.specs.Next.{WantsData}
 use Rattle.change_plan.specs.Wanted.{WantInTurn, WantsBlocks}
 use Rattle.change_plan.proofs.Climbs.{climb_rising, climb_few, climb_within, change_here, has_here, keys_climb, mapped_from}

@@ -1,12 +1,12 @@
 -- A directory that is changed in memory, with what it was.
 use Rattle.std.specs.Prelude.{◌≤◌, ◌*◌, ℕ, length}
 use Rattle.std.specs.FinMap as fin
-use Rattle.graph_change.specs.Change.{Change}
-use Rattle.layout.specs.Places.{Sizes}
-use Rattle.area_image.specs.Store.{Store}
-use Rattle.directory_plan.specs.Started.{IsStarted, IsSoundStart, IsChanged}
-use Rattle.directory_plan.specs.declared.started.StartedDirectory.{StartedDirectory}
-use Rattle.directory_plan.specs.declared.changing.ChangedDirectory.{ChangedDirectory}
+use Rattle.inode_plan.specs.graph_change.Change.{Change}
+use Rattle.inode_plan.specs.layout.Places.{Sizes}
+use Rattle.inode_plan.specs.area_image.Store.{Store}
+use Rattle.inode_plan.specs.Started.{IsStarted, IsSoundStart, IsChanged}
+use Rattle.inode_plan.specs.declared.started.StartedDirectory.{StartedDirectory}
+use Rattle.inode_plan.specs.declared.directory_change.ChangedDirectory.{ChangedDirectory}
 
 -- It is what the change of inode i makes in memory of the directory that the change starts from; no more than two of its blocks are written for each entry that changes.
 pub record IsChangedFrom (g : Sizes) (s : Store) (c : Change) (i : ℕ) (x : ChangedDirectory) : Type 0 where

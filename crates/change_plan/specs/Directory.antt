@@ -1,26 +1,26 @@
 -- What a change makes of a directory, and of a node that goes, as a part of the plan for all.
 use Rattle.std.specs.Prelude.{◌≡◌, ◌≢◌, ◌⊎◌, ◌++◌, ◌∷◌, ℕ, List, [], Some, IsSome}
 use Rattle.std.specs.List.{Contains}
-use Rattle.tier_device.specs.declared.media.Tier.{Tier}
-use Rattle.tier_device.specs.declared.media.Tier.TheVariants as tiers
-use Rattle.graph_change.specs.Change.{Change}
-use Rattle.graph_change.specs.Net.{Base, Kept, Made, Gone}
-use Rattle.layout.specs.Places.{Sizes, IsAllowed}
-use Rattle.block_alloc.specs.declared.runs.Run.{Run}
-use Rattle.block_alloc.specs.Runs.{blocks_of}
-use Rattle.batch_journal.specs.Images.{image_for}
-use Rattle.area_image.specs.Store.{Store}
-use Rattle.area_image.specs.Reads.{Free}
-use Rattle.area_image.specs.Spelled.{Use, used}
-use Rattle.area_commit.specs.Taken.{Taken}
-use Rattle.area_commit.specs.declared.plan.Lost.{Lost}
-use Rattle.area_commit.specs.Plan.{lost_in}
-use Rattle.directory_plan.specs.Planned.{HaveNoImage}
-use Rattle.directory_plan.specs.Spare.{CanBeWritten, AreSpares}
-use Rattle.directory_plan.specs.Started.{IsStarted, IsSoundStart, IsChanged}
-use Rattle.directory_plan.specs.declared.started.StartedDirectory.{StartedDirectory}
-use Rattle.directory_plan.specs.declared.changing.ChangedDirectory.{ChangedDirectory}
-use Rattle.directory_plan.specs.declared.plan.DirectoryPlan.{DirectoryPlan}
+use Rattle.inode_plan.specs.tier_device.declared.media.Tier.{Tier}
+use Rattle.inode_plan.specs.tier_device.declared.media.Tier.TheVariants as tiers
+use Rattle.inode_plan.specs.graph_change.Change.{Change}
+use Rattle.inode_plan.specs.graph_change.Net.{Base, Kept, Made, Gone}
+use Rattle.inode_plan.specs.layout.Places.{Sizes, IsAllowed}
+use Rattle.inode_plan.specs.block_alloc.declared.runs.Run.{Run}
+use Rattle.inode_plan.specs.block_alloc.Runs.{blocks_of}
+use Rattle.inode_plan.specs.batch_journal.Images.{image_for}
+use Rattle.inode_plan.specs.area_image.Store.{Store}
+use Rattle.inode_plan.specs.area_image.Reads.{Free}
+use Rattle.inode_plan.specs.area_image.Spelled.{Use, used}
+use Rattle.inode_plan.specs.area_commit.declared.taking.Taken.{Taken}
+use Rattle.inode_plan.specs.area_commit.declared.plan.Lost.{Lost}
+use Rattle.inode_plan.specs.area_commit.Plan.{lost_in}
+use Rattle.inode_plan.specs.PlannedDirectory.{HaveNoImage}
+use Rattle.inode_plan.specs.Spare.{CanBeWritten, AreSpares}
+use Rattle.inode_plan.specs.Started.{IsStarted, IsSoundStart, IsChanged}
+use Rattle.inode_plan.specs.declared.started.StartedDirectory.{StartedDirectory}
+use Rattle.inode_plan.specs.declared.directory_change.ChangedDirectory.{ChangedDirectory}
+use Rattle.inode_plan.specs.declared.plan.DirectoryPlan.{DirectoryPlan}
 use Rattle.change_plan.specs.Part.{Share}
 use Rattle.change_plan.specs.Parts.{LoseBoth}
 use Rattle.change_plan.specs.Adding.{GivesAll}

@@ -1,19 +1,19 @@
 -- The blocks that an inode has, as runs that are given up.
 use Rattle.std.specs.Prelude.{◌≡◌, ◌++◌, ℕ, List, [], Some}
 use Rattle.std.specs.List.{AllByRecursion}
-use Rattle.tier_device.specs.declared.media.Tier.{Tier}
-use Rattle.tier_device.specs.declared.media.Tier.TheVariants as tiers
-use Rattle.layout.specs.declared.slot.Slot.{Slot}
-use Rattle.layout.specs.declared.slot.Slot.TheVariants as slots
-use Rattle.block_alloc.specs.declared.runs.Run.{Run}
-use Rattle.block_alloc.specs.Runs.{blocks_of}
-use Rattle.block_alloc.specs.Value.{FreeBlocks}
-use Rattle.extent_nodes.specs.Spelled.{IsOneToOne}
-use Rattle.block_map.specs.Map.{TierRuns, runs_in, lies_at, HasBlock}
-use Rattle.area_commit.specs.Given.{AreUsed, IsInUse}
-use Rattle.area_commit.specs.MovedLists.{roots_left}
-use Rattle.area_commit.specs.declared.plan.Lost.{Lost}
-use Rattle.file_plan.specs.Mapped.{AreAll}
+use Rattle.inode_plan.specs.tier_device.declared.media.Tier.{Tier}
+use Rattle.inode_plan.specs.tier_device.declared.media.Tier.TheVariants as tiers
+use Rattle.inode_plan.specs.layout.declared.slot.Slot.{Slot}
+use Rattle.inode_plan.specs.layout.declared.slot.Slot.TheVariants as slots
+use Rattle.inode_plan.specs.block_alloc.declared.runs.Run.{Run}
+use Rattle.inode_plan.specs.block_alloc.Runs.{blocks_of}
+use Rattle.inode_plan.specs.block_alloc.Value.{FreeBlocks}
+use Rattle.inode_plan.specs.extent_tree.Spelled.{IsOneToOne}
+use Rattle.inode_plan.specs.extent_tree.Map.{TierRuns, runs_in, lies_at, HasBlock}
+use Rattle.inode_plan.specs.area_commit.Given.{AreUsed, IsInUse}
+use Rattle.inode_plan.specs.Lists.{roots_left}
+use Rattle.inode_plan.specs.area_commit.declared.plan.Lost.{Lost}
+use Rattle.inode_plan.specs.Mapped.{AreAll}
 
 -- These are the places of all blocks in a tier; they can be given to a pool in which each is in use, where each block lies in a place of its own.
 pub record AreAllRuns (m : TierRuns) (t : Tier) (runs : List Run) : Type 0 where

@@ -12,17 +12,13 @@ pub mod FileSteps
 pub mod Next
 pub mod Wanted
 -- Passed on to the crates above, which so need not list those below.
-pub use Rattle.area_commit.specs.ChangedSlot
-pub use Rattle.area_commit.specs.Changing
-pub use Rattle.area_commit.specs.Done
-pub use Rattle.area_commit.specs.Placed
-pub use Rattle.area_commit.specs.Plan
-pub use Rattle.area_commit.specs.PoolsValue
-pub use Rattle.area_commit.specs.Room
-pub use Rattle.area_commit.specs.Settled
-pub use Rattle.area_commit.specs.Taken
-pub use Rattle.area_commit.specs.Taking
-pub use Rattle.area_commit.specs.Writing
-pub use Rattle.area_commit.specs.declared.plan.Lost
-pub use Rattle.area_commit.specs.declared.plan.Rewrite
-pub use Rattle.file_plan.specs.Planned
+pub use Rattle.inode_plan.specs.area_commit
+pub use Rattle.inode_plan.specs.area_image
+pub use Rattle.inode_plan.specs.batch_journal
+pub use Rattle.inode_plan.specs.block_alloc
+pub use Rattle.inode_plan.specs.extent_tree
+pub use Rattle.inode_plan.specs.graph_change
+pub use Rattle.inode_plan.specs as inode_plan
+pub use Rattle.inode_plan.specs.layout
+pub use Rattle.inode_plan.specs.tier_device
+pub use Rattle.inode_plan.specs.tree_blocks

@@ -1,25 +1,25 @@
 -- One inode of a change: what it needs before it is planned, and what stands once it is.
 use Rattle.std.specs.Prelude.{◌≡◌, ◌≤◌, ◌+◌, ◌*◌, ◌⊎◌, ℕ, List, length, true, Option, Some, None}
 use Rattle.std.specs.FinMap as fin
-use Rattle.posix_calls.specs.declared.limits.TheConstants.{MAX_ENTRIES}
-use Rattle.file_graph.specs.declared.effect.Kind.{Kind}
-use Rattle.file_graph.specs.declared.effect.Kind.TheVariants as kind
-use Rattle.file_graph.specs.Graph.{Node, FileBody, DirBody}
-use Rattle.graph_change.specs.Bounds.{IsBounded}
-use Rattle.graph_change.specs.Change.{Change, net_of}
-use Rattle.graph_change.specs.Net.{node_after}
-use Rattle.graph_change.specs.Tidy.{IsTidyChange}
-use Rattle.layout.specs.declared.slot.Slot.{Slot}
-use Rattle.layout.specs.Places.{Sizes, IsAllowed, is_inode}
-use Rattle.layout.specs.Slot.{fits_slot}
-use Rattle.block_map.specs.declared.map.Place.{Place}
-use Rattle.tree_blocks.specs.After.{started}
-use Rattle.area_image.specs.Store.{Store, slot_read, inode, graph}
-use Rattle.area_image.specs.Spelled.{IsSpelled}
-use Rattle.area_commit.specs.PoolsValue.{PoolsView}
-use Rattle.area_commit.specs.Taken.{Taken}
-use Rattle.file_plan.specs.Placed.{PlacesFit}
-use Rattle.file_plan.specs.Written.{AreNumbers}
+use Rattle.inode_plan.specs.posix_calls.declared.limits.TheConstants.{MAX_ENTRIES}
+use Rattle.inode_plan.specs.file_graph.declared.effect.Kind.{Kind}
+use Rattle.inode_plan.specs.file_graph.declared.effect.Kind.TheVariants as kind
+use Rattle.inode_plan.specs.file_graph.Graph.{Node, FileBody, DirBody}
+use Rattle.inode_plan.specs.graph_change.Bounds.{IsBounded}
+use Rattle.inode_plan.specs.graph_change.Change.{Change, net_of}
+use Rattle.inode_plan.specs.graph_change.Net.{node_after}
+use Rattle.inode_plan.specs.graph_change.Tidy.{IsTidyChange}
+use Rattle.inode_plan.specs.layout.declared.slot.Slot.{Slot}
+use Rattle.inode_plan.specs.layout.Places.{Sizes, IsAllowed, is_inode}
+use Rattle.inode_plan.specs.layout.Slot.{fits_slot}
+use Rattle.inode_plan.specs.extent_tree.declared.map.Place.{Place}
+use Rattle.inode_plan.specs.tree_blocks.After.{started}
+use Rattle.inode_plan.specs.area_image.Store.{Store, slot_read, inode, graph}
+use Rattle.inode_plan.specs.area_image.Spelled.{IsSpelled}
+use Rattle.inode_plan.specs.area_commit.Value.{PoolsView}
+use Rattle.inode_plan.specs.area_commit.declared.taking.Taken.{Taken}
+use Rattle.inode_plan.specs.PlacedFile.{PlacesFit}
+use Rattle.inode_plan.specs.Written.{AreNumbers}
 use Rattle.change_plan.specs.Adding.{HasTaken, AddsPart}
 use Rattle.change_plan.specs.Directory.{AreOfOthers}
 use Rattle.change_plan.specs.File.{AreFreePlaces}

@@ -1,32 +1,32 @@
 -- A file in memory, before the change of it and while it is planned.
 use Rattle.std.specs.Prelude.{◌≡◌, ◌⊎◌, ℕ, List, Some, IfSome, true}
 use Rattle.std.specs.List.{AllByRecursion}
-use Rattle.tier_device.specs.declared.media.Tier.{Tier}
-use Rattle.file_graph.specs.declared.effect.Kind.TheVariants as kind
-use Rattle.graph_change.specs.Change.{Change}
-use Rattle.graph_change.specs.Bytes.{length_after}
-use Rattle.graph_change.specs.Net.{Base, Kept, Made, names_after}
-use Rattle.layout.specs.Places.{Sizes}
-use Rattle.layout.specs.declared.slot.Slot.{Slot}
-use Rattle.layout.specs.Slot.{fits_slot}
-use Rattle.block_alloc.specs.declared.runs.Run.{Run}
-use Rattle.block_alloc.specs.Runs.{blocks_of}
-use Rattle.extent_nodes.specs.Normal.{IsNormal}
-use Rattle.block_map.specs.Map.{TierRuns, runs_in, HasBlock}
-use Rattle.block_map.specs.declared.map.Place.{Place}
-use Rattle.tree_blocks.specs.After.{started}
-use Rattle.tree_blocks.specs.Inode.{LogicalBlocks, inode_of}
-use Rattle.area_image.specs.Store.{Store, slot, touch_of, logical, inode}
-use Rattle.area_image.specs.Checks.{HasFound}
-use Rattle.area_commit.specs.Changed.{IsFileSlot}
-use Rattle.area_commit.specs.Lists.{PutsLists}
-use Rattle.area_commit.specs.MovedLists.{AreListsOf, roots_left}
-use Rattle.area_commit.specs.declared.plan.Lost.{Lost}
-use Rattle.area_commit.specs.Plan.{LieApart, lost_in}
-use Rattle.file_plan.specs.Bytes.{blocks_from}
-use Rattle.file_plan.specs.Mapped.{IsMapAfter, AreLeft}
-use Rattle.file_plan.specs.Planned.{left_in}
-use Rattle.file_plan.specs.Roots.{HasRootsOf, SparesFit}
+use Rattle.inode_plan.specs.tier_device.declared.media.Tier.{Tier}
+use Rattle.inode_plan.specs.file_graph.declared.effect.Kind.TheVariants as kind
+use Rattle.inode_plan.specs.graph_change.Change.{Change}
+use Rattle.inode_plan.specs.graph_change.Bytes.{length_after}
+use Rattle.inode_plan.specs.graph_change.Net.{Base, Kept, Made, names_after}
+use Rattle.inode_plan.specs.layout.Places.{Sizes}
+use Rattle.inode_plan.specs.layout.declared.slot.Slot.{Slot}
+use Rattle.inode_plan.specs.layout.Slot.{fits_slot}
+use Rattle.inode_plan.specs.block_alloc.declared.runs.Run.{Run}
+use Rattle.inode_plan.specs.block_alloc.Runs.{blocks_of}
+use Rattle.inode_plan.specs.extent_tree.Normal.{IsNormal}
+use Rattle.inode_plan.specs.extent_tree.Map.{TierRuns, runs_in, HasBlock}
+use Rattle.inode_plan.specs.extent_tree.declared.map.Place.{Place}
+use Rattle.inode_plan.specs.tree_blocks.After.{started}
+use Rattle.inode_plan.specs.tree_blocks.Inode.{LogicalBlocks, inode_of}
+use Rattle.inode_plan.specs.area_image.Store.{Store, slot, touch_of, logical, inode}
+use Rattle.inode_plan.specs.area_image.Checks.{HasFound}
+use Rattle.inode_plan.specs.area_commit.Changed.{IsFileSlot}
+use Rattle.inode_plan.specs.area_commit.Lists.{PutsLists}
+use Rattle.inode_plan.specs.Lists.{AreListsOf, roots_left}
+use Rattle.inode_plan.specs.area_commit.declared.plan.Lost.{Lost}
+use Rattle.inode_plan.specs.area_commit.Plan.{LieApart, lost_in}
+use Rattle.inode_plan.specs.Bytes.{blocks_from}
+use Rattle.inode_plan.specs.Mapped.{IsMapAfter, AreLeft}
+use Rattle.inode_plan.specs.PlannedFile.{left_in}
+use Rattle.inode_plan.specs.Roots.{HasRootsOf, SparesFit}
 use Rattle.change_plan.specs.Adding.{GivesAll}
 use Rattle.change_plan.specs.File.{slot_from, IsOldMap}
 use Rattle.change_plan.specs.declared.starting.StartedFile.{StartedFile}

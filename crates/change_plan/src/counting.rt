@@ -1,28 +1,24 @@
 // How many data blocks a change wants.
 ghost use Rattle.std.specs.Prelude.{◌≡◌, ◌⊎◌, ℕ, List, Some, true, false, length, IfOk, IfErr, OnErr};
 ghost use Rattle.std.specs.FinMap as fin;
-ghost use Rattle.graph_change.specs.Bounds.{AreBounded};
-ghost use Rattle.graph_change.specs.Change.{Changes, writes_block};
-ghost use Rattle.graph_change.specs.Tidy.{AreTidyChanges};
-ghost use Rattle.graph_change.specs.View.{change_of, changes_of};
-ghost use Rattle.layout.specs.Places.{Sizes, is_inode};
-ghost use Rattle.area_image.specs.Store.{Store, store_of, slot_read};
-ghost use Rattle.area_image.specs.Spelled.{IsSpelled};
-ghost use Rattle.area_image.specs.Looks.{Looks};
-ghost use Rattle.area_image.specs.declared.error.AreaError.TheVariants.{DeviceFault, Memory};
+ghost use Rattle.inode_plan.specs.graph_change.Bounds.{AreBounded};
+ghost use Rattle.inode_plan.specs.graph_change.Change.{Changes, writes_block};
+ghost use Rattle.inode_plan.specs.graph_change.Tidy.{AreTidyChanges};
+ghost use Rattle.inode_plan.specs.graph_change.View.{change_of, changes_of};
+ghost use Rattle.inode_plan.specs.layout.Places.{Sizes, is_inode};
+ghost use Rattle.inode_plan.specs.area_image.Store.{Store, store_of, slot_read};
+ghost use Rattle.inode_plan.specs.area_image.Spelled.{IsSpelled};
+ghost use Rattle.inode_plan.specs.area_image.Looks.{Looks};
+ghost use Rattle.inode_plan.specs.area_image.declared.error.AreaError.TheVariants.{DeviceFault, Memory};
 ghost use Rattle.change_plan.specs.Laid.{LeavesFile, WritesBlock};
 ghost use Rattle.change_plan.specs.Next.{WantsData};
 ghost use Rattle.change_plan.specs.Wanted.{WantsBlocks, AreWritten};
 
 use crate::kinds::kind_from;
-use area_image::{AreaError, read_slot};
-use batch_journal::Journal;
-use file_graph::Kind;
-use file_plan::written_numbers;
-use graph_change::{GraphChange, NodeChange};
-use layout::Slot;
+use inode_plan::{
+    AreaError, GraphChange, Journal, Kind, Media, NodeChange, Slot, read_slot, written_numbers,
+};
 use std::alloc::{AllocError, Global};
-use tier_device::Media;
 
 // How many data blocks the change of an inode wants that has this slot.
 fn blocks_for(alloc: Global, slot: &Slot, change: &NodeChange) -> Result<usize, AllocError>

@@ -1,19 +1,19 @@
 // What a change makes of a directory, as the part of its inode.
 ghost use Rattle.std.specs.Prelude.{◌≡◌, ◌⊎◌, ◌≤◌, ◌+◌, ◌++◌, ◌∷◌, [], List, Some, true, false, length, IfOk, IfErr, OnOk};
-ghost use Rattle.file_graph.specs.declared.effect.Kind.TheVariants as kind;
-ghost use Rattle.graph_change.specs.Net.{Kept};
-ghost use Rattle.graph_change.specs.View.{base_of, change_of};
-ghost use Rattle.layout.specs.Places.{is_inode};
-ghost use Rattle.layout.specs.Slot.{fits_slot};
-ghost use Rattle.block_alloc.specs.Runs.{blocks_of};
-ghost use Rattle.block_map.specs.declared.map.Place.{Place};
-ghost use Rattle.tree_blocks.specs.After.{started};
-ghost use Rattle.area_image.specs.Store.{store_of, slot_read, inode as inode_in};
-ghost use Rattle.area_image.specs.Spelled.{IsSpelled};
-ghost use Rattle.area_image.specs.Looks.{Looks};
-ghost use Rattle.area_image.specs.declared.error.AreaError.TheVariants.{DeviceFault, Memory};
-ghost use Rattle.area_commit.specs.Taken.{Taken};
-ghost use Rattle.directory_plan.specs.Started.{IsStarted, IsSoundStart};
+ghost use Rattle.inode_plan.specs.file_graph.declared.effect.Kind.TheVariants as kind;
+ghost use Rattle.inode_plan.specs.graph_change.Net.{Kept};
+ghost use Rattle.inode_plan.specs.graph_change.View.{base_of, change_of};
+ghost use Rattle.inode_plan.specs.layout.Places.{is_inode};
+ghost use Rattle.inode_plan.specs.layout.Slot.{fits_slot};
+ghost use Rattle.inode_plan.specs.block_alloc.Runs.{blocks_of};
+ghost use Rattle.inode_plan.specs.extent_tree.declared.map.Place.{Place};
+ghost use Rattle.inode_plan.specs.tree_blocks.After.{started};
+ghost use Rattle.inode_plan.specs.area_image.Store.{store_of, slot_read, inode as inode_in};
+ghost use Rattle.inode_plan.specs.area_image.Spelled.{IsSpelled};
+ghost use Rattle.inode_plan.specs.area_image.Looks.{Looks};
+ghost use Rattle.inode_plan.specs.area_image.declared.error.AreaError.TheVariants.{DeviceFault, Memory};
+ghost use Rattle.inode_plan.specs.area_commit.declared.taking.Taken.{Taken};
+ghost use Rattle.inode_plan.specs.Started.{IsStarted, IsSoundStart};
 ghost use Rattle.change_plan.specs.Parts.{LoseBoth};
 ghost use Rattle.change_plan.specs.Adding.{AddsPart};
 ghost use Rattle.change_plan.specs.Directory.{LosesFor, AddsLosses, IsReadyToWrite};
@@ -21,18 +21,12 @@ ghost use Rattle.change_plan.specs.Directory.{LosesFor, AddsLosses, IsReadyToWri
 use crate::gone::{lost_of, push_lost, push_slot};
 use crate::part_laws::planned_directory_is_a_part;
 use crate::partial::PartialPlan;
-use area_commit::Lost;
-use area_image::{AreaError, InodeParts, read_all_extents};
-use batch_journal::Journal;
-use block_alloc::Run;
-use directory_plan::{
-    ChangedDirectory, DirectoryPlan, StartedDirectory, made_directory, plan_directory,
+use inode_plan::{
+    AreaError, ChangedDirectory, DirectoryPlan, InodeParts, Journal, Lost, Media, NodeBase,
+    NodeChange, Run, Slot, StartedDirectory, made_directory, plan_directory, read_all_extents,
     read_directory,
 };
-use graph_change::{NodeBase, NodeChange};
-use layout::Slot;
 use std::alloc::{AllocError, Global};
-use tier_device::Media;
 
 // The directory that an inode is, with its extents read.
 fn read_kept<M: Media>(

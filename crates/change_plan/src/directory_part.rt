@@ -1,18 +1,18 @@
 // A directory of a change, from what it was to its part of the plan.
 ghost use Rattle.std.specs.Prelude.{◌≡◌, ◌⊎◌, List, Some, true, false, IfOk, IfErr, OnOk};
-ghost use Rattle.file_graph.specs.declared.effect.Kind.TheVariants as kind;
-ghost use Rattle.graph_change.specs.Bounds.{IsBounded};
-ghost use Rattle.graph_change.specs.Change.{net_of};
-ghost use Rattle.graph_change.specs.Net.{node_after};
-ghost use Rattle.graph_change.specs.View.{change_of};
-ghost use Rattle.layout.specs.Places.{is_inode};
-ghost use Rattle.layout.specs.Slot.{fits_slot};
-ghost use Rattle.block_map.specs.declared.map.Place.{Place};
-ghost use Rattle.tree_blocks.specs.After.{started};
-ghost use Rattle.area_image.specs.Store.{store_of, slot_read, graph, inode as inode_in};
-ghost use Rattle.area_image.specs.Spelled.{IsSpelled};
-ghost use Rattle.area_image.specs.Looks.{Looks};
-ghost use Rattle.area_image.specs.declared.error.AreaError.TheVariants.{DeviceFault, Memory};
+ghost use Rattle.inode_plan.specs.file_graph.declared.effect.Kind.TheVariants as kind;
+ghost use Rattle.inode_plan.specs.graph_change.Bounds.{IsBounded};
+ghost use Rattle.inode_plan.specs.graph_change.Change.{net_of};
+ghost use Rattle.inode_plan.specs.graph_change.Net.{node_after};
+ghost use Rattle.inode_plan.specs.graph_change.View.{change_of};
+ghost use Rattle.inode_plan.specs.layout.Places.{is_inode};
+ghost use Rattle.inode_plan.specs.layout.Slot.{fits_slot};
+ghost use Rattle.inode_plan.specs.extent_tree.declared.map.Place.{Place};
+ghost use Rattle.inode_plan.specs.tree_blocks.After.{started};
+ghost use Rattle.inode_plan.specs.area_image.Store.{store_of, slot_read, graph, inode as inode_in};
+ghost use Rattle.inode_plan.specs.area_image.Spelled.{IsSpelled};
+ghost use Rattle.inode_plan.specs.area_image.Looks.{Looks};
+ghost use Rattle.inode_plan.specs.area_image.declared.error.AreaError.TheVariants.{DeviceFault, Memory};
 ghost use Rattle.change_plan.specs.Adding.{TakesMoreNodes};
 ghost use Rattle.change_plan.specs.Changed.{IsChangedFrom};
 ghost use Rattle.change_plan.specs.Next.{IsNext, HasFewEntries, PlansInode};
@@ -21,15 +21,11 @@ use crate::directories::{plan_over_spares, start_directory};
 use crate::part_laws::free_blocks_are_spare;
 use crate::partial::PartialPlan;
 use crate::spares::take_spares;
-use area_commit::{Pools, Taken};
-use area_image::AreaError;
-use batch_journal::Journal;
-use directory_plan::{ChangedDirectory, change_directory, spares_for};
-use graph_change::NodeChange;
-use layout::Slot;
+use inode_plan::{
+    AreaError, ChangedDirectory, Journal, Media, NodeChange, Pools, Slot, Taken,
+    bounded_entries_lead_to_inodes, change_directory, spares_for,
+};
 use std::alloc::Global;
-use tier_device::Media;
-use tree_blocks::bounded_entries_lead_to_inodes;
 
 // Reads what a directory was, or makes it, and changes it in memory.
 fn changed_from<M: Media>(

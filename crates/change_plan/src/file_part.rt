@@ -1,27 +1,27 @@
 // What a change makes of a file, as the part of its inode.
 ghost use Rattle.std.specs.Prelude.{◌≡◌, ◌≤◌, ◌<◌, ◌+◌, ◌^◌, ◌⊎◌, ◌++◌, ℕ, List, Some, true, false, length, take, IfOk, IfErr, OnOk, IfSome};
-ghost use Rattle.tier_device.specs.declared.media.Tier.{Tier};
-ghost use Rattle.file_graph.specs.declared.effect.Kind.TheVariants as kind;
-ghost use Rattle.graph_change.specs.Bounds.{IsBounded};
-ghost use Rattle.graph_change.specs.Bytes.{end};
-ghost use Rattle.graph_change.specs.Net.{Kept};
-ghost use Rattle.graph_change.specs.Tidy.{IsTidyChange};
-ghost use Rattle.graph_change.specs.View.{base_of, change_of};
-ghost use Rattle.layout.specs.declared.extents.TheConstants.{MAX_EXTENTS};
-ghost use Rattle.layout.specs.Places.{Sizes, is_inode};
-ghost use Rattle.layout.specs.Slot.{fits_slot};
-ghost use Rattle.block_alloc.specs.Runs.{blocks_of};
-ghost use Rattle.tree_blocks.specs.After.{started};
-ghost use Rattle.area_image.specs.Store.{Store, store_of, slot_read, logical, inode as inode_in};
-ghost use Rattle.area_image.specs.Checks.{HasFound, IsOnce};
-ghost use Rattle.area_image.specs.Map.{in_tier};
-ghost use Rattle.area_image.specs.Spelled.{IsSpelled};
-ghost use Rattle.area_image.specs.Looks.{Looks};
-ghost use Rattle.area_image.specs.declared.error.AreaError.TheVariants.{DeviceFault, Memory};
-ghost use Rattle.area_commit.specs.PoolsValue.{PoolsView, AreInOrder};
-ghost use Rattle.area_commit.specs.Taking.{WereTaken, CanUndo};
-ghost use Rattle.file_plan.specs.Bytes.{AddsBlocks, blocks_from};
-ghost use Rattle.file_plan.specs.Roots.{roots_wanted};
+ghost use Rattle.inode_plan.specs.tier_device.declared.media.Tier.{Tier};
+ghost use Rattle.inode_plan.specs.file_graph.declared.effect.Kind.TheVariants as kind;
+ghost use Rattle.inode_plan.specs.graph_change.Bounds.{IsBounded};
+ghost use Rattle.inode_plan.specs.graph_change.Bytes.{end};
+ghost use Rattle.inode_plan.specs.graph_change.Net.{Kept};
+ghost use Rattle.inode_plan.specs.graph_change.Tidy.{IsTidyChange};
+ghost use Rattle.inode_plan.specs.graph_change.View.{base_of, change_of};
+ghost use Rattle.inode_plan.specs.layout.declared.extents.TheConstants.{MAX_EXTENTS};
+ghost use Rattle.inode_plan.specs.layout.Places.{Sizes, is_inode};
+ghost use Rattle.inode_plan.specs.layout.Slot.{fits_slot};
+ghost use Rattle.inode_plan.specs.block_alloc.Runs.{blocks_of};
+ghost use Rattle.inode_plan.specs.tree_blocks.After.{started};
+ghost use Rattle.inode_plan.specs.area_image.Store.{Store, store_of, slot_read, logical, inode as inode_in};
+ghost use Rattle.inode_plan.specs.area_image.Checks.{HasFound, IsOnce};
+ghost use Rattle.inode_plan.specs.area_image.Map.{in_tier};
+ghost use Rattle.inode_plan.specs.area_image.Spelled.{IsSpelled};
+ghost use Rattle.inode_plan.specs.area_image.Looks.{Looks};
+ghost use Rattle.inode_plan.specs.area_image.declared.error.AreaError.TheVariants.{DeviceFault, Memory};
+ghost use Rattle.inode_plan.specs.area_commit.Value.{PoolsView, AreInOrder};
+ghost use Rattle.inode_plan.specs.area_commit.Taking.{WereTaken, CanUndo};
+ghost use Rattle.inode_plan.specs.Bytes.{AddsBlocks, blocks_from};
+ghost use Rattle.inode_plan.specs.Roots.{roots_wanted};
 ghost use Rattle.change_plan.specs.Adding.{AddsPart, TakesMoreNodes};
 ghost use Rattle.change_plan.specs.FileSteps.{IsWrittenFile, AddsFile};
 ghost use Rattle.change_plan.specs.Next.{IsNext, HasPlaces, PlansInode};
@@ -34,16 +34,12 @@ use crate::partial::PartialPlan;
 use crate::placing::{PlacedFile, RootedFile, place_file, root_file};
 use crate::spares::take_spares;
 use crate::starting::{StartedFile, made_file, read_file};
-use area_commit::{Lost, NodeImages, Pools, Taken};
-use area_image::{AreaError, InodeExtents};
-use batch_journal::Journal;
-use block_alloc::Run;
-use block_map::{Place, few_blocks_are_few_runs};
-use file_plan::{changed_map_is_fit, read_changed, roots_wanted, written_numbers};
-use graph_change::{NodeBase, NodeChange};
-use layout::Slot;
+use inode_plan::{
+    AreaError, InodeExtents, Journal, Lost, Media, NodeBase, NodeChange, NodeImages, Place, Pools,
+    Run, Slot, Taken, changed_map_is_fit, few_blocks_are_few_runs, read_changed, roots_wanted,
+    written_numbers,
+};
 use std::alloc::{AllocError, Global};
-use tier_device::Media;
 
 /// A file whose blocks have their places after a change, with the numbers of those that the change writes.
 #[derive(Drop)]

@@ -3,24 +3,24 @@
 ghost use Rattle.std.specs.Prelude.{◌≡◌, ◌≤◌, ◌<◌, ◌+◌, ℕ, List, [], Option, true, false, drop, length};
 ghost use Rattle.std.specs.List.{Contains};
 ghost use Rattle.std.specs.FinMap as fin;
-ghost use Rattle.tier_device.specs.declared.media.Tier.{Tier};
-ghost use Rattle.graph_change.specs.Change.{Changes, change_at, changed};
-ghost use Rattle.graph_change.specs.Tidy.{AreTidyChanges};
-ghost use Rattle.layout.specs.declared.marks.Marks.{Marks};
-ghost use Rattle.layout.specs.declared.slot.Slot.{Slot};
-ghost use Rattle.layout.specs.Places.{Sizes, IsAllowed, is_inode};
-ghost use Rattle.block_map.specs.Map.{TierRuns};
-ghost use Rattle.block_map.specs.declared.map.Place.{Place};
-ghost use Rattle.area_image.specs.Store.{Store, graph, slot, place};
-ghost use Rattle.area_image.specs.Spelled.{IsSpelled};
-ghost use Rattle.area_commit.specs.ChangedSlot.{ChangedSlot};
-ghost use Rattle.area_commit.specs.PoolsValue.{PoolsView, data_pool};
-ghost use Rattle.area_commit.specs.Taken.{Taken};
-ghost use Rattle.area_commit.specs.Taking.{taken_data};
-ghost use Rattle.file_plan.specs.Planned.{pairs_of};
-ghost use Rattle.area_commit.specs.Plan.{IsPlan, is_changed, lost_in};
-ghost use Rattle.area_commit.specs.Done.{IsCarriedOut};
-ghost use Rattle.area_commit.specs.Room.{AreReadyFor};
+ghost use Rattle.inode_plan.specs.tier_device.declared.media.Tier.{Tier};
+ghost use Rattle.inode_plan.specs.graph_change.Change.{Changes, change_at, changed};
+ghost use Rattle.inode_plan.specs.graph_change.Tidy.{AreTidyChanges};
+ghost use Rattle.inode_plan.specs.layout.declared.marks.Marks.{Marks};
+ghost use Rattle.inode_plan.specs.layout.declared.slot.Slot.{Slot};
+ghost use Rattle.inode_plan.specs.layout.Places.{Sizes, IsAllowed, is_inode};
+ghost use Rattle.inode_plan.specs.extent_tree.Map.{TierRuns};
+ghost use Rattle.inode_plan.specs.extent_tree.declared.map.Place.{Place};
+ghost use Rattle.inode_plan.specs.area_image.Store.{Store, graph, slot, place};
+ghost use Rattle.inode_plan.specs.area_image.Spelled.{IsSpelled};
+ghost use Rattle.inode_plan.specs.area_commit.declared.slots.ChangedSlot.{ChangedSlot};
+ghost use Rattle.inode_plan.specs.area_commit.Value.{PoolsView, data_pool};
+ghost use Rattle.inode_plan.specs.area_commit.declared.taking.Taken.{Taken};
+ghost use Rattle.inode_plan.specs.area_commit.Taking.{taken_data};
+ghost use Rattle.inode_plan.specs.PlannedFile.{pairs_of};
+ghost use Rattle.inode_plan.specs.area_commit.Plan.{IsPlan, is_changed, lost_in};
+ghost use Rattle.inode_plan.specs.area_commit.Done.{IsCarriedOut};
+ghost use Rattle.inode_plan.specs.area_commit.Room.{AreReadyFor};
 ghost use Rattle.change_plan.specs.Laid.{LeavesFile, AreFirstFree, GetPlaces, LieInPlaces, KeepsPlaces};
 ghost use Rattle.change_plan.specs.Part.{IsTouchedBy};
 ghost use Rattle.change_plan.specs.Parts.{AreParts, share_of};
@@ -33,8 +33,7 @@ use crate::laws::{
     parts_are_planned,
 };
 use crate::partial::PartialPlan;
-use area_commit::{Rewrite, Taken, taken_blocks_were_free};
-use layout::Marks;
+use inode_plan::{Marks, Rewrite, Taken, taken_blocks_were_free};
 
 /// Before the first inode nothing is planned, over none of the places. What is planned of one inode more, behind them, stands with them: over the next of the places, and over the
 /// blocks of the node pool that were taken for it. Where all places are used, it is planned over all that was taken.

@@ -1,35 +1,31 @@
 // What is given up where the node of an inode goes.
 ghost use Rattle.std.specs.Prelude.{◌≡◌, ◌≤◌, ◌⊎◌, ◌++◌, ◌∷◌, [], ℕ, List, Some, None, true, false, IfOk, IfErr, OnOk};
-ghost use Rattle.tier_device.specs.declared.media.Tier.{Tier};
-ghost use Rattle.graph_change.specs.Change.{Change};
-ghost use Rattle.layout.specs.declared.places.TheConstants.{FILE_BLOCKS};
-ghost use Rattle.layout.specs.Places.{is_inode};
-ghost use Rattle.layout.specs.Slot.{fits_slot};
-ghost use Rattle.extent_nodes.specs.Spelled.{LiesWithin};
-ghost use Rattle.block_map.specs.Map.{runs_in, LieBelow};
-ghost use Rattle.block_map.specs.declared.map.Place.{Place};
-ghost use Rattle.tree_blocks.specs.After.{started};
-ghost use Rattle.area_image.specs.Store.{store_of, slot_read, space_of, inode as inode_in};
-ghost use Rattle.area_image.specs.Spelled.{IsSpelled};
-ghost use Rattle.area_image.specs.Looks.{Looks};
-ghost use Rattle.area_image.specs.declared.error.AreaError.TheVariants.{DeviceFault, Memory};
-ghost use Rattle.area_commit.specs.Taken.{Taken};
-ghost use Rattle.area_commit.specs.MovedLists.{LieAsIn};
+ghost use Rattle.inode_plan.specs.tier_device.declared.media.Tier.{Tier};
+ghost use Rattle.inode_plan.specs.graph_change.Change.{Change};
+ghost use Rattle.inode_plan.specs.layout.declared.places.TheConstants.{FILE_BLOCKS};
+ghost use Rattle.inode_plan.specs.layout.Places.{is_inode};
+ghost use Rattle.inode_plan.specs.layout.Slot.{fits_slot};
+ghost use Rattle.inode_plan.specs.extent_tree.Spelled.{LiesWithin};
+ghost use Rattle.inode_plan.specs.extent_tree.Map.{runs_in, LieBelow};
+ghost use Rattle.inode_plan.specs.extent_tree.declared.map.Place.{Place};
+ghost use Rattle.inode_plan.specs.tree_blocks.After.{started};
+ghost use Rattle.inode_plan.specs.area_image.Store.{store_of, slot_read, space_of, inode as inode_in};
+ghost use Rattle.inode_plan.specs.area_image.Spelled.{IsSpelled};
+ghost use Rattle.inode_plan.specs.area_image.Looks.{Looks};
+ghost use Rattle.inode_plan.specs.area_image.declared.error.AreaError.TheVariants.{DeviceFault, Memory};
+ghost use Rattle.inode_plan.specs.area_commit.declared.taking.Taken.{Taken};
+ghost use Rattle.inode_plan.specs.Lists.{LieAsIn};
 ghost use Rattle.change_plan.specs.Parts.{LoseBoth};
 ghost use Rattle.change_plan.specs.Adding.{GivesAll, AddsAll, AddsPart};
 ghost use Rattle.change_plan.specs.Gone.{IsSorted, AreAllBlocks};
 
 use crate::part_laws::gone_inode_is_a_part;
 use crate::partial::PartialPlan;
-use area_commit::{ChangedSlot, Lost, map_of, roots_left};
-use area_image::{AreaError, read_all_extents};
-use batch_journal::Journal;
-use block_alloc::Run;
-use block_map::BlockMap;
-use file_plan::all_places;
-use layout::Slot;
+use inode_plan::{
+    AreaError, BlockMap, ChangedSlot, Journal, Lost, Media, Run, Slot, Tier, all_places, map_of,
+    read_all_extents, roots_left,
+};
 use std::alloc::{AllocError, Global};
-use tier_device::{Media, Tier};
 
 // Where the blocks of an inode lie that has this slot.
 fn read_map<M: Media>(

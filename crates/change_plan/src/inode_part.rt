@@ -1,13 +1,13 @@
 // One inode of a change, whatever it is, as a part of the plan for all.
 ghost use Rattle.std.specs.Prelude.{◌≡◌, ◌⊎◌, Some, true, false, IfOk, IfErr};
-ghost use Rattle.graph_change.specs.View.{change_of};
-ghost use Rattle.layout.specs.declared.slot.Slot.{Slot};
-ghost use Rattle.layout.specs.Places.{is_inode};
-ghost use Rattle.layout.specs.Slot.{fits_slot};
-ghost use Rattle.area_image.specs.Store.{store_of, slot_read};
-ghost use Rattle.area_image.specs.Spelled.{IsSpelled};
-ghost use Rattle.area_image.specs.Looks.{Looks};
-ghost use Rattle.area_image.specs.declared.error.AreaError.TheVariants.{DeviceFault, Memory};
+ghost use Rattle.inode_plan.specs.graph_change.View.{change_of};
+ghost use Rattle.inode_plan.specs.layout.declared.slot.Slot.{Slot};
+ghost use Rattle.inode_plan.specs.layout.Places.{is_inode};
+ghost use Rattle.inode_plan.specs.layout.Slot.{fits_slot};
+ghost use Rattle.inode_plan.specs.area_image.Store.{store_of, slot_read};
+ghost use Rattle.inode_plan.specs.area_image.Spelled.{IsSpelled};
+ghost use Rattle.inode_plan.specs.area_image.Looks.{Looks};
+ghost use Rattle.inode_plan.specs.area_image.declared.error.AreaError.TheVariants.{DeviceFault, Memory};
 ghost use Rattle.change_plan.specs.Adding.{HasTaken, TakesMoreNodes};
 ghost use Rattle.change_plan.specs.Next.{IsNext, HasPlaces, PlansInode};
 
@@ -16,15 +16,10 @@ use crate::file_part::plan_file_part;
 use crate::gone::plan_gone_part;
 use crate::kinds::kind_from;
 use crate::partial::PartialPlan;
-use area_commit::{Pools, Taken};
-use area_image::{AreaError, read_slot};
-use batch_journal::Journal;
-use block_map::Place;
-use file_graph::Kind;
-use graph_change::NodeChange;
-use layout::Slot;
+use inode_plan::{
+    AreaError, Journal, Kind, Media, NodeChange, Place, Pools, Slot, Taken, read_slot,
+};
 use std::alloc::Global;
-use tier_device::Media;
 
 /// Plans an inode that has this slot, by what the rest of its change starts from: a file over the first of these places and some blocks of the node pool, a directory over such
 /// blocks alone, or none. It tells how many of the places it uses. After a refusal nothing is said of the plan; blocks of the node pool may have been taken.

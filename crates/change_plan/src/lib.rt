@@ -45,8 +45,11 @@ pub use starting::{StartedFile, made_file, read_file};
 pub use walking::plan_changes;
 
 // Passed on to the crates above, which so need not list those below.
-pub use area_commit::{
-    Lost, NodeImages, Pools, Taken, carried_out_marks, carry_out, charge_after_change,
-    nodes_never_run_out, small_changes_find_blocks,
+pub use inode_plan::{
+    AllocatorError, AreaError, BLOCK, CLIENTS, DirBlock, DirEntries, DirEntry, EntryRef, Extent,
+    ExtentBlock, Geometry, GraphChange, InodeExtents, InodeParts, Journal, JournalError, Lost,
+    MARKS_BLOCK, Mark, Marks, Media, NodeImages, Place, Pools, Run, SLOT_SIZE, Slot, Super, Taken,
+    Tier, What, blank_block, block_number, carried_out_marks, carry_out, charge_after_change,
+    first_place, length_of, nodes_never_run_out, open_area, read_parts, read_slot,
+    small_changes_find_blocks, taken_places, units_of,
 };
-pub use file_plan::taken_places;

@@ -1,31 +1,30 @@
 //! What holds of the part of one inode: of a directory, and of a node that goes.
 
 ghost use Rattle.std.specs.Prelude.{◌≡◌, ◌≤◌, ℕ, List, [], None, length, take};
-ghost use Rattle.graph_change.specs.Bounds.{IsBounded};
-ghost use Rattle.graph_change.specs.Change.{Change};
-ghost use Rattle.layout.specs.declared.slot.Slot.TheVariants as slots;
-ghost use Rattle.layout.specs.Places.{Sizes, IsAllowed};
-ghost use Rattle.tree_blocks.specs.After.{started};
-ghost use Rattle.area_image.specs.Store.{Store, inode};
-ghost use Rattle.area_image.specs.Spelled.{IsSpelled};
-ghost use Rattle.area_commit.specs.Batches.{AreNodes};
-ghost use Rattle.area_commit.specs.PoolsValue.{PoolsView};
-ghost use Rattle.area_commit.specs.Taken.{Taken};
-ghost use Rattle.area_commit.specs.declared.plan.Lost.{Lost};
-ghost use Rattle.directory_plan.specs.Planned.{IsPlannedFrom, on_fast};
-ghost use Rattle.directory_plan.specs.Spare.{spares_for};
-ghost use Rattle.directory_plan.specs.Started.{IsStarted, IsSoundStart, IsChanged};
-ghost use Rattle.directory_plan.specs.declared.started.StartedDirectory.{StartedDirectory};
-ghost use Rattle.directory_plan.specs.declared.changing.ChangedDirectory.{ChangedDirectory};
-ghost use Rattle.directory_plan.specs.declared.plan.DirectoryPlan.{DirectoryPlan};
+ghost use Rattle.inode_plan.specs.graph_change.Bounds.{IsBounded};
+ghost use Rattle.inode_plan.specs.graph_change.Change.{Change};
+ghost use Rattle.inode_plan.specs.layout.declared.slot.Slot.TheVariants as slots;
+ghost use Rattle.inode_plan.specs.layout.Places.{Sizes, IsAllowed};
+ghost use Rattle.inode_plan.specs.tree_blocks.After.{started};
+ghost use Rattle.inode_plan.specs.area_image.Store.{Store, inode};
+ghost use Rattle.inode_plan.specs.area_image.Spelled.{IsSpelled};
+ghost use Rattle.inode_plan.specs.area_commit.Batches.{AreNodes};
+ghost use Rattle.inode_plan.specs.area_commit.Value.{PoolsView};
+ghost use Rattle.inode_plan.specs.area_commit.declared.taking.Taken.{Taken};
+ghost use Rattle.inode_plan.specs.area_commit.declared.plan.Lost.{Lost};
+ghost use Rattle.inode_plan.specs.PlannedDirectory.{IsPlannedFrom, on_fast};
+ghost use Rattle.inode_plan.specs.Spare.{spares_for};
+ghost use Rattle.inode_plan.specs.Started.{IsStarted, IsSoundStart, IsChanged};
+ghost use Rattle.inode_plan.specs.declared.started.StartedDirectory.{StartedDirectory};
+ghost use Rattle.inode_plan.specs.declared.directory_change.ChangedDirectory.{ChangedDirectory};
+ghost use Rattle.inode_plan.specs.declared.plan.DirectoryPlan.{DirectoryPlan};
 ghost use Rattle.change_plan.specs.Part.{IsPart};
 ghost use Rattle.change_plan.specs.Adding.{GivesAll, HasTaken, no_runs};
 ghost use Rattle.change_plan.specs.Directory.{of_nodes, WereFreeNodes, LosesFor, AreOfOthers, IsReadyToWrite};
 
-use area_commit::runs_lie_apart;
-use directory_plan::{
+use inode_plan::{
     changed_directory_can_be_written, planned_blocks_are_kept_or_spare,
-    planned_directory_is_written, planned_losses_are_exact,
+    planned_directory_is_written, planned_losses_are_exact, runs_lie_apart,
 };
 
 /// An inode of which no node is left, if there was one, has a free slot; it gives up all that it had, and takes nothing.

@@ -1,4 +1,4 @@
-use area_commit::{ChangedSlot, Lost, NodeImages};
+use inode_plan::{ChangedSlot, Lost, NodeImages};
 
 /// The plans of the inodes of a change that are made so far, one behind the other.
 #[derive(Debug, Drop)]

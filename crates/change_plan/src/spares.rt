@@ -1,13 +1,12 @@
 // The blocks of the node pool that were taken for one inode.
 ghost use Rattle.std.specs.Prelude.{◌≡◌, ◌≤◌, ◌<◌, ◌+◌, ◌-◌, ◌^◌, ◌++◌, take, drop, length, OnOk, IfOk};
-ghost use Rattle.block_alloc.specs.Runs.{run_blocks, blocks_of};
-ghost use Rattle.area_commit.specs.PoolsValue.{PoolsView, AreInOrder};
-ghost use Rattle.area_commit.specs.Taking.{WereTaken, CanUndo};
-ghost use Rattle.area_commit.specs.Placed.{EndsFit};
+ghost use Rattle.inode_plan.specs.block_alloc.Runs.{run_blocks, blocks_of};
+ghost use Rattle.inode_plan.specs.area_commit.Value.{PoolsView, AreInOrder};
+ghost use Rattle.inode_plan.specs.area_commit.Taking.{WereTaken, CanUndo};
+ghost use Rattle.inode_plan.specs.Placed.{EndsFit};
 ghost use Rattle.change_plan.specs.Adding.{TakesMoreNodes};
 
-use area_commit::{Pools, Taken};
-use block_alloc::Run;
+use inode_plan::{Pools, Run, Taken};
 use std::alloc::{AllocError, Global};
 
 // Adds the blocks of a run.

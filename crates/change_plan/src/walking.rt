@@ -1,19 +1,19 @@
 // All inodes of a change, planned one after the other.
 ghost use Rattle.std.specs.Prelude.{◌≡◌, ◌≤◌, ◌⊎◌, ℕ, [], Option, true, false, length, OnOk, IfErr, IfSome};
 ghost use Rattle.std.specs.FinMap as fin;
-ghost use Rattle.graph_change.specs.Bounds.{AreBounded};
-ghost use Rattle.graph_change.specs.Change.{changed};
-ghost use Rattle.graph_change.specs.Tidy.{AreTidyChanges};
-ghost use Rattle.graph_change.specs.View.{changes_of};
-ghost use Rattle.layout.specs.declared.marks.Marks.{Marks};
-ghost use Rattle.layout.specs.Marks.{fits_marks};
-ghost use Rattle.layout.specs.Places.{IsAllowed};
-ghost use Rattle.area_image.specs.Store.{store_of, graph};
-ghost use Rattle.area_image.specs.Spelled.{IsSpelled};
-ghost use Rattle.area_image.specs.Looks.{Looks};
-ghost use Rattle.area_image.specs.declared.error.AreaError.TheVariants.{DeviceFault, Memory};
-ghost use Rattle.area_commit.specs.Taking.{taken_data};
-ghost use Rattle.file_plan.specs.Planned.{pairs_of};
+ghost use Rattle.inode_plan.specs.graph_change.Bounds.{AreBounded};
+ghost use Rattle.inode_plan.specs.graph_change.Change.{changed};
+ghost use Rattle.inode_plan.specs.graph_change.Tidy.{AreTidyChanges};
+ghost use Rattle.inode_plan.specs.graph_change.View.{changes_of};
+ghost use Rattle.inode_plan.specs.layout.declared.marks.Marks.{Marks};
+ghost use Rattle.inode_plan.specs.layout.Marks.{fits_marks};
+ghost use Rattle.inode_plan.specs.layout.Places.{IsAllowed};
+ghost use Rattle.inode_plan.specs.area_image.Store.{store_of, graph};
+ghost use Rattle.inode_plan.specs.area_image.Spelled.{IsSpelled};
+ghost use Rattle.inode_plan.specs.area_image.Looks.{Looks};
+ghost use Rattle.inode_plan.specs.area_image.declared.error.AreaError.TheVariants.{DeviceFault, Memory};
+ghost use Rattle.inode_plan.specs.area_commit.Taking.{taken_data};
+ghost use Rattle.inode_plan.specs.PlannedFile.{pairs_of};
 ghost use Rattle.change_plan.specs.Adding.{HasTaken, TakesMoreNodes};
 ghost use Rattle.change_plan.specs.First.{PlansNothing, IsWhole};
 ghost use Rattle.change_plan.specs.Next.{HasFewEntries};
@@ -21,13 +21,8 @@ ghost use Rattle.change_plan.specs.Wanted.{images_for, WantsBlocks};
 
 use crate::inode_part::plan_next;
 use crate::partial::PartialPlan;
-use area_commit::{Pools, Taken};
-use area_image::AreaError;
-use batch_journal::Journal;
-use block_map::Place;
-use graph_change::GraphChange;
+use inode_plan::{AreaError, GraphChange, Journal, Media, Place, Pools, Taken};
 use std::alloc::Global;
-use tier_device::Media;
 
 /// Plans all inodes of a change, in the order of their numbers, over these places, which are the data blocks that were taken, as many as it wants; blocks of the node pool are taken as
 /// they are wanted. After a refusal nothing is said of the plan; what was taken can be given back.

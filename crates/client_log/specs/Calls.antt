@@ -1,8 +1,8 @@
 -- What one call makes of a region.
 use Rattle.std.specs.Prelude.{◌≡◌, ◌≤◌, ◌+◌, ℕ, List, [], get_or, None, Result, IfOk, IfErr, OnOk, OnErr}
-use Rattle.tier_device.specs.declared.media.Tier.{Tier}
-use Rattle.tier_device.specs.declared.media.Tier.TheVariants.{Fast}
-use Rattle.tier_device.specs.Media.{Keeps, LeftSince, Puts, Rose}
+use Rattle.update_log.specs.tier_device.declared.media.Tier.{Tier}
+use Rattle.update_log.specs.tier_device.declared.media.Tier.TheVariants.{Fast}
+use Rattle.update_log.specs.tier_device.Media.{Keeps, LeftSince, Puts, Rose}
 use Rattle.update_log.specs.Counting.{records_under}
 use Rattle.update_log.specs.Moments.{PastStays}
 use Rattle.update_log.specs.View.{RegionView, records_of}

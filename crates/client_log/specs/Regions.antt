@@ -1,7 +1,7 @@
 -- What the log knows of each of its regions.
 use Rattle.std.specs.Prelude.{◌≡◌, ◌≢◌, ◌⊎◌, ◌<◌, ◌^◌, ◌%◌, ◌==◌, ℕ, Bool, true, false, List, [], Option, Some, None, is_some, if◌then◌else◌}
-use Rattle.tier_device.specs.declared.media.Tier.{Tier}
-use Rattle.tier_device.specs.declared.media.Tier.TheVariants.{Fast}
+use Rattle.update_log.specs.tier_device.declared.media.Tier.{Tier}
+use Rattle.update_log.specs.tier_device.declared.media.Tier.TheVariants.{Fast}
 use Rattle.update_log.specs.Counting.{next_generation, records_under}
 use Rattle.update_log.specs.Frames.{end_behind, with_record}
 use Rattle.update_log.specs.Stage.{IsAppending}

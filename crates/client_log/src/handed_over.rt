@@ -1,6 +1,6 @@
 ghost use Rattle.std.specs.Prelude.{◌≡◌, ◌≢◌, ◌⊎◌, ◌<◌, ◌^◌, [], length, None, ℕ, List, IfErr, IfOk, IsErrOf, OnErr, OnOk};
-ghost use Rattle.tier_device.specs.declared.media.Tier.TheVariants.{Fast};
-ghost use Rattle.tier_device.specs.Media.{Rose};
+ghost use Rattle.update_log.specs.tier_device.declared.media.Tier.TheVariants.{Fast};
+ghost use Rattle.update_log.specs.tier_device.Media.{Rose};
 ghost use Rattle.update_log.specs.Frames.{records};
 ghost use Rattle.update_log.specs.View.{records_of};
 ghost use Rattle.update_log.specs.Wiping.{generation};
@@ -9,10 +9,8 @@ ghost use Rattle.client_log.specs.Calls.{IsOnlyRead};
 ghost use Rattle.client_log.specs.Regions.{IsSealed};
 
 use crate::error::LogError;
-use log_record::Record;
 use std::marker::Model;
-use tier_device::Media;
-use update_log::{Region, RegionError};
+use update_log::{Media, Record, Region, RegionError};
 
 /// A region that a client's log handed over: its records are to be digested, and nothing is written to it meanwhile.
 ///

@@ -4,14 +4,23 @@
 //! client goes on in the other one with the next generation, while the first is away. A region that came back is wiped to its next generation
 //! before a record is begun in it, one device call at a time, beside the appends to the other one or once its turn has come.
 //!
-//! `ClientLog` says in its contracts what each call makes of the two regions, and what counts for the client, whatever a stop leaves of them.
+//! `ClientLog` says in its contracts what each call makes of the two regions, and what counts for the client, whatever a stop leaves of them. The laws (`turn_laws`) say
+//! that its steps over plain data are the steps of that client's two regions in the world (`world_invariant`).
 #![tactic(auto)]
 
 mod client_log;
 mod error;
 mod handed_over;
 mod regions;
+mod turn_laws;
 
 pub use client_log::ClientLog;
 pub use error::LogError;
 pub use handed_over::HandedOver;
+pub use turn_laws::{
+    appended_record_is_a_step, begun_record_is_in_the_turn, sealed_log_is_a_step,
+    taken_back_region_is_a_step, wiped_region_is_a_step,
+};
+
+// Passed on to the crates above, which so need not list those below.
+pub use update_log::{Media, Progress, Region, Tier, WipeProgress};

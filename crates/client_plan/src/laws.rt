@@ -1,15 +1,15 @@
 //! What holds of every client and every call.
 
 ghost use Rattle.std.specs.Prelude.{◌≡◌, ◌≢◌, ◌⊎◌, ◌<◌, ◌≤◌, ℕ, List, Option, Some, length};
-ghost use Rattle.posix_calls.specs.Tree.{Descriptors, with_own};
-ghost use Rattle.posix_calls.specs.Query.{Part};
-ghost use Rattle.posix_calls.specs.Operations.{Step};
-ghost use Rattle.posix_calls.specs.declared.call.Call.{Call};
-ghost use Rattle.posix_calls.specs.declared.call.Call.TheVariants as calls;
-ghost use Rattle.posix_calls.specs.declared.call.Reply.{Reply};
-ghost use Rattle.file_graph.specs.Graph.{Graph, after_effects};
-ghost use Rattle.file_graph.specs.Units.{growth};
-ghost use Rattle.log_record.specs.declared.format.Record.{Record};
+ghost use Rattle.call_effects.specs.posix_calls.Tree.{Descriptors, with_own};
+ghost use Rattle.call_effects.specs.posix_calls.Query.{Part};
+ghost use Rattle.call_effects.specs.posix_calls.Operations.{Step};
+ghost use Rattle.call_effects.specs.posix_calls.declared.call.Call.{Call};
+ghost use Rattle.call_effects.specs.posix_calls.declared.call.Call.TheVariants as calls;
+ghost use Rattle.call_effects.specs.posix_calls.declared.call.Reply.{Reply};
+ghost use Rattle.call_effects.specs.file_graph.Graph.{Graph, after_effects};
+ghost use Rattle.call_effects.specs.file_graph.Units.{growth};
+ghost use Rattle.call_effects.specs.log_record.declared.format.Record.{Record};
 ghost use Rattle.call_effects.specs.Known.{Knowledge, Agrees, part_of, with_copy, with_blocks};
 ghost use Rattle.call_effects.specs.NodeView.{NodeView};
 ghost use Rattle.call_effects.specs.Wholes.{IsSound, state_of};

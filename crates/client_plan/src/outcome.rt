@@ -1,6 +1,5 @@
 use crate::need::Need;
-use log_record::Record;
-use posix_calls::{Descriptor, Reply};
+use call_effects::{Descriptor, Record, Reply};
 
 /// What becomes of one of a client's descriptors: something is open at the number, or nothing any more.
 #[derive(Clone, Copy)]

@@ -1,13 +1,13 @@
 ghost use Rattle.std.specs.Prelude.{◌≡◌, ◌≢◌, ◌&&◌, nat_le, length, Some, Ok, Err, IfOk, IfErr, IfSome, true};
 ghost use Rattle.std.specs.Option.{ForSome};
-ghost use Rattle.posix_calls.specs.Operations.{IsInRange, opens};
-ghost use Rattle.posix_calls.specs.Own.{own_of};
-ghost use Rattle.posix_calls.specs.Query.{Known, run_part};
-ghost use Rattle.posix_calls.specs.Decide.{decide};
-ghost use Rattle.posix_calls.specs.Memory.{takes_memory};
-ghost use Rattle.posix_calls.specs.declared.errno.Errno.{Errno};
+ghost use Rattle.call_effects.specs.posix_calls.Operations.{IsInRange, opens};
+ghost use Rattle.call_effects.specs.posix_calls.Own.{own_of};
+ghost use Rattle.call_effects.specs.posix_calls.Query.{Known, run_part};
+ghost use Rattle.call_effects.specs.posix_calls.Decide.{decide};
+ghost use Rattle.call_effects.specs.posix_calls.Memory.{takes_memory};
+ghost use Rattle.call_effects.specs.posix_calls.declared.errno.Errno.{Errno};
 ghost use Rattle.client_plan.specs.declared.need.Need.{Need};
-ghost use Rattle.log_record.specs.Grammar.{IsRecord, spelling};
+ghost use Rattle.call_effects.specs.log_record.Grammar.{IsRecord, spelling};
 ghost use Rattle.call_effects.specs.Changed.{changes};
 ghost use Rattle.call_effects.specs.Records.{units_asked};
 ghost use Rattle.client_plan.specs.Course as course_of;
@@ -23,10 +23,9 @@ use crate::outcome::{DescriptorChange, Outcome};
 use crate::stop::Stop;
 use crate::supplies::Supplies;
 use crate::words::WordsAlone;
-use call_effects::{growth_of, record_of, subjects};
-use log_record::Record;
-use posix_calls::{
-    Call, DecideError, Missing, Operation, OwnDescriptors, ROOT, Reply, TreeAnswers, decide,
+use call_effects::{
+    Call, DecideError, Missing, Operation, OwnDescriptors, ROOT, Record, Reply, TreeAnswers,
+    decide, growth_of, record_of, subjects,
 };
 use std::alloc::{AllocError, Global};
 

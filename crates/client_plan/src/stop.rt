@@ -1,5 +1,5 @@
 use crate::need::Need;
-use posix_calls::Errno;
+use call_effects::Errno;
 
 // Why a call does not go on.
 #[derive(Clone, Copy)]

@@ -4,37 +4,37 @@ use Rattle.std.specs.Prelude.{◌&&◌, nat_lt, Option, Some, Result, Ok, Err}
 use Rattle.std.specs.List.{AllByRecursion, list_all}
 use Rattle.std.proofs.lemmas.Bool.{true≢false, and_parts, eqb-true}
 use Rattle.std.proofs.lemmas.List.{length-drop, length-set, length-take-le, get_or-set_same}
-use Rattle.tier_device.specs.declared.media.Tier.{Tier}
-use Rattle.tier_device.specs.Media.{Left, Rose}
-use Rattle.graph_change.specs.Change.{Changes, changed}
-use Rattle.graph_change.proofs.Law.{coalesced_law}
-use Rattle.graph_change.specs.View.{changes_of}
-use Rattle.layout.specs.declared.marks.Mark.{Mark}
-use Rattle.layout.specs.declared.marks.Marks.{Marks}
-use Rattle.layout.specs.declared.marks.TheConstants.{CLIENTS}
-use Rattle.layout.specs.Marks.{fits_mark, fits_marks}
-use Rattle.layout.specs.Places.{Sizes}
-use Rattle.batch_journal.specs.Course.{Unmoved}
-use Rattle.batch_journal.specs.View.{JournalView}
-use Rattle.batch_journal.proofs.Courses.{unmoved_on}
-use Rattle.shared_area.specs.Store.{Store, store_of, graph, marks}
-use Rattle.shared_area.specs.Reads.{Loose}
-use Rattle.shared_area.specs.Looks.{Looks}
-use Rattle.shared_area.proofs.Looked.{carried_back}
-use Rattle.shared_area.specs.AreaError.{AreaError}
-use Rattle.shared_area.specs.AreaError.TheVariants as area
+use Rattle.update_log.specs.tier_device.declared.media.Tier.{Tier}
+use Rattle.update_log.specs.tier_device.Media.{Left, Rose}
+use Rattle.coalescer.specs.graph_change.Change.{Changes, changed}
+use Rattle.coalescer.proofs.graph_change_lemmas.Law.{coalesced_law}
+use Rattle.coalescer.specs.graph_change.View.{changes_of}
+use Rattle.shared_area.specs.layout.declared.marks.Mark.{Mark}
+use Rattle.shared_area.specs.layout.declared.marks.Marks.{Marks}
+use Rattle.shared_area.specs.layout.declared.marks.TheConstants.{CLIENTS}
+use Rattle.shared_area.specs.layout.Marks.{fits_mark, fits_marks}
+use Rattle.shared_area.specs.layout.Places.{Sizes}
+use Rattle.shared_area.specs.batch_journal.Course.{Unmoved}
+use Rattle.shared_area.specs.batch_journal.View.{JournalView}
+use Rattle.shared_area.proofs.batch_journal_lemmas.Courses.{unmoved_on}
+use Rattle.shared_area.specs.area_image.Store.{Store, store_of, graph, marks}
+use Rattle.shared_area.specs.area_image.Reads.{Loose}
+use Rattle.shared_area.specs.area_image.Looks.{Looks}
+use Rattle.shared_area.proofs.area_image_lemmas.Looked.{carried_back}
+use Rattle.shared_area.specs.area_image.declared.error.AreaError.{AreaError}
+use Rattle.shared_area.specs.area_image.declared.error.AreaError.TheVariants as area
 use Rattle.shared_area.specs.ChangeApplying.{IsAppliedStore, MakesFewCalls}
 use Rattle.shared_area.proofs.Calls.{few_behind}
-use Rattle.shared_area.specs.ApplyError.{ApplyError}
-use Rattle.shared_area.specs.ApplyError.TheVariants as apply
-use Rattle.log_record.specs.Grammar.{IsRecord}
-use Rattle.log_record.specs.declared.format.Record.{Record}
+use Rattle.shared_area.specs.declared.error.ApplyError.{ApplyError}
+use Rattle.shared_area.specs.declared.error.ApplyError.TheVariants as apply
+use Rattle.update_log.specs.log_record.Grammar.{IsRecord}
+use Rattle.update_log.specs.log_record.declared.format.Record.{Record}
 use Rattle.coalescer.specs.Records.{effects_in}
 use Rattle.shared_area.specs.Ready.{OpensAs}
 use Rattle.shared_area.specs.Applying.{StaysOrChanges, AppliesOrStays}
-use Rattle.digest_plan.specs.Plan.{AreGood, Finds, IsFirstBad, IsNextRun}
-use Rattle.digest_plan.specs.declared.testing.Found.{Found}
-use Rattle.digest_plan.proofs.Runs.{place as bad_place}
+use Rattle.digester.specs.Plan.{AreGood, Finds, IsFirstBad, IsNextRun}
+use Rattle.digester.specs.declared.record_test.Found.{Found}
+use Rattle.digester.proofs.PlanRuns.{place as bad_place}
 use Rattle.digester.specs.Chunk.{IsChunkOf, is_next}
 use Rattle.digester.specs.Digesting.{IsGoodRun, IsDigested, IsToldBad, StaysOrDigests, DigestsOrStays}
 use Rattle.digester.specs.Errors.{IsApplyTold, IsTestTold}

@@ -1,7 +1,7 @@
 -- The next records of a sealed log, prepared to be digested at once.
 use Rattle.std.specs.Prelude.{◌≡◌, ◌<◌, ◌==◌, ◌&&◌, Bool, length, drop}
-use Rattle.graph_change.specs.View.{changes_of}
-use Rattle.digest_plan.specs.Plan.{IsNextRun}
+use Rattle.coalescer.specs.graph_change.View.{changes_of}
+use Rattle.digester.specs.Plan.{IsNextRun}
 use Rattle.digester.specs.declared.chunk.Chunk.{Chunk}
 use Rattle.digester.specs.declared.sealed_log.SealedLog.{SealedLog}
 

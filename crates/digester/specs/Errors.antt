@@ -1,9 +1,9 @@
 -- What a refusal of the shared area is told as.
 use Rattle.std.specs.Prelude.{◌≡◌}
-use Rattle.shared_area.specs.AreaError.{AreaError}
-use Rattle.shared_area.specs.AreaError.TheVariants as area
-use Rattle.shared_area.specs.ApplyError.{ApplyError}
-use Rattle.shared_area.specs.ApplyError.TheVariants as apply
+use Rattle.shared_area.specs.area_image.declared.error.AreaError.{AreaError}
+use Rattle.shared_area.specs.area_image.declared.error.AreaError.TheVariants as area
+use Rattle.shared_area.specs.declared.error.ApplyError.{ApplyError}
+use Rattle.shared_area.specs.declared.error.ApplyError.TheVariants as apply
 use Rattle.digester.specs.declared.error.DigestError.{DigestError}
 use Rattle.digester.specs.declared.error.DigestError.TheVariants as errors
 

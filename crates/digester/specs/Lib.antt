@@ -3,22 +3,22 @@ pub mod Digesting
 pub mod Errors
 pub mod Marking
 pub mod SealedLog
+pub mod Asked
+pub mod Covered
+pub mod Plan
 -- Passed on to the crates above, which so need not list those below.
-pub use Rattle.shared_area.specs.ApplyError
-pub use Rattle.shared_area.specs.Applying
-pub use Rattle.shared_area.specs.AreaError
-pub use Rattle.shared_area.specs.ChangeApplying
-pub use Rattle.shared_area.specs.Found
-pub use Rattle.shared_area.specs.Looks
-pub use Rattle.shared_area.specs.Map
-pub use Rattle.shared_area.specs.Moving
-pub use Rattle.shared_area.specs.Next
-pub use Rattle.shared_area.specs.Parts
-pub use Rattle.shared_area.specs.Reading
-pub use Rattle.shared_area.specs.Reads
-pub use Rattle.shared_area.specs.Ready
-pub use Rattle.shared_area.specs.RelocateError
-pub use Rattle.shared_area.specs.RunMoving
-pub use Rattle.shared_area.specs.Spelled
-pub use Rattle.shared_area.specs.Store
-pub use Rattle.shared_area.specs.Wanted
+pub use Rattle.shared_area.specs.area_image
+pub use Rattle.shared_area.specs.batch_journal
+pub use Rattle.shared_area.specs.call_effects
+pub use Rattle.shared_area.specs.change_plan
+pub use Rattle.coalescer.specs as coalescer
+pub use Rattle.update_log.specs.file_graph
+pub use Rattle.coalescer.specs.graph_change
+pub use Rattle.shared_area.specs.layout
+pub use Rattle.update_log.specs.log_record
+pub use Rattle.update_log.specs.posix_calls
+pub use Rattle.shared_area.specs.record_validation
+pub use Rattle.shared_area.specs.relocation
+pub use Rattle.shared_area.specs as shared_area
+pub use Rattle.update_log.specs.tier_device
+pub use Rattle.update_log.specs as update_log

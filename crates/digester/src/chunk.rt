@@ -6,9 +6,9 @@ ghost use Rattle.digester.specs.SealedLog.{IsSealed};
 ghost use Rattle.digester.specs.declared.error.DigestError.TheVariants.{Memory};
 
 use crate::error::DigestError;
+use crate::next_run;
 use crate::sealed_log::SealedLog;
-use digest_plan::next_run;
-use graph_change::GraphChange;
+use coalescer::GraphChange;
 use std::alloc::Global;
 
 /// Records of a sealed log that are digested at once, and what they come to.

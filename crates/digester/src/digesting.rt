@@ -1,31 +1,30 @@
 //! A chunk of a sealed log reaches the shared area in one batch, with the mark behind it.
 
 ghost use Rattle.std.specs.Prelude.{◌≡◌, ◌<◌, ◌≤◌, ◌+◌, ℕ, List, true, false, length, Some, IfErr, IfOk, OnOk, OnErr, IsErrOf};
-ghost use Rattle.graph_change.specs.View.{changes_of};
-ghost use Rattle.log_record.specs.declared.format.Record.{Record};
-ghost use Rattle.layout.specs.Marks.{fits_marks};
-ghost use Rattle.layout.specs.declared.marks.Marks.{Marks};
-ghost use Rattle.layout.specs.declared.marks.TheConstants.{CLIENTS};
-ghost use Rattle.shared_area.specs.Store.{store_of, graph, marks as marks_of};
+ghost use Rattle.coalescer.specs.graph_change.View.{changes_of};
+ghost use Rattle.update_log.specs.log_record.declared.format.Record.{Record};
+ghost use Rattle.shared_area.specs.layout.Marks.{fits_marks};
+ghost use Rattle.shared_area.specs.layout.declared.marks.Marks.{Marks};
+ghost use Rattle.shared_area.specs.layout.declared.marks.TheConstants.{CLIENTS};
+ghost use Rattle.shared_area.specs.area_image.Store.{store_of, graph, marks as marks_of};
 ghost use Rattle.shared_area.specs.ChangeApplying.{IsAppliedStore, MakesFewCalls};
-ghost use Rattle.shared_area.specs.ApplyError.TheVariants.{NoBlock};
+ghost use Rattle.shared_area.specs.declared.error.ApplyError.TheVariants.{NoBlock};
 ghost use Rattle.shared_area.specs.Applying.{StaysOrChanges, AppliesOrStays};
 ghost use Rattle.digester.specs.Chunk.{IsChunkOf, is_next};
 ghost use Rattle.digester.specs.Digesting.{IsGoodRun, IsDigested, IsToldBad, StaysOrDigests, DigestsOrStays};
 ghost use Rattle.digester.specs.Marking.{marks_after};
 ghost use Rattle.digester.specs.SealedLog.{IsSealed, IsDoneBy, StandsAtMark, done_to};
 
+use crate::Found;
 use crate::chunk::Chunk;
 use crate::error::{DigestError, apply_told, test_told};
 use crate::marking::{mark_after, marks_after};
 use crate::sealed_log::SealedLog;
 use crate::testing::test_run;
-use digest_plan::Found;
-use graph_change::GraphChange;
-use layout::Mark;
-use shared_area::{ApplyError, Shared};
+use coalescer::GraphChange;
+use shared_area::{ApplyError, Mark, Shared};
 use std::alloc::Global;
-use tier_device::Media;
+use update_log::Media;
 
 // Makes the change that good records of a client come to, with its mark moved behind them.
 fn apply_run<M: Media>(

@@ -1,5 +1,5 @@
 ghost use Rattle.std.specs.Prelude.{◌≢◌};
-ghost use Rattle.shared_area.specs.ApplyError.TheVariants.{NoBlock};
+ghost use Rattle.shared_area.specs.declared.error.ApplyError.TheVariants.{NoBlock};
 ghost use Rattle.shared_area.specs.Parts.{IsNoDamage};
 ghost use Rattle.digester.specs.Errors.{IsApplyTold, IsTestTold};
 

@@ -3,13 +3,21 @@
 //! `prepare` takes the next records of a log and coalesces them, without the shared area: so several logs are prepared side by side, and one
 //! log even twice. `digest_chunk` then tests them over the shared area, which it asks for the nodes that they touch, and makes their change;
 //! it demands that the chunk is still the next one of its log, which `Chunk::is_next` tells.
+//!
+//! Below them, `next_run` takes the longest run of records that a batch holds, a matter of the records alone, and `test_records` tests each record of a run over the
+//! graph as those before it leave it (`record_validation`): all are good, or the first that is bad is named. It changes nothing.
 #![tactic(auto)]
 
+mod asking;
 mod chunk;
 mod digesting;
 mod error;
 mod laws;
 mod marking;
+mod plan_error;
+mod plan_laws;
+mod planning;
+mod record_test;
 mod sealed_log;
 mod testing;
 
@@ -22,8 +30,23 @@ pub use laws::{
 pub use marking::{
     mark_after, mark_of, marks_after, marks_can_be_written, moved_mark_leaves_the_rest,
 };
+pub use plan_error::PlanError;
+pub use plan_laws::{
+    a_chunk_can_be_applied, a_chunk_is_a_batch, a_first_bad_record_is_the_only_one,
+    covered_records_are_never_bad,
+};
+pub use planning::{NextRun, next_run};
+pub use record_test::{Found, test_records};
 pub use sealed_log::SealedLog;
 pub use testing::capacity_of;
 
 // Passed on to the crates above, which so need not list those below.
-pub use shared_area::{ApplyError, AreaError, RelocateError, Shared};
+pub use coalescer::{GraphChange, changes_are_the_effects, changes_keep_to_the_limits, coalesce};
+pub use shared_area::{
+    ApplyError, AreaError, BLOCK, DirBlock, DirEntry, Extent, ExtentBlock, Geometry, MARKS_BLOCK,
+    Mark, Marks, NodeCounts, NodeSummary, RelocateError, SLOT_SIZE, Shared, Slot, Super,
+};
+pub use update_log::{
+    Effect, Effects, FaultMedia, Fill, Kind, MAX_CLIENTS, MAX_INODE, Media, MemMedia, Name, ROOT,
+    Record, SharedBytes, StopMedia, Tier, UNIT_BYTES,
+};

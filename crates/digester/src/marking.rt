@@ -2,12 +2,12 @@
 
 ghost use Rattle.std.specs.Prelude.{◌≡◌, ◌<◌, ◌≤◌, ◌+◌, ℕ, List, true, length, drop};
 ghost use Rattle.std.specs.List.{list_all};
-ghost use Rattle.layout.specs.declared.marks.TheConstants.{CLIENTS};
-ghost use Rattle.layout.specs.Marks.{fits_mark, fits_marks};
+ghost use Rattle.shared_area.specs.layout.declared.marks.TheConstants.{CLIENTS};
+ghost use Rattle.shared_area.specs.layout.Marks.{fits_mark, fits_marks};
 ghost use Rattle.update_log.specs.Counting.{counted, records_in};
 ghost use Rattle.digester.specs.Marking.{is_mark, mark_after, mark_of, marks_after};
 
-use layout::{Mark, Marks};
+use shared_area::{Mark, Marks};
 use update_log::{digest_counts_fewer, wipe_counts_nothing};
 
 /// The mark when `done` of the `total` records of a generation are digested: with the last of them it moves to the next generation.

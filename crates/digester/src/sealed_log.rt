@@ -1,10 +1,10 @@
 ghost use Rattle.std.specs.Prelude.{◌≡◌, ◌↔◌, ◌<◌, ◌^◌, true, length};
-ghost use Rattle.layout.specs.declared.marks.TheConstants.{CLIENTS};
+ghost use Rattle.shared_area.specs.layout.declared.marks.TheConstants.{CLIENTS};
 ghost use Rattle.digester.specs.SealedLog.{StandsAt};
 
 use crate::marking::{is_mark, mark_after, mark_of};
-use layout::Marks;
-use log_record::Record;
+use shared_area::Marks;
+use update_log::Record;
 
 /// The log of a client in a region that was handed over to be digested.
 #[derive(Drop)]

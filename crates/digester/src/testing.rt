@@ -3,19 +3,18 @@
 ghost use Rattle.std.specs.Prelude.{◌≡◌, ◌≢◌, ◌<◌, false, IfErr, IfOk, length};
 ghost use Rattle.std.specs.List.{AllByRecursion};
 ghost use Rattle.std.specs.List.Sorted.{IsNonDecreasing};
-ghost use Rattle.file_graph.specs.Units.{charge};
-ghost use Rattle.log_record.specs.Grammar.{IsRecord};
-ghost use Rattle.shared_area.specs.AreaError.TheVariants.{DeviceFault};
-ghost use Rattle.shared_area.specs.Store.{store_of, graph};
-ghost use Rattle.shared_area.specs.Looks.{Looks};
+ghost use Rattle.update_log.specs.file_graph.Units.{charge};
+ghost use Rattle.update_log.specs.log_record.Grammar.{IsRecord};
+ghost use Rattle.shared_area.specs.area_image.declared.error.AreaError.TheVariants.{DeviceFault};
+ghost use Rattle.shared_area.specs.area_image.Store.{store_of, graph};
+ghost use Rattle.shared_area.specs.area_image.Looks.{Looks};
 ghost use Rattle.shared_area.specs.Parts.{IsNoDamage};
-ghost use Rattle.digest_plan.specs.Plan.{Finds};
+ghost use Rattle.digester.specs.Plan.{Finds};
 
-use digest_plan::{Found, PlanError, test_records};
-use log_record::Record;
+use crate::{Found, PlanError, test_records};
 use shared_area::{AreaError, Shared};
 use std::alloc::Global;
-use tier_device::Media;
+use update_log::{Media, Record};
 
 /// What a test of records finds over the graph of the shared area and within its units, where their client holds the inodes `held` for
 /// writing, listed rising. It asks the area for nodes that these records touch, and changes no device.

@@ -3,32 +3,32 @@ use Rattle.std.proofs.Common.{◌≡◌, ◌≢◌, ◌↔◌, inl, inr, ℕ, �
 use Rattle.std.specs.Option.{ForSome}
 use Rattle.std.specs.Prelude.{Result, Ok, Err, IsErrOf, ◌==◌, ◌&&◌, is_some}
 use Rattle.std.proofs.lemmas.Bool.{and_parts, eq-eqb, eqb-true, false≢true}
-use Rattle.tier_device.specs.declared.media.Tier.{Tier}
-use Rattle.tier_device.specs.declared.media.Tier.TheVariants.{Fast}
-use Rattle.log_record.specs.declared.format.Record.{Record}
-use Rattle.update_log.specs.Counting.{next_generation}
-use Rattle.update_log.specs.View.{RegionView, records_of}
-use Rattle.update_log.specs.Frames.{before_gate, spelled}
-use Rattle.client_log.specs.Calls.{IsOnlyRead}
-use Rattle.client_log.specs.View.{HandedView}
-use Rattle.coalescer.specs.Weight.{IsLongestRun}
-use Rattle.libfs.specs.Chunk.{IsChunkOf, is_next}
-use Rattle.libfs.specs.SealedLog.{StandsAtMark, undone}
-use Rattle.libfs.specs.DeclaredChunk.{Chunk}
-use Rattle.libfs.specs.DigestError.{DigestError}
-use Rattle.libfs.specs.DigestError.TheVariants as digests
-use Rattle.libfs.specs.DeclaredSealedLog.{SealedLog}
-use Rattle.kernel_book.specs.Book.{waiting_of}
-use Rattle.libfs.specs.Accepting.{client_of as client_in}
-use Rattle.libfs.specs.KernelView.{KernelView}
-use Rattle.libfs.specs.AcceptError.{AcceptError}
-use Rattle.libfs.specs.AcceptError.TheVariants as accepts
-use Rattle.libfs.specs.Store.{store_of}
-use Rattle.libfs.specs.Digestion.{Digestion}
-use Rattle.libfs.specs.Digestion.TheVariants as digestion
-use Rattle.libfs.specs.KernelError.{KernelError}
-use Rattle.libfs.specs.KernelError.TheVariants as kernel
-use Rattle.lease_manager.specs.Passes.{client_of}
+use Rattle.libfs.specs.tier_device.declared.media.Tier.{Tier}
+use Rattle.libfs.specs.tier_device.declared.media.Tier.TheVariants.{Fast}
+use Rattle.libfs.specs.log_record.declared.format.Record.{Record}
+use Rattle.libfs.specs.update_log.Counting.{next_generation}
+use Rattle.libfs.specs.update_log.View.{RegionView, records_of}
+use Rattle.libfs.specs.update_log.Frames.{before_gate, spelled}
+use Rattle.libfs.specs.client_log.Calls.{IsOnlyRead}
+use Rattle.libfs.specs.client_log.View.{HandedView}
+use Rattle.libfs.specs.coalescer.Weight.{IsLongestRun}
+use Rattle.libfs.specs.digester.Chunk.{IsChunkOf, is_next}
+use Rattle.libfs.specs.digester.SealedLog.{StandsAtMark, undone}
+use Rattle.libfs.specs.digester.declared.chunk.Chunk.{Chunk}
+use Rattle.libfs.specs.digester.declared.error.DigestError.{DigestError}
+use Rattle.libfs.specs.digester.declared.error.DigestError.TheVariants as digests
+use Rattle.libfs.specs.digester.declared.sealed_log.SealedLog.{SealedLog}
+use Rattle.libfs.specs.kernel_fs.Book.{waiting_of}
+use Rattle.libfs.specs.kernel_fs.Accepting.{client_of as client_in}
+use Rattle.libfs.specs.kernel_fs.KernelView.{KernelView}
+use Rattle.libfs.specs.kernel_fs.declared.error.AcceptError.{AcceptError}
+use Rattle.libfs.specs.kernel_fs.declared.error.AcceptError.TheVariants as accepts
+use Rattle.libfs.specs.area_image.Store.{store_of}
+use Rattle.libfs.specs.kernel_fs.declared.digesting.Digestion.{Digestion}
+use Rattle.libfs.specs.kernel_fs.declared.digesting.Digestion.TheVariants as digestion
+use Rattle.libfs.specs.kernel_fs.declared.error.KernelError.{KernelError}
+use Rattle.libfs.specs.kernel_fs.declared.error.KernelError.TheVariants as kernel
+use Rattle.libfs.specs.lease_manager.Passes.{client_of}
 use Rattle.libfs.specs.HandingOver.{HasTakenBack}
 use Rattle.libfs.specs.View.{ClientView}
 use Rattle.event_steps.specs.Regions.{ChunkCame, DigestsNext, HasLog, IsDigestedOn, IsNotAcceptedFor, IsPutBy, refusal_to_accept, told_digest}

@@ -2,11 +2,11 @@
 use Rattle.std.proofs.Common.{◌≡◌, ◌≢◌, ◌⊎◌, inl, inr, true, false, cond, List, [], ℕ, Option, Some, None, refl, ap, sym, ◌∙◌}
 use Rattle.std.specs.Prelude.{Result, Ok, Err, is_some}
 use Rattle.std.proofs.lemmas.Bool.{false≢true}
-use Rattle.tier_device.specs.declared.media.Tier.{Tier}
-use Rattle.update_log.specs.View.{records_of}
-use Rattle.update_log.specs.declared.stage.WipeProgress.{WipeProgress}
-use Rattle.client_log.specs.View.{HandedView, LogView, written}
-use Rattle.client_log.specs.declared.error.LogError.{LogError}
+use Rattle.libfs.specs.tier_device.declared.media.Tier.{Tier}
+use Rattle.libfs.specs.update_log.View.{records_of}
+use Rattle.libfs.specs.update_log.declared.stage.WipeProgress.{WipeProgress}
+use Rattle.libfs.specs.client_log.View.{HandedView, LogView, written}
+use Rattle.libfs.specs.client_log.declared.error.LogError.{LogError}
 use Rattle.libfs.specs.HandingOver.{HasSealed}
 use Rattle.libfs.specs.View.{ClientView}
 use Rattle.event_steps.specs.Played.{Carries}

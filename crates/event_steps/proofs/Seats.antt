@@ -1,9 +1,9 @@
 -- The seat of one client among those of all.
 use Rattle.std.proofs.Common.{◌≡◌, ℕ, zero, suc, ◌+◌, ◌-◌, ◌<◌, ◌≤◌, List, [], ◌∷◌, drop, get_or, length, Option, Some, refl, ap, sym, ◌∙◌, subst, arith}
 use Rattle.std.specs.Prelude.{slice_get, slice_index_or, slice_set, IfSome}
-use Rattle.tier_device.specs.declared.media.Tier.{Tier}
-use Rattle.libfs.specs.KernelView.{KernelView}
-use Rattle.lease_manager.specs.Words.{IsClient}
+use Rattle.libfs.specs.tier_device.declared.media.Tier.{Tier}
+use Rattle.libfs.specs.kernel_fs.KernelView.{KernelView}
+use Rattle.libfs.specs.lease_manager.Words.{IsClient}
 use Rattle.event_steps.specs.Played.{Carries, Makes, MakesAt}
 use Rattle.event_steps.specs.Sound.{AreFrom, AreSeats, number_of}
 use Rattle.event_steps.specs.Turns.{HasTurn, IsTurnOf}

@@ -1,14 +1,14 @@
 -- What an event makes of client and kernel in which the client asks the kernel.
 use Rattle.std.specs.Prelude.{◌≡◌, ◌⊎◌, ◌<◌, ◌≤◌, ◌+◌, ◌^◌, ℕ, List, true, false, None, Result, Ok, Err, OnOk, OnErr, IfErr, IsErrOf, is_some}
-use Rattle.tier_device.specs.declared.media.Tier.{Tier}
-use Rattle.file_graph.specs.Units.{charge}
-use Rattle.kernel_book.specs.Book.{out_of, is_free}
-use Rattle.kernel_book.specs.Free.{count_of}
-use Rattle.kernel_book.specs.Nodes.{nodes_in}
-use Rattle.libfs.specs.KernelView.{KernelView}
-use Rattle.libfs.specs.Standing.{IsKernelOf}
-use Rattle.lease_manager.specs.Passes.{client_of}
-use Rattle.world_facts.specs.Machine.{Machine, book_pin, unbook_pin}
+use Rattle.libfs.specs.tier_device.declared.media.Tier.{Tier}
+use Rattle.libfs.specs.file_graph.Units.{charge}
+use Rattle.libfs.specs.kernel_fs.Book.{out_of, is_free}
+use Rattle.libfs.specs.kernel_fs.Free.{count_of}
+use Rattle.libfs.specs.kernel_fs.Nodes.{nodes_in}
+use Rattle.libfs.specs.kernel_fs.KernelView.{KernelView}
+use Rattle.libfs.specs.kernel_fs.Standing.{IsKernelOf}
+use Rattle.libfs.specs.lease_manager.Passes.{client_of}
+use Rattle.libfs.specs.world_invariant.Machine.{Machine, book_pin, unbook_pin}
 use Rattle.libfs.specs.Serving.{HasFetched, HasFetchedBlocks, HasThem, HasGivenBack, HasLooked, HasRefilled, pinned, shared_by, unpinned}
 use Rattle.libfs.specs.declared.denying.Denied.{Denied}
 use Rattle.libfs.specs.declared.denying.Denied.TheVariants as denied

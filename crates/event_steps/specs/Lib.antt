@@ -10,14 +10,13 @@ pub mod Regions
 pub mod Media
 pub mod Played
 -- Passed on to the crates above, which so need not list those below.
-pub use Rattle.libfs.specs.Answering
-pub use Rattle.libfs.specs.AreaError
-pub use Rattle.libfs.specs.Figures
-pub use Rattle.libfs.specs.Holding
-pub use Rattle.libfs.specs.KernelError
-pub use Rattle.libfs.specs.KernelView
-pub use Rattle.libfs.specs.Opening
-pub use Rattle.libfs.specs.Parts
-pub use Rattle.libfs.specs.Store
-pub use Rattle.libfs.specs.View as Clients
-pub use Rattle.libfs.specs.declared.denying.Denied
+pub use Rattle.libfs.specs.area_image
+pub use Rattle.libfs.specs.call_effects
+pub use Rattle.libfs.specs.client_plan
+pub use Rattle.libfs.specs.kernel_fs
+pub use Rattle.libfs.specs.lease_manager
+pub use Rattle.libfs.specs as libfs
+pub use Rattle.libfs.specs.posix_calls
+pub use Rattle.libfs.specs.record_validation
+pub use Rattle.libfs.specs.shared_area
+pub use Rattle.libfs.specs.tier_device

@@ -1,28 +1,28 @@
 -- What an event makes of the shared media that is of no client.
 use Rattle.std.specs.Prelude.{◌≡◌, ◌⊎◌, ◌≤◌, ◌+◌, ℕ, List, [], ◌∷◌, true, false, Result, Ok, Err, OnOk, IsErrOf}
-use Rattle.tier_device.specs.declared.media.Tier.{Tier}
-use Rattle.file_graph.specs.declared.effect.Effect.TheVariants as effect
-use Rattle.graph_change.specs.Change.{coalesced}
-use Rattle.libfs.specs.ChangeApplying.{MakesFewCalls}
-use Rattle.libfs.specs.Found.{HasFileRun}
-use Rattle.libfs.specs.Map.{WantsMemory}
-use Rattle.libfs.specs.Moving.{HasTooFew, HasEnough, StaysOpen, MovesOrStays}
-use Rattle.libfs.specs.RelocateError.{RelocateError}
-use Rattle.libfs.specs.RelocateError.TheVariants as moves
-use Rattle.libfs.specs.RunMoving.{CanMove, IsMoved}
-use Rattle.libfs.specs.Store.{store_of, graph}
-use Rattle.kernel_book.specs.Book.{is_pinned}
-use Rattle.world_facts.specs.KernelSteps.{CanReclaim}
-use Rattle.world_facts.specs.Logs.{IsNameless}
-use Rattle.world_facts.specs.Machine.{Machine, reclaim as reclaimed}
-use Rattle.libfs.specs.Answering.{Answers}
-use Rattle.libfs.specs.KernelView.{KernelView}
-use Rattle.libfs.specs.Reclaiming.{IsReclaimed, IsUnused, ReclaimsOrStays, StaysOrReclaims}
-use Rattle.libfs.specs.Standing.{IsKernelOf}
-use Rattle.libfs.specs.KernelError.{KernelError}
-use Rattle.libfs.specs.KernelError.TheVariants as kernel
-use Rattle.libfs.specs.ReclaimError.{ReclaimError}
-use Rattle.libfs.specs.ReclaimError.TheVariants as reclaims
+use Rattle.libfs.specs.tier_device.declared.media.Tier.{Tier}
+use Rattle.libfs.specs.file_graph.declared.effect.Effect.TheVariants as effect
+use Rattle.libfs.specs.graph_change.Change.{coalesced}
+use Rattle.libfs.specs.shared_area.ChangeApplying.{MakesFewCalls}
+use Rattle.libfs.specs.relocation.Found.{HasFileRun}
+use Rattle.libfs.specs.area_image.Map.{WantsMemory}
+use Rattle.libfs.specs.shared_area.Moving.{HasTooFew, HasEnough, StaysOpen, MovesOrStays}
+use Rattle.libfs.specs.relocation.declared.error.RelocateError.{RelocateError}
+use Rattle.libfs.specs.relocation.declared.error.RelocateError.TheVariants as moves
+use Rattle.libfs.specs.relocation.Moving.{CanMove, IsMoved}
+use Rattle.libfs.specs.area_image.Store.{store_of, graph}
+use Rattle.libfs.specs.kernel_fs.Book.{is_pinned}
+use Rattle.libfs.specs.world_invariant.KernelSteps.{CanReclaim}
+use Rattle.libfs.specs.world_invariant.Logs.{IsNameless}
+use Rattle.libfs.specs.world_invariant.Machine.{Machine, reclaim as reclaimed}
+use Rattle.libfs.specs.kernel_fs.Answering.{Answers}
+use Rattle.libfs.specs.kernel_fs.KernelView.{KernelView}
+use Rattle.libfs.specs.kernel_fs.Reclaiming.{IsReclaimed, IsUnused, ReclaimsOrStays, StaysOrReclaims}
+use Rattle.libfs.specs.kernel_fs.Standing.{IsKernelOf}
+use Rattle.libfs.specs.kernel_fs.declared.error.KernelError.{KernelError}
+use Rattle.libfs.specs.kernel_fs.declared.error.KernelError.TheVariants as kernel
+use Rattle.libfs.specs.kernel_fs.declared.error.ReclaimError.{ReclaimError}
+use Rattle.libfs.specs.kernel_fs.declared.error.ReclaimError.TheVariants as reclaims
 use Rattle.event_steps.specs.declared.outcome.Outcome.{Outcome}
 use Rattle.event_steps.specs.declared.outcome.Outcome.TheVariants as outcomes
 use Rattle.event_steps.specs.declared.outcome.Refusal.TheVariants as refusals

@@ -1,35 +1,35 @@
 -- What an event makes of a client's regions.
 use Rattle.std.specs.Prelude.{◌≡◌, ◌≢◌, ◌⊎◌, ◌==◌, ◌≤◌, ◌+◌, ℕ, Bool, List, true, false, length, take, Option, Some, None, Result, Ok, Err, IfErr, IfOk, IsErrOf}
-use Rattle.tier_device.specs.declared.media.Tier.{Tier}
-use Rattle.tier_device.specs.Media.{Rose}
-use Rattle.update_log.specs.View.{RegionView, records_of}
-use Rattle.update_log.specs.declared.stage.WipeProgress.{WipeProgress}
-use Rattle.client_log.specs.Calls.{IsOnlyRead}
-use Rattle.client_log.specs.Steps.{WipesCurrent, WipesOther}
-use Rattle.client_log.specs.declared.error.LogError.{LogError}
-use Rattle.client_leases.specs.Held.{AreWritten}
-use Rattle.libfs.specs.Digesting.{IsDigested, IsToldBad, StaysOrDigests, DigestsOrStays}
-use Rattle.libfs.specs.SealedLog.{IsDoneBy, StandsAtMark, undone}
-use Rattle.libfs.specs.DigestError.{DigestError}
-use Rattle.libfs.specs.DigestError.TheVariants as digests
-use Rattle.libfs.specs.DeclaredSealedLog.{SealedLog}
-use Rattle.coalescer.specs.Weight.{IsLongestRun}
-use Rattle.libfs.specs.Store.{store_of}
-use Rattle.file_graph.specs.Units.{charge}
-use Rattle.kernel_book.specs.Book.{out_of, units_of, waiting_of}
-use Rattle.world_facts.specs.Logs.{units_in}
-use Rattle.world_facts.specs.Machine.{Machine, Sealed, CanAccept, IsRunning, StandsSealed, accept as accept_step, digest as digest_step}
-use Rattle.libfs.specs.Accepting.{client_of as client_in, HasAsManyWaiting, IsRegionOf}
-use Rattle.libfs.specs.Answering.{Answers, OnRefusal}
-use Rattle.libfs.specs.KernelView.{KernelView}
-use Rattle.libfs.specs.Standing.{IsKernelOf}
-use Rattle.libfs.specs.Digestion.{Digestion}
-use Rattle.libfs.specs.Digestion.TheVariants as digestion
-use Rattle.libfs.specs.AcceptError.{AcceptError}
-use Rattle.libfs.specs.KernelError.{KernelError}
-use Rattle.libfs.specs.KernelError.TheVariants as kernel
-use Rattle.file_graph.specs.Graph.{is_among}
-use Rattle.lease_manager.specs.Passes.{client_of}
+use Rattle.libfs.specs.tier_device.declared.media.Tier.{Tier}
+use Rattle.libfs.specs.tier_device.Media.{Rose}
+use Rattle.libfs.specs.update_log.View.{RegionView, records_of}
+use Rattle.libfs.specs.update_log.declared.stage.WipeProgress.{WipeProgress}
+use Rattle.libfs.specs.client_log.Calls.{IsOnlyRead}
+use Rattle.libfs.specs.client_log.Steps.{WipesCurrent, WipesOther}
+use Rattle.libfs.specs.client_log.declared.error.LogError.{LogError}
+use Rattle.libfs.specs.lease_manager.Held.{AreWritten}
+use Rattle.libfs.specs.digester.Digesting.{IsDigested, IsToldBad, StaysOrDigests, DigestsOrStays}
+use Rattle.libfs.specs.digester.SealedLog.{IsDoneBy, StandsAtMark, undone}
+use Rattle.libfs.specs.digester.declared.error.DigestError.{DigestError}
+use Rattle.libfs.specs.digester.declared.error.DigestError.TheVariants as digests
+use Rattle.libfs.specs.digester.declared.sealed_log.SealedLog.{SealedLog}
+use Rattle.libfs.specs.coalescer.Weight.{IsLongestRun}
+use Rattle.libfs.specs.area_image.Store.{store_of}
+use Rattle.libfs.specs.file_graph.Units.{charge}
+use Rattle.libfs.specs.kernel_fs.Book.{out_of, units_of, waiting_of}
+use Rattle.libfs.specs.world_invariant.Logs.{units_in}
+use Rattle.libfs.specs.world_invariant.Machine.{Machine, Sealed, CanAccept, IsRunning, StandsSealed, accept as accept_step, digest as digest_step}
+use Rattle.libfs.specs.kernel_fs.Accepting.{client_of as client_in, HasAsManyWaiting, IsRegionOf}
+use Rattle.libfs.specs.kernel_fs.Answering.{Answers, OnRefusal}
+use Rattle.libfs.specs.kernel_fs.KernelView.{KernelView}
+use Rattle.libfs.specs.kernel_fs.Standing.{IsKernelOf}
+use Rattle.libfs.specs.kernel_fs.declared.digesting.Digestion.{Digestion}
+use Rattle.libfs.specs.kernel_fs.declared.digesting.Digestion.TheVariants as digestion
+use Rattle.libfs.specs.kernel_fs.declared.error.AcceptError.{AcceptError}
+use Rattle.libfs.specs.kernel_fs.declared.error.KernelError.{KernelError}
+use Rattle.libfs.specs.kernel_fs.declared.error.KernelError.TheVariants as kernel
+use Rattle.libfs.specs.file_graph.Graph.{is_among}
+use Rattle.libfs.specs.lease_manager.Passes.{client_of}
 use Rattle.libfs.specs.HandingOver.{HasSealed, HasTakenBack}
 use Rattle.libfs.specs.Serving.{shared_by}
 use Rattle.event_steps.specs.Calls.{CountsOn}

@@ -3,13 +3,13 @@ use Rattle.std.specs.Prelude.{◌≡◌, ◌+◌, ◌^◌, ◌<◌, ℕ, List, [
 use Rattle.std.specs.List.{AllByRecursion}
 use Rattle.std.specs.List.Sorted.{IsNonDecreasing}
 use Rattle.std.specs.Option.{ForSome}
-use Rattle.tier_device.specs.declared.media.Tier.{Tier}
-use Rattle.log_record.specs.Grammar.{IsRecord}
-use Rattle.update_log.specs.Counting.{next_generation}
-use Rattle.update_log.specs.View.{records_of}
-use Rattle.libfs.specs.DeclaredSealedLog.{SealedLog}
-use Rattle.lease_manager.specs.Passes.{client_of}
-use Rattle.lease_manager.specs.Words.{IsClient}
+use Rattle.libfs.specs.tier_device.declared.media.Tier.{Tier}
+use Rattle.libfs.specs.log_record.Grammar.{IsRecord}
+use Rattle.libfs.specs.update_log.Counting.{next_generation}
+use Rattle.libfs.specs.update_log.View.{records_of}
+use Rattle.libfs.specs.digester.declared.sealed_log.SealedLog.{SealedLog}
+use Rattle.libfs.specs.lease_manager.Passes.{client_of}
+use Rattle.libfs.specs.lease_manager.Words.{IsClient}
 use Rattle.libfs.specs.View.{ClientView}
 use Rattle.event_steps.specs.Refusals.{no_refusals}
 use Rattle.event_steps.specs.View.{AwayView, SeatView}

@@ -1,9 +1,9 @@
 -- A running system, as its callers see it.
 use Rattle.std.specs.Prelude.{◌≡◌, ℕ, ◌-◌, ◌++◌, List, length, Option, Some, None, slice_get}
-use Rattle.tier_device.specs.declared.media.Tier.{Tier}
-use Rattle.client_log.specs.View.{HandedView, written}
-use Rattle.libfs.specs.DeclaredSealedLog.{SealedLog}
-use Rattle.libfs.specs.KernelView.{KernelView}
+use Rattle.libfs.specs.tier_device.declared.media.Tier.{Tier}
+use Rattle.libfs.specs.client_log.View.{HandedView, written}
+use Rattle.libfs.specs.digester.declared.sealed_log.SealedLog.{SealedLog}
+use Rattle.libfs.specs.kernel_fs.KernelView.{KernelView}
 use Rattle.libfs.specs.View.{ClientView}
 use Rattle.event_steps.specs.declared.refusals.Refusals.{Refusals}
 

@@ -1,22 +1,19 @@
 //! The kernel accepts the region that a client handed over.
 ghost use Rattle.std.specs.Prelude.{◌≡◌, ◌⊎◌, ◌<◌, [], length, None, Some, IfErr, IfOk, OnErr, OnOk};
-ghost use Rattle.tier_device.specs.Media.{Rose};
-ghost use Rattle.client_log.specs.Calls.{IsOnlyRead};
-ghost use Rattle.update_log.specs.View.{records_of};
-ghost use Rattle.libfs.specs.SealedLog.{IsSealed};
-ghost use Rattle.libfs.specs.DeclaredSealedLog.{SealedLog};
+ghost use Rattle.libfs.specs.tier_device.Media.{Rose};
+ghost use Rattle.libfs.specs.client_log.Calls.{IsOnlyRead};
+ghost use Rattle.libfs.specs.update_log.View.{records_of};
+ghost use Rattle.libfs.specs.digester.SealedLog.{IsSealed};
+ghost use Rattle.libfs.specs.digester.declared.sealed_log.SealedLog.{SealedLog};
 ghost use Rattle.event_steps.specs.Sound.{IsLogOf};
 ghost use Rattle.event_steps.specs.Regions.{HasAccepted, HasLog, IsAwayRead, IsNotAcceptedFor, IsNotReadFor, refusal_to_accept};
 ghost use Rattle.event_steps.specs.declared.outcome.Refusal.TheVariants as refusals;
 
 use crate::away::Away;
 use crate::outcome::Refusal;
-use client_log::{HandedOver, LogError};
-use libfs::{AcceptError, Kernel, KernelError, SealedLog};
-use log_record::Record;
+use libfs::{AcceptError, HandedOver, Kernel, KernelError, LogError, Media, Record, SealedLog};
 use std::alloc::Global;
 use std::mem;
-use tier_device::Media;
 
 impl<M: Media> Away<M> {
     /// Has the kernel accept the region, unless it did before: its records are read for that.

@@ -1,6 +1,6 @@
 //! What a client asks of the kernel.
 ghost use Rattle.std.specs.Prelude.{◌≡◌, ◌↔◌, ◌+◌, ◌<◌, ◌≤◌, ◌^◌, true, false, IsTrue, ⊤};
-ghost use Rattle.lease_manager.specs.Words.{HasWord};
+ghost use Rattle.libfs.specs.lease_manager.Words.{HasWord};
 ghost use Rattle.libfs.specs.View.{is_pending};
 ghost use Rattle.libfs.specs.declared.denying.Denied.TheVariants as denied;
 ghost use Rattle.event_steps.specs.Asking.{AreFetched, IsFetched, IsGivenBack, IsPinned, IsRefilled, IsUnpinned};
@@ -13,10 +13,7 @@ ghost use Rattle.event_steps.specs.Turns.{CanBeUnpinned, IsHeld};
 use crate::outcome::{Outcome, Refusal};
 use crate::refusals::Refusals;
 use crate::seat::Seat;
-use client_leases::is_inode;
-use lease_manager::LeaseMode;
-use libfs::{Denied, Kernel};
-use tier_device::Media;
+use libfs::{Denied, Kernel, LeaseMode, Media, is_inode};
 
 impl<M: Media> Seat<M> {
     // A client that has begun a record has all that it needs, and gets no copy meanwhile.

@@ -1,10 +1,8 @@
 ghost use Rattle.std.specs.Prelude.{◌≡◌};
 ghost use Rattle.event_steps.specs.View.{done_in};
 
-use client_log::HandedOver;
-use libfs::{Sealed, SealedLog};
+use libfs::{HandedOver, Media, Sealed, SealedLog};
 use std::marker::Model;
-use tier_device::Media;
 
 /// A region that a client handed over, and its log once the kernel has accepted it.
 #[derive(Drop)]

@@ -9,9 +9,7 @@ ghost use Rattle.event_steps.specs.Refusals.{has_refusal};
 use crate::outcome::Outcome;
 use crate::refusals::Refusals;
 use crate::seat::Seat;
-use libfs::{Denied, Now};
-use posix_calls::Call;
-use tier_device::Media;
+use libfs::{Call, Denied, Media, Now};
 
 impl<M: Media> Seat<M> {
     pub fn start(&mut self, call: &Call) -> Outcome

@@ -1,14 +1,14 @@
 //! The region that a client handed over: digested chunk by chunk, and taken back.
 ghost use Rattle.std.specs.Prelude.{◌≡◌, ◌⊎◌, ◌<◌, ◌==◌, length, true, false, None, Some, Ok, Err, Result, is_some};
-ghost use Rattle.update_log.specs.Counting.{next_generation};
-ghost use Rattle.libfs.specs.Chunk.{IsChunkOf, is_next};
-ghost use Rattle.libfs.specs.SealedLog.{IsSealed};
-ghost use Rattle.libfs.specs.DeclaredSealedLog.{SealedLog};
-ghost use Rattle.lease_manager.specs.Passes.{client_of};
+ghost use Rattle.libfs.specs.update_log.Counting.{next_generation};
+ghost use Rattle.libfs.specs.digester.Chunk.{IsChunkOf, is_next};
+ghost use Rattle.libfs.specs.digester.SealedLog.{IsSealed};
+ghost use Rattle.libfs.specs.digester.declared.sealed_log.SealedLog.{SealedLog};
+ghost use Rattle.libfs.specs.lease_manager.Passes.{client_of};
 ghost use Rattle.libfs.specs.HandingOver.{HasTakenBack};
-ghost use Rattle.libfs.specs.DigestError.{DigestError};
-ghost use Rattle.libfs.specs.Digestion.{Digestion};
-ghost use Rattle.libfs.specs.KernelError.{KernelError};
+ghost use Rattle.libfs.specs.digester.declared.error.DigestError.{DigestError};
+ghost use Rattle.libfs.specs.kernel_fs.declared.digesting.Digestion.{Digestion};
+ghost use Rattle.libfs.specs.kernel_fs.declared.error.KernelError.{KernelError};
 ghost use Rattle.event_steps.specs.Played.{Carries};
 ghost use Rattle.event_steps.specs.Sound.{number_of};
 ghost use Rattle.event_steps.specs.Regions.{ChunkCame, DigestsNext, IsDigestedOn, told_digest};
@@ -18,9 +18,10 @@ ghost use Rattle.event_steps.specs.declared.outcome.Refusal.TheVariants as refus
 use crate::away::Away;
 use crate::outcome::{Outcome, Refusal};
 use crate::seat::Seat;
-use libfs::{Chunk, Client, DigestError, Digestion, Kernel, KernelError, SealedLog, prepare};
+use libfs::{
+    Chunk, Client, DigestError, Digestion, Kernel, KernelError, Media, SealedLog, prepare,
+};
 use std::alloc::Global;
-use tier_device::Media;
 
 impl<M: Media + Drop> Seat<M> {
     /// One chunk of the region that is away is digested; with the last one the client takes the region back.

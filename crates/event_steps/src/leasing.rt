@@ -1,8 +1,8 @@
 //! Leases of one client.
 ghost use Rattle.std.specs.Prelude.{◌≡◌};
-ghost use Rattle.lease_manager.specs.Passes.{lease_of};
-ghost use Rattle.lease_manager.specs.Words.{HasWord, IsClient};
-ghost use Rattle.lease_manager.specs.declared.view.LeaseMode.TheVariants.{Free, Reading};
+ghost use Rattle.libfs.specs.lease_manager.Passes.{lease_of};
+ghost use Rattle.libfs.specs.lease_manager.Words.{HasWord, IsClient};
+ghost use Rattle.libfs.specs.lease_manager.declared.view.LeaseMode.TheVariants.{Free, Reading};
 ghost use Rattle.libfs.specs.Leasing.{CanBeGiven};
 ghost use Rattle.event_steps.specs.Leases.{IsAskedBack, IsGiven, IsLeased, IsRaised};
 ghost use Rattle.event_steps.specs.Played.{Carries};
@@ -11,10 +11,7 @@ ghost use Rattle.event_steps.specs.Sound.{number_of};
 use crate::numbers::is_client;
 use crate::outcome::{Outcome, Refusal};
 use crate::seat::Seat;
-use client_leases::is_inode;
-use client_plan::Mode;
-use lease_manager::LeaseMode;
-use tier_device::Media;
+use libfs::{LeaseMode, Media, Mode, is_inode};
 
 impl<M: Media> Seat<M> {
     pub fn lease(&mut self, inode: u32, mode: Mode) -> Outcome

@@ -28,5 +28,7 @@ pub use system::System;
 
 // Passed on to the crates above, which so need not list those below.
 pub use libfs::{
-    AreaError, Client, Denied, Figures, Kernel, KernelError, NodeSummary, Now, Shared,
+    AreaError, CLIENTS, Call, Client, ClientLog, Denied, Figures, INODES, Kernel, KernelError,
+    LeaseMode, Leases as LeaseManagerLeases, LogError, Media as TierDeviceMedia, Mode, Need,
+    NodeSummary, Opened, Pass, Reply, Shared,
 };

@@ -4,8 +4,7 @@ ghost use Rattle.event_steps.specs.declared.outcome.Outcome.TheVariants as outco
 ghost use Rattle.event_steps.specs.Media.{IsMovedIn, IsReclaimedIn};
 
 use crate::outcome::{Outcome, Refusal};
-use libfs::{Kernel, KernelError, ReclaimError, RelocateError};
-use tier_device::{Media, Tier};
+use libfs::{Kernel, KernelError, Media, ReclaimError, RelocateError, Tier};
 
 pub fn reclaim<M: Media>(kernel: &mut Kernel<M>, inode: u32) -> Outcome
     ensures { IsReclaimedIn M.seen M.moment M.left M.faults kernel.old inode result kernel.new }

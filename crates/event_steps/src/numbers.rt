@@ -1,5 +1,5 @@
 ghost use Rattle.std.specs.Prelude.{◌≡◌, true, false};
-ghost use Rattle.lease_manager.specs.Words.{IsClient};
+ghost use Rattle.libfs.specs.lease_manager.Words.{IsClient};
 
 /// How many clients there are.
 pub const CLIENTS: usize = 8;

@@ -1,8 +1,7 @@
 ghost use Rattle.std.specs.Prelude.{◌≡◌};
 ghost use Rattle.event_steps.specs.Told.{refusal_number};
 
-use client_plan::Need;
-use posix_calls::Reply;
+use libfs::{Need, Reply};
 
 /// Why an event was refused. After each refusal but that of a device all is as it was.
 #[derive(Clone, Copy, Debug, PartialEq, Eq)]

@@ -11,9 +11,8 @@ use crate::numbers::is_client;
 use crate::outcome::Outcome;
 use crate::seat::Seat;
 use crate::system::System;
-use libfs::Kernel;
+use libfs::{Kernel, Media};
 use std::alloc::Global;
-use tier_device::Media;
 
 impl<M: Media + Drop> System<M> {
     /// Carries out one event.

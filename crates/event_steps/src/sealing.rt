@@ -1,9 +1,9 @@
 //! The region that a client writes: handed over, and wiped.
 ghost use Rattle.std.specs.Prelude.{◌≡◌, false, None};
 ghost use Rattle.std.specs.List.Sorted.{IsNonDecreasing};
-ghost use Rattle.update_log.specs.View.{records_of};
-ghost use Rattle.lease_manager.specs.Passes.{client_of};
-ghost use Rattle.client_log.specs.Steps.{CanBeSealed};
+ghost use Rattle.libfs.specs.update_log.View.{records_of};
+ghost use Rattle.libfs.specs.lease_manager.Passes.{client_of};
+ghost use Rattle.libfs.specs.client_log.Steps.{CanBeSealed};
 ghost use Rattle.event_steps.specs.Played.{Carries};
 ghost use Rattle.event_steps.specs.Sound.{number_of};
 ghost use Rattle.event_steps.specs.Regions.{IsHandedOver, IsWipedOn, told_wipe};
@@ -12,10 +12,7 @@ ghost use Rattle.event_steps.specs.Turns.{IsToBeWiped};
 use crate::away::Away;
 use crate::outcome::{Outcome, Refusal};
 use crate::seat::Seat;
-use client_log::LogError;
-use libfs::{Client, Sealed};
-use tier_device::Media;
-use update_log::WipeProgress;
+use libfs::{Client, LogError, Media, Sealed, WipeProgress};
 
 impl<M: Media + Drop> Seat<M> {
     #[tactic(auto, using(crate::proofs::Handing::handed_records))]

@@ -4,9 +4,8 @@ ghost use Rattle.event_steps.specs.View.{done_of, undigested_on};
 
 use crate::away::Away;
 use crate::refusals::Refusals;
-use libfs::Client;
+use libfs::{Client, Media};
 use std::marker::Model;
-use tier_device::Media;
 
 /// A client, the region that it handed over, and what the kernel refused it since its last reply.
 #[derive(Drop)]
@@ -18,7 +17,7 @@ pub struct Seat<M: Media> {
 
 impl<M: Media> Model for Seat<M> {
     ghost use Rattle.std.specs.Coded.{codes};
-    ghost use Rattle.client_copies.specs.Held.{held_code};
+    ghost use Rattle.libfs.specs.client_view.Held.{held_code};
     ghost use Rattle.libfs.specs.contracts.begun.Begun as begun_call;
     ghost use Rattle.event_steps.specs.View.{SeatView};
     ghost use Rattle.event_steps.specs.Sound.{IsSeated};

@@ -1,22 +1,21 @@
 ghost use Rattle.std.specs.Prelude.{◌≡◌, ◌↔◌, length, IfErr, IfNone, IfOk, IfSome, IsTrue, OnErr, OnOk, Some, true};
-ghost use Rattle.call_effects.specs.NodeView.{view_at};
-ghost use Rattle.libfs.specs.Answering.{Answers, OnRefusal};
-ghost use Rattle.libfs.specs.AreaError.TheVariants.{Memory};
-ghost use Rattle.libfs.specs.Looks.{Looks};
-ghost use Rattle.libfs.specs.Map.{WantsMemory};
-ghost use Rattle.libfs.specs.Parts.{IsNoDamage, IsTierOf};
-ghost use Rattle.libfs.specs.Standing.{IsMarkIn};
-ghost use Rattle.libfs.specs.Store.{graph, store_of};
-ghost use Rattle.lease_manager.specs.Words.{IsClient};
+ghost use Rattle.libfs.specs.call_effects.NodeView.{view_at};
+ghost use Rattle.libfs.specs.kernel_fs.Answering.{Answers, OnRefusal};
+ghost use Rattle.libfs.specs.area_image.declared.error.AreaError.TheVariants.{Memory};
+ghost use Rattle.libfs.specs.area_image.Looks.{Looks};
+ghost use Rattle.libfs.specs.area_image.Map.{WantsMemory};
+ghost use Rattle.libfs.specs.shared_area.Parts.{IsNoDamage, IsTierOf};
+ghost use Rattle.libfs.specs.kernel_fs.Standing.{IsMarkIn};
+ghost use Rattle.libfs.specs.area_image.Store.{graph, store_of};
+ghost use Rattle.libfs.specs.lease_manager.Words.{IsClient};
 ghost use Rattle.event_steps.specs.Sound.{AreFrom, AreSeats};
 ghost use Rattle.event_steps.specs.View.{HasSeat, seat_of, undigested_on};
 
 use crate::numbers::{CLIENTS, is_client};
 use crate::seat::Seat;
-use libfs::{AreaError, Client, Fetched, Kernel, KernelError};
+use libfs::{AreaError, Client, Fetched, Kernel, KernelError, Media, Tier};
 use std::alloc::Global;
 use std::marker::Model;
-use tier_device::{Media, Tier};
 
 /// A kernel and its eight clients, with the regions that are away.
 ///
@@ -30,7 +29,7 @@ pub struct System<M: Media> {
 
 impl<M: Media> Model for System<M> {
     ghost use Rattle.std.specs.Coded.{codes};
-    ghost use Rattle.client_copies.specs.Held.{held_code};
+    ghost use Rattle.libfs.specs.client_view.Held.{held_code};
     ghost use Rattle.libfs.specs.contracts.begun.Begun as begun_call;
     ghost use Rattle.event_steps.specs.Sound.{AreSeats};
     ghost use Rattle.event_steps.specs.View.{SystemView};

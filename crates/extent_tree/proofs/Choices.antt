@@ -7,15 +7,15 @@ use Rattle.std.proofs.lemmas.List.{append-nil, length-drop, length-take}
 use Rattle.std.proofs.lemmas.List.Folds.{drop_split}
 use Rattle.std.proofs.Math.Seq.{take-append-add}
 use Rattle.layout.specs.declared.extents.Extent.{Extent}
-use Rattle.extent_nodes.specs.Places.{place_of}
-use Rattle.extent_nodes.specs.Normal.{IsNormal, Joins}
-use Rattle.extent_nodes.specs.Changes.{after, changed, EndBefore, BeginBehind}
-use Rattle.extent_nodes.specs.Nodes.{flat, HaveFrom}
-use Rattle.extent_nodes.proofs.Joined.{all-left, all-right, apart-left, apart-right}
-use Rattle.extent_nodes.proofs.Summaries.{flat-append}
-use Rattle.extent_nodes.proofs.Splices.{Spliced, spliced-normal, spliced-at}
-use Rattle.extent_nodes.proofs.Levels.{least-count}
-use Rattle.extent_nodes.proofs.Unique.{one-list}
+use Rattle.extent_tree.specs.Places.{place_of}
+use Rattle.extent_tree.specs.Normal.{IsNormal, Joins}
+use Rattle.extent_tree.specs.Changes.{after, changed, EndBefore, BeginBehind}
+use Rattle.extent_tree.specs.Nodes.{flat, HaveFrom}
+use Rattle.extent_tree.proofs.Joined.{all-left, all-right, apart-left, apart-right}
+use Rattle.extent_tree.proofs.Summaries.{flat-append}
+use Rattle.extent_tree.proofs.Splices.{Spliced, spliced-normal, spliced-at}
+use Rattle.extent_tree.proofs.Levels.{least-count}
+use Rattle.extent_tree.proofs.Unique.{one-list}
 use Rattle.extent_tree.specs.Chosen.{Touched, Remade, MeetsEach, MeetsButOne}
 use Rattle.extent_tree.specs.Value.{OthersStay}
 use Rattle.extent_tree.proofs.Rewrites.{all-take, all-drop, flat-pieces, flat-three, piece-rises, piece-fits}

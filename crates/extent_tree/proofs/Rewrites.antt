@@ -7,15 +7,15 @@ use Rattle.std.proofs.lemmas.List.{append-nil, take-append-drop, drop_all, drop_
 use Rattle.std.proofs.Math.Seq.{take-append-add}
 use Rattle.std.proofs.lemmas.List.Folds.{drop_split}
 use Rattle.layout.specs.declared.extents.Extent.{Extent}
-use Rattle.extent_nodes.specs.Places.{place_of}
-use Rattle.extent_nodes.specs.Normal.{IsRising, PlacesFit, IsNormal}
-use Rattle.extent_nodes.specs.Changes.{after}
-use Rattle.extent_nodes.specs.Nodes.{flat, last_end, summaries, AreFilled, HaveFrom}
-use Rattle.extent_nodes.proofs.Joined.{all-left, all-right, all-append}
-use Rattle.extent_nodes.proofs.Rising.{rising-wider, rising-left, rising-right}
-use Rattle.extent_nodes.proofs.Summaries.{flat-append, summaries-append}
-use Rattle.extent_nodes.proofs.Splices.{Spliced, spliced-normal, spliced-at}
-use Rattle.extent_nodes.proofs.Levels.{before-less, behind-less}
+use Rattle.extent_tree.specs.Places.{place_of}
+use Rattle.extent_tree.specs.Normal.{IsRising, PlacesFit, IsNormal}
+use Rattle.extent_tree.specs.Changes.{after}
+use Rattle.extent_tree.specs.Nodes.{flat, last_end, summaries, AreFilled, HaveFrom}
+use Rattle.extent_tree.proofs.Joined.{all-left, all-right, all-append}
+use Rattle.extent_tree.proofs.Rising.{rising-wider, rising-left, rising-right}
+use Rattle.extent_tree.proofs.Summaries.{flat-append, summaries-append}
+use Rattle.extent_tree.proofs.Splices.{Spliced, spliced-normal, spliced-at}
+use Rattle.extent_tree.proofs.Levels.{before-less, behind-less}
 use Rattle.extent_tree.proofs.Trees.{nodes-few}
 use Rattle.extent_tree.specs.Tree.{IsLevel, IsNeeded}
 use Rattle.extent_tree.specs.Chosen.{Touched, Remade, IsEnough}

@@ -1,16 +1,15 @@
 -- The way from the root to a leaf.
-use Rattle.std.proofs.Common.{◌≡◌, ◌≤◌, ◌<◌, ℕ, zero, suc, ◌+◌, ◌-◌, ◌*◌, ◌^◌, List, [], ◌∷◌, length, get_or, sym, ap, ◌∙◌, refl, arith, subst, Some}
-use Rattle.std.proofs.Common.{inl, inr}
+use Rattle.std.proofs.Common.{◌≡◌, ◌≤◌, ◌<◌, ℕ, zero, suc, ◌+◌, ◌-◌, ◌*◌, ◌^◌, List, [], ◌∷◌, length, get_or, sym, ap, ◌∙◌, refl, arith, subst, Some, inl, inr}
 use Rattle.std.proofs.lemmas.Bool.{cases_Bool}
 use Rattle.std.proofs.lemmas.Option.{none-some, same_Some}
 use Rattle.std.proofs.lemmas.List.{append-nil, nil_from_length}
 use Rattle.std.proofs.Math.Nat.{mul-le-mul_left, mul-le-mul_right}
 use Rattle.layout.specs.declared.extents.Extent.{Extent}
-use Rattle.extent_nodes.specs.Places.{has, extent_with}
-use Rattle.extent_nodes.specs.Normal.{IsRising, PlacesFit}
-use Rattle.extent_nodes.specs.Nodes.{flat, summaries}
-use Rattle.extent_nodes.proofs.Maps.{at-here, at-later}
-use Rattle.extent_nodes.proofs.Levels.{most-count, summaries-rising}
+use Rattle.extent_tree.specs.Places.{has, extent_with}
+use Rattle.extent_tree.specs.Normal.{IsRising, PlacesFit}
+use Rattle.extent_tree.specs.Nodes.{flat, summaries}
+use Rattle.extent_tree.proofs.Maps.{at-here, at-later}
+use Rattle.extent_tree.proofs.Levels.{most-count, summaries-rising}
 use Rattle.extent_tree.specs.Tree.{IsLevel, IsTree, level_at}
 
 -- a root alone is all that there is

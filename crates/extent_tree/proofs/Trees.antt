@@ -4,10 +4,10 @@ use Rattle.std.specs.Prelude.{slice_index}
 use Rattle.std.proofs.lemmas.Bool.{cases_lt}
 use Rattle.std.proofs.Math.Nat.{mul-le-mul_left, mul-le-mul_right, pow-zero, pow-succ'}
 use Rattle.layout.specs.declared.extents.Extent.{Extent}
-use Rattle.extent_nodes.specs.Normal.{IsRising}
-use Rattle.extent_nodes.specs.Nodes.{flat, summaries, AreFilled}
-use Rattle.extent_nodes.proofs.Summaries.{length-summaries}
-use Rattle.extent_nodes.proofs.Levels.{rising-count, filled-count, least-count, most-count}
+use Rattle.extent_tree.specs.Normal.{IsRising}
+use Rattle.extent_tree.specs.Nodes.{flat, summaries, AreFilled}
+use Rattle.extent_tree.proofs.Summaries.{length-summaries}
+use Rattle.extent_tree.proofs.Levels.{rising-count, filled-count, least-count, most-count}
 use Rattle.std.proofs.lemmas.List.{length-map}
 use Rattle.extent_tree.specs.Value.{GrownByNeed, StaysOne}
 use Rattle.extent_tree.specs.Tree.{IsLevel, IsNeeded, IsTree, IsWidth, counts, level_at}

@@ -1,9 +1,9 @@
 -- The leaves that a change rewrites.
 use Rattle.std.specs.Prelude.{◌≡◌, ◌≢◌, ◌<◌, slice_index_or, ◌≤◌, ◌⊎◌, ◌+◌, ◌/◌, ℕ, List, Option, length, take, drop, slice_range}
 use Rattle.layout.specs.declared.extents.Extent.{Extent}
-use Rattle.extent_nodes.specs.Normal.{Joins}
-use Rattle.extent_nodes.specs.Changes.{changed, EndBefore, BeginBehind}
-use Rattle.extent_nodes.specs.Nodes.{flat}
+use Rattle.extent_tree.specs.Normal.{Joins}
+use Rattle.extent_tree.specs.Changes.{changed, EndBefore, BeginBehind}
+use Rattle.extent_tree.specs.Nodes.{flat}
 use Rattle.extent_tree.specs.Value.{Meets}
 
 -- The leaves before one number end before a run, those from another on begin behind it, and a tree of a single leaf is taken whole.

@@ -1,8 +1,8 @@
 -- The tree of nodes.
 use Rattle.std.specs.Prelude.{◌≡◌, ◌<◌, ◌≤◌, ◌/◌, ◌^◌, ℕ, zero, suc, List, [], ◌∷◌, length, map}
 use Rattle.layout.specs.declared.extents.Extent.{Extent}
-use Rattle.extent_nodes.specs.Normal.{IsNormal}
-use Rattle.extent_nodes.specs.Nodes.{flat, summaries, AreFilled, HaveFrom}
+use Rattle.extent_tree.specs.Normal.{IsNormal}
+use Rattle.extent_tree.specs.Nodes.{flat, summaries, AreFilled, HaveFrom}
 
 -- The nodes of one level: none is empty or has more entries than the width; where they are several, each has a quarter of the width at least.
 pub record IsLevel (width : ℕ) (ns : List (List Extent)) : Type 0 where

@@ -1,7 +1,7 @@
 -- The extents of one inode in one tier, as callers see them.
 use Rattle.std.specs.Prelude.{◌≡◌, ◌≢◌, ◌<◌, ◌≤◌, ◌+◌, ◌-◌, ◌++◌, ℕ, List, length, slice_index, slice_index_or, take, drop}
 use Rattle.layout.specs.declared.extents.Extent.{Extent}
-use Rattle.extent_nodes.specs.Nodes.{begin_of, last_end}
+use Rattle.extent_tree.specs.Nodes.{begin_of, last_end}
 
 -- the runs, how many entries each level of the tree has, the lowest level first, and the leaves, which have the runs one after the other
 pub record ExtentMap : Type 0 where

@@ -1,11 +1,11 @@
 // The levels above the leaves.
 ghost use Rattle.std.specs.Prelude.{◌≡◌, ◌≤◌, ◌<◌, ◌+◌, ◌++◌, ◌^◌, List, length, IfOk};
-ghost use Rattle.extent_nodes.specs.Nodes.{flat, summaries, AreFilled};
-ghost use Rattle.extent_nodes.specs.Normal.{IsRising};
+ghost use Rattle.extent_tree.specs.Nodes.{flat, summaries, AreFilled};
+ghost use Rattle.extent_tree.specs.Normal.{IsRising};
 ghost use Rattle.extent_tree.specs.Tree.{IsLevel, IsNeeded, IsTree, IsWidth};
 ghost use Rattle.layout.specs.declared.extents.Extent.{Extent};
 
-use extent_nodes::{Node, pack, push_summaries};
+use crate::{Node, pack, push_summaries};
 use layout::Extent;
 use std::alloc::{AllocError, Global};
 use std::marker::Model;

@@ -1,12 +1,12 @@
 // The leaves that a change rewrites: those that the run touches, and others beside them where too few entries are left.
 ghost use Rattle.std.specs.Prelude.{◌≡◌, ◌≤◌, ◌<◌, ◌+◌, ◌-◌, ◌/◌, ◌^◌, ◌↔◌, ◌⊎◌, length, IsTrue, IfSome, IfOk};
-ghost use Rattle.extent_nodes.specs.Changes.{changed};
-ghost use Rattle.extent_nodes.specs.Nodes.{flat, AreFilled, HaveFrom};
-ghost use Rattle.extent_nodes.specs.Normal.{IsRising, PlacesFit, IsNormal, Joins};
+ghost use Rattle.extent_tree.specs.Changes.{changed};
+ghost use Rattle.extent_tree.specs.Nodes.{flat, AreFilled, HaveFrom};
+ghost use Rattle.extent_tree.specs.Normal.{IsRising, PlacesFit, IsNormal, Joins};
 ghost use Rattle.extent_tree.specs.Chosen.{Touched, Remade, IsEnough, MeetsEach, MeetsButOne};
 
+use crate::{Node, change, nodes_before, nodes_up_to, push_entries};
 use block_alloc::Run;
-use extent_nodes::{Node, change, nodes_before, nodes_up_to, push_entries};
 use layout::Extent;
 use std::alloc::{AllocError, Global};
 

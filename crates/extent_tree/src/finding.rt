@@ -1,12 +1,12 @@
 // The way from the root to the leaf that has a block.
 ghost use Rattle.std.specs.Prelude.{◌≡◌, ◌≤◌, ◌<◌, ◌+◌, ◌*◌, ◌^◌, length};
-ghost use Rattle.extent_nodes.specs.Nodes.{flat, summaries};
-ghost use Rattle.extent_nodes.specs.Normal.{IsRising};
-ghost use Rattle.extent_nodes.specs.Places.{extent_with};
+ghost use Rattle.extent_tree.specs.Nodes.{flat, summaries};
+ghost use Rattle.extent_tree.specs.Normal.{IsRising};
+ghost use Rattle.extent_tree.specs.Places.{extent_with};
 ghost use Rattle.extent_tree.specs.Tree.{IsLevel, IsTree, IsWidth, level_at};
 
 use crate::building::Level;
-use extent_nodes::{Found, Node};
+use crate::{Found, Node};
 
 fn find_in_root(nodes: &[Node], block: u32) -> Found
     requires one { length nodes.now ≤ 1 }

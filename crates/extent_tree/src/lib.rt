@@ -4,8 +4,31 @@
 #![tactic(auto)]
 
 mod building;
+mod changing;
 mod choosing;
 mod finding;
+mod given_up;
+mod joining;
+mod map;
+mod map_laws;
+mod node;
+mod node_laws;
+mod packing;
+mod searching;
 mod tree;
 
+pub use changing::change;
+pub use joining::{push, push_part};
+pub use map::{BlockMap, Place};
+pub use map_laws::{
+    few_blocks_are_few_runs, put_blocks_lie_apart, put_blocks_lie_once, put_blocks_lie_within,
+    whole_map_fits_a_block,
+};
+pub use node::{Found, Node};
+pub use node_laws::{block_spells_a_map, map_is_spelled_by_a_block, normal_form_is_one};
+pub use packing::{pack, push_entries, push_summaries};
+pub use searching::{nodes_before, nodes_up_to};
 pub use tree::{Counted, Extents};
+
+// Passed on to the crates above, which so need not list those below.
+pub use block_alloc::{AllocatorError, FreeRuns, Run};

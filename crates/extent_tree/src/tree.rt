@@ -1,16 +1,16 @@
 ghost use Rattle.std.specs.Prelude.{◌≡◌, ◌≤◌, ◌<◌, ◌+◌, ◌-◌, ◌*◌, ◌/◌, ◌^◌, ◌++◌, ◌∷◌, [], ℕ, Some, None, length, slice_index, take, drop, IfSome, IfOk, OnOk, OnErr};
-ghost use Rattle.extent_nodes.specs.Changes.{after};
-ghost use Rattle.extent_nodes.specs.Nodes.{flat, HaveFrom};
-ghost use Rattle.extent_nodes.specs.Normal.{IsRising, PlacesFit, IsNormal};
-ghost use Rattle.extent_nodes.specs.Places.{place_of, SamePlaces};
+ghost use Rattle.extent_tree.specs.Changes.{after};
+ghost use Rattle.extent_tree.specs.Nodes.{flat, HaveFrom};
+ghost use Rattle.extent_tree.specs.Normal.{IsRising, PlacesFit, IsNormal};
+ghost use Rattle.extent_tree.specs.Places.{place_of, SamePlaces};
 ghost use Rattle.extent_tree.specs.Tree.{IsExtentTree, counts};
 ghost use Rattle.extent_tree.specs.Value.{GrownByNeed, StaysOne, OthersStay};
 
 use crate::building::{Level, levels_above};
 use crate::choosing::{Span, choose};
 use crate::finding::find_in;
+use crate::{Node, pack, push_entries, push_part};
 use block_alloc::Run;
-use extent_nodes::{Node, pack, push_entries, push_part};
 use layout::Extent;
 use std::alloc::{AllocError, Global};
 use std::marker::Model;
@@ -25,7 +25,7 @@ pub struct Extents<const N: usize> {
 }
 
 impl<const N: usize> Model for Extents<N> {
-    ghost use Rattle.extent_nodes.specs.Nodes.{flat};
+    ghost use Rattle.extent_tree.specs.Nodes.{flat};
     ghost use Rattle.extent_tree.specs.Tree.{IsExtentTree, counts};
     ghost use Rattle.extent_tree.specs.Value.{ExtentMap};
 

@@ -5,8 +5,8 @@ use Rattle.file_graph.specs.declared.effect.Effect.{Effect}
 use Rattle.file_graph.specs.declared.effect.Effect.TheVariants as effect
 use Rattle.file_graph.specs.Graph.{Node, cost}
 use Rattle.file_graph.specs.Numbers.{is_inode}
-use Rattle.node_bodies.specs.declared.name_map.NamedEntry.{NamedEntry}
-pub use Rattle.node_bodies.specs.Named.{pairs}
+use Rattle.file_graph.specs.declared.name_map.NamedEntry.{NamedEntry}
+pub use Rattle.file_graph.specs.Named.{pairs}
 
 -- an entry of a directory
 abbrev pub PlainEntry : Type 0

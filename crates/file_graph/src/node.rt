@@ -6,7 +6,7 @@ ghost use Rattle.file_graph.specs.Plain.{pairs, is_drop};
 ghost use Rattle.file_graph.specs.Bodies.{body_of};
 
 use crate::effect::{Child, Effect, Kind};
-use node_bodies::{FileBytes, NameMap, NamedEntry};
+use crate::{FileBytes, NameMap, NamedEntry};
 use posix_calls::{Name, UNIT_BYTES, UNIT_ENTRIES};
 use std::alloc::{AllocError, Global};
 use std::marker::Model;

@@ -1,17 +1,14 @@
 // A log of numbered records over a file.
 ghost use Rattle.std.specs.Prelude.{◌≡◌, IfOk};
-ghost use Rattle.long_media.specs.File.{IsFileAtRest};
-ghost use Rattle.log_record.specs.Grammar.{IsRecord};
+ghost use Rattle.host_media.specs.File.{IsFileAtRest};
+ghost use Rattle.update_log.specs.log_record.Grammar.{IsRecord};
 ghost use Rattle.update_log.specs.declared.stage.Stage.TheVariants as stages;
 
 use anyhow::{Result, bail};
-use file_graph::{Effect, Effects};
-use log_record::Record;
-use long_media::{FileMedia, Sizes};
-use posix_calls::SharedBytes;
+use host_media::{FileMedia, Sizes};
 use std::alloc::Global;
 use std::fs;
-use update_log::{REGION_SIZE, Region, Stage};
+use update_log::{Effect, Effects, REGION_SIZE, Record, Region, SharedBytes, Stage};
 
 /// The inode that each record writes.
 const INODE: u32 = 2;

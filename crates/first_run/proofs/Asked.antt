@@ -1,15 +1,15 @@
 -- What is asked of a graph that is known whole.
 use Rattle.std.proofs.Common.{◌≡◌, ℕ, Ok, ap, ◌∙◌, arith}
 use Rattle.std.specs.Prelude.{min}
-use Rattle.posix_calls.specs.Query.{Query, Gives, View, Known, run, run_part}
-use Rattle.posix_calls.specs.declared.operation.Operation.{Operation}
-use Rattle.posix_calls.proofs.Comes.{bind_ok, given}
-use Rattle.posix_calls.proofs.Parts.{known_is_run}
-use Rattle.file_graph.specs.Graph.{Graph}
+use Rattle.call_effects.specs.posix_calls.Query.{Query, Gives, View, Known, run, run_part}
+use Rattle.call_effects.specs.posix_calls.declared.operation.Operation.{Operation}
+use Rattle.call_effects.proofs.posix_calls_lemmas.Comes.{bind_ok, given}
+use Rattle.call_effects.proofs.posix_calls_lemmas.Parts.{known_is_run}
+use Rattle.call_effects.specs.file_graph.Graph.{Graph}
 use Rattle.call_effects.specs.Known.{stored_view}
 use Rattle.call_effects.specs.Records.{growth_asked, units_asked}
-use Rattle.graph_answers.specs.Whole.{whole_of}
-use Rattle.graph_answers.proofs.Whole.{whole_is_stored}
+use Rattle.call_effects.specs.Whole.{whole_of}
+use Rattle.call_effects.proofs.Whole.{whole_is_stored}
 
 pub told_is_run : {A : Type 0} (g : Graph) (q : Query A) (x : A) → run_part (whole_of g) q ≡ Known (Ok x) → run (stored_view g) q ≡ Ok x
 told_is_run g q x e = known_is_run (whole_of g) (stored_view g) (whole_is_stored g) q (Ok x) e

@@ -1,18 +1,18 @@
 -- The two calls of the first path as records, and what records make of a graph.
 use Rattle.std.specs.Prelude.{◌≡◌, ℕ, zero, suc, List, [], ◌∷◌, drop, Some, None, Ok, true, codes}
-use Rattle.posix_calls.specs.declared.limits.TheConstants.{ROOT}
-use Rattle.posix_calls.specs.declared.call.Call.{Call}
-use Rattle.posix_calls.specs.declared.call.Call.TheVariants as call
-use Rattle.posix_calls.specs.declared.call.Reply.{Reply}
-use Rattle.posix_calls.specs.declared.operation.Operation.{Operation}
-use Rattle.posix_calls.specs.Tree.{Own, set_own}
-use Rattle.posix_calls.specs.Query.{run}
-use Rattle.posix_calls.specs.Decide.{decide}
-use Rattle.posix_calls.specs.Operations.{reply_of}
-use Rattle.file_graph.specs.Graph.{Graph, fresh, after_effects}
-use Rattle.file_graph.specs.declared.effect.Kind.TheVariants as kind
-use Rattle.log_record.specs.declared.format.Record.{Record}
-use Rattle.update_log.specs.Frames.{records, with_record}
+use Rattle.call_effects.specs.posix_calls.declared.limits.TheConstants.{ROOT}
+use Rattle.call_effects.specs.posix_calls.declared.call.Call.{Call}
+use Rattle.call_effects.specs.posix_calls.declared.call.Call.TheVariants as call
+use Rattle.call_effects.specs.posix_calls.declared.call.Reply.{Reply}
+use Rattle.call_effects.specs.posix_calls.declared.operation.Operation.{Operation}
+use Rattle.call_effects.specs.posix_calls.Tree.{Own, set_own}
+use Rattle.call_effects.specs.posix_calls.Query.{run}
+use Rattle.call_effects.specs.posix_calls.Decide.{decide}
+use Rattle.call_effects.specs.posix_calls.Operations.{reply_of}
+use Rattle.call_effects.specs.file_graph.Graph.{Graph, fresh, after_effects}
+use Rattle.call_effects.specs.file_graph.declared.effect.Kind.TheVariants as kind
+use Rattle.call_effects.specs.log_record.declared.format.Record.{Record}
+use Rattle.script.specs.update_log.Frames.{records, with_record}
 use Rattle.call_effects.specs.Effects.{making}
 use Rattle.call_effects.specs.Known.{stored_view}
 use Rattle.call_effects.specs.Records.{effects_asked, growth_asked}

@@ -2,7 +2,7 @@
 use Rattle.std.specs.Prelude.{◌≡◌, ℕ, List, [], ◌∷◌, Option, Some, None, codes}
 use Rattle.clap.specs.Matches.{first_value}
 use Rattle.clap.specs.declared.parser.matches.Found.{Found}
-use Rattle.script_lines.specs.Script.{hex_byte}
+use Rattle.script.specs.Script.{hex_byte}
 
 -- the byte that two digits spell
 abbrev pub fill_in : List ℕ → Option ℕ

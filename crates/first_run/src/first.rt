@@ -1,9 +1,9 @@
 // The program `strata_first`.
 ghost use Rattle.std.specs.Prelude.{◌≡◌, Ok, true, Some, IfOk, OnOk};
-ghost use Rattle.tier_device.specs.declared.media.Tier.TheVariants.{Fast};
-ghost use Rattle.update_log.specs.Frames.{with_record};
-ghost use Rattle.file_graph.specs.Graph.{Graph, graph_of};
-ghost use Rattle.update_log.specs.View.{records_of};
+ghost use Rattle.script.specs.tier_device.declared.media.Tier.TheVariants.{Fast};
+ghost use Rattle.script.specs.update_log.Frames.{with_record};
+ghost use Rattle.call_effects.specs.file_graph.Graph.{Graph, graph_of};
+ghost use Rattle.script.specs.update_log.View.{records_of};
 ghost use Rattle.first_run.specs.FirstPath.{nothing_open, file_open, first_call, second_call, IsLogged, IsMark, IsRecovered};
 
 use crate::options::{Stop, first_options};
@@ -11,14 +11,10 @@ use crate::regions::{Stopping, apply, log, open_region, recover};
 use crate::two_clients::{
     FILE, NEW, first_call, first_descriptors, first_graph, logged, second_call,
 };
-use file_graph::{PlainEntry, PlainGraph};
-use log_record::Record;
-use posix_calls::{OwnDescriptors, ROOT, Reply};
+use call_effects::{OwnDescriptors, PlainEntry, PlainGraph, ROOT, Record, Reply};
+use script::{Media, Region, RunError, StopMedia, tell, tell_fault, write_data, write_name};
 use std::alloc::Global;
 use std::io::{self, Write};
-use tier_device::{Media, StopMedia};
-use update_log::Region;
-use workload_cli::{RunError, tell, tell_fault, write_data, write_name};
 
 /// Runs `strata_first`: client 1 writes into `/f` and client 2 makes `/a`, each into a region of its own; then the run stops,
 /// and a recovery replays what both regions hold. The first word is the program's name.

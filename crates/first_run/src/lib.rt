@@ -8,3 +8,14 @@ mod regions;
 mod two_clients;
 
 pub use first::run_first;
+
+// Passed on to the crates above, which so need not list those below.
+pub use call_effects::{
+    Bytes, Call, DecideError, Description, GraphAnswers, MAX_CLIENTS, MAX_INODE, Missing, Name,
+    NamedInode, Names, Operation, OwnDescriptors, Path, ROOT, Record, RecordError, Reply,
+    TreeAnswers, decide, growth_of, is_payload, read_payload, read_record, record_of,
+};
+pub use script::{
+    CallText, DataText, Errno, HEADER, Line, PathText, Programs, REGION_SIZE, Ran, Region,
+    RegionError, Report, Row, Stage, Text, read_line, run_program, run_rows,
+};

@@ -4,9 +4,8 @@ ghost use Rattle.first_run.specs.Options.{fill_in, IsFill};
 ghost use Rattle.clap.specs.Matches.{found_of};
 
 use clap::{Arg, ArgAction, ArgMatches, Command, Error, value_parser};
-use script_lines::hex_byte;
+use script::{WordsError, hex_byte};
 use std::alloc::{AllocError, Global};
-use workload_cli::WordsError;
 
 /// Where each region stops, and what its bytes then hold.
 #[derive(Clone, Copy)]

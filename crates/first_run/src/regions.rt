@@ -1,22 +1,19 @@
 // A client's region: what is logged there, and what a stop leaves.
 ghost use Rattle.std.specs.Prelude.{◌≡◌, ◌-◌, IfOk, OnOk, IfSome, IfNone, Ok, true, false, Some, None, drop};
-ghost use Rattle.tier_device.specs.declared.media.Tier.TheVariants.{Fast};
-ghost use Rattle.tier_device.specs.Media.{AtRest, Rose};
-ghost use Rattle.tier_device.specs.Memory.{IsAtRest, memory_seen};
-ghost use Rattle.tier_device.specs.Stop.{medium_of, armed};
-ghost use Rattle.tier_device.specs.declared.fill.Fill.TheVariants.{Byte};
-ghost use Rattle.file_graph.specs.Graph.{graph_of, after_effects};
-ghost use Rattle.update_log.specs.Frames.{with_record, records};
-ghost use Rattle.update_log.specs.View.{records_of};
+ghost use Rattle.script.specs.tier_device.declared.media.Tier.TheVariants.{Fast};
+ghost use Rattle.script.specs.tier_device.Media.{AtRest, Rose};
+ghost use Rattle.script.specs.tier_device.Memory.{IsAtRest, memory_seen};
+ghost use Rattle.script.specs.tier_device.Stop.{medium_of, armed};
+ghost use Rattle.script.specs.tier_device.declared.fill.Fill.TheVariants.{Byte};
+ghost use Rattle.call_effects.specs.file_graph.Graph.{graph_of, after_effects};
+ghost use Rattle.script.specs.update_log.Frames.{with_record, records};
+ghost use Rattle.script.specs.update_log.View.{records_of};
 ghost use Rattle.first_run.specs.FirstPath.{after_replay, MayHold, IsRecovered};
 
 use crate::options::Stop;
-use file_graph::PlainGraph;
-use log_record::Record;
+use call_effects::{PlainGraph, Record};
+use script::{Fill, Media, MemMedia, REGION_SIZE, Region, RegionError, RunError, Stage, StopMedia};
 use std::alloc::Global;
-use tier_device::{Fill, Media, MemMedia, StopMedia};
-use update_log::{REGION_SIZE, Region, RegionError, Stage};
-use workload_cli::RunError;
 
 /// A medium that stops where it is asked to. A run is written over any such, so that what it owns is one value to the check of
 /// borrows, and not as many as `StopMedia` has fields.

@@ -1,27 +1,23 @@
 // Two clients that each ask a call over a graph, which stands for the shared media.
 ghost use Rattle.std.specs.Prelude.{◌≡◌, ℕ, IfOk, IfSome, OnOk, Ok, codes};
-ghost use Rattle.posix_calls.specs.Query.{run};
-ghost use Rattle.posix_calls.specs.Decide.{decide};
-ghost use Rattle.posix_calls.specs.Operations.{IsInRange, reply_of};
-ghost use Rattle.posix_calls.specs.Own.{own_of};
-ghost use Rattle.posix_calls.specs.declared.limits.TheConstants.{ROOT};
-ghost use Rattle.file_graph.specs.declared.effect.Kind.TheVariants as kinds;
-ghost use Rattle.file_graph.specs.Graph.{graph_of, after_effect, after_effects};
+ghost use Rattle.call_effects.specs.posix_calls.Query.{run};
+ghost use Rattle.call_effects.specs.posix_calls.Decide.{decide};
+ghost use Rattle.call_effects.specs.posix_calls.Operations.{IsInRange, reply_of};
+ghost use Rattle.call_effects.specs.posix_calls.Own.{own_of};
+ghost use Rattle.call_effects.specs.posix_calls.declared.limits.TheConstants.{ROOT};
+ghost use Rattle.call_effects.specs.file_graph.declared.effect.Kind.TheVariants as kinds;
+ghost use Rattle.call_effects.specs.file_graph.Graph.{graph_of, after_effect, after_effects};
 ghost use Rattle.call_effects.specs.Effects.{making};
 ghost use Rattle.call_effects.specs.Known.{stored_view};
 ghost use Rattle.call_effects.specs.Records.{effects_asked, growth_asked};
 ghost use Rattle.first_run.specs.FirstPath.{root_with_f, file_open, first_call, second_call, IsLogged};
 
-use call_effects::{growth_of, record_of};
-use file_graph::{Effect, Kind, PlainGraph};
-use graph_answers::GraphAnswers;
-use log_record::Record;
-use posix_calls::{
-    Bytes, Call, DecideError, Descriptor, Name, Operation, OwnDescriptors, ROOT, Reply,
-    SharedBytes, decide,
+use call_effects::{
+    Bytes, Call, DecideError, Descriptor, Effect, GraphAnswers, Kind, Name, Operation,
+    OwnDescriptors, PlainGraph, ROOT, Record, Reply, SharedBytes, decide, growth_of, record_of,
 };
+use script::RunError;
 use std::alloc::Global;
-use workload_cli::RunError;
 
 /// The inode of the file `/f`, which is there from the start and open as descriptor 0 of client 1.
 pub const FILE: u32 = 2;

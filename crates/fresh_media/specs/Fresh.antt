@@ -10,7 +10,7 @@ use Rattle.layout.specs.declared.marks.TheConstants.{CLIENTS}
 use Rattle.layout.specs.declared.places.TheConstants.{BLOCK, MARKS_BLOCK}
 use Rattle.layout.specs.declared.slot.Slot.{Slot}
 use Rattle.layout.specs.declared.slot.Slot.TheVariants as slot
-use Rattle.tier_device.specs.declared.media.Tier.TheVariants.{Fast}
+use Rattle.layout.specs.tier_device.declared.media.Tier.TheVariants.{Fast}
 use Rattle.update_log.specs.declared.format.TheConstants.{REGION_SIZE}
 
 -- a root without entries, which no digest has written

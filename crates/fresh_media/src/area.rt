@@ -6,9 +6,8 @@ ghost use Rattle.layout.specs.Slot.{slot_spelling};
 ghost use Rattle.layout.specs.Super.{super_spelling};
 
 use crate::filling::fill_up;
-use layout::{BLOCK, CLIENTS, Geometry, MARKS_BLOCK, Mark, Marks, SLOT_SIZE, Slot, Super};
+use layout::{BLOCK, CLIENTS, Geometry, MARKS_BLOCK, Mark, Marks, SLOT_SIZE, Slot, Super, Tier};
 use std::alloc::{AllocError, Global};
-use tier_device::Tier;
 
 /// The fast tier of an area in which nothing stands but a root that has no entries, and no record is digested: the superblock, the slot of the root, the marks, and zeros elsewhere.
 pub fn first_fast_tier(alloc: Global, geometry: &Geometry) -> Result<Vec<u8>, AllocError>

@@ -7,3 +7,7 @@ mod region;
 
 pub use area::{empty_tier, first_fast_tier};
 pub use region::empty_region;
+
+// Passed on to the crates above, which so need not list those below.
+pub use layout::Geometry;
+pub use update_log::{Region, RegionError};

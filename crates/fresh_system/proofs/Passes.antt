@@ -6,9 +6,9 @@ use Rattle.std.specs.List.{All, remove}
 use Rattle.std.proofs.lemmas.List.{get_or-replicate}
 use Rattle.std.proofs.lemmas.List.Elements.{All-map, All-pop, All-replicate, All-tail}
 use Rattle.atomic_table.specs.Seated.{TableId}
-use Rattle.lease_manager.specs.Passes.{PassView, fresh, places}
-use Rattle.lease_manager.specs.Words.{lease_place}
-use Rattle.lease_manager.specs.declared.view.LeaseMode.TheVariants.{Free}
+use Rattle.event_steps.specs.lease_manager.Passes.{PassView, fresh, places}
+use Rattle.event_steps.specs.lease_manager.Words.{lease_place}
+use Rattle.event_steps.specs.lease_manager.declared.view.LeaseMode.TheVariants.{Free}
 use Rattle.fresh_system.specs.Fresh.{CountsNone}
 
 -- a fresh one counts nothing

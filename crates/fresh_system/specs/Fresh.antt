@@ -1,15 +1,15 @@
 -- What a system begins with.
 use Rattle.std.specs.Prelude.{◌≡◌, ℕ, false, List, [], None}
-use Rattle.tier_device.specs.declared.media.Tier.{Tier}
-use Rattle.tier_device.specs.declared.media.Tier.TheVariants.{Fast, Block, Slow}
-use Rattle.tier_device.specs.Media.{AtRest}
+use Rattle.host_media.specs.tier_device.declared.media.Tier.{Tier}
+use Rattle.host_media.specs.tier_device.declared.media.Tier.TheVariants.{Fast, Block, Slow}
+use Rattle.host_media.specs.tier_device.Media.{AtRest}
 use Rattle.atomic_table.specs.Seated.{TableId}
-use Rattle.lease_manager.specs.Passes.{PassView, lease_of, records_of}
-use Rattle.lease_manager.specs.Words.{HasWord}
-use Rattle.lease_manager.specs.declared.view.LeaseMode.TheVariants.{Free}
-use Rattle.kernel_book.specs.Book.{out_of}
-use Rattle.event_steps.specs.KernelView.{KernelView}
-use Rattle.event_steps.specs.Holding.{known_to}
+use Rattle.event_steps.specs.lease_manager.Passes.{PassView, lease_of, records_of}
+use Rattle.event_steps.specs.lease_manager.Words.{HasWord}
+use Rattle.event_steps.specs.lease_manager.declared.view.LeaseMode.TheVariants.{Free}
+use Rattle.event_steps.specs.kernel_fs.Book.{out_of}
+use Rattle.event_steps.specs.kernel_fs.KernelView.{KernelView}
+use Rattle.event_steps.specs.libfs.Holding.{known_to}
 use Rattle.event_steps.specs.Refusals.{no_refusals}
 use Rattle.event_steps.specs.View.{SeatView, undigested_on}
 

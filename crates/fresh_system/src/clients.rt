@@ -1,20 +1,19 @@
 // Clients that have logged nothing.
 ghost use Rattle.std.specs.Prelude.{◌≡◌, false, IfOk};
 ghost use Rattle.std.specs.List.{All};
-ghost use Rattle.tier_device.specs.declared.media.Tier.TheVariants.{Fast};
-ghost use Rattle.tier_device.specs.Media.{AtRest};
-ghost use Rattle.event_steps.specs.Opening.{IsBlank};
+ghost use Rattle.host_media.specs.tier_device.declared.media.Tier.TheVariants.{Fast};
+ghost use Rattle.host_media.specs.tier_device.Media.{AtRest};
+ghost use Rattle.event_steps.specs.libfs.Opening.{IsBlank};
 ghost use Rattle.fresh_system.specs.Fresh.{CountsNone, IsFreshSeat};
 
 use crate::error::OpenError;
 use crate::media_maker::MediaMaker;
-use client_log::{ClientLog, LogError};
-use event_steps::{Client, Seat};
-use fresh_media::empty_region;
-use lease_manager::{CLIENTS, Leases, Opened, Pass};
+use event_steps::{
+    CLIENTS, Client, ClientLog, LeaseManagerLeases as Leases, LogError, Opened, Pass, Seat,
+};
+use fresh_media::{Region, RegionError, empty_region};
+use host_media::Media;
 use std::alloc::{AllocError, Global};
-use tier_device::Media;
-use update_log::{Region, RegionError};
 
 /// The seats of all clients, in the order of their numbers.
 #[tactic(auto, using(crate::proofs::Passes::all_handles))]

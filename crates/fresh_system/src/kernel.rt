@@ -1,16 +1,15 @@
 // A kernel over a fresh shared area.
 ghost use Rattle.std.specs.Prelude.{IfOk};
-ghost use Rattle.tier_device.specs.declared.media.Tier.{Tier};
-ghost use Rattle.tier_device.specs.Media.{AtRest};
+ghost use Rattle.host_media.specs.tier_device.declared.media.Tier.{Tier};
+ghost use Rattle.host_media.specs.tier_device.Media.{AtRest};
 ghost use Rattle.fresh_system.specs.Fresh.{IsFreshKernel};
 
 use crate::error::OpenError;
 use crate::media_maker::MediaMaker;
 use event_steps::{Kernel, Shared};
-use fresh_media::{empty_tier, first_fast_tier};
-use layout::Geometry;
+use fresh_media::{Geometry, empty_tier, first_fast_tier};
+use host_media::{Media, Tier};
 use std::alloc::{AllocError, Global};
-use tier_device::{Media, Tier};
 
 /// A kernel over fresh media of this geometry.
 pub fn fresh_kernel<M: Media + Drop, B: MediaMaker<M>>(

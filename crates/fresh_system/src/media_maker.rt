@@ -2,9 +2,8 @@
 ghost use Rattle.std.specs.Prelude.{IfOk};
 ghost use Rattle.fresh_system.specs.Fresh.{Holds};
 
-use long_media::RamMedia;
+use host_media::{Media, RamMedia};
 use std::alloc::AllocError;
-use tier_device::Media;
 
 /// Makes media of the bytes of their tiers.
 pub trait MediaMaker<M: Media> {

@@ -8,9 +8,9 @@ use crate::error::OpenError;
 use crate::kernel::fresh_kernel;
 use crate::media_maker::MediaMaker;
 use event_steps::System;
-use layout::Geometry;
+use fresh_media::Geometry;
+use host_media::Media;
 use std::alloc::Global;
-use tier_device::Media;
 
 /// A kernel over fresh media of this geometry, and eight clients that have logged nothing. The shared media are made first, and then the two regions of each client in turn.
 pub fn open_fresh<M: Media + Drop, B: MediaMaker<M>>(

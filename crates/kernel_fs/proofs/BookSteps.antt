@@ -1,14 +1,14 @@
 -- The book changes, and the media stay.
 use Rattle.std.proofs.Common.{◌≡◌, ℕ, ◌≤◌, List, true, refl, sym, ◌∙◌, subst}
-use Rattle.tier_device.specs.declared.media.Tier.{Tier}
-use Rattle.posix_calls.specs.Operations.{is_client}
-use Rattle.batch_journal.specs.View.{JournalView}
-use Rattle.digester.specs.Store.{store_of}
-use Rattle.world_facts.specs.World.{Account, at}
-use Rattle.world_facts.specs.Machine.{Machine, with_account}
-use Rattle.world_facts.proofs.Kernels.{each}
-use Rattle.kernel_book.specs.Book.{Accounts, IsBookOf}
-use Rattle.kernel_book.specs.Marks.{AreMarksOf, IsMarkOf}
+use Rattle.digester.specs.tier_device.declared.media.Tier.{Tier}
+use Rattle.digester.specs.posix_calls.Operations.{is_client}
+use Rattle.digester.specs.batch_journal.View.{JournalView}
+use Rattle.digester.specs.area_image.Store.{store_of}
+use Rattle.world_invariant.specs.World.{Account, at}
+use Rattle.world_invariant.specs.Machine.{Machine, with_account}
+use Rattle.world_invariant.proofs.Kernels.{each}
+use Rattle.kernel_fs.specs.Book.{Accounts, IsBookOf}
+use Rattle.kernel_fs.specs.Marks.{AreMarksOf, IsMarkOf}
 use Rattle.kernel_fs.specs.KernelView.{KernelView}
 use Rattle.kernel_fs.specs.Standing.{IsKernelOf, done_in, StandFor}
 

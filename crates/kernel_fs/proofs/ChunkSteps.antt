@@ -1,23 +1,23 @@
 -- A chunk is digested: what becomes of the graph, its charge and its nodes, and that no record is bad.
 use Rattle.std.proofs.Common.{◌≡◌, ◌≢◌, inl, inr, ℕ, zero, suc, ◌+◌, ◌≤◌, ◌==◌, List, [], ◌∷◌, take, Bool, true, false, cond, Option, Some, None, refl, ap, sym, ◌∙◌, subst, arith}
-use Rattle.tier_device.specs.declared.media.Tier.{Tier}
-use Rattle.file_graph.specs.Graph.{Graph}
-use Rattle.file_graph.specs.Units.{charge}
-use Rattle.layout.specs.Places.{Sizes}
-use Rattle.log_record.specs.declared.format.Record.{Record}
-use Rattle.batch_journal.specs.View.{JournalView}
-use Rattle.digester.specs.Store.{Store, store_of, graph}
-use Rattle.digest_plan.specs.Plan.{AreGood, IsFirstBad}
+use Rattle.digester.specs.tier_device.declared.media.Tier.{Tier}
+use Rattle.digester.specs.file_graph.Graph.{Graph}
+use Rattle.digester.specs.file_graph.Units.{charge}
+use Rattle.digester.specs.layout.Places.{Sizes}
+use Rattle.digester.specs.log_record.declared.format.Record.{Record}
+use Rattle.digester.specs.batch_journal.View.{JournalView}
+use Rattle.digester.specs.area_image.Store.{Store, store_of, graph}
+use Rattle.digester.specs.Plan.{AreGood, IsFirstBad}
 use Rattle.digester.specs.Digesting.{IsDigested, IsToldBad}
 use Rattle.digester.specs.SealedLog.{IsSealed, undone}
 use Rattle.digester.specs.declared.sealed_log.SealedLog.{SealedLog}
 use Rattle.digester.specs.declared.error.DigestError.{DigestError}
 use Rattle.digester.specs.declared.error.DigestError.TheVariants as errors
-use Rattle.world_facts.specs.Logs.{after_records, units_in, ArePaid}
-use Rattle.world_facts.specs.Machine.{Machine, Sealed, IsRunning, StandsSealed}
-use Rattle.world_facts.proofs.Paid.{charge_records}
-use Rattle.kernel_book.specs.Book.{Accounts, IsBookOf}
-use Rattle.kernel_book.specs.Nodes.{AreNodes}
+use Rattle.world_invariant.specs.Logs.{after_records, units_in, ArePaid}
+use Rattle.world_invariant.specs.Machine.{Machine, Sealed, IsRunning, StandsSealed}
+use Rattle.world_invariant.proofs.Paid.{charge_records}
+use Rattle.kernel_fs.specs.Book.{Accounts, IsBookOf}
+use Rattle.kernel_fs.specs.Nodes.{AreNodes}
 use Rattle.kernel_fs.specs.Accepting.{client_of, IsRegionOf}
 use Rattle.kernel_fs.specs.KernelView.{KernelView}
 use Rattle.kernel_fs.specs.Standing.{IsKernelOf, StandFor}

@@ -2,25 +2,25 @@
 use Rattle.std.proofs.Common.{◌≡◌, ◌≢◌, inl, inr, ℕ, ◌+◌, ◌-◌, ◌<◌, ◌≤◌, ◌==◌, List, [], length, take, drop, Bool, true, cond, Option, Some, refl, ap, sym, ◌∙◌, subst, arith}
 use Rattle.std.proofs.lemmas.Bool.Decides.{eqb_tells}
 use Rattle.std.proofs.lemmas.List.{length-drop, length-take-le, get_or-set_other}
-use Rattle.tier_device.specs.declared.media.Tier.{Tier}
-use Rattle.posix_calls.specs.Operations.{is_client}
-use Rattle.file_graph.specs.Graph.{Graph, is_among}
-use Rattle.layout.specs.declared.marks.Mark.{Mark}
-use Rattle.layout.specs.declared.marks.Marks.{Marks}
-use Rattle.log_record.specs.declared.format.Record.{Record}
-use Rattle.batch_journal.specs.View.{JournalView}
-use Rattle.digester.specs.Store.{Store, store_of, graph, marks}
+use Rattle.digester.specs.tier_device.declared.media.Tier.{Tier}
+use Rattle.digester.specs.posix_calls.Operations.{is_client}
+use Rattle.digester.specs.file_graph.Graph.{Graph, is_among}
+use Rattle.digester.specs.layout.declared.marks.Mark.{Mark}
+use Rattle.digester.specs.layout.declared.marks.Marks.{Marks}
+use Rattle.digester.specs.log_record.declared.format.Record.{Record}
+use Rattle.digester.specs.batch_journal.View.{JournalView}
+use Rattle.digester.specs.area_image.Store.{Store, store_of, graph, marks}
 use Rattle.digester.specs.Digesting.{IsDigested}
 use Rattle.digester.specs.Marking.{mark_of, mark_after, marks_after}
-use Rattle.update_log.specs.Counting.{next_generation}
+use Rattle.digester.specs.update_log.Counting.{next_generation}
 use Rattle.digester.specs.SealedLog.{IsSealed, StandsAt, StandsAtMark, done_to, undone, mark_then}
 use Rattle.digester.specs.declared.sealed_log.SealedLog.{SealedLog}
-use Rattle.world_facts.specs.Logs.{after_records}
-use Rattle.world_facts.specs.Machine.{Machine, Sealed, CanAccept, accept, digest}
-use Rattle.world_facts.proofs.Owners.{client_is, is_low}
-use Rattle.kernel_book.specs.Book.{Accounts, IsBookOf, waiting_of}
-use Rattle.kernel_book.specs.Marks.{AreMarksAfter, AreMarksOf}
-use Rattle.kernel_book.proofs.MarksGo.{accepted_marks, digested_marks}
+use Rattle.world_invariant.specs.Logs.{after_records}
+use Rattle.world_invariant.specs.Machine.{Machine, Sealed, CanAccept, accept, digest}
+use Rattle.world_invariant.proofs.Owners.{client_is, is_low}
+use Rattle.kernel_fs.specs.Book.{Accounts, IsBookOf, waiting_of}
+use Rattle.kernel_fs.specs.Marks.{AreMarksAfter, AreMarksOf}
+use Rattle.kernel_fs.proofs.MarksGo.{accepted_marks, digested_marks}
 use Rattle.kernel_fs.specs.Accepting.{client_of, HasAsManyWaiting, IsRegionOf}
 use Rattle.kernel_fs.specs.KernelView.{KernelView}
 use Rattle.kernel_fs.specs.Standing.{IsKernelOf, done_in, StandFor}

@@ -1,21 +1,21 @@
 -- A file is dropped, and the machine that the kernel stands for.
 use Rattle.std.proofs.Common.{◌≡◌, ◌≢◌, inl, inr, ℕ, zero, suc, ◌+◌, ◌≤◌, ◌==◌, List, [], ◌∷◌, take, Bool, true, false, cond, Option, Some, None, refl, ap, sym, ◌∙◌, subst, arith}
 use Rattle.std.proofs.lemmas.Bool.Decides.{eqb_tells}
-use Rattle.tier_device.specs.declared.media.Tier.{Tier}
-use Rattle.file_graph.specs.Graph.{Graph, set_node}
-use Rattle.layout.specs.Places.{Sizes}
-use Rattle.batch_journal.specs.View.{JournalView}
-use Rattle.digester.specs.Store.{store_of, graph}
-use Rattle.world_facts.specs.KernelSteps.{CanReclaim}
-use Rattle.world_facts.specs.Logs.{IsNameless}
-use Rattle.world_facts.specs.LeaseSteps.{without}
-use Rattle.world_facts.specs.Machine.{Machine, reclaim}
-use Rattle.kernel_book.specs.Book.{Accounts, IsBookOf}
-use Rattle.kernel_book.specs.Nodes.{AreNodes, is_node}
+use Rattle.digester.specs.tier_device.declared.media.Tier.{Tier}
+use Rattle.digester.specs.file_graph.Graph.{Graph, set_node}
+use Rattle.digester.specs.layout.Places.{Sizes}
+use Rattle.digester.specs.batch_journal.View.{JournalView}
+use Rattle.digester.specs.area_image.Store.{store_of, graph}
+use Rattle.world_invariant.specs.KernelSteps.{CanReclaim}
+use Rattle.world_invariant.specs.Logs.{IsNameless}
+use Rattle.world_invariant.specs.LeaseSteps.{without}
+use Rattle.world_invariant.specs.Machine.{Machine, reclaim}
+use Rattle.kernel_fs.specs.Book.{Accounts, IsBookOf}
+use Rattle.kernel_fs.specs.Nodes.{AreNodes, is_node}
 use Rattle.kernel_fs.specs.KernelView.{KernelView}
 use Rattle.kernel_fs.specs.Reclaiming.{IsReclaimed, IsUnused}
 use Rattle.kernel_fs.specs.Standing.{IsKernelOf, StandFor}
-use Rattle.kernel_book.proofs.Machines.{pinned_not}
+use Rattle.kernel_fs.proofs.Machines.{pinned_not}
 
 module _ {M : Type 0} (seen : M → Tier → List ℕ) (old new : JournalView M) (i : ℕ) (same : new.geometry ≡ old.geometry) (gone : IsReclaimed old.geometry (store_of (seen old.media)) i (store_of (seen new.media))) where
   graph_without : graph new.geometry (store_of (seen new.media)) ≡ set_node (graph old.geometry (store_of (seen old.media))) i None

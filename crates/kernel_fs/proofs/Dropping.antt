@@ -5,32 +5,32 @@ use Rattle.std.specs.Prelude.{option_map}
 use Rattle.std.specs.FinMap as fin
 use Rattle.std.proofs.lemmas.Bool.{false≢true, true≢false, eq-eqb}
 use Rattle.std.proofs.lemmas.Bool.Decides.{eqb_tells, nat_tests}
-use Rattle.tier_device.specs.declared.media.Tier.{Tier}
-use Rattle.tier_device.specs.Media.{Left}
-use Rattle.file_graph.specs.declared.effect.Effect.TheVariants as effect
-use Rattle.file_graph.specs.Graph.{Graph, Node, Body, FileBody, DirBody, set_node}
-use Rattle.file_graph.specs.Units.{charge}
-use Rattle.graph_change.specs.Change.{Change, Changes, Coalesces, changed, coalesced, change_at, writes_block}
-use Rattle.layout.specs.declared.marks.Marks.{Marks}
-use Rattle.layout.specs.Places.{Sizes, is_inode}
-use Rattle.log_record.specs.Grammar.{IsInode}
-use Rattle.batch_journal.specs.Course.{Unmoved}
-use Rattle.call_effects.specs.NodeView.{FileView, view_at, view_of_body, view_of_node}
-use Rattle.digester.specs.Store.{Store, store_of, graph, inode, marks}
-use Rattle.digester.specs.Reads.{Loose}
-use Rattle.digester.specs.Ready.{OpensAs}
-use Rattle.digester.specs.ChangeApplying.{IsAppliedStore}
-use Rattle.digester.specs.Applying.{StaysOrChanges}
-use Rattle.coalescer.specs.Weight.{fits_chunk}
-use Rattle.coalescer.specs.Within.{images_of}
-use Rattle.digest_plan.proofs.Applied.{fit_images}
-use Rattle.posix_calls.proofs.Sums.{same_if, there_if}
-use Rattle.digester.specs.Next.{HasFewEntries, nodes_for}
-use Rattle.digester.specs.Wanted.{images_for, AreWritten}
-use Rattle.digester.proofs.Entries.{no_view}
-use Rattle.world_facts.specs.Logs.{IsNameless}
-use Rattle.world_facts.proofs.Reclaims.{charge_less}
-use Rattle.world_facts.proofs.Records.{either}
+use Rattle.digester.specs.tier_device.declared.media.Tier.{Tier}
+use Rattle.digester.specs.tier_device.Media.{Left}
+use Rattle.digester.specs.file_graph.declared.effect.Effect.TheVariants as effect
+use Rattle.digester.specs.file_graph.Graph.{Graph, Node, Body, FileBody, DirBody, set_node}
+use Rattle.digester.specs.file_graph.Units.{charge}
+use Rattle.digester.specs.graph_change.Change.{Change, Changes, Coalesces, changed, coalesced, change_at, writes_block}
+use Rattle.digester.specs.layout.declared.marks.Marks.{Marks}
+use Rattle.digester.specs.layout.Places.{Sizes, is_inode}
+use Rattle.digester.specs.log_record.Grammar.{IsInode}
+use Rattle.digester.specs.batch_journal.Course.{Unmoved}
+use Rattle.world_invariant.specs.call_effects.NodeView.{FileView, view_at, view_of_body, view_of_node}
+use Rattle.digester.specs.area_image.Store.{Store, store_of, graph, inode, marks}
+use Rattle.digester.specs.area_image.Reads.{Loose}
+use Rattle.digester.specs.shared_area.Ready.{OpensAs}
+use Rattle.digester.specs.shared_area.ChangeApplying.{IsAppliedStore}
+use Rattle.digester.specs.shared_area.Applying.{StaysOrChanges}
+use Rattle.digester.specs.coalescer.Weight.{fits_chunk}
+use Rattle.digester.specs.coalescer.Within.{images_of}
+use Rattle.digester.proofs.Applied.{fit_images}
+use Rattle.digester.proofs.posix_calls_lemmas.Sums.{same_if, there_if}
+use Rattle.digester.specs.change_plan.Next.{HasFewEntries, nodes_for}
+use Rattle.digester.specs.change_plan.Wanted.{images_for, AreWritten}
+use Rattle.digester.proofs.shared_area_lemmas.Entries.{no_view}
+use Rattle.world_invariant.specs.Logs.{IsNameless}
+use Rattle.world_invariant.proofs.Reclaims.{charge_less}
+use Rattle.world_invariant.proofs.Records.{either}
 use Rattle.kernel_fs.specs.Reclaiming.{IsNamelessView, IsReclaimed, StaysOrReclaims}
 
 -- ---- a file without a name, by its view

@@ -11,5 +11,15 @@ pub mod Dropping
 pub mod Reclaimed
 pub mod DropSteps
 pub mod Runs
+pub mod BookRuns
+pub mod Accounts
+pub mod Choosing
+pub mod Machines
+pub mod OneByOne
+pub mod Rows
+pub mod Leading
+pub mod Members
+pub mod MarksGo
+pub mod SetGrants
 -- Passed on to the crates above, which so need not list those below.
-pub use Rattle.digester.proofs.Looked
+pub use Rattle.digester.proofs.area_image_lemmas

@@ -1,17 +1,17 @@
 -- The media change, and the machine that the kernel stands for.
 use Rattle.std.proofs.Common.{◌≡◌, ◌≢◌, inl, inr, ℕ, zero, suc, ◌+◌, ◌≤◌, ◌==◌, List, [], ◌∷◌, take, Bool, true, false, cond, Option, Some, None, refl, ap, sym, ◌∙◌, subst, arith}
-use Rattle.tier_device.specs.declared.media.Tier.{Tier}
-use Rattle.file_graph.specs.Graph.{Graph}
-use Rattle.layout.specs.declared.marks.Marks.{Marks}
-use Rattle.layout.specs.Places.{Sizes}
-use Rattle.batch_journal.specs.View.{JournalView}
-use Rattle.batch_journal.proofs.Courses.{tiers_same}
-use Rattle.digester.specs.Store.{Store, store_of, graph, marks}
-use Rattle.world_facts.specs.Machine.{Machine}
-use Rattle.kernel_book.specs.Book.{Accounts, IsBookOf}
-use Rattle.kernel_book.specs.Marks.{AreMarksOf}
-use Rattle.kernel_book.specs.Nodes.{AreNodes}
-use Rattle.kernel_book.specs.Steps.{opened}
+use Rattle.digester.specs.tier_device.declared.media.Tier.{Tier}
+use Rattle.digester.specs.file_graph.Graph.{Graph}
+use Rattle.digester.specs.layout.declared.marks.Marks.{Marks}
+use Rattle.digester.specs.layout.Places.{Sizes}
+use Rattle.digester.specs.batch_journal.View.{JournalView}
+use Rattle.digester.proofs.batch_journal_lemmas.Courses.{tiers_same}
+use Rattle.digester.specs.area_image.Store.{Store, store_of, graph, marks}
+use Rattle.world_invariant.specs.Machine.{Machine}
+use Rattle.kernel_fs.specs.Book.{Accounts, IsBookOf}
+use Rattle.kernel_fs.specs.Marks.{AreMarksOf}
+use Rattle.kernel_fs.specs.Nodes.{AreNodes}
+use Rattle.kernel_fs.specs.Steps.{opened}
 use Rattle.kernel_fs.specs.KernelView.{KernelView}
 use Rattle.kernel_fs.specs.Standing.{IsKernelOf, StandBeforeRegions, StandFor}
 

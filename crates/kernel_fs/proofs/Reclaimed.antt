@@ -2,17 +2,17 @@
 use Rattle.std.proofs.Common.{◌≡◌, ◌≢◌, ◌⊎◌, inl, inr, ℕ, ◌+◌, ◌≤◌, List, true, false, refl, ap, sym, ◌∙◌, subst, arith}
 use Rattle.std.specs.Prelude.{Result, Ok, Err}
 use Rattle.std.proofs.lemmas.Bool.{true≢false}
-use Rattle.tier_device.specs.declared.media.Tier.{Tier}
-use Rattle.tier_device.specs.Media.{Rose}
-use Rattle.batch_journal.specs.View.{JournalView}
-use Rattle.batch_journal.specs.Course.{Unmoved}
-use Rattle.batch_journal.proofs.Courses.{unmoved_on}
-use Rattle.digester.specs.AreaError.{AreaError}
-use Rattle.digester.specs.AreaError.TheVariants as area
-use Rattle.digester.specs.ApplyError.{ApplyError}
-use Rattle.digester.specs.ApplyError.TheVariants as apply
-use Rattle.digester.specs.Applying.{AppliesOrStays}
-use Rattle.digester.specs.Looks.{Looks}
+use Rattle.digester.specs.tier_device.declared.media.Tier.{Tier}
+use Rattle.digester.specs.tier_device.Media.{Rose}
+use Rattle.digester.specs.batch_journal.View.{JournalView}
+use Rattle.digester.specs.batch_journal.Course.{Unmoved}
+use Rattle.digester.proofs.batch_journal_lemmas.Courses.{unmoved_on}
+use Rattle.digester.specs.area_image.declared.error.AreaError.{AreaError}
+use Rattle.digester.specs.area_image.declared.error.AreaError.TheVariants as area
+use Rattle.digester.specs.shared_area.declared.error.ApplyError.{ApplyError}
+use Rattle.digester.specs.shared_area.declared.error.ApplyError.TheVariants as apply
+use Rattle.digester.specs.shared_area.Applying.{AppliesOrStays}
+use Rattle.digester.specs.area_image.Looks.{Looks}
 use Rattle.digester.specs.Errors.{IsAreaTold, IsChangeTold}
 use Rattle.kernel_fs.specs.Reclaiming.{ReclaimsOrStays}
 use Rattle.kernel_fs.specs.declared.error.ReclaimError.{ReclaimError}

@@ -1,7 +1,7 @@
 -- Which refusals of the book are told.
 use Rattle.std.proofs.Common.{◌≡◌, ℕ, ◌+◌, ◌<◌, ◌≤◌, Bool, false, sym, arith}
 use Rattle.std.specs.Prelude.{◌↔◌, Result, Ok, Err, IsErrOf}
-use Rattle.kernel_book.specs.declared.error.RefillError.{RefillError}
+use Rattle.kernel_fs.specs.declared.book_error.RefillError.{RefillError}
 use Rattle.kernel_fs.specs.declared.error.KernelError.{KernelError}
 use Rattle.kernel_fs.specs.declared.error.KernelError.TheVariants as why
 

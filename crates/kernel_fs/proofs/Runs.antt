@@ -4,30 +4,30 @@ use Rattle.std.specs.Prelude.{Result, Ok, Err}
 use Rattle.std.proofs.Math.Logic.{∥∥₁_map}
 use Rattle.std.proofs.lemmas.Bool.{false≢true, true≢false}
 use Rattle.std.proofs.lemmas.List.{length-drop}
-use Rattle.tier_device.specs.declared.media.Tier.{Tier}
-use Rattle.posix_calls.specs.Operations.{is_client}
-use Rattle.file_graph.specs.Graph.{Graph}
-use Rattle.file_graph.specs.Units.{charge}
-use Rattle.layout.specs.declared.marks.Marks.{Marks}
-use Rattle.batch_journal.specs.View.{JournalView}
-use Rattle.batch_journal.proofs.Courses.{tiers_same}
-use Rattle.digester.specs.Store.{Store, store_of, graph, marks}
-use Rattle.digester.specs.Moving.{MovesOrStays}
-use Rattle.digester.specs.RelocateError.{RelocateError}
-use Rattle.digester.specs.RelocateError.TheVariants as moves
+use Rattle.digester.specs.tier_device.declared.media.Tier.{Tier}
+use Rattle.digester.specs.posix_calls.Operations.{is_client}
+use Rattle.digester.specs.file_graph.Graph.{Graph}
+use Rattle.digester.specs.file_graph.Units.{charge}
+use Rattle.digester.specs.layout.declared.marks.Marks.{Marks}
+use Rattle.digester.specs.batch_journal.View.{JournalView}
+use Rattle.digester.proofs.batch_journal_lemmas.Courses.{tiers_same}
+use Rattle.digester.specs.area_image.Store.{Store, store_of, graph, marks}
+use Rattle.digester.specs.shared_area.Moving.{MovesOrStays}
+use Rattle.digester.specs.relocation.declared.error.RelocateError.{RelocateError}
+use Rattle.digester.specs.relocation.declared.error.RelocateError.TheVariants as moves
 use Rattle.digester.specs.Digesting.{DigestsOrStays, IsDigested}
 use Rattle.digester.specs.SealedLog.{IsSealed, StandsAtMark, undone}
 use Rattle.digester.specs.declared.sealed_log.SealedLog.{SealedLog}
 use Rattle.digester.specs.declared.error.DigestError.{DigestError}
 use Rattle.digester.specs.declared.error.DigestError.TheVariants as digests
-use Rattle.world_facts.specs.Machine.{Machine, Sealed}
-use Rattle.kernel_book.specs.Book.{Accounts, is_free, out_of}
-use Rattle.kernel_book.specs.Free.{AreLowest}
-use Rattle.kernel_book.specs.Nodes.{AreNodes, is_node}
-use Rattle.kernel_book.specs.Run.{Entry, MayTake, after_entry}
-use Rattle.kernel_book.specs.Run as entry
-use Rattle.kernel_book.specs.Steps.{opened}
-use Rattle.kernel_book.proofs.Machines.{free_is_unbooked, room_is}
+use Rattle.world_invariant.specs.Machine.{Machine, Sealed}
+use Rattle.kernel_fs.specs.Book.{Accounts, is_free, out_of}
+use Rattle.kernel_fs.specs.Free.{AreLowest}
+use Rattle.kernel_fs.specs.Nodes.{AreNodes, is_node}
+use Rattle.kernel_fs.specs.Run.{Entry, MayTake, after_entry}
+use Rattle.kernel_fs.specs.Run as entry
+use Rattle.kernel_fs.specs.Steps.{opened}
+use Rattle.kernel_fs.proofs.Machines.{free_is_unbooked, room_is}
 use Rattle.kernel_fs.specs.Accepting.{client_of, IsRegionOf}
 use Rattle.kernel_fs.specs.History.{Ends, EndsRun}
 use Rattle.kernel_fs.specs.KernelView.{KernelView}

@@ -3,33 +3,33 @@ use Rattle.std.proofs.Common.{◌≡◌, ◌≢◌, ℕ, zero, suc, ◌+◌, ◌
 use Rattle.std.specs.List.{AllByRecursion}
 use Rattle.std.specs.Prelude.{option_map}
 use Rattle.std.proofs.lemmas.List.{length-drop, length-take-le, take-append-drop}
-use Rattle.posix_calls.specs.Tree.{sum_up_to}
-use Rattle.posix_calls.specs.Operations.{is_client}
-use Rattle.posix_calls.proofs.Sums.{there_if}
-use Rattle.file_graph.specs.Graph.{Graph, Node, Body, FileBody, DirBody, after_effects, is_among}
-use Rattle.file_graph.specs.Units.{charge}
-use Rattle.log_record.specs.Grammar.{IsRecord}
-use Rattle.log_record.specs.declared.format.Record.{Record}
-use Rattle.call_effects.specs.NodeView.{view_of_body, view_of_node}
-use Rattle.coalescer.specs.Records.{effects_in}
-use Rattle.record_check.specs.Good.{KeepsLimits}
-use Rattle.digest_plan.specs.Covered.{AreCovered, units_of}
-use Rattle.digest_plan.specs.Plan.{IsFirstBad}
-use Rattle.digest_plan.proofs.Covered.{never_bad}
-use Rattle.digest_plan.proofs.Runs.{after_more}
+use Rattle.digester.specs.posix_calls.Tree.{sum_up_to}
+use Rattle.digester.specs.posix_calls.Operations.{is_client}
+use Rattle.digester.proofs.posix_calls_lemmas.Sums.{there_if}
+use Rattle.digester.specs.file_graph.Graph.{Graph, Node, Body, FileBody, DirBody, after_effects, is_among}
+use Rattle.digester.specs.file_graph.Units.{charge}
+use Rattle.digester.specs.log_record.Grammar.{IsRecord}
+use Rattle.digester.specs.log_record.declared.format.Record.{Record}
+use Rattle.world_invariant.specs.call_effects.NodeView.{view_of_body, view_of_node}
+use Rattle.digester.specs.coalescer.Records.{effects_in}
+use Rattle.digester.specs.record_validation.Good.{KeepsLimits}
+use Rattle.digester.specs.Covered.{AreCovered, units_of}
+use Rattle.digester.specs.Plan.{IsFirstBad}
+use Rattle.digester.proofs.Covered.{never_bad}
+use Rattle.digester.proofs.PlanRuns.{after_more}
 use Rattle.digester.specs.SealedLog.{IsSealed, done_to, undone}
 use Rattle.digester.specs.declared.sealed_log.SealedLog.{SealedLog}
-use Rattle.world_facts.specs.Limits.{AreWithin, IsWithin, IsBodyWithin}
-use Rattle.world_facts.specs.Logs.{after_records, is_touched, is_written, units_in}
-use Rattle.world_facts.specs.World.{Account}
-use Rattle.world_facts.specs.Standing.{IsLogged}
-use Rattle.world_facts.specs.Opening.{idle_account}
-use Rattle.world_facts.specs.Machine.{Machine, Sealed, IsRunning, StandsSealed, CanDigestNext, account_after, digest, undigested_sealed}
-use Rattle.world_facts.proofs.Kernels.{units_moved}
-use Rattle.world_facts.proofs.Owners.{client_is}
-use Rattle.world_facts.proofs.Records.{in_first, in_rest}
-use Rattle.kernel_book.specs.Book.{Accounts, IsBookOf}
-use Rattle.kernel_book.proofs.MarksGo.{undigested}
+use Rattle.world_invariant.specs.Limits.{AreWithin, IsWithin, IsBodyWithin}
+use Rattle.world_invariant.specs.Logs.{after_records, is_touched, is_written, units_in}
+use Rattle.world_invariant.specs.World.{Account}
+use Rattle.world_invariant.specs.Standing.{IsLogged}
+use Rattle.world_invariant.specs.Opening.{idle_account}
+use Rattle.world_invariant.specs.Machine.{Machine, Sealed, IsRunning, StandsSealed, CanDigestNext, account_after, digest, undigested_sealed}
+use Rattle.world_invariant.proofs.Kernels.{units_moved}
+use Rattle.world_invariant.proofs.Owners.{client_is}
+use Rattle.world_invariant.proofs.Records.{in_first, in_rest}
+use Rattle.kernel_fs.specs.Book.{Accounts, IsBookOf}
+use Rattle.kernel_fs.proofs.MarksGo.{undigested}
 use Rattle.kernel_fs.specs.Accepting.{client_of, HasAsManyWaiting, IsRegionOf}
 
 pub effects_are : (rs : List Record) (g : Graph) → after_effects g (effects_in rs) ≡ after_records g rs

@@ -1,14 +1,14 @@
 -- Sealed regions: when the kernel accepts one, when it digests a chunk of it, and which region of its machine that is.
 use Rattle.std.specs.Prelude.{◌≡◌, ◌≤◌, ◌+◌, ℕ, Bool, true, length}
-use Rattle.file_graph.specs.Graph.{is_among}
-use Rattle.digester.specs.Store.{Store}
+use Rattle.digester.specs.file_graph.Graph.{is_among}
+use Rattle.digester.specs.area_image.Store.{Store}
 use Rattle.digester.specs.Chunk.{is_next}
 use Rattle.digester.specs.SealedLog.{StandsAtMark, undone}
 use Rattle.digester.specs.declared.chunk.Chunk.{Chunk}
 use Rattle.digester.specs.declared.sealed_log.SealedLog.{SealedLog}
-use Rattle.kernel_book.specs.Book.{Accounts, waiting_of}
-use Rattle.kernel_book.specs.Marks.{IsWaiting}
-use Rattle.world_facts.specs.Machine.{Sealed}
+use Rattle.kernel_fs.specs.Book.{Accounts, waiting_of}
+use Rattle.kernel_fs.specs.Marks.{IsWaiting}
+use Rattle.world_invariant.specs.Machine.{Sealed}
 
 -- the number of a log's client, which counts from 1; the log has it from 0
 abbrev pub client_of : SealedLog → ℕ

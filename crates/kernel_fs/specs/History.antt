@@ -1,10 +1,10 @@
 -- Where a kernel stands: at the end of a run of its machine, from the opening on.
 use Rattle.std.specs.Prelude.{◌≡◌, ℕ, List}
-use Rattle.tier_device.specs.declared.media.Tier.{Tier}
-use Rattle.digester.specs.Store.{store_of, graph}
-use Rattle.world_facts.specs.Machine.{Machine}
-use Rattle.kernel_book.specs.Run.{Entry, IsRun}
-use Rattle.kernel_book.specs.Steps.{opened}
+use Rattle.digester.specs.tier_device.declared.media.Tier.{Tier}
+use Rattle.digester.specs.area_image.Store.{store_of, graph}
+use Rattle.world_invariant.specs.Machine.{Machine}
+use Rattle.kernel_fs.specs.Run.{Entry, IsRun}
+use Rattle.kernel_fs.specs.Steps.{opened}
 use Rattle.kernel_fs.specs.KernelView.{KernelView}
 use Rattle.kernel_fs.specs.Standing.{IsKernelOf, StandBeforeRegions}
 

@@ -1,6 +1,6 @@
 -- The kernel, as its callers see it.
-use Rattle.batch_journal.specs.View.{JournalView}
-use Rattle.kernel_book.specs.Book.{Accounts}
+use Rattle.digester.specs.batch_journal.View.{JournalView}
+use Rattle.kernel_fs.specs.Book.{Accounts}
 
 pub record KernelView (M : Type 0) : Type 0 where
   -- the shared media, by whose blocks there are a graph and marks, and whether a device has failed

@@ -1,19 +1,19 @@
 -- When a file is dropped, and what is left of the media meanwhile.
 use Rattle.std.specs.Prelude.{◌≡◌, ◌≢◌, ◌⊎◌, ◌≤◌, ◌+◌, ℕ, List, true, false, Option, Some, None, Result, OnOk, IfErr, IsErrOf}
-use Rattle.tier_device.specs.declared.media.Tier.{Tier}
-use Rattle.tier_device.specs.Media.{Left, Rose}
-use Rattle.file_graph.specs.Graph.{Graph, set_node}
-use Rattle.layout.specs.Places.{Sizes}
-use Rattle.batch_journal.specs.Course.{Unmoved}
-use Rattle.batch_journal.specs.View.{JournalView}
-use Rattle.batch_journal.specs.Volume.{IsVolume}
-use Rattle.digester.specs.Store.{Store, store_of, slot, place, graph, marks}
-use Rattle.digester.specs.Reads.{Loose}
-use Rattle.digester.specs.Spelled.{IsOpenable}
-use Rattle.digester.specs.Ready.{OpensAs}
-use Rattle.call_effects.specs.NodeView.{NodeView, FileView}
-use Rattle.world_facts.specs.Logs.{IsNameless}
-use Rattle.kernel_book.specs.Book.{Accounts, is_pinned}
+use Rattle.digester.specs.tier_device.declared.media.Tier.{Tier}
+use Rattle.digester.specs.tier_device.Media.{Left, Rose}
+use Rattle.digester.specs.file_graph.Graph.{Graph, set_node}
+use Rattle.digester.specs.layout.Places.{Sizes}
+use Rattle.digester.specs.batch_journal.Course.{Unmoved}
+use Rattle.digester.specs.batch_journal.View.{JournalView}
+use Rattle.digester.specs.batch_journal.Volume.{IsVolume}
+use Rattle.digester.specs.area_image.Store.{Store, store_of, slot, place, graph, marks}
+use Rattle.digester.specs.area_image.Reads.{Loose}
+use Rattle.digester.specs.area_image.Spelled.{IsOpenable}
+use Rattle.digester.specs.shared_area.Ready.{OpensAs}
+use Rattle.world_invariant.specs.call_effects.NodeView.{NodeView, FileView}
+use Rattle.world_invariant.specs.Logs.{IsNameless}
+use Rattle.kernel_fs.specs.Book.{Accounts, is_pinned}
 use Rattle.kernel_fs.specs.declared.error.ReclaimError.{ReclaimError}
 use Rattle.kernel_fs.specs.declared.error.ReclaimError.TheVariants as errors
 

@@ -1,15 +1,15 @@
 -- Which machine the kernel stands for.
 use Rattle.std.specs.Prelude.{◌≡◌, ◌≤◌, ◌+◌, ℕ, ◌-◌, true, List, Some}
-use Rattle.tier_device.specs.declared.media.Tier.{Tier}
-use Rattle.posix_calls.specs.Operations.{is_client}
-use Rattle.layout.specs.declared.marks.Mark.{Mark}
-use Rattle.layout.specs.declared.marks.Marks.{Marks}
-use Rattle.digester.specs.Store.{Store, store_of, graph, marks}
+use Rattle.digester.specs.tier_device.declared.media.Tier.{Tier}
+use Rattle.digester.specs.posix_calls.Operations.{is_client}
+use Rattle.digester.specs.layout.declared.marks.Mark.{Mark}
+use Rattle.digester.specs.layout.declared.marks.Marks.{Marks}
+use Rattle.digester.specs.area_image.Store.{Store, store_of, graph, marks}
 use Rattle.digester.specs.Marking.{mark_of}
-use Rattle.world_facts.specs.Machine.{Machine}
-use Rattle.batch_journal.specs.View.{JournalView}
-use Rattle.kernel_book.specs.Book.{Accounts, IsBookOf}
-use Rattle.kernel_book.specs.Marks.{AreMarksOf}
+use Rattle.world_invariant.specs.Machine.{Machine}
+use Rattle.digester.specs.batch_journal.View.{JournalView}
+use Rattle.kernel_fs.specs.Book.{Accounts, IsBookOf}
+use Rattle.kernel_fs.specs.Marks.{AreMarksOf}
 use Rattle.kernel_fs.specs.KernelView.{KernelView}
 
 -- How many records of its generation a client's mark tells as digested. Marks have the clients from 0 on, the machine and the book from 1.

@@ -1,12 +1,12 @@
 //! What the kernel reads of a sealed log.
 
 ghost use Rattle.std.specs.Prelude.{◌≡◌, ◌<◌, ◌↔◌, IsTrue, length};
-ghost use Rattle.layout.specs.declared.marks.TheConstants.{CLIENTS};
+ghost use Rattle.digester.specs.layout.declared.marks.TheConstants.{CLIENTS};
 ghost use Rattle.digester.specs.SealedLog.{IsSealed, undone};
 ghost use Rattle.kernel_fs.specs.Accepting.{client_of, HasAsManyWaiting};
 
+use crate::Book;
 use digester::SealedLog;
-use kernel_book::Book;
 
 /// The number of a log's client, which counts from 1; the log has it from 0.
 pub fn client_of(log: &SealedLog) -> u32

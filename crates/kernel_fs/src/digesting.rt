@@ -2,29 +2,27 @@
 
 ghost use Rattle.std.specs.Prelude.{◌≡◌, ◌≤◌, ◌<◌, ◌+◌, ◌↔◌, ℕ, length, take, true, false, IsTrue, IfErr, OnOk, OnErr};
 ghost use Rattle.std.specs.List.{AllByRecursion};
-ghost use Rattle.posix_calls.specs.Operations.{is_client};
-ghost use Rattle.file_graph.specs.Graph.{Graph};
-ghost use Rattle.graph_change.specs.View.{changes_of};
-ghost use Rattle.layout.specs.declared.marks.TheConstants.{CLIENTS};
-ghost use Rattle.log_record.specs.Grammar.{IsRecord};
-ghost use Rattle.digester.specs.ChangeApplying.{MakesFewCalls};
-ghost use Rattle.digester.specs.Store.{store_of};
+ghost use Rattle.digester.specs.posix_calls.Operations.{is_client};
+ghost use Rattle.digester.specs.file_graph.Graph.{Graph};
+ghost use Rattle.digester.specs.graph_change.View.{changes_of};
+ghost use Rattle.digester.specs.layout.declared.marks.TheConstants.{CLIENTS};
+ghost use Rattle.digester.specs.log_record.Grammar.{IsRecord};
+ghost use Rattle.digester.specs.shared_area.ChangeApplying.{MakesFewCalls};
+ghost use Rattle.digester.specs.area_image.Store.{store_of};
 ghost use Rattle.digester.specs.Chunk.{IsChunkOf, is_next};
 ghost use Rattle.digester.specs.Digesting.{IsDigested, IsToldBad, StaysOrDigests, DigestsOrStays};
 ghost use Rattle.digester.specs.SealedLog.{IsSealed, IsDoneBy, StandsAtMark, undone};
-ghost use Rattle.world_facts.specs.Logs.{after_records, units_in};
-ghost use Rattle.world_facts.specs.Machine.{Machine, digest as digested};
-ghost use Rattle.kernel_book.specs.Book.{units_of, waiting_of, out_of, IsBookOf};
-ghost use Rattle.kernel_book.specs.Inodes.{has};
-ghost use Rattle.kernel_book.specs.Nodes.{AreNodes};
+ghost use Rattle.world_invariant.specs.Logs.{after_records, units_in};
+ghost use Rattle.world_invariant.specs.Machine.{Machine, digest as digested};
+ghost use Rattle.kernel_fs.specs.Book.{units_of, waiting_of, out_of, IsBookOf};
+ghost use Rattle.kernel_fs.specs.Inodes.{has};
+ghost use Rattle.kernel_fs.specs.Nodes.{AreNodes};
 ghost use Rattle.kernel_fs.specs.Accepting.{client_of, BeginsAtMark, HasAsManyWaiting};
 
 use crate::accepting::client_of;
-use digester::{Chunk, DigestError, SealedLog, Shared, digest_chunk};
-use kernel_book::{Book, InodeSet};
-use log_record::Record;
+use crate::{Book, InodeSet};
+use digester::{Chunk, DigestError, Media, Record, SealedLog, Shared, digest_chunk};
 use std::alloc::Global;
-use tier_device::Media;
 
 /// What becomes of a chunk that the kernel is to digest.
 #[derive(Clone, Copy, Debug, PartialEq, Eq)]

@@ -1,23 +1,19 @@
 //! What a client fetches of the shared graph, with the mark up to which its records were digested then.
 
 ghost use Rattle.std.specs.Prelude.{◌≡◌, ◌-◌, ◌*◌, ℕ, min, length, true, false, OnErr, IfOk, IfErr};
-ghost use Rattle.posix_calls.specs.Operations.{is_client};
-ghost use Rattle.posix_calls.specs.declared.limits.TheConstants.{UNIT_BYTES};
-ghost use Rattle.call_effects.specs.NodeView.{view_at};
-ghost use Rattle.digester.specs.Store.{store_of, graph};
-ghost use Rattle.digester.specs.Looks.{Looks};
-ghost use Rattle.digester.specs.Map.{WantsMemory};
-ghost use Rattle.digester.specs.AreaError.TheVariants.{Memory};
-ghost use Rattle.digester.specs.Parts.{IsNoDamage};
-ghost use Rattle.digester.specs.Reading.{bytes_of_inode, IsReadFrom};
+ghost use Rattle.digester.specs.posix_calls.Operations.{is_client};
+ghost use Rattle.digester.specs.posix_calls.declared.limits.TheConstants.{UNIT_BYTES};
+ghost use Rattle.world_invariant.specs.call_effects.NodeView.{view_at};
+ghost use Rattle.digester.specs.area_image.Store.{store_of, graph};
+ghost use Rattle.digester.specs.area_image.Looks.{Looks};
+ghost use Rattle.digester.specs.area_image.Map.{WantsMemory};
+ghost use Rattle.digester.specs.area_image.declared.error.AreaError.TheVariants.{Memory};
+ghost use Rattle.digester.specs.shared_area.Parts.{IsNoDamage};
+ghost use Rattle.digester.specs.shared_area.Reading.{bytes_of_inode, IsReadFrom};
 ghost use Rattle.digester.specs.Marking.{mark_of};
 ghost use Rattle.kernel_fs.specs.Standing.{IsMarkIn};
 
-use digester::{AreaError, Shared, mark_of};
-use layout::{Mark, Marks};
-use posix_calls::UNIT_BYTES;
-use record_check::NodeSummary;
-use tier_device::Media;
+use digester::{AreaError, Mark, Marks, Media, NodeSummary, Shared, UNIT_BYTES, mark_of};
 
 /// What stands at an inode of the shared graph, as a client fetches it.
 #[derive(Drop)]

@@ -1,38 +1,38 @@
 ghost use Rattle.std.specs.Prelude.{◌≡◌, ◌≢◌, ◌↔◌, ◌≤◌, ◌<◌, ◌+◌, ◌-◌, ◌*◌, ◌⊎◌, ℕ, List, [], ◌∷◌, min, length, take, drop, true, false, None, Some, Err, OnOk, OnErr, IfOk, IfErr, IfSome, IsErrOf};
-ghost use Rattle.posix_calls.specs.Operations.{is_client};
-ghost use Rattle.posix_calls.specs.declared.limits.TheConstants.{UNIT_BYTES};
-ghost use Rattle.file_graph.specs.Graph.{is_among};
-ghost use Rattle.file_graph.specs.Units.{charge};
-ghost use Rattle.file_graph.specs.declared.effect.Effect.TheVariants as effect;
-ghost use Rattle.graph_change.specs.Change.{coalesced};
-ghost use Rattle.graph_change.specs.View.{changes_of};
-ghost use Rattle.call_effects.specs.NodeView.{view_at};
-ghost use Rattle.digester.specs.Store.{store_of, graph};
-ghost use Rattle.digester.specs.Looks.{Looks, looked};
-ghost use Rattle.digester.specs.ChangeApplying.{MakesFewCalls};
-ghost use Rattle.digester.specs.Map.{WantsMemory};
-ghost use Rattle.digester.specs.AreaError.TheVariants.{Memory};
-ghost use Rattle.digester.specs.Parts.{IsNoDamage, IsTierOf};
-ghost use Rattle.digester.specs.Ready.{HasFree};
-ghost use Rattle.digester.specs.Reading.{bytes_of_inode, IsReadFrom};
-ghost use Rattle.digester.specs.RunMoving.{CanMove, IsMoved};
-ghost use Rattle.digester.specs.Found.{HasFileRun};
-ghost use Rattle.digester.specs.RelocateError.TheVariants as moves;
-ghost use Rattle.digester.specs.Moving.{HasTooFew, HasEnough, StaysOpen, MovesOrStays};
+ghost use Rattle.digester.specs.posix_calls.Operations.{is_client};
+ghost use Rattle.digester.specs.posix_calls.declared.limits.TheConstants.{UNIT_BYTES};
+ghost use Rattle.digester.specs.file_graph.Graph.{is_among};
+ghost use Rattle.digester.specs.file_graph.Units.{charge};
+ghost use Rattle.digester.specs.file_graph.declared.effect.Effect.TheVariants as effect;
+ghost use Rattle.digester.specs.graph_change.Change.{coalesced};
+ghost use Rattle.digester.specs.graph_change.View.{changes_of};
+ghost use Rattle.world_invariant.specs.call_effects.NodeView.{view_at};
+ghost use Rattle.digester.specs.area_image.Store.{store_of, graph};
+ghost use Rattle.digester.specs.area_image.Looks.{Looks, looked};
+ghost use Rattle.digester.specs.shared_area.ChangeApplying.{MakesFewCalls};
+ghost use Rattle.digester.specs.area_image.Map.{WantsMemory};
+ghost use Rattle.digester.specs.area_image.declared.error.AreaError.TheVariants.{Memory};
+ghost use Rattle.digester.specs.shared_area.Parts.{IsNoDamage, IsTierOf};
+ghost use Rattle.digester.specs.shared_area.Ready.{HasFree};
+ghost use Rattle.digester.specs.shared_area.Reading.{bytes_of_inode, IsReadFrom};
+ghost use Rattle.digester.specs.relocation.Moving.{CanMove, IsMoved};
+ghost use Rattle.digester.specs.relocation.Found.{HasFileRun};
+ghost use Rattle.digester.specs.relocation.declared.error.RelocateError.TheVariants as moves;
+ghost use Rattle.digester.specs.shared_area.Moving.{HasTooFew, HasEnough, StaysOpen, MovesOrStays};
 ghost use Rattle.digester.specs.Chunk.{IsChunkOf, is_next};
 ghost use Rattle.digester.specs.Digesting.{IsDigested, IsToldBad, StaysOrDigests, DigestsOrStays};
 ghost use Rattle.digester.specs.SealedLog.{IsSealed, IsDoneBy, StandsAtMark, undone};
 ghost use Rattle.digester.specs.declared.error.DigestError.TheVariants.{BadLog};
 ghost use Rattle.migrator.specs.Picking.{IsPicked, MayBeMoved};
-ghost use Rattle.world_facts.specs.KernelSteps.{CanReclaim};
-ghost use Rattle.world_facts.specs.Logs.{IsNameless, units_in};
-ghost use Rattle.world_facts.specs.Machine.{Machine, Sealed, IsRunning, StandsSealed, CanAccept, accept as accepted, digest as digested, book_pin, unbook_pin, bury as buried, reclaim as reclaimed};
-ghost use Rattle.kernel_book.specs.Book.{units_of, waiting_of, out_of, is_free, is_pinned};
-ghost use Rattle.kernel_book.specs.Free.{AreLowest, count_of};
-ghost use Rattle.kernel_book.specs.Inodes.{IsInode, has};
-ghost use Rattle.kernel_book.specs.Nodes.{nodes_in};
-ghost use Rattle.kernel_book.specs.Steps.{grant as granted, opened, take_back as taken_back};
-ghost use Rattle.kernel_book.specs.declared.error.RefillError.TheVariants.{NoUnits, NoInode};
+ghost use Rattle.world_invariant.specs.KernelSteps.{CanReclaim};
+ghost use Rattle.world_invariant.specs.Logs.{IsNameless, units_in};
+ghost use Rattle.world_invariant.specs.Machine.{Machine, Sealed, IsRunning, StandsSealed, CanAccept, accept as accepted, digest as digested, book_pin, unbook_pin, bury as buried, reclaim as reclaimed};
+ghost use Rattle.kernel_fs.specs.Book.{units_of, waiting_of, out_of, is_free, is_pinned};
+ghost use Rattle.kernel_fs.specs.Free.{AreLowest, count_of};
+ghost use Rattle.kernel_fs.specs.Inodes.{IsInode, has};
+ghost use Rattle.kernel_fs.specs.Nodes.{nodes_in};
+ghost use Rattle.kernel_fs.specs.Steps.{grant as granted, opened, take_back as taken_back};
+ghost use Rattle.kernel_fs.specs.declared.book_error.RefillError.TheVariants.{NoUnits, NoInode};
 ghost use Rattle.kernel_fs.specs.Accepting.{client_of, HasAsManyWaiting, BeginsAtMark, IsRegionOf};
 ghost use Rattle.kernel_fs.specs.Answering.{Answers, OnRefusal};
 ghost use Rattle.kernel_fs.specs.History.{EndsRun};
@@ -50,12 +50,13 @@ use crate::error::{AcceptError, KernelError, KernelFailed, ReclaimError};
 use crate::fetching::{Fetched, FetchedBytes, fetch_bytes, fetch_node};
 use crate::opening::nodes_of;
 use crate::reclaiming::drop_nameless;
-use digester::{AreaError, Chunk, DigestError, RelocateError, SealedLog, Shared, capacity_of};
-use kernel_book::{Book, InodeSet, RefillError};
+use crate::{Book, InodeSet, RefillError};
+use digester::{
+    AreaError, Chunk, DigestError, Media, RelocateError, SealedLog, Shared, Tier, capacity_of,
+};
 use migrator::{FileRun, migrate, pick};
 use std::alloc::Global;
 use std::marker::Model;
-use tier_device::{Media, Tier};
 
 /// How the units stand.
 #[derive(Clone, Copy, Debug, PartialEq, Eq)]
@@ -84,10 +85,10 @@ pub struct Kernel<M: Media> {
 
 impl<M: Media> Model for Kernel<M> {
     ghost use Rattle.std.specs.Prelude.{◌≡◌, false, ℕ, List};
-    ghost use Rattle.tier_device.specs.declared.media.Tier.{Tier};
-    ghost use Rattle.digester.specs.Store.{store_of, graph};
-    ghost use Rattle.kernel_book.specs.Inodes.{has};
-    ghost use Rattle.kernel_book.specs.Nodes.{AreNodes};
+    ghost use Rattle.digester.specs.tier_device.declared.media.Tier.{Tier};
+    ghost use Rattle.digester.specs.area_image.Store.{store_of, graph};
+    ghost use Rattle.kernel_fs.specs.Inodes.{has};
+    ghost use Rattle.kernel_fs.specs.Nodes.{AreNodes};
     ghost use Rattle.kernel_fs.specs.History.{EndsRun};
     ghost use Rattle.kernel_fs.specs.KernelView.{KernelView};
 

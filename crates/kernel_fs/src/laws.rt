@@ -2,25 +2,25 @@
 
 ghost use Rattle.std.specs.Prelude.{◌≡◌, ◌<◌, ◌≤◌, ◌+◌, ℕ, Bool, List, true, length, take, drop};
 ghost use Rattle.std.specs.List.{AllByRecursion};
-ghost use Rattle.file_graph.specs.Graph.{Graph, after_effects, is_among};
-ghost use Rattle.log_record.specs.Grammar.{IsRecord};
-ghost use Rattle.log_record.specs.declared.format.Record.{Record};
-ghost use Rattle.batch_journal.specs.Course.{Unmoved};
-ghost use Rattle.coalescer.specs.Records.{effects_in};
-ghost use Rattle.digest_plan.specs.Covered.{AreCovered, units_of};
-ghost use Rattle.digest_plan.specs.Plan.{IsFirstBad};
+ghost use Rattle.digester.specs.file_graph.Graph.{Graph, after_effects, is_among};
+ghost use Rattle.digester.specs.log_record.Grammar.{IsRecord};
+ghost use Rattle.digester.specs.log_record.declared.format.Record.{Record};
+ghost use Rattle.digester.specs.batch_journal.Course.{Unmoved};
+ghost use Rattle.digester.specs.coalescer.Records.{effects_in};
+ghost use Rattle.digester.specs.Covered.{AreCovered, units_of};
+ghost use Rattle.digester.specs.Plan.{IsFirstBad};
 ghost use Rattle.digester.specs.SealedLog.{IsSealed, done_to, undone};
 ghost use Rattle.digester.specs.declared.sealed_log.SealedLog.{SealedLog};
-ghost use Rattle.world_facts.specs.Limits.{AreWithin};
-ghost use Rattle.world_facts.specs.Logs.{after_records, units_in};
-ghost use Rattle.world_facts.specs.Standing.{IsLogged};
-ghost use Rattle.world_facts.specs.Machine.{Machine, Sealed, IsRunning, StandsSealed, CanDigestNext, digest, undigested_sealed};
-ghost use Rattle.kernel_book.specs.Book.{Accounts, IsBookOf};
+ghost use Rattle.world_invariant.specs.Limits.{AreWithin};
+ghost use Rattle.world_invariant.specs.Logs.{after_records, units_in};
+ghost use Rattle.world_invariant.specs.Standing.{IsLogged};
+ghost use Rattle.world_invariant.specs.Machine.{Machine, Sealed, IsRunning, StandsSealed, CanDigestNext, digest, undigested_sealed};
+ghost use Rattle.kernel_fs.specs.Book.{Accounts, IsBookOf};
 ghost use Rattle.kernel_fs.specs.Accepting.{client_of, HasAsManyWaiting, IsRegionOf};
 ghost use Rattle.kernel_fs.specs.KernelView.{KernelView};
 ghost use Rattle.kernel_fs.specs.Standing.{IsKernelOf};
 
-use tier_device::Media;
+use digester::Media;
 
 /// What the effects of records make of a graph is what the records make of it, one after the other.
 pub fn effects_of_records_are_the_records()

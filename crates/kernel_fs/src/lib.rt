@@ -1,33 +1,64 @@
 //! The kernel: the shared media with what they spell, the accounts of its clients, and one call for each of its entries.
 //!
-//! A kernel stands for a machine (`specs/Standing.antt`, and `Machine` of `world_facts`): its media spell the machine's graph and its marks, and its book has the machine's accounts. Each call that
+//! A kernel stands for a machine (`specs/Standing.antt`, and `Machine` of `world_invariant`): its media spell the machine's graph and its marks, and its book has the machine's accounts. Each call that
 //! changes it is one step of that machine, from whichever it stands for (`step`), so whoever holds a kernel holds the end of a run of it. What the machine does not have is where blocks lie; grants, pins and
 //! accepted regions are in memory alone, and nothing of them outlives a stop.
 //!
 //! Each call asks first whether a device has failed: once one has, every call answers that and nothing else (`failed`), until the media are opened again.
+//!
+//! # The book
+//!
+//! The kernel keeps in memory of each client the units and inode numbers that it was given, the inodes that it has pinned, and how many of the records that it handed over are not digested. `Book` has no
+//! medium: contracts see it as the accounts of the machine, and each of its calls is a step of that machine, or several at once (`specs/Steps.antt`). Whoever opens the kernel again begins with an empty book.
+//! Clients are counted from 1 in each of its calls, as everywhere but in the marks of the media and the sealed logs, which have client c at place c - 1.
+//!
+//! # The mark
+//!
+//! The machine counts for each client how many of all its records were ever accepted, and how many digested: its mark. No number of a running
+//! program counts that for ever, so the book keeps their distance alone, the records that are *waiting*. The mark that the media keep has a
+//! generation, and how many records of that generation are digested; with the last one of a region it moves to the next generation, and to
+//! 0. So the machine's mark is the number of records in all generations that were finished since the kernel was opened, and that count
+//! beside it; the client's region is accepted exactly where some are waiting, and has as many records as that count and the waiting ones.
+//! `specs/Marks.antt` says so, and `marks_go_with_the_machine` that it stays.
 #![tactic(auto)]
 
 mod accepting;
+mod account;
 mod began;
+mod book;
+mod book_error;
+mod book_laws;
 mod digesting;
 mod error;
 mod fetching;
+mod following;
+mod inode_set;
 mod kernel;
 mod laws;
+mod lowest;
 mod opening;
 mod reclaiming;
 
-pub use digester::{AreaError, Chunk, DigestError, RelocateError, SealedLog, Shared, prepare};
+pub use account::ClientAccount;
+pub use book::Book;
+pub use book_error::RefillError;
+pub use book_laws::{
+    book_has_what_its_machine_has, granted_and_taken_back_one_by_one, granted_set_keeps_the_whole,
+    grants_keep_the_book, marks_go_with_the_machine, members_are_those_of_the_set,
+    opened_machine_runs, runs_keep_what_holds,
+};
 pub use digesting::Digestion;
 pub use error::{AcceptError, KernelError, KernelFailed, ReclaimError};
 pub use fetching::{Fetched, FetchedBytes};
+pub use inode_set::InodeSet;
 pub use kernel::{Figures, Kernel};
-pub use kernel_book::{InodeSet, RefillError};
 pub use laws::{
     accepted_records_may_be_digested, digest_keeps_its_region, effects_of_records_are_the_records,
     sealed_records_are_covered, units_of_records_are_one_number,
     unmoved_kernel_stands_for_its_machine,
 };
-pub use layout::Mark;
-pub use migrator::FileRun;
-pub use record_check::NodeSummary;
+
+// Passed on to the crates above, which so need not list those below.
+pub use digester::{
+    AreaError, Chunk, DigestError, Mark, RelocateError, SealedLog, Shared, prepare,
+};

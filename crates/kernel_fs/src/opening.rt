@@ -1,19 +1,17 @@
 //! Which inodes are nodes of the shared graph, read once.
 
 ghost use Rattle.std.specs.Prelude.{◌≡◌, ◌≤◌, ◌<◌, ◌+◌, ℕ, false, IfOk, IfErr};
-ghost use Rattle.digester.specs.Store.{store_of, graph};
-ghost use Rattle.digester.specs.AreaError.TheVariants.{Memory};
-ghost use Rattle.digester.specs.Looks.{Looks};
-ghost use Rattle.digester.specs.Map.{WantsMemory};
-ghost use Rattle.digester.specs.Parts.{IsNoDamage};
-ghost use Rattle.kernel_book.specs.Inodes.{IsInode, has};
-ghost use Rattle.kernel_book.specs.Nodes.{AreNodes, is_node};
+ghost use Rattle.digester.specs.area_image.Store.{store_of, graph};
+ghost use Rattle.digester.specs.area_image.declared.error.AreaError.TheVariants.{Memory};
+ghost use Rattle.digester.specs.area_image.Looks.{Looks};
+ghost use Rattle.digester.specs.area_image.Map.{WantsMemory};
+ghost use Rattle.digester.specs.shared_area.Parts.{IsNoDamage};
+ghost use Rattle.kernel_fs.specs.Inodes.{IsInode, has};
+ghost use Rattle.kernel_fs.specs.Nodes.{AreNodes, is_node};
 ghost use Rattle.kernel_fs.specs.Opening.{AreNodesBelow};
 
-use digester::{AreaError, Shared};
-use kernel_book::InodeSet;
-use posix_calls::MAX_INODE;
-use tier_device::Media;
+use crate::InodeSet;
+use digester::{AreaError, MAX_INODE, Media, Shared};
 
 // Whether an inode is a node.
 fn is_there<M: Media>(area: &mut Shared<M>, inode: u32) -> Result<bool, AreaError>

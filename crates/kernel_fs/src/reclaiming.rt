@@ -1,28 +1,27 @@
 //! A file that nobody uses is dropped.
 
 ghost use Rattle.std.specs.Prelude.{◌≡◌, ◌≢◌, ◌↔◌, ◌⊎◌, ℕ, List, [], ◌∷◌, true, false, IfOk, IfErr, OnOk, IsTrue, IsErrOf};
-ghost use Rattle.file_graph.specs.declared.effect.Effect.TheVariants as effect;
-ghost use Rattle.graph_change.specs.Change.{coalesced};
-ghost use Rattle.graph_change.specs.Tidy.{AreTidyChanges};
-ghost use Rattle.graph_change.specs.View.{changes_of};
-ghost use Rattle.log_record.specs.Grammar.{IsInode};
-ghost use Rattle.digester.specs.Store.{store_of, graph};
-ghost use Rattle.digester.specs.ApplyError.TheVariants.{NoBlock};
-ghost use Rattle.digester.specs.ChangeApplying.{MakesFewCalls};
-ghost use Rattle.digester.specs.Map.{WantsMemory};
-ghost use Rattle.digester.specs.Parts.{IsNoDamage};
+ghost use Rattle.digester.specs.file_graph.declared.effect.Effect.TheVariants as effect;
+ghost use Rattle.digester.specs.graph_change.Change.{coalesced};
+ghost use Rattle.digester.specs.graph_change.Tidy.{AreTidyChanges};
+ghost use Rattle.digester.specs.graph_change.View.{changes_of};
+ghost use Rattle.digester.specs.log_record.Grammar.{IsInode};
+ghost use Rattle.digester.specs.area_image.Store.{store_of, graph};
+ghost use Rattle.digester.specs.shared_area.declared.error.ApplyError.TheVariants.{NoBlock};
+ghost use Rattle.digester.specs.shared_area.ChangeApplying.{MakesFewCalls};
+ghost use Rattle.digester.specs.area_image.Map.{WantsMemory};
+ghost use Rattle.digester.specs.shared_area.Parts.{IsNoDamage};
 ghost use Rattle.digester.specs.Errors.{IsAreaTold, IsChangeTold};
-ghost use Rattle.world_facts.specs.Logs.{IsNameless};
+ghost use Rattle.world_invariant.specs.Logs.{IsNameless};
 ghost use Rattle.kernel_fs.specs.Reclaiming.{IsNamelessView, IsReclaimed, StaysOrReclaims, ReclaimsOrStays};
 ghost use Rattle.kernel_fs.specs.declared.error.ReclaimError.TheVariants.{DeviceFault, InUse, Memory};
 
 use crate::error::ReclaimError;
-use digester::{ApplyError, AreaError, Shared, marks_can_be_written};
-use file_graph::Effect;
-use graph_change::{GraphChange, changes_are_the_effects, changes_keep_to_the_limits};
-use record_check::{NodeCounts, NodeSummary};
+use digester::{
+    ApplyError, AreaError, Effect, GraphChange, Media, NodeCounts, NodeSummary, Shared,
+    changes_are_the_effects, changes_keep_to_the_limits, marks_can_be_written,
+};
 use std::alloc::Global;
-use tier_device::Media;
 
 // Whether what stands at an inode is a file that has no name.
 fn is_nameless(found: &Option<NodeSummary>) -> bool

@@ -10,8 +10,7 @@ use crate::error::{LayoutError, What};
 use crate::image::Image;
 use crate::places::BLOCK;
 use crate::writing::{clear, put_u32};
-use file_graph::Kind;
-use posix_calls::{MAX_NAME, Name};
+use file_graph::{Kind, MAX_NAME, Name};
 use std::alloc::{AllocError, Global};
 use std::marker::Model;
 

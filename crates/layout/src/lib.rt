@@ -46,3 +46,7 @@ pub use places::{
 pub use reading::are_zero;
 pub use slot::Slot;
 pub use superblock::Super;
+
+// Passed on to the crates above, which so need not list those below.
+pub use file_graph::{Kind, MAX_INODE, NameMap, NamedEntry, is_inode};
+pub use tier_device::{Media, Tier};

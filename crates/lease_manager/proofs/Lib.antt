@@ -5,3 +5,5 @@ pub mod Steps
 pub mod Seats
 pub mod PassFacts
 pub mod Waiting
+pub mod Cleaned
+pub mod WrittenInodes

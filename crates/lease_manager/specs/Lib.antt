@@ -6,3 +6,10 @@ pub mod Parts
 pub mod Law
 pub mod Plays
 pub mod Passes
+pub mod Counted
+pub mod Held
+pub mod Kept
+-- Passed on to the crates above, which so need not list those below.
+pub use Rattle.log_record.specs.file_graph
+pub use Rattle.log_record.specs as log_record
+pub use Rattle.log_record.specs.posix_calls

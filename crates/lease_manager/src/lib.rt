@@ -2,26 +2,40 @@
 //!
 //! Each client has a pass. A call changes one word in one atomic step, or in two, and what the pass knows with it.
 //! No call waits, and only `Leases::open` takes memory. What the asked words keep is told by `laws`.
+//!
+//! A pass counts on each inode how many of its client's records that are not digested touch it, each record once (`note_effects`, `clean_records`): no write lease is
+//! given back while one of them does.
 #![tactic(auto)]
 
 mod asking;
 mod counting;
+mod holding;
+mod inode_leases;
 mod laws;
 mod layout;
+mod lease_taking;
 mod meeting;
 mod pass;
 mod rule;
 mod table;
 mod taking;
-#[cfg(test)]
-mod tests;
 mod view;
 
+pub use holding::{is_inode, reads, writes, written_inodes};
+pub use inode_leases::{clean_records, note_effects};
+#[cfg(test)]
 pub use laws::{
     asked_question_waits, heard_question_is_new, only_the_asked_client_hears,
     waiting_question_was_asked,
 };
 pub use layout::{CLIENTS, INODES, ROWS, WORDS};
+pub use lease_taking::{raise, take_read, take_write};
 pub use pass::{Busy, Pass};
 pub use table::{Leases, Opened};
 pub use view::{Event, LeaseMode, Part};
+
+// Passed on to the crates above, which so need not list those below.
+pub use log_record::{
+    Call, Effect, Errno, MAX_FILE, MAX_INODE, MAX_TRANSFER, OwnDescriptors, Record, Reply,
+    SharedBytes, UNIT_BYTES,
+};

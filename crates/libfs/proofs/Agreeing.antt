@@ -2,12 +2,12 @@
 use Rattle.std.proofs.Common.{Option, refl}
 use Rattle.std.specs.Prelude.{◌==◌}
 use Rattle.std.proofs.lemmas.Bool.{cond-true, eq-eqb}
-use Rattle.posix_calls.specs.Tree.{Descriptors, with_own}
-use Rattle.file_graph.specs.Graph.{Graph}
-use Rattle.call_effects.specs.Known.{Knowledge, Agrees}
-use Rattle.client_plan.specs.declared.outcome.DescriptorChange.{DescriptorChange}
-use Rattle.client_plan.specs.Planned.{own_changed}
-use Rattle.client_copies.specs.Logged.{with_change}
+use Rattle.lease_manager.specs.posix_calls.Tree.{Descriptors, with_own}
+use Rattle.lease_manager.specs.file_graph.Graph.{Graph}
+use Rattle.client_log.specs.call_effects.Known.{Knowledge, Agrees}
+use Rattle.client_view.specs.client_plan.declared.outcome.DescriptorChange.{DescriptorChange}
+use Rattle.client_view.specs.client_plan.Planned.{own_changed}
+use Rattle.client_view.specs.Logged.{with_change}
 
 -- a descriptor has changed, in what the client knows and in the whole
 pub changed_agrees : (k : Knowledge) (g : Graph) (held : Descriptors) (change : Option DescriptorChange) → Agrees k g held → Agrees (with_change k change) g (with_own held k.client (own_changed k.own change))

@@ -1,11 +1,11 @@
 -- The own records behind a mark, as they are kept in memory and as they are told.
 use Rattle.std.proofs.Common.{◌≡◌, ℕ, Bool, cond, List, ◌++◌, drop, ap, ◌∙◌}
 use Rattle.std.specs.Prelude.{◌==◌}
-use Rattle.tier_device.specs.declared.media.Tier.{Tier}
-use Rattle.layout.specs.declared.marks.Mark.{Mark}
-use Rattle.log_record.specs.declared.format.Record.{Record}
+use Rattle.client_log.specs.tier_device.declared.media.Tier.{Tier}
+use Rattle.kernel_fs.specs.layout.declared.marks.Mark.{Mark}
+use Rattle.lease_manager.specs.log_record.declared.format.Record.{Record}
 use Rattle.client_log.specs.View.{written}
-use Rattle.own_records.specs.Kept.{Kept, beyond}
+use Rattle.client_view.specs.Kept.{Kept, beyond}
 use Rattle.libfs.specs.Serving.{behind}
 use Rattle.libfs.specs.View.{ClientView}
 

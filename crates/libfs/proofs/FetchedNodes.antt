@@ -4,26 +4,26 @@ use Rattle.std.specs.Prelude.{◌==◌, ◌&&◌, option_map, nat_le, nat_lt, Re
 use Rattle.std.proofs.Math.Decide.{dec_le}
 use Rattle.std.proofs.lemmas.Bool.{cases_Bool, and_parts, eqb-true, cond-true, cond-false, lt-ltb}
 use Rattle.std.proofs.lemmas.Bool.Decides.{nat_tests}
-use Rattle.tier_device.specs.declared.media.Tier.{Tier}
-use Rattle.posix_calls.specs.Content.{resized}
-use Rattle.file_graph.specs.Graph.{Graph}
-use Rattle.file_graph.specs.Numbers.{in_run}
-use Rattle.log_record.specs.declared.format.Record.{Record}
-use Rattle.layout.specs.declared.marks.Mark.{Mark}
-use Rattle.layout.specs.declared.marks.Marks.{Marks}
-use Rattle.layout.specs.Places.{Sizes}
+use Rattle.client_log.specs.tier_device.declared.media.Tier.{Tier}
+use Rattle.lease_manager.specs.posix_calls.Content.{resized}
+use Rattle.lease_manager.specs.file_graph.Graph.{Graph}
+use Rattle.lease_manager.specs.file_graph.Numbers.{in_run}
+use Rattle.lease_manager.specs.log_record.declared.format.Record.{Record}
+use Rattle.kernel_fs.specs.layout.declared.marks.Mark.{Mark}
+use Rattle.kernel_fs.specs.layout.declared.marks.Marks.{Marks}
+use Rattle.kernel_fs.specs.layout.Places.{Sizes}
 use Rattle.lease_manager.specs.Passes.{client_of}
-use Rattle.kernel_fs.specs.Store.{Store, store_of, graph, marks}
+use Rattle.kernel_fs.specs.area_image.Store.{Store, store_of, graph, marks}
 use Rattle.kernel_fs.specs.KernelView.{KernelView}
 use Rattle.kernel_fs.specs.Standing.{IsMarkIn}
-use Rattle.call_effects.specs.Blocks.{block_of}
-use Rattle.block_cache.specs.Cached.{bytes_at as kept_bytes, put}
-use Rattle.own_records.specs.After.{block_laid, bytes_at}
-use Rattle.own_records.specs.Kept.{Kept, beyond}
+use Rattle.client_log.specs.call_effects.Blocks.{block_of}
+use Rattle.client_view.specs.block_cache.Cached.{bytes_at as kept_bytes, put}
+use Rattle.client_view.specs.After.{block_laid, bytes_at}
+use Rattle.client_view.specs.Kept.{Kept, beyond}
 use Rattle.client_log.specs.View.{written}
-use Rattle.client_copies.specs.Held.{Held, block_known, copy_at, knows}
-use Rattle.client_copies.specs.Put.{IsBlockLong}
-use Rattle.client_copies.proofs.Put.{block_there, by_size, cut_padded, no_more_blocks}
+use Rattle.client_view.specs.Held.{Held, block_known, copy_at, knows}
+use Rattle.client_view.specs.Put.{IsBlockLong}
+use Rattle.client_view.proofs.Put.{block_there, by_size, cut_padded, no_more_blocks}
 use Rattle.libfs.specs.declared.denying.Denied.{Denied}
 use Rattle.libfs.specs.View.{ClientView}
 use Rattle.libfs.specs.Holding.{known_to}

@@ -6,12 +6,12 @@ use Rattle.std.proofs.lemmas.List.{take_all, take_more}
 use Rattle.std.proofs.lemmas.List.Folds.{list_any-append, list_any_more}
 use Rattle.std.proofs.lemmas.List.Concat.{flat_map-cons}
 use Rattle.std.proofs.lemmas.Grind.{flat_map-append}
-use Rattle.file_graph.specs.Graph.{is_among, subjects, touches}
-use Rattle.file_graph.specs.declared.effect.Effect.{Effect}
-use Rattle.log_record.specs.declared.format.Record.{Record}
-use Rattle.call_effects.specs.Known.{Knowledge}
-use Rattle.client_copies.specs.Forgotten.{without_blocks}
-use Rattle.client_leases.specs.Counted.{is_touched}
+use Rattle.lease_manager.specs.file_graph.Graph.{is_among, subjects, touches}
+use Rattle.lease_manager.specs.file_graph.declared.effect.Effect.{Effect}
+use Rattle.lease_manager.specs.log_record.declared.format.Record.{Record}
+use Rattle.client_log.specs.call_effects.Known.{Knowledge}
+use Rattle.client_view.specs.Forgotten.{without_blocks}
+use Rattle.lease_manager.specs.Counted.{is_touched}
 use Rattle.libfs.specs.HandingOver.{is_named, without_blocks_at, without_blocks_of}
 
 -- what is forgotten of some inodes, and then of others, is forgotten of both

@@ -4,17 +4,17 @@ use Rattle.std.specs.Prelude.{◌==◌, ◌||◌, ◌&&◌, nat_le}
 use Rattle.std.proofs.lemmas.Bool.Decides.{eqb_tells, nat_tests}
 use Rattle.std.proofs.lemmas.List.Folds.{list_any-append, list_any_more}
 use Rattle.std.proofs.lemmas.List.{take_all}
-use Rattle.file_graph.specs.Graph.{is_among}
-use Rattle.kernel_book.specs.Inodes.{is_inode, has}
-use Rattle.kernel_book.proofs.Rows.{has_none, inode_tells}
-use Rattle.client_copies.specs.Held.{Held, knows}
-use Rattle.tier_device.specs.declared.media.Tier.{Tier}
+use Rattle.lease_manager.specs.file_graph.Graph.{is_among}
+use Rattle.kernel_fs.specs.Inodes.{is_inode, has}
+use Rattle.kernel_fs.proofs.Rows.{has_none, inode_tells}
+use Rattle.client_view.specs.Held.{Held, knows}
+use Rattle.client_log.specs.tier_device.declared.media.Tier.{Tier}
 use Rattle.lease_manager.specs.Passes.{client_of}
-use Rattle.world_facts.specs.Machine.{Machine}
-use Rattle.kernel_book.specs.Book.{is_free}
-use Rattle.kernel_book.specs.Free.{AreLowest}
-use Rattle.kernel_book.specs.Nodes.{nodes_in}
-use Rattle.kernel_book.specs.Steps.{grant, take_back}
+use Rattle.client_log.specs.world_invariant.Machine.{Machine}
+use Rattle.kernel_fs.specs.Book.{is_free}
+use Rattle.kernel_fs.specs.Free.{AreLowest}
+use Rattle.kernel_fs.specs.Nodes.{nodes_in}
+use Rattle.kernel_fs.specs.Steps.{grant, take_back}
 use Rattle.kernel_fs.specs.KernelView.{KernelView}
 use Rattle.kernel_fs.specs.Standing.{IsKernelOf}
 use Rattle.libfs.specs.Holding.{known_to}

@@ -5,25 +5,25 @@ use Rattle.std.specs.Option.{ForSome}
 use Rattle.std.proofs.lemmas.Bool.{true≢false, false≢true}
 use Rattle.std.proofs.lemmas.List.Sums.{sum_by-append}
 use Rattle.atomic_table.specs.Seated.{TableId}
-use Rattle.tier_device.specs.declared.media.Tier.{Tier}
-use Rattle.block_cache.specs.Cached.{Block}
-use Rattle.log_record.specs.declared.format.Record.{Record}
-use Rattle.update_log.specs.Frames.{with_record}
+use Rattle.client_log.specs.tier_device.declared.media.Tier.{Tier}
+use Rattle.client_view.specs.block_cache.Cached.{Block}
+use Rattle.lease_manager.specs.log_record.declared.format.Record.{Record}
+use Rattle.client_log.specs.update_log.Frames.{with_record}
 use Rattle.lease_manager.specs.Words.{HasWord}
 use Rattle.lease_manager.specs.Passes.{PassView, client_of, records_of}
 use Rattle.client_log.specs.Turns.{Turn, turn_of}
 use Rattle.client_log.specs.View.{LogView, written}
-use Rattle.client_copies.specs.Held.{Held, knows}
-use Rattle.client_copies.specs.Prepared.{IsPreparedFor}
+use Rattle.client_view.specs.Held.{Held, knows}
+use Rattle.client_view.specs.Prepared.{IsPreparedFor}
 use Rattle.libfs.specs.declared.begun.Begun.{Begun}
 use Rattle.libfs.specs.View.{begun_record}
-use Rattle.client_leases.specs.Counted.{Counts, HasNoted, HasCleaned, is_touched, one_if, touching}
-use Rattle.own_records.specs.Kept.{Kept}
+use Rattle.lease_manager.specs.Counted.{Counts, HasNoted, HasCleaned, is_touched, one_if, touching}
+use Rattle.client_view.specs.Kept.{Kept}
 use Rattle.libfs.specs.Opening.{IsBlank}
 use Rattle.libfs.specs.HandingOver.{without_blocks_of}
 use Rattle.libfs.specs.Sound.{IsSound}
-use Rattle.client_copies.specs.declared.own_change.OwnChange.{OwnChange}
-use Rattle.call_effects.specs.Known.{Knowledge}
+use Rattle.client_view.specs.declared.own_change.OwnChange.{OwnChange}
+use Rattle.client_log.specs.call_effects.Known.{Knowledge}
 use Rattle.std.proofs.lemmas.List.{append-nil}
 
 -- ---- lists of records

@@ -3,27 +3,27 @@ use Rattle.std.proofs.Common.{◌≡◌, inl, inr, ℕ, zero, suc, ◌+◌, ◌-
 use Rattle.std.specs.Prelude.{◌==◌, ◌||◌, ◌&&◌, nat_le, not, option_map, Ok}
 use Rattle.std.proofs.lemmas.Bool.{cases_Bool, true≢false, cond-true, cond-false, eq-eqb, le-leb}
 use Rattle.std.proofs.lemmas.List.Folds.{list_any-append}
-use Rattle.tier_device.specs.declared.media.Tier.{Tier}
-use Rattle.posix_calls.specs.Content.{range}
-use Rattle.posix_calls.specs.Tree.{sum_up_to}
-use Rattle.posix_calls.specs.Query.{Part, Known, blocks_touched, run_part}
-use Rattle.posix_calls.specs.Own.{own_of}
-use Rattle.posix_calls.specs.Decide.{decide}
-use Rattle.posix_calls.specs.declared.call.Call.{Call}
-use Rattle.posix_calls.specs.declared.operation.Operation.{Operation}
-use Rattle.posix_calls.specs.declared.operation.Missing.TheVariants as missing
-use Rattle.posix_calls.specs.declared.limits.TheConstants.{MAX_INODE}
-use Rattle.file_graph.specs.Graph.{is_among}
-use Rattle.file_graph.specs.Numbers.{is_inode}
-use Rattle.call_effects.specs.Blocks.{blocks_joined, followed, range_by}
-use Rattle.call_effects.specs.Known.{Knowledge, part_of}
-use Rattle.call_effects.specs.Records.{units_asked}
-use Rattle.client_leases.specs.Held.{is_reading, is_writing, reads, writes}
-use Rattle.client_plan.specs.Served.{AreUnread, IsLacking, IsShort}
-use Rattle.client_plan.specs.declared.need.Mode.{Mode}
-use Rattle.client_plan.specs.declared.need.Mode.TheVariants.{Read, Write}
-use Rattle.client_plan.specs.declared.need.Need.TheVariants as needs
-use Rattle.kernel_book.specs.Free.{count_of}
+use Rattle.client_log.specs.tier_device.declared.media.Tier.{Tier}
+use Rattle.lease_manager.specs.posix_calls.Content.{range}
+use Rattle.lease_manager.specs.posix_calls.Tree.{sum_up_to}
+use Rattle.lease_manager.specs.posix_calls.Query.{Part, Known, blocks_touched, run_part}
+use Rattle.lease_manager.specs.posix_calls.Own.{own_of}
+use Rattle.lease_manager.specs.posix_calls.Decide.{decide}
+use Rattle.lease_manager.specs.posix_calls.declared.call.Call.{Call}
+use Rattle.lease_manager.specs.posix_calls.declared.operation.Operation.{Operation}
+use Rattle.lease_manager.specs.posix_calls.declared.operation.Missing.TheVariants as missing
+use Rattle.lease_manager.specs.posix_calls.declared.limits.TheConstants.{MAX_INODE}
+use Rattle.lease_manager.specs.file_graph.Graph.{is_among}
+use Rattle.lease_manager.specs.file_graph.Numbers.{is_inode}
+use Rattle.client_log.specs.call_effects.Blocks.{blocks_joined, followed, range_by}
+use Rattle.client_log.specs.call_effects.Known.{Knowledge, part_of}
+use Rattle.client_log.specs.call_effects.Records.{units_asked}
+use Rattle.lease_manager.specs.Held.{is_reading, is_writing, reads, writes}
+use Rattle.client_view.specs.client_plan.Served.{AreUnread, IsLacking, IsShort}
+use Rattle.client_view.specs.client_plan.declared.need.Mode.{Mode}
+use Rattle.client_view.specs.client_plan.declared.need.Mode.TheVariants.{Read, Write}
+use Rattle.client_view.specs.client_plan.declared.need.Need.TheVariants as needs
+use Rattle.kernel_fs.specs.Free.{count_of}
 use Rattle.kernel_fs.specs.KernelView.{KernelView}
 use Rattle.lease_manager.specs.Passes.{lease_of}
 use Rattle.lease_manager.specs.Words.{HasWord}

@@ -1,16 +1,16 @@
 -- What becomes of a client as its region is handed over and taken back.
 use Rattle.std.specs.Prelude.{◌≡◌, ℕ, Bool, false, List, [], Some, None, if◌then◌else◌}
 use Rattle.std.specs.List.{list_any}
-use Rattle.tier_device.specs.declared.media.Tier.{Tier}
-use Rattle.file_graph.specs.declared.effect.Effect.{Effect}
-use Rattle.log_record.specs.declared.format.Record.{Record}
-use Rattle.update_log.specs.View.{RegionView}
-use Rattle.call_effects.specs.Known.{Knowledge}
+use Rattle.client_log.specs.tier_device.declared.media.Tier.{Tier}
+use Rattle.lease_manager.specs.file_graph.declared.effect.Effect.{Effect}
+use Rattle.lease_manager.specs.log_record.declared.format.Record.{Record}
+use Rattle.client_log.specs.update_log.View.{RegionView}
+use Rattle.client_log.specs.call_effects.Known.{Knowledge}
 use Rattle.client_log.specs.Steps.{sealed_view}
 use Rattle.client_log.specs.Turns.{turn_of, CanSeal, sealed}
 use Rattle.client_log.specs.View.{HandedView, written}
 use Rattle.libfs.specs.View.{ClientView}
-use Rattle.client_leases.specs.Counted.{HasCleaned, is_touched}
+use Rattle.lease_manager.specs.Counted.{HasCleaned, is_touched}
 use Rattle.libfs.specs.Holding.{known_to}
 
 -- whether one of some records touches an inode

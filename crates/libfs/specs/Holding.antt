@@ -1,15 +1,15 @@
 -- What a client has for its calls.
 use Rattle.std.specs.Prelude.{ℕ, List}
-use Rattle.tier_device.specs.declared.media.Tier.{Tier}
-use Rattle.posix_calls.specs.Own.{own_of}
-use Rattle.posix_calls.specs.declared.call.Call.{Call}
-use Rattle.call_effects.specs.Known.{Knowledge, part_of}
-use Rattle.client_plan.specs.Holdings.{Holdings}
-use Rattle.client_plan.specs.Planned.{outcome}
-use Rattle.client_plan.specs.declared.outcome.Outcome.{Outcome}
-use Rattle.client_leases.specs.Held.{reads, writes}
+use Rattle.client_log.specs.tier_device.declared.media.Tier.{Tier}
+use Rattle.lease_manager.specs.posix_calls.Own.{own_of}
+use Rattle.lease_manager.specs.posix_calls.declared.call.Call.{Call}
+use Rattle.client_log.specs.call_effects.Known.{Knowledge, part_of}
+use Rattle.client_view.specs.client_plan.Holdings.{Holdings}
+use Rattle.client_view.specs.client_plan.Planned.{outcome}
+use Rattle.client_view.specs.client_plan.declared.outcome.Outcome.{Outcome}
+use Rattle.lease_manager.specs.Held.{reads, writes}
 use Rattle.client_log.specs.Steps.{most_of}
-use Rattle.client_copies.specs.Held.{knows}
+use Rattle.client_view.specs.Held.{knows}
 use Rattle.libfs.specs.View.{ClientView}
 
 -- what a client has

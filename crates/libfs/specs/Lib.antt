@@ -10,29 +10,22 @@ pub mod HandingOver
 pub mod Opening
 pub mod Serving
 -- Passed on to the crates above, which so need not list those below.
-pub use Rattle.kernel_fs.specs.Accepting
-pub use Rattle.kernel_fs.specs.Answering
-pub use Rattle.kernel_fs.specs.AreaError
-pub use Rattle.kernel_fs.specs.ChangeApplying
-pub use Rattle.kernel_fs.specs.Chunk
-pub use Rattle.kernel_fs.specs.DeclaredChunk
-pub use Rattle.kernel_fs.specs.DeclaredSealedLog
-pub use Rattle.kernel_fs.specs.DigestError
-pub use Rattle.kernel_fs.specs.Digesting
-pub use Rattle.kernel_fs.specs.Found
-pub use Rattle.kernel_fs.specs.KernelView
-pub use Rattle.kernel_fs.specs.Looks
-pub use Rattle.kernel_fs.specs.Map
-pub use Rattle.kernel_fs.specs.Moving
-pub use Rattle.kernel_fs.specs.Parts
-pub use Rattle.kernel_fs.specs.Reclaiming
-pub use Rattle.kernel_fs.specs.RelocateError
-pub use Rattle.kernel_fs.specs.RunMoving
-pub use Rattle.kernel_fs.specs.SealedLog
-pub use Rattle.kernel_fs.specs.Standing
-pub use Rattle.kernel_fs.specs.Store
-pub use Rattle.kernel_fs.specs.declared.digesting.Digestion
-pub use Rattle.kernel_fs.specs.declared.error.AcceptError
-pub use Rattle.kernel_fs.specs.declared.error.KernelError
-pub use Rattle.kernel_fs.specs.declared.error.ReclaimError
-pub use Rattle.kernel_fs.specs.declared.kernel.Figures
+pub use Rattle.kernel_fs.specs.area_image
+pub use Rattle.client_log.specs.call_effects
+pub use Rattle.client_log.specs as client_log
+pub use Rattle.client_view.specs.client_plan
+pub use Rattle.client_view.specs as client_view
+pub use Rattle.kernel_fs.specs.coalescer
+pub use Rattle.kernel_fs.specs.digester
+pub use Rattle.lease_manager.specs.file_graph
+pub use Rattle.kernel_fs.specs.graph_change
+pub use Rattle.kernel_fs.specs as kernel_fs
+pub use Rattle.lease_manager.specs as lease_manager
+pub use Rattle.lease_manager.specs.log_record
+pub use Rattle.lease_manager.specs.posix_calls
+pub use Rattle.client_view.specs.record_validation
+pub use Rattle.kernel_fs.specs.relocation
+pub use Rattle.kernel_fs.specs.shared_area
+pub use Rattle.client_log.specs.tier_device
+pub use Rattle.client_log.specs.update_log
+pub use Rattle.client_log.specs.world_invariant

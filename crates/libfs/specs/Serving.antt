@@ -1,43 +1,43 @@
 -- What a client has once the kernel served it.
 use Rattle.std.specs.Prelude.{◌≡◌, ◌⊎◌, ℕ, ◌+◌, ◌<◌, ◌≤◌, ◌==◌, ◌&&◌, ◌||◌, ◌++◌, not, drop, take, Bool, false, List, [], ◌∷◌, Option, Some, None, Result, Ok, Err, OnErr, if◌then◌else◌}
 use Rattle.std.specs.List.{filter}
-use Rattle.tier_device.specs.declared.media.Tier.{Tier}
-use Rattle.posix_calls.specs.Content.{resized}
-use Rattle.file_graph.specs.Graph.{Graph, is_among}
-use Rattle.file_graph.specs.Numbers.{is_inode}
-use Rattle.file_graph.specs.Units.{charge}
-use Rattle.block_cache.specs.Cached.{bytes_at as kept_bytes, put}
-use Rattle.block_cache.specs.declared.bytes.TheConstants.{BLOCK_SIZE}
-use Rattle.block_cache.specs.declared.blocks.TheConstants.{MOST_BLOCKS}
-use Rattle.log_record.specs.declared.format.Record.{Record}
-use Rattle.call_effects.specs.Blocks.{block_of}
-use Rattle.call_effects.specs.Known.{Knowledge, with_copy}
-use Rattle.call_effects.specs.NodeView.{view_at}
-use Rattle.layout.specs.declared.marks.Mark.{Mark}
+use Rattle.client_log.specs.tier_device.declared.media.Tier.{Tier}
+use Rattle.lease_manager.specs.posix_calls.Content.{resized}
+use Rattle.lease_manager.specs.file_graph.Graph.{Graph, is_among}
+use Rattle.lease_manager.specs.file_graph.Numbers.{is_inode}
+use Rattle.lease_manager.specs.file_graph.Units.{charge}
+use Rattle.client_view.specs.block_cache.Cached.{bytes_at as kept_bytes, put}
+use Rattle.client_view.specs.block_cache.declared.bytes.TheConstants.{BLOCK_SIZE}
+use Rattle.client_view.specs.block_cache.declared.blocks.TheConstants.{MOST_BLOCKS}
+use Rattle.lease_manager.specs.log_record.declared.format.Record.{Record}
+use Rattle.client_log.specs.call_effects.Blocks.{block_of}
+use Rattle.client_log.specs.call_effects.Known.{Knowledge, with_copy}
+use Rattle.client_log.specs.call_effects.NodeView.{view_at}
+use Rattle.kernel_fs.specs.layout.declared.marks.Mark.{Mark}
 use Rattle.lease_manager.specs.Words.{HasWord}
 use Rattle.lease_manager.specs.Passes.{client_of}
-use Rattle.kernel_book.specs.Book.{is_free, out_of}
-use Rattle.kernel_book.specs.Free.{AreLowest}
-use Rattle.kernel_book.specs.Inodes.{IsInode}
-use Rattle.kernel_book.specs.Nodes.{nodes_in}
-use Rattle.kernel_book.specs.Steps.{grant as granted, take_back as taken_back}
-use Rattle.kernel_book.specs.declared.error.RefillError.{RefillError}
-use Rattle.kernel_book.specs.declared.error.RefillError.TheVariants as refills
-use Rattle.own_records.specs.After.{block_laid, bytes_at, node_laid}
+use Rattle.kernel_fs.specs.Book.{is_free, out_of}
+use Rattle.kernel_fs.specs.Free.{AreLowest}
+use Rattle.kernel_fs.specs.Inodes.{IsInode}
+use Rattle.kernel_fs.specs.Nodes.{nodes_in}
+use Rattle.kernel_fs.specs.Steps.{grant as granted, take_back as taken_back}
+use Rattle.kernel_fs.specs.declared.book_error.RefillError.{RefillError}
+use Rattle.kernel_fs.specs.declared.book_error.RefillError.TheVariants as refills
+use Rattle.client_view.specs.After.{block_laid, bytes_at, node_laid}
 use Rattle.client_log.specs.View.{written}
-use Rattle.client_copies.specs.Forgotten.{without_blocks}
-use Rattle.client_copies.specs.Put.{IsBlockLong}
-use Rattle.client_plan.specs.declared.need.Need.{Need}
-use Rattle.client_plan.specs.declared.need.Need.TheVariants as needs
-use Rattle.world_facts.specs.Machine.{Machine, book_pin, unbook_pin}
+use Rattle.client_view.specs.Forgotten.{without_blocks}
+use Rattle.client_view.specs.Put.{IsBlockLong}
+use Rattle.client_view.specs.client_plan.declared.need.Need.{Need}
+use Rattle.client_view.specs.client_plan.declared.need.Need.TheVariants as needs
+use Rattle.client_log.specs.world_invariant.Machine.{Machine, book_pin, unbook_pin}
 use Rattle.kernel_fs.specs.KernelView.{KernelView}
 use Rattle.kernel_fs.specs.Standing.{IsKernelOf, IsMarkIn}
 use Rattle.kernel_fs.specs.declared.error.KernelError.{KernelError}
 use Rattle.kernel_fs.specs.declared.error.KernelError.TheVariants as kernel
-use Rattle.kernel_fs.specs.Looks.{Looks}
-use Rattle.kernel_fs.specs.Store.{store_of, graph}
-use Rattle.kernel_fs.specs.AreaError.{AreaError}
-use Rattle.kernel_fs.specs.AreaError.TheVariants as area
+use Rattle.kernel_fs.specs.area_image.Looks.{Looks}
+use Rattle.kernel_fs.specs.area_image.Store.{store_of, graph}
+use Rattle.kernel_fs.specs.area_image.declared.error.AreaError.{AreaError}
+use Rattle.kernel_fs.specs.area_image.declared.error.AreaError.TheVariants as area
 use Rattle.libfs.specs.declared.denying.Denied.{Denied}
 use Rattle.libfs.specs.declared.denying.Denied.TheVariants as denied
 use Rattle.libfs.specs.View.{ClientView}

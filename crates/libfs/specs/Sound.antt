@@ -2,16 +2,16 @@
 use Rattle.std.specs.Prelude.{◌≡◌, ℕ, ◌++◌, Bool, true, List, [], Option, is_some}
 use Rattle.std.specs.Option.{ForSome}
 use Rattle.atomic_table.specs.Seated.{TableId}
-use Rattle.tier_device.specs.declared.media.Tier.{Tier}
-use Rattle.update_log.specs.Frames.{with_record}
+use Rattle.client_log.specs.tier_device.declared.media.Tier.{Tier}
+use Rattle.client_log.specs.update_log.Frames.{with_record}
 use Rattle.lease_manager.specs.Passes.{PassView, client_of}
 use Rattle.client_log.specs.View.{LogView, written}
-use Rattle.client_copies.specs.Held.{Held, knows}
-use Rattle.client_copies.specs.Prepared.{IsPreparedFor}
+use Rattle.client_view.specs.Held.{Held, knows}
+use Rattle.client_view.specs.Prepared.{IsPreparedFor}
 use Rattle.libfs.specs.declared.begun.Begun.{Begun}
 use Rattle.libfs.specs.View.{begun_record}
-use Rattle.client_leases.specs.Counted.{Counts}
-use Rattle.own_records.specs.Kept.{Kept}
+use Rattle.lease_manager.specs.Counted.{Counts}
+use Rattle.client_view.specs.Kept.{Kept}
 
 -- Pass, log and copies are one client's; what is begun here is begun in the log, and prepared; and the pass counts the records that are not digested.
 pub record IsSound {M : Type 0} (seen : M → Tier → List ℕ) (leases : TableId) (pass : PassView) (log : LogView M) (copies : Held) (begun : Option Begun) (answered : Bool) (records : Kept) : Type 0 where

@@ -1,30 +1,30 @@
 -- What becomes of a client as a call is started.
 use Rattle.std.specs.Prelude.{◌≡◌, ℕ, ◌+◌, ◌≤◌, ◌||◌, Bool, true, false, List, length, Option, Some}
 use Rattle.std.specs.Option.{ForSome}
-use Rattle.tier_device.specs.declared.media.Tier.{Tier}
-use Rattle.posix_calls.specs.declared.call.Call.{Call}
-use Rattle.posix_calls.specs.declared.call.Reply.{Reply}
-use Rattle.posix_calls.specs.declared.call.Reply.TheVariants as replies
-use Rattle.posix_calls.specs.declared.errno.Errno.TheVariants.{NoMemory}
-use Rattle.file_graph.specs.Numbers.{is_inode}
-use Rattle.log_record.specs.Grammar.{IsRecord, spelling}
-use Rattle.log_record.specs.declared.format.Record.{Record}
-use Rattle.update_log.specs.declared.stage.Stage.TheVariants as stages
-use Rattle.call_effects.specs.Known.{part_of}
-use Rattle.client_plan.specs.declared.outcome.DescriptorChange.{DescriptorChange}
-use Rattle.client_plan.specs.declared.outcome.Outcome.{Outcome}
-use Rattle.client_plan.specs.declared.outcome.Outcome.TheVariants as outcomes
-use Rattle.client_plan.specs.Memory.{wants_memory}
-use Rattle.client_plan.specs.Planned.{OpensInRange}
+use Rattle.client_log.specs.tier_device.declared.media.Tier.{Tier}
+use Rattle.lease_manager.specs.posix_calls.declared.call.Call.{Call}
+use Rattle.lease_manager.specs.posix_calls.declared.call.Reply.{Reply}
+use Rattle.lease_manager.specs.posix_calls.declared.call.Reply.TheVariants as replies
+use Rattle.lease_manager.specs.posix_calls.declared.errno.Errno.TheVariants.{NoMemory}
+use Rattle.lease_manager.specs.file_graph.Numbers.{is_inode}
+use Rattle.lease_manager.specs.log_record.Grammar.{IsRecord, spelling}
+use Rattle.lease_manager.specs.log_record.declared.format.Record.{Record}
+use Rattle.client_log.specs.update_log.declared.stage.Stage.TheVariants as stages
+use Rattle.client_log.specs.call_effects.Known.{part_of}
+use Rattle.client_view.specs.client_plan.declared.outcome.DescriptorChange.{DescriptorChange}
+use Rattle.client_view.specs.client_plan.declared.outcome.Outcome.{Outcome}
+use Rattle.client_view.specs.client_plan.declared.outcome.Outcome.TheVariants as outcomes
+use Rattle.client_view.specs.client_plan.Memory.{wants_memory}
+use Rattle.client_view.specs.client_plan.Planned.{OpensInRange}
 use Rattle.client_log.specs.Steps.{most_of}
 use Rattle.client_log.specs.Turns.{turn_of, record_begun}
-use Rattle.client_copies.specs.Logged.{with_change}
+use Rattle.client_view.specs.Logged.{with_change}
 use Rattle.libfs.specs.declared.begun.Begun.{Begun}
 use Rattle.libfs.specs.declared.now.Now.{Now}
 use Rattle.libfs.specs.declared.now.Now.TheVariants as now
 use Rattle.libfs.specs.View.{ClientView}
-use Rattle.client_leases.specs.Counted.{HasNoted, is_touched}
-use Rattle.client_leases.specs.Held.{writes}
+use Rattle.lease_manager.specs.Counted.{HasNoted, is_touched}
+use Rattle.lease_manager.specs.Held.{writes}
 use Rattle.libfs.specs.Holding.{holdings_of, known_to, outcome_for}
 
 -- What a record asks for as it is begun.

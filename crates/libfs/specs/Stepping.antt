@@ -1,13 +1,13 @@
 -- What a device call of a begun record makes of its client.
 use Rattle.std.specs.Prelude.{◌≡◌, ℕ, Bool, true, false, List, Option, Some, None, Result, Ok, Err}
-use Rattle.tier_device.specs.declared.media.Tier.{Tier}
-use Rattle.posix_calls.specs.declared.call.Reply.{Reply}
-use Rattle.posix_calls.specs.declared.call.Reply.TheVariants as replies
-use Rattle.posix_calls.specs.declared.errno.Errno.TheVariants.{IoError}
+use Rattle.client_log.specs.tier_device.declared.media.Tier.{Tier}
+use Rattle.lease_manager.specs.posix_calls.declared.call.Reply.{Reply}
+use Rattle.lease_manager.specs.posix_calls.declared.call.Reply.TheVariants as replies
+use Rattle.lease_manager.specs.posix_calls.declared.errno.Errno.TheVariants.{IoError}
 use Rattle.client_log.specs.Turns.{turn_of, record_appended}
 use Rattle.client_log.specs.declared.error.LogError.{LogError}
 use Rattle.client_log.specs.declared.error.LogError.TheVariants.{DeviceFault}
-use Rattle.client_copies.specs.Logged.{knows_logged}
+use Rattle.client_view.specs.Logged.{knows_logged}
 use Rattle.libfs.specs.declared.begun.Begun.{Begun}
 use Rattle.libfs.specs.View.{ClientView}
 use Rattle.libfs.specs.Holding.{known_to}

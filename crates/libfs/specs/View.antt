@@ -1,11 +1,11 @@
 -- A client, as its callers see it.
 use Rattle.std.specs.Prelude.{ℕ, ◌&&◌, ◌++◌, not, Bool, List, Option, is_some, option_map}
-use Rattle.tier_device.specs.declared.media.Tier.{Tier}
-use Rattle.log_record.specs.declared.format.Record.{Record}
-use Rattle.update_log.specs.Frames.{with_record}
+use Rattle.client_log.specs.tier_device.declared.media.Tier.{Tier}
+use Rattle.lease_manager.specs.log_record.declared.format.Record.{Record}
+use Rattle.client_log.specs.update_log.Frames.{with_record}
 use Rattle.lease_manager.specs.Passes.{PassView}
 use Rattle.client_log.specs.View.{LogView, written}
-use Rattle.client_copies.specs.Held.{Held}
+use Rattle.client_view.specs.Held.{Held}
 use Rattle.libfs.specs.declared.begun.Begun.{Begun}
 
 pub record ClientView (M : Type 0) : Type 0 where

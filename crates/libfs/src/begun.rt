@@ -1,5 +1,5 @@
-use client_copies::OwnChange;
-use posix_calls::Reply;
+use client_view::OwnChange;
+use lease_manager::Reply;
 
 /// A call whose record is begun in the client's log.
 #[derive(Drop)]

@@ -1,11 +1,11 @@
 //! Blocks of files that a client fetches of the shared graph, with its own records laid over them.
 ghost use Rattle.std.specs.Prelude.{◌≡◌, ◌⊎◌, ◌≤◌, ◌<◌, ◌+◌, ◌-◌, ◌*◌, ◌^◌, ◌↔◌, ℕ, List, length, min, take, true, false, Err, OnOk, OnErr, IfOk, IfErr, IsTrue, IsErrOf, option_map};
 ghost use Rattle.std.specs.Option.{ForSome};
-ghost use Rattle.posix_calls.specs.declared.limits.TheConstants.{UNIT_BYTES};
-ghost use Rattle.layout.specs.declared.marks.Mark.{Mark};
+ghost use Rattle.lease_manager.specs.posix_calls.declared.limits.TheConstants.{UNIT_BYTES};
+ghost use Rattle.kernel_fs.specs.layout.declared.marks.Mark.{Mark};
 ghost use Rattle.lease_manager.specs.Passes.{client_of};
-ghost use Rattle.client_copies.specs.Put.{IsBlockLong};
-ghost use Rattle.kernel_fs.specs.Store.{store_of};
+ghost use Rattle.client_view.specs.Put.{IsBlockLong};
+ghost use Rattle.kernel_fs.specs.area_image.Store.{store_of};
 ghost use Rattle.kernel_fs.specs.Standing.{IsMarkIn};
 ghost use Rattle.libfs.specs.declared.denying.Denied.TheVariants as denied;
 ghost use Rattle.libfs.specs.Holding.{known_to};
@@ -14,10 +14,10 @@ ghost use Rattle.libfs.specs.Serving.{HasFetchedBlocks, HasLooked, HasPut, HasTh
 use crate::client::Client;
 use crate::denying::Denied;
 use crate::fetching::area_denied;
+use client_log::Media;
 use kernel_fs::Kernel;
-use posix_calls::UNIT_BYTES;
+use lease_manager::UNIT_BYTES;
 use std::alloc::{AllocError, Global};
-use tier_device::Media;
 
 impl<M: Media> Client<M> {
     /// Fetches blocks of a file, of 4,096 bytes each, with the client's own records that are not digested there laid over them. They are the ones used last then. Of a block that is not as long as

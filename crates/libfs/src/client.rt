@@ -1,31 +1,28 @@
 ghost use Rattle.std.specs.Prelude.{◌≡◌, ◌≢◌, ◌<◌, ◌≤◌, ℕ, ◌++◌, List, [], true, false, Some, None, IfOk, IfErr, IfSome, is_some, length, IsTrue, ◌↔◌};
 ghost use Rattle.std.specs.List.{AllByRecursion};
-ghost use Rattle.file_graph.specs.Graph.{is_among};
-ghost use Rattle.log_record.specs.Grammar.{IsRecord};
-ghost use Rattle.update_log.specs.Counting.{next_generation};
-ghost use Rattle.update_log.specs.Frames.{end_behind};
-ghost use Rattle.update_log.specs.View.{records_of as records_in};
+ghost use Rattle.lease_manager.specs.file_graph.Graph.{is_among};
+ghost use Rattle.lease_manager.specs.log_record.Grammar.{IsRecord};
+ghost use Rattle.client_log.specs.update_log.Counting.{next_generation};
+ghost use Rattle.client_log.specs.update_log.Frames.{end_behind};
+ghost use Rattle.client_log.specs.update_log.View.{records_of as records_in};
 ghost use Rattle.lease_manager.specs.declared.view.LeaseMode.TheVariants.{Writing, Trying};
 ghost use Rattle.lease_manager.specs.Words.{HasWord, IsClient};
 ghost use Rattle.lease_manager.specs.Passes.{client_of, lease_of, records_of};
-ghost use Rattle.posix_calls.specs.Tree.{has_open};
+ghost use Rattle.lease_manager.specs.posix_calls.Tree.{has_open};
 ghost use Rattle.client_log.specs.Counts.{AreLeft, CountOf};
 ghost use Rattle.client_log.specs.Regions.{IsWiped, in_turn};
 ghost use Rattle.client_log.specs.View.{written};
 ghost use Rattle.libfs.specs.View.{begun_record, is_pending, own_records};
-ghost use Rattle.client_leases.specs.Counted.{Counts, touching};
+ghost use Rattle.lease_manager.specs.Counted.{Counts, touching};
 ghost use Rattle.libfs.specs.Holding.{known_to};
 ghost use Rattle.libfs.specs.Opening.{IsBlank, IsNew};
 
 use crate::begun::Begun;
-use client_copies::ClientCopies;
-use client_log::ClientLog;
+use client_log::{ClientLog, Media, Region};
+use client_view::{ClientCopies, OwnRecords};
 use lease_manager::{LeaseMode, Leases, Pass};
-use own_records::OwnRecords;
 use std::alloc::{AllocError, Global};
 use std::marker::Model;
-use tier_device::Media;
-use update_log::Region;
 
 /// One client of the file system. Contracts see its parts (`ClientView`): the pass, the log, what it knows, its pins and spare units, the call that it has begun, and the
 /// records of the region that is away.
@@ -47,7 +44,7 @@ pub struct Client<M: Media> {
 
 impl<M: Media> Model for Client<M> {
     ghost use Rattle.std.specs.Coded.{codes};
-    ghost use Rattle.client_copies.specs.Held.{held_code};
+    ghost use Rattle.client_view.specs.Held.{held_code};
     ghost use Rattle.libfs.specs.contracts.begun.Begun as begun_call;
     ghost use Rattle.libfs.specs.View.{ClientView};
     ghost use Rattle.libfs.specs.Sound.{IsSound};

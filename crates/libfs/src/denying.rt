@@ -1,10 +1,10 @@
 ghost use Rattle.std.specs.Prelude.{◌≡◌};
-ghost use Rattle.posix_calls.specs.declared.call.Reply.TheVariants as replies;
+ghost use Rattle.lease_manager.specs.posix_calls.declared.call.Reply.TheVariants as replies;
 ghost use Rattle.libfs.specs.Denied.{errno_of};
 
 use crate::client::Client;
-use posix_calls::{Call, Errno, Reply};
-use tier_device::Media;
+use client_log::Media;
+use lease_manager::{Call, Errno, Reply};
 
 /// Why what a call needs can't be had.
 #[derive(Clone, Copy, Debug, PartialEq, Eq)]

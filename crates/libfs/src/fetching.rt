@@ -1,10 +1,10 @@
 //! Copies that a client fetches of the shared graph, with its own records laid over them.
 ghost use Rattle.std.specs.Prelude.{◌≡◌, ◌⊎◌, ◌==◌, true, false, None, Err, OnOk, OnErr, IfOk, IfErr, IsErrOf};
 ghost use Rattle.lease_manager.specs.Words.{HasWord};
-ghost use Rattle.call_effects.specs.Known.{with_copy};
-ghost use Rattle.client_copies.specs.Forgotten.{without_blocks};
-ghost use Rattle.own_records.specs.After.{node_laid};
-ghost use Rattle.kernel_fs.specs.Parts.{IsNoDamage};
+ghost use Rattle.client_log.specs.call_effects.Known.{with_copy};
+ghost use Rattle.client_view.specs.Forgotten.{without_blocks};
+ghost use Rattle.client_view.specs.After.{node_laid};
+ghost use Rattle.kernel_fs.specs.shared_area.Parts.{IsNoDamage};
 ghost use Rattle.kernel_fs.specs.Answering.{OnRefusal};
 ghost use Rattle.libfs.specs.declared.denying.Denied.TheVariants as denied;
 ghost use Rattle.libfs.specs.Holding.{known_to};
@@ -12,10 +12,10 @@ ghost use Rattle.libfs.specs.Serving.{HasFetched, HasLooked, area_denied, behind
 
 use crate::client::Client;
 use crate::denying::Denied;
+use client_log::Media;
+use client_view::NodeSummary;
 use kernel_fs::{AreaError, Fetched, Kernel, KernelError, Mark};
-use record_check::NodeSummary;
 use std::alloc::AllocError;
-use tier_device::Media;
 
 impl<M: Media> Client<M> {
     /// Fetches a copy of what stands at an inode: the shared node, and over it the client's own records that are not digested there. What it knew of the inode before goes, its blocks too.

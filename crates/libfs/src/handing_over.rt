@@ -1,26 +1,22 @@
 ghost use Rattle.std.specs.Prelude.{◌≡◌, ◌≢◌, ◌⊎◌, ◌↔◌, ℕ, List, length, true, false, None, Some, Ok, Err, IfOk, IfErr, IfSome, IfNone, IsSome, IsOk, OnOk, OnErr, is_some};
-ghost use Rattle.update_log.specs.Counting.{next_generation};
-ghost use Rattle.update_log.specs.View.{RegionView};
-ghost use Rattle.update_log.specs.declared.stage.WipeProgress.TheVariants as wipes;
+ghost use Rattle.client_log.specs.update_log.Counting.{next_generation};
+ghost use Rattle.client_log.specs.update_log.View.{RegionView};
+ghost use Rattle.client_log.specs.update_log.declared.stage.WipeProgress.TheVariants as wipes;
 ghost use Rattle.client_log.specs.declared.error.LogError.TheVariants.{DeviceFault};
 ghost use Rattle.client_log.specs.Counts.{AreLeft, CountOf};
 ghost use Rattle.client_log.specs.Steps.{CanBeSealed, WipesCurrent, WipesOther};
 ghost use Rattle.client_log.specs.Turns.{turn_of, current_wiped, other_wiped, taken_back, Away, Back};
 ghost use Rattle.client_log.specs.View.{written};
 ghost use Rattle.lease_manager.specs.Passes.{client_of};
-ghost use Rattle.client_copies.specs.Held.{knows};
-ghost use Rattle.client_leases.specs.Held.{AreWritten};
+ghost use Rattle.client_view.specs.Held.{knows};
+ghost use Rattle.lease_manager.specs.Held.{AreWritten};
 ghost use Rattle.libfs.specs.HandingOver.{HasSealed, HasTakenBack, without_blocks_at, without_blocks_of};
 
 use crate::client::Client;
-use client_copies::ClientCopies;
-use client_leases::{clean_records, written_inodes};
-use client_log::{HandedOver, LogError};
-use file_graph::Effect;
-use log_record::Record;
+use client_log::{HandedOver, LogError, Media, WipeProgress};
+use client_view::ClientCopies;
+use lease_manager::{Effect, Record, clean_records, written_inodes};
 use std::alloc::AllocError;
-use tier_device::Media;
-use update_log::WipeProgress;
 
 /// A region that a client handed over to be digested.
 #[derive(Drop)]

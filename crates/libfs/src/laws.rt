@@ -1,22 +1,22 @@
 //! What holds of every client and every call.
 ghost use Rattle.std.specs.Prelude.{◌≡◌, ◌≢◌, ◌⊎◌, ◌<◌, ◌≤◌, ℕ, Option};
-ghost use Rattle.posix_calls.specs.Tree.{Descriptors, with_own};
-ghost use Rattle.posix_calls.specs.Operations.{Step};
-ghost use Rattle.posix_calls.specs.declared.call.Call.{Call};
-ghost use Rattle.posix_calls.specs.declared.call.Reply.{Reply};
-ghost use Rattle.file_graph.specs.Graph.{Graph, after_effects};
-ghost use Rattle.file_graph.specs.Units.{growth};
-ghost use Rattle.log_record.specs.declared.format.Record.{Record};
-ghost use Rattle.call_effects.specs.Known.{Agrees};
-ghost use Rattle.call_effects.specs.Wholes.{IsSound, state_of};
-ghost use Rattle.client_plan.specs.declared.need.Mode.{Mode};
-ghost use Rattle.client_plan.specs.declared.need.Need.TheVariants as needs;
-ghost use Rattle.client_plan.specs.declared.outcome.DescriptorChange.{DescriptorChange};
-ghost use Rattle.client_plan.specs.declared.outcome.Outcome.TheVariants as outcomes;
-ghost use Rattle.client_plan.specs.Planned.{own_changed};
-ghost use Rattle.client_plan.specs.Steps.{IsAnswered, IsOf, IsReady, IsRefused};
-ghost use Rattle.block_cache.specs.declared.blocks.TheConstants.{MOST_BLOCKS};
-ghost use Rattle.client_copies.specs.Logged.{knows_logged, with_change};
+ghost use Rattle.lease_manager.specs.posix_calls.Tree.{Descriptors, with_own};
+ghost use Rattle.lease_manager.specs.posix_calls.Operations.{Step};
+ghost use Rattle.lease_manager.specs.posix_calls.declared.call.Call.{Call};
+ghost use Rattle.lease_manager.specs.posix_calls.declared.call.Reply.{Reply};
+ghost use Rattle.lease_manager.specs.file_graph.Graph.{Graph, after_effects};
+ghost use Rattle.lease_manager.specs.file_graph.Units.{growth};
+ghost use Rattle.lease_manager.specs.log_record.declared.format.Record.{Record};
+ghost use Rattle.client_log.specs.call_effects.Known.{Agrees};
+ghost use Rattle.client_log.specs.call_effects.Wholes.{IsSound, state_of};
+ghost use Rattle.client_view.specs.client_plan.declared.need.Mode.{Mode};
+ghost use Rattle.client_view.specs.client_plan.declared.need.Need.TheVariants as needs;
+ghost use Rattle.client_view.specs.client_plan.declared.outcome.DescriptorChange.{DescriptorChange};
+ghost use Rattle.client_view.specs.client_plan.declared.outcome.Outcome.TheVariants as outcomes;
+ghost use Rattle.client_view.specs.client_plan.Planned.{own_changed};
+ghost use Rattle.client_view.specs.client_plan.Steps.{IsAnswered, IsOf, IsReady, IsRefused};
+ghost use Rattle.client_view.specs.block_cache.declared.blocks.TheConstants.{MOST_BLOCKS};
+ghost use Rattle.client_view.specs.Logged.{knows_logged, with_change};
 ghost use Rattle.kernel_fs.specs.KernelView.{KernelView};
 ghost use Rattle.lease_manager.specs.Passes.{lease_of};
 ghost use Rattle.lease_manager.specs.Words.{HasWord};
@@ -25,11 +25,11 @@ ghost use Rattle.libfs.specs.View.{ClientView};
 ghost use Rattle.libfs.specs.Holding.{holdings_of, known_to, outcome_for};
 ghost use Rattle.libfs.specs.Serving.{AreAsLong, HasFetched, HasRefilled, HasThem, pinned, unpinned};
 
-use client_copies::logged_call_keeps_agreement;
-use client_plan::{
-    answered_call_is_a_step, logged_call_is_a_step, served_need_is_lacking_no_longer,
+use client_log::Media;
+use client_view::{
+    answered_call_is_a_step, logged_call_is_a_step, logged_call_keeps_agreement,
+    served_need_is_lacking_no_longer,
 };
-use tier_device::Media;
 
 /// A call that a client answers at once is one step of the file tree, in every sound whole that agrees with what the client knows; nothing in the whole changes but the client's descriptor, if
 /// one does, and with that the whole is sound and agrees with what the client knows as before. By what the client knows the call is refused, or comes to an operation without effects, and what that

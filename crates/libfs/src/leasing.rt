@@ -5,14 +5,13 @@ ghost use Rattle.lease_manager.specs.Words.{HasWord, IsClient, asked_word, asked
 ghost use Rattle.lease_manager.specs.Marks.{ShowsOther};
 ghost use Rattle.lease_manager.specs.Parts.{Continues};
 ghost use Rattle.lease_manager.specs.Passes.{client_of, lease_of, with_lease, refused_at, with_event};
-ghost use Rattle.client_leases.specs.Kept.{CountsAs};
+ghost use Rattle.lease_manager.specs.Kept.{CountsAs};
 ghost use Rattle.libfs.specs.Leasing.{CanBeGiven, HasGiven, ShowsBar, mode_of, refused};
 
 use crate::client::Client;
-use client_leases::{is_inode, raise, take_read, take_write};
-use client_plan::Mode;
-use lease_manager::{Busy, LeaseMode, Leases, Pass};
-use tier_device::Media;
+use client_log::Media;
+use client_view::Mode;
+use lease_manager::{Busy, LeaseMode, Leases, Pass, is_inode, raise, take_read, take_write};
 
 impl<M: Media> Client<M> {
     /// Takes a lease of an inode of which the client holds none. `Busy` has the number found in its word, which showed another client's mark; then the client holds what it held.

@@ -38,7 +38,12 @@ pub use laws::{
 pub use now::Now;
 
 // Passed on to the crates above, which so need not list those below.
+pub use client_log::{ClientLog, HandedOver, LogError, Media, Region, Tier, WipeProgress};
+pub use client_view::{Mode, Need, NodeSummary};
 pub use kernel_fs::{
     AcceptError, AreaError, Chunk, DigestError, Digestion, Fetched, Figures, Kernel, KernelError,
-    NodeSummary, ReclaimError, RelocateError, SealedLog, Shared, prepare,
+    ReclaimError, RelocateError, SealedLog, Shared, prepare,
+};
+pub use lease_manager::{
+    CLIENTS, Call, INODES, LeaseMode, Leases, Opened, Pass, Record, Reply, is_inode,
 };

@@ -1,18 +1,18 @@
 //! What a call needs of the kernel, whichever it is.
 ghost use Rattle.std.specs.Prelude.{◌≡◌, ◌⊎◌, ◌<◌, ◌≤◌, ◌+◌, ◌^◌, ◌↔◌, true, false, OnErr, OnOk, IfErr, IsErrOf, IsTrue};
-ghost use Rattle.file_graph.specs.Units.{charge};
-ghost use Rattle.kernel_book.specs.Book.{is_free, out_of};
-ghost use Rattle.kernel_book.specs.Free.{count_of};
-ghost use Rattle.kernel_book.specs.Nodes.{nodes_in};
+ghost use Rattle.lease_manager.specs.file_graph.Units.{charge};
+ghost use Rattle.kernel_fs.specs.Book.{is_free, out_of};
+ghost use Rattle.kernel_fs.specs.Free.{count_of};
+ghost use Rattle.kernel_fs.specs.Nodes.{nodes_in};
 ghost use Rattle.libfs.specs.declared.denying.Denied.TheVariants as denied;
 ghost use Rattle.libfs.specs.Serving.{HasNotServed, HasServed, IsServable, LeavesKernel, MayBeDenied, inodes_needed, shared_by, units_needed};
 
 use crate::client::Client;
 use crate::denying::Denied;
-use client_leases::is_inode;
-use client_plan::Need;
+use client_log::Media;
+use client_view::Need;
 use kernel_fs::Kernel;
-use tier_device::Media;
+use lease_manager::is_inode;
 
 impl<M: Media> Client<M> {
     /// Has what a call needs served by the kernel: all but a lease, which a client takes by its own pass, and room in its region.

@@ -1,16 +1,16 @@
 ghost use Rattle.std.specs.Prelude.{◌≡◌, ◌≤◌, ◌⊎◌, ◌/◌, ℕ, length, true, false, None, IfOk, IfErr, IfSome};
-ghost use Rattle.posix_calls.specs.declared.call.Call.TheVariants as calls;
-ghost use Rattle.posix_calls.specs.declared.call.Reply.TheVariants as replies;
-ghost use Rattle.posix_calls.specs.declared.errno.Errno.TheVariants.{IoError, NoMemory};
-ghost use Rattle.call_effects.specs.Known.{part_of};
-ghost use Rattle.client_plan.specs.Memory.{wants_memory};
-ghost use Rattle.client_plan.specs.PlainWrite.{write_logged, written_by};
-ghost use Rattle.client_copies.specs.Held.{knows};
-ghost use Rattle.client_copies.specs.Prepared.{IsPreparedFor};
+ghost use Rattle.lease_manager.specs.posix_calls.declared.call.Call.TheVariants as calls;
+ghost use Rattle.lease_manager.specs.posix_calls.declared.call.Reply.TheVariants as replies;
+ghost use Rattle.lease_manager.specs.posix_calls.declared.errno.Errno.TheVariants.{IoError, NoMemory};
+ghost use Rattle.client_log.specs.call_effects.Known.{part_of};
+ghost use Rattle.client_view.specs.client_plan.Memory.{wants_memory};
+ghost use Rattle.client_view.specs.client_plan.PlainWrite.{write_logged, written_by};
+ghost use Rattle.client_view.specs.Held.{knows};
+ghost use Rattle.client_view.specs.Prepared.{IsPreparedFor};
 ghost use Rattle.libfs.specs.declared.now.Now.TheVariants as now;
-ghost use Rattle.posix_calls.specs.declared.call.Reply.{Reply};
-ghost use Rattle.posix_calls.specs.declared.limits.TheConstants.{MAX_TRANSFER, UNIT_BYTES};
-ghost use Rattle.block_cache.specs.Cached.{used_run};
+ghost use Rattle.lease_manager.specs.posix_calls.declared.call.Reply.{Reply};
+ghost use Rattle.lease_manager.specs.posix_calls.declared.limits.TheConstants.{MAX_TRANSFER, UNIT_BYTES};
+ghost use Rattle.client_view.specs.block_cache.Cached.{used_run};
 ghost use Rattle.libfs.specs.Used.{blocks_read, used_by};
 ghost use Rattle.libfs.specs.View.{is_pending};
 ghost use Rattle.libfs.specs.Holding.{holdings_of, known_to, outcome_for};
@@ -19,18 +19,16 @@ ghost use Rattle.libfs.specs.Starting.{HasBegun, HasStarted, IsOutOfMemory, IsRe
 use crate::begun::Begun;
 use crate::client::Client;
 use crate::now::Now;
-use client_copies::{
-    ClientCopies, OwnChange, logged_call_can_be_prepared, used_blocks_are_known_as_before,
+use client_log::Media;
+use client_view::{
+    ClientCopies, DescriptorChange, Outcome, OwnChange, PlainWrite, logged_call_can_be_prepared,
+    logged_call_is_a_step, plain_write, plain_write_is_logged, plan_call, record_of_write,
+    used_blocks_are_known_as_before,
 };
-use client_leases::note_effects;
-use client_plan::{
-    DescriptorChange, Outcome, PlainWrite, logged_call_is_a_step, plain_write,
-    plain_write_is_logged, plan_call, record_of_write,
+use lease_manager::{
+    Call, Errno, MAX_FILE, MAX_TRANSFER, Record, Reply, SharedBytes, UNIT_BYTES, note_effects,
 };
-use log_record::Record;
-use posix_calls::{Call, Errno, MAX_FILE, MAX_TRANSFER, Reply, SharedBytes, UNIT_BYTES};
 use std::alloc::AllocError;
-use tier_device::Media;
 
 impl<M: Media> Client<M> {
     /// Starts a call, where none waits for its answer. A client of which a device has failed answers EIO. Else it comes to what `plan_call` decides by what the client knows and has: it is

@@ -3,10 +3,9 @@ ghost use Rattle.std.specs.Prelude.{◌≡◌};
 ghost use Rattle.libfs.specs.Holding.{holdings_of};
 
 use crate::client::Client;
-use client_leases::{reads, writes};
-use client_plan::Supplies;
-use posix_calls::OwnDescriptors;
-use tier_device::Media;
+use client_log::Media;
+use client_view::Supplies;
+use lease_manager::{OwnDescriptors, reads, writes};
 
 impl<M: Media> Supplies for Client<M> {
     ghost holdings = { holdings_of M.seen };

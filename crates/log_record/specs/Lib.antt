@@ -1,2 +1,5 @@
 pub mod Grammar
 pub mod Outcome
+-- Passed on to the crates above, which so need not list those below.
+pub use Rattle.file_graph.specs as file_graph
+pub use Rattle.file_graph.specs.posix_calls

@@ -20,3 +20,12 @@ pub use laws::{
 pub use numbers::record_has_its_numbers;
 pub use reading::{is_payload, read_payload, read_record};
 pub use writing::{write_behind, write_record};
+
+// Passed on to the crates above, which so need not list those below.
+pub use file_graph::{
+    Bytes, Call, Child, DIRECTORY_KIND, DecideError, Description, Descriptor, Effect,
+    Effects as FileGraphEffects, Errno, Flags, Kind, Location, MAX_CLIENTS, MAX_ENTRIES, MAX_FILE,
+    MAX_INODE, MAX_NAMES, MAX_TRANSFER, Missing, Name, NameMap, NamedInode, Names, Operation,
+    OwnDescriptors, Path, PlainEntry, PlainGraph, ROOT, Replaced, Reply, SharedBytes, TreeAnswers,
+    UNIT_BYTES, UNIT_ENTRIES, decide, is_inode, known, u32_of,
+};

@@ -1,10 +1,10 @@
 -- Which file is moved down next.
 use Rattle.std.specs.Prelude.{◌≡◌, ◌⊎◌, ◌<◌, ◌≤◌, ℕ, Option, Some, None, IsSome}
-use Rattle.tier_device.specs.declared.media.Tier.{Tier}
-use Rattle.tier_device.specs.declared.media.Tier.TheVariants as tiers
-use Rattle.layout.specs.Places.{Sizes}
-use Rattle.shared_area.specs.Store.{Store, slot, touch_of}
-use Rattle.shared_area.specs.RunMoving.{CanMove}
+use Rattle.shared_area.specs.tier_device.declared.media.Tier.{Tier}
+use Rattle.shared_area.specs.tier_device.declared.media.Tier.TheVariants as tiers
+use Rattle.shared_area.specs.layout.Places.{Sizes}
+use Rattle.shared_area.specs.area_image.Store.{Store, slot, touch_of}
+use Rattle.shared_area.specs.relocation.Moving.{CanMove}
 use Rattle.shared_area.specs.Running.{file_lies, IsFirstRun}
 use Rattle.migrator.specs.declared.picking.FileRun.{FileRun}
 

@@ -6,4 +6,9 @@ mod picking;
 
 pub use migrating::migrate;
 pub use picking::{FileRun, MOST_BLOCKS, pick};
-pub use shared_area::RelocateError;
+
+// Passed on to the crates above, which so need not list those below.
+pub use shared_area::{
+    ApplyError, AreaError, BLOCK, CLIENTS, DirEntries, Mark, Marks, NodeCounts, NodeSummary, Nodes,
+    RecordCheck, RelocateError, Run, SLOT_SIZE, Shared, What, take_effects,
+};

@@ -1,13 +1,12 @@
 // A run is moved down.
 ghost use Rattle.std.specs.Prelude.{◌≡◌, ◌≤◌, ◌+◌, false, OnOk, IsErrOf};
-ghost use Rattle.shared_area.specs.Store.{store_of, graph, marks};
-ghost use Rattle.shared_area.specs.RunMoving.{CanMove, IsMoved};
-ghost use Rattle.shared_area.specs.Found.{HasFileRun};
-ghost use Rattle.shared_area.specs.RelocateError.TheVariants.{NotMapped, NoBlock, Memory};
+ghost use Rattle.shared_area.specs.area_image.Store.{store_of, graph, marks};
+ghost use Rattle.shared_area.specs.relocation.Moving.{CanMove, IsMoved};
+ghost use Rattle.shared_area.specs.relocation.Found.{HasFileRun};
+ghost use Rattle.shared_area.specs.relocation.declared.error.RelocateError.TheVariants.{NotMapped, NoBlock, Memory};
 ghost use Rattle.shared_area.specs.Moving.{HasTooFew, HasEnough, StaysOpen, MovesOrStays};
 
-use shared_area::{RelocateError, Shared};
-use tier_device::{Media, Tier};
+use shared_area::{Media, RelocateError, Shared, Tier};
 
 /// Moves a run of a file's logical blocks, `count` of them from block `first` on, to a tier that is slower than those in which they lie. The graph stays: a stop at any moment
 /// leaves the run where it lay, or all of it moved.

@@ -1,18 +1,15 @@
 // Which run is moved down next.
 ghost use Rattle.std.specs.Prelude.{◌≡◌, ◌≤◌, ◌<◌, ◌+◌, ℕ, Option, Some, None, IfOk, IfErr, IfSome, IfNone};
-ghost use Rattle.tier_device.specs.declared.media.Tier.{Tier};
-ghost use Rattle.layout.specs.Places.{Sizes};
-ghost use Rattle.shared_area.specs.Store.{Store, store_of};
-ghost use Rattle.shared_area.specs.Looks.{Looks};
-ghost use Rattle.shared_area.specs.Map.{WantsMemory};
-ghost use Rattle.shared_area.specs.AreaError.TheVariants.{DeviceFault, Memory};
+ghost use Rattle.shared_area.specs.tier_device.declared.media.Tier.{Tier};
+ghost use Rattle.shared_area.specs.layout.Places.{Sizes};
+ghost use Rattle.shared_area.specs.area_image.Store.{Store, store_of};
+ghost use Rattle.shared_area.specs.area_image.Looks.{Looks};
+ghost use Rattle.shared_area.specs.area_image.Map.{WantsMemory};
+ghost use Rattle.shared_area.specs.area_image.declared.error.AreaError.TheVariants.{DeviceFault, Memory};
 ghost use Rattle.shared_area.specs.Parts.{IsNoDamage};
 ghost use Rattle.migrator.specs.Picking.{IsCandidate, IsBestBelow, IsFirstOf, IsPicked, IsPickedIn, MayBeMoved, pick_of};
 
-use block_alloc::Run;
-use posix_calls::MAX_INODE;
-use shared_area::{AreaError, Shared};
-use tier_device::{Media, Tier};
+use shared_area::{AreaError, MAX_INODE, Media, Run, Shared, Tier};
 
 /// The most blocks that are moved at once.
 pub const MOST_BLOCKS: u32 = 256;

@@ -1,17 +1,17 @@
 -- The first run of a file's blocks, by its slot and its extents.
 use Rattle.std.proofs.Common.{◌≡◌, ◌≢◌, ◌<◌, ◌∙◌, ℕ, false, refl, sym, ap, subst, Option, Some, None}
 use Rattle.std.specs.Prelude.{IsSome, is_some}
-use Rattle.tier_device.specs.declared.media.Tier.{Tier}
-use Rattle.layout.specs.declared.slot.Slot.{Slot}
-use Rattle.layout.specs.Places.{Sizes, is_inode}
-use Rattle.block_alloc.specs.declared.runs.Run.{Run}
-use Rattle.area_image.specs.Store.{Store, place, length_of}
-use Rattle.area_image.specs.Map.{place_by, IsOnceAt}
-use Rattle.area_image.specs.Spelled.{IsOpenable}
-use Rattle.area_image.specs.declared.tiers.InodeExtents.{InodeExtents}
-use Rattle.area_image.specs.declared.inode.InodeParts.{InodeParts}
-use Rattle.area_image.proofs.Parts.{slot_as}
-use Rattle.area_image.proofs.Tails.{place_is, placed_by}
+use Rattle.change_plan.specs.tier_device.declared.media.Tier.{Tier}
+use Rattle.change_plan.specs.layout.declared.slot.Slot.{Slot}
+use Rattle.change_plan.specs.layout.Places.{Sizes, is_inode}
+use Rattle.change_plan.specs.block_alloc.declared.runs.Run.{Run}
+use Rattle.change_plan.specs.area_image.Store.{Store, place, length_of}
+use Rattle.change_plan.specs.area_image.Map.{place_by, IsOnceAt}
+use Rattle.change_plan.specs.area_image.Spelled.{IsOpenable}
+use Rattle.change_plan.specs.area_image.declared.tiers.InodeExtents.{InodeExtents}
+use Rattle.change_plan.specs.area_image.declared.inode.InodeParts.{InodeParts}
+use Rattle.change_plan.proofs.area_image_lemmas.Parts.{slot_as}
+use Rattle.change_plan.proofs.area_image_lemmas.Tails.{place_is, placed_by}
 use Rattle.shared_area.specs.Parts.{HasParts}
 use Rattle.shared_area.specs.Running.{FindsRun, file_place, file_lies}
 use Rattle.shared_area.proofs.Sound.{no_slot}

@@ -7,7 +7,14 @@ pub mod Counts
 pub mod Entries
 pub mod Wants
 pub mod Moved
-mod Applied
+mod AppliedChange
+pub mod Ending
+pub mod Pooled
+pub mod MadeStore
+pub mod Charged
+pub mod Calls
 -- Passed on to the crates above, which so need not list those below.
-pub use Rattle.area_apply.proofs.Calls
-pub use Rattle.area_image.proofs.Looked
+pub use Rattle.change_plan.proofs.area_image_lemmas
+pub use Rattle.change_plan.proofs.batch_journal_lemmas
+pub use Rattle.record_validation.proofs.call_effects_lemmas
+pub use Rattle.record_validation.proofs as record_validation_lemmas

@@ -2,21 +2,21 @@
 use Rattle.std.proofs.Common.{◌≡◌, ◌≢◌, ◌≤◌, ◌<◌, ◌+◌, ◌⊎◌, ◌∙◌, ℕ, List, Bool, true, false, refl, sym, ap, inl, inr}
 use Rattle.std.specs.Prelude.{Result, Ok, Err, OnOk, IfErr, IsErrOf}
 use Rattle.std.proofs.lemmas.Bool.{cases_Bool, true≢false}
-use Rattle.tier_device.specs.declared.media.Tier.{Tier}
-use Rattle.tier_device.specs.Media.{Rose}
-use Rattle.file_graph.specs.Units.{charge}
-use Rattle.layout.specs.declared.marks.Marks.{Marks}
-use Rattle.layout.specs.Places.{Sizes}
-use Rattle.batch_journal.specs.View.{JournalView}
-use Rattle.batch_journal.proofs.Courses.{tiers_same}
-use Rattle.area_image.specs.Store.{Store, store_of, graph, marks}
-use Rattle.area_image.specs.Spelled.{IsOpenable}
-use Rattle.area_image.proofs.Frames.{loose_graph, loose_marks}
-use Rattle.area_apply.specs.PoolsValue.{PoolsView}
-use Rattle.area_relocate.specs.RunMoving.{IsMoved}
-use Rattle.area_relocate.specs.RelocateError.{RelocateError}
-use Rattle.area_relocate.specs.RelocateError.TheVariants.{DeviceFault, NotMapped, NoBlock, Memory}
-use Rattle.area_relocate.specs.Moving.{LieInLowest, IsSettled, IsMovedStore, Moves, StaysStill}
+use Rattle.change_plan.specs.tier_device.declared.media.Tier.{Tier}
+use Rattle.change_plan.specs.tier_device.Media.{Rose}
+use Rattle.record_validation.specs.file_graph.Units.{charge}
+use Rattle.change_plan.specs.layout.declared.marks.Marks.{Marks}
+use Rattle.change_plan.specs.layout.Places.{Sizes}
+use Rattle.change_plan.specs.batch_journal.View.{JournalView}
+use Rattle.change_plan.proofs.batch_journal_lemmas.Courses.{tiers_same}
+use Rattle.change_plan.specs.area_image.Store.{Store, store_of, graph, marks}
+use Rattle.change_plan.specs.area_image.Spelled.{IsOpenable}
+use Rattle.change_plan.proofs.area_image_lemmas.Frames.{loose_graph, loose_marks}
+use Rattle.change_plan.specs.area_commit.Value.{PoolsView}
+use Rattle.relocation.specs.Moving.{IsMoved}
+use Rattle.relocation.specs.declared.error.RelocateError.{RelocateError}
+use Rattle.relocation.specs.declared.error.RelocateError.TheVariants.{DeviceFault, NotMapped, NoBlock, Memory}
+use Rattle.relocation.specs.RunMoving.{LieInLowest, IsSettled, IsMovedStore, Moves, StaysStill}
 use Rattle.shared_area.specs.Ready.{IsReady, HasFree}
 use Rattle.shared_area.specs.Moving.{HasTooFew, HasEnough, StaysOpen, MovesOrStays}
 use Rattle.shared_area.proofs.Ready.{keeps_opens}

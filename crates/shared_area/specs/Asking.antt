@@ -1,9 +1,9 @@
 -- What comes of questions that the shared area is asked.
 use Rattle.std.specs.Prelude.{◌≡◌, ℕ, false, List, Option, Some, None, Result, Err}
-use Rattle.tier_device.specs.declared.media.Tier.{Tier}
-use Rattle.batch_journal.specs.View.{JournalView}
-use Rattle.area_image.specs.declared.error.AreaError.{AreaError}
-use Rattle.area_image.specs.Looks.{Looks, looked}
+use Rattle.change_plan.specs.tier_device.declared.media.Tier.{Tier}
+use Rattle.change_plan.specs.batch_journal.View.{JournalView}
+use Rattle.change_plan.specs.area_image.declared.error.AreaError.{AreaError}
+use Rattle.change_plan.specs.area_image.Looks.{Looks, looked}
 use Rattle.area_image.proofs.Looked.{looks_none, looks_on}
 use Rattle.shared_area.specs.Parts.{IsNoDamage}
 

@@ -8,23 +8,20 @@ pub mod Moving
 pub mod Asking
 pub mod Staying
 pub mod Applying
+pub mod ChangeApplying
+pub mod Errors
+pub mod Costs
 -- Passed on to the crates above, which so need not list those below.
-pub use Rattle.area_apply.specs.Applying as ChangeApplying
-pub use Rattle.area_apply.specs.Laid
-pub use Rattle.area_apply.specs.Next
-pub use Rattle.area_apply.specs.Part
-pub use Rattle.area_apply.specs.Wanted
-pub use Rattle.area_apply.specs.declared.error.ApplyError
-pub use Rattle.area_image.specs.Looks
-pub use Rattle.area_image.specs.Map
-pub use Rattle.area_image.specs.Reads
-pub use Rattle.area_image.specs.Spelled
-pub use Rattle.area_image.specs.Store
-pub use Rattle.area_image.specs.declared.error.AreaError
-pub use Rattle.area_relocate.specs.Found
-pub use Rattle.area_relocate.specs.Placed
-pub use Rattle.area_relocate.specs.RelocateError
-pub use Rattle.area_relocate.specs.RunMoving
-pub use Rattle.extent_nodes.specs.Places
-pub use Rattle.tree_blocks.specs.After
-pub use Rattle.tree_blocks.specs.Inode
+pub use Rattle.change_plan.specs.area_image
+pub use Rattle.change_plan.specs.batch_journal
+pub use Rattle.change_plan.specs.block_alloc
+pub use Rattle.record_validation.specs.call_effects
+pub use Rattle.change_plan.specs as change_plan
+pub use Rattle.change_plan.specs.extent_tree
+pub use Rattle.record_validation.specs.file_graph
+pub use Rattle.change_plan.specs.inode_plan
+pub use Rattle.change_plan.specs.layout
+pub use Rattle.record_validation.specs as record_validation
+pub use Rattle.relocation.specs as relocation
+pub use Rattle.change_plan.specs.tier_device
+pub use Rattle.change_plan.specs.tree_blocks

@@ -1,13 +1,13 @@
 -- What a move of a run leaves of shared media, and when it is refused.
 use Rattle.std.specs.Prelude.{◌⊎◌, ◌≤◌, ◌<◌, ℕ, List, Result}
-use Rattle.tier_device.specs.declared.media.Tier.{Tier}
-use Rattle.layout.specs.Places.{Sizes}
-use Rattle.batch_journal.specs.View.{JournalView}
-use Rattle.area_image.specs.Store.{Store, store_of}
-use Rattle.area_image.specs.Reads.{Loose}
-use Rattle.area_relocate.specs.RunMoving.{IsMoved}
-use Rattle.area_relocate.specs.RelocateError.{RelocateError}
-use Rattle.area_relocate.specs.RelocateError.TheVariants.{DeviceFault}
+use Rattle.change_plan.specs.tier_device.declared.media.Tier.{Tier}
+use Rattle.change_plan.specs.layout.Places.{Sizes}
+use Rattle.change_plan.specs.batch_journal.View.{JournalView}
+use Rattle.change_plan.specs.area_image.Store.{Store, store_of}
+use Rattle.change_plan.specs.area_image.Reads.{Loose}
+use Rattle.relocation.specs.Moving.{IsMoved}
+use Rattle.relocation.specs.declared.error.RelocateError.{RelocateError}
+use Rattle.relocation.specs.declared.error.RelocateError.TheVariants.{DeviceFault}
 use Rattle.shared_area.specs.Ready.{HasFree, OpensAs}
 use Rattle.shared_area.specs.Staying.{Stays, AnswersOrStays}
 

@@ -1,13 +1,13 @@
 -- An inode of media that spell a graph.
 use Rattle.std.specs.Prelude.{◌≡◌, ◌↔◌, ℕ, true, false, Option, Some, None, IsSome}
-use Rattle.tier_device.specs.declared.media.Tier.{Tier}
-use Rattle.layout.specs.Places.{Sizes, is_inode}
-use Rattle.layout.specs.Slot.{fits_slot}
-use Rattle.area_image.specs.declared.error.AreaError.{AreaError}
-use Rattle.area_image.specs.declared.inode.InodeParts.{InodeParts}
-use Rattle.area_image.specs.Store.{Store, slot_read, place}
-use Rattle.area_image.specs.Checks.{HasFound}
-use Rattle.area_image.specs.Damage.{OnDamage}
+use Rattle.change_plan.specs.tier_device.declared.media.Tier.{Tier}
+use Rattle.change_plan.specs.layout.Places.{Sizes, is_inode}
+use Rattle.change_plan.specs.layout.Slot.{fits_slot}
+use Rattle.change_plan.specs.area_image.declared.error.AreaError.{AreaError}
+use Rattle.change_plan.specs.area_image.declared.inode.InodeParts.{InodeParts}
+use Rattle.change_plan.specs.area_image.Store.{Store, slot_read, place}
+use Rattle.change_plan.specs.area_image.Checks.{HasFound}
+use Rattle.change_plan.specs.area_image.Damage.{OnDamage}
 
 -- The refusal tells of no damage.
 abbrev pub IsNoDamage : AreaError → Type 0

@@ -1,32 +1,27 @@
 // A change of the graph is made, and what is kept of the media in memory follows it.
 ghost use Rattle.std.specs.Prelude.{◌≡◌, ◌≤◌, ◌<◌, ℕ, List, true, false, length, OnOk, OnErr, IsErrOf};
 ghost use Rattle.std.specs.FinMap as fin;
-ghost use Rattle.file_graph.specs.Units.{charge};
-ghost use Rattle.graph_change.specs.Bounds.{AreBounded};
-ghost use Rattle.graph_change.specs.Change.{changed};
-ghost use Rattle.graph_change.specs.Tidy.{AreTidyChanges};
-ghost use Rattle.graph_change.specs.View.{changes_of};
-ghost use Rattle.layout.specs.declared.places.TheConstants.{SPARE_BLOCKS};
-ghost use Rattle.layout.specs.Marks.{fits_marks};
-ghost use Rattle.area_image.specs.Store.{store_of, graph};
-ghost use Rattle.area_apply.specs.PoolsValue.{free_data};
-ghost use Rattle.area_apply.specs.Settled.{IsSettled};
-ghost use Rattle.area_apply.specs.Applying.{CanApply, IsAppliedStore, Ends, MakesFewCalls};
-ghost use Rattle.area_apply.specs.Costs.{inodes_of, units_in};
-ghost use Rattle.area_apply.specs.Next.{HasFewEntries};
-ghost use Rattle.area_apply.specs.Wanted.{images_for, AreWritten};
-ghost use Rattle.area_apply.specs.declared.error.ApplyError.TheVariants.{NoBlock};
+ghost use Rattle.record_validation.specs.file_graph.Units.{charge};
+ghost use Rattle.change_plan.specs.graph_change.Bounds.{AreBounded};
+ghost use Rattle.change_plan.specs.graph_change.Change.{changed};
+ghost use Rattle.change_plan.specs.graph_change.Tidy.{AreTidyChanges};
+ghost use Rattle.change_plan.specs.graph_change.View.{changes_of};
+ghost use Rattle.change_plan.specs.layout.declared.places.TheConstants.{SPARE_BLOCKS};
+ghost use Rattle.change_plan.specs.layout.Marks.{fits_marks};
+ghost use Rattle.change_plan.specs.area_image.Store.{store_of, graph};
+ghost use Rattle.change_plan.specs.area_commit.Value.{free_data};
+ghost use Rattle.change_plan.specs.area_commit.Settled.{IsSettled};
+ghost use Rattle.shared_area.specs.ChangeApplying.{CanApply, IsAppliedStore, Ends, MakesFewCalls};
+ghost use Rattle.shared_area.specs.Costs.{inodes_of, units_in};
+ghost use Rattle.change_plan.specs.Next.{HasFewEntries};
+ghost use Rattle.change_plan.specs.Wanted.{images_for, AreWritten};
+ghost use Rattle.shared_area.specs.declared.error.ApplyError.TheVariants.{NoBlock};
 ghost use Rattle.shared_area.specs.Ready.{IsReady};
 ghost use Rattle.shared_area.specs.Applying.{HasTooFewData, StaysOrChanges, AppliesOrStays};
 
-use area_apply::{
-    ApplyError, Pools, apply, charge_follows_the_change, small_changes_find_blocks, units_of_change,
-};
-use batch_journal::Journal;
-use graph_change::GraphChange;
-use layout::Marks;
+use crate::{ApplyError, apply, charge_follows_the_change, units_of_change};
+use change_plan::{GraphChange, Journal, Marks, Media, Pools, Tier, small_changes_find_blocks};
 use std::alloc::Global;
-use tier_device::{Media, Tier};
 
 // Makes a change of inodes that cost so much before it, and counts what the graph costs then. The count stays where the change is not made.
 fn change_from<M: Media>(

@@ -1,15 +1,14 @@
 //! The shared area is asked for its nodes.
 
 use crate::shared::Shared;
-use area_image::AreaError;
-use record_check::{NodeSummary, Nodes};
+use change_plan::{AreaError, Media};
+use record_validation::{NodeSummary, Nodes};
 use std::alloc::Global;
-use tier_device::Media;
 
 impl<M: Media> Nodes for Shared<M> {
     type Error = AreaError;
 
-    ghost use Rattle.area_image.specs.Store.{store_of, graph as graph_of};
+    ghost use Rattle.change_plan.specs.area_image.Store.{store_of, graph as graph_of};
     ghost use Rattle.shared_area.specs.Asking.{HasAsked, nothing_asked, asked_on};
 
     ghost graph = { λ a. graph_of a.geometry (store_of (M.seen a.media)) };

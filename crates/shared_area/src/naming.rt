@@ -1,26 +1,24 @@
 // The entries of a directory.
 ghost use Rattle.std.specs.Prelude.{◌≡◌, ◌≤◌, ◌<◌, ◌+◌, ◌*◌, ℕ, min, length, true, false, OnOk, IfOk, IfErr};
 ghost use Rattle.std.specs.FinMap as fin;
-ghost use Rattle.posix_calls.specs.declared.limits.TheConstants.{MAX_ENTRIES};
-ghost use Rattle.layout.specs.declared.directory.TheConstants.{MAX_IN_BLOCK};
-ghost use Rattle.layout.specs.Directory.{AreEntries, listed, fits_entry};
-ghost use Rattle.layout.specs.Lent.{owned};
-ghost use Rattle.tree_blocks.specs.Inode.{Entry, AreDirectoryBlocks, entry_at, named, blocks_for};
-ghost use Rattle.area_image.specs.Store.{store_of, logical};
-ghost use Rattle.area_image.specs.Checks.{HasFound, IsOnce};
-ghost use Rattle.area_image.specs.Looks.{Looks};
-ghost use Rattle.area_image.specs.declared.error.AreaError.TheVariants.{DeviceFault, Memory};
+ghost use Rattle.record_validation.specs.posix_calls.declared.limits.TheConstants.{MAX_ENTRIES};
+ghost use Rattle.change_plan.specs.layout.declared.directory.TheConstants.{MAX_IN_BLOCK};
+ghost use Rattle.change_plan.specs.layout.Directory.{AreEntries, listed, fits_entry};
+ghost use Rattle.change_plan.specs.layout.Lent.{owned};
+ghost use Rattle.change_plan.specs.tree_blocks.Inode.{Entry, AreDirectoryBlocks, entry_at, named, blocks_for};
+ghost use Rattle.change_plan.specs.area_image.Store.{store_of, logical};
+ghost use Rattle.change_plan.specs.area_image.Checks.{HasFound, IsOnce};
+ghost use Rattle.change_plan.specs.area_image.Looks.{Looks};
+ghost use Rattle.change_plan.specs.area_image.declared.error.AreaError.TheVariants.{DeviceFault, Memory};
 ghost use Rattle.shared_area.specs.Naming.{AreNext};
 ghost use Rattle.shared_area.specs.Parts.{IsNoDamage};
 
 use crate::reading::read_within;
-use area_image::{AreaError, InodeExtents, blank_block};
-use batch_journal::Journal;
-use file_graph::Child;
-use layout::{BLOCK, DirEntries, EntryRef};
-use node_bodies::NameMap;
+use change_plan::{
+    AreaError, BLOCK, DirEntries, EntryRef, InodeExtents, Journal, Media, blank_block,
+};
+use record_validation::{Child, NameMap};
 use std::alloc::{AllocError, Global};
-use tier_device::Media;
 
 // Puts one more entry.
 fn put_entry(

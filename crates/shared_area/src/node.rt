@@ -1,21 +1,18 @@
 // What stands at an inode.
 ghost use Rattle.std.specs.Prelude.{◌≡◌, false, IfOk, IfErr};
-ghost use Rattle.call_effects.specs.NodeView.{view_at};
-ghost use Rattle.area_image.specs.Store.{store_of, graph};
-ghost use Rattle.area_image.specs.Spelled.{IsOpenable};
-ghost use Rattle.area_image.specs.Looks.{Looks};
-ghost use Rattle.area_image.specs.Map.{WantsMemory};
-ghost use Rattle.area_image.specs.declared.error.AreaError.TheVariants.{Memory};
+ghost use Rattle.record_validation.specs.call_effects.NodeView.{view_at};
+ghost use Rattle.change_plan.specs.area_image.Store.{store_of, graph};
+ghost use Rattle.change_plan.specs.area_image.Spelled.{IsOpenable};
+ghost use Rattle.change_plan.specs.area_image.Looks.{Looks};
+ghost use Rattle.change_plan.specs.area_image.Map.{WantsMemory};
+ghost use Rattle.change_plan.specs.area_image.declared.error.AreaError.TheVariants.{Memory};
 ghost use Rattle.shared_area.specs.Parts.{IsNoDamage, HasParts};
 
 use crate::finding::find_parts;
 use crate::naming::read_entries;
-use area_image::{AreaError, InodeParts, length_of};
-use batch_journal::Journal;
-use layout::Slot;
-use record_check::NodeSummary;
+use change_plan::{AreaError, InodeParts, Journal, Media, Slot, length_of};
+use record_validation::NodeSummary;
 use std::alloc::Global;
-use tier_device::Media;
 
 // The node that has these parts, if one does.
 fn node_of<M: Media>(

@@ -1,21 +1,17 @@
 // What is known of media once they are opened, and why they were not.
 ghost use Rattle.std.specs.Prelude.{◌≡◌, ◌≢◌, Some, IsSome, OnOk, IfOk, IfErr};
-ghost use Rattle.file_graph.specs.Units.{charge};
-ghost use Rattle.batch_journal.specs.declared.error.JournalError.TheVariants.{BatchTooLarge};
-ghost use Rattle.area_image.specs.Store.{store_of, graph, marks as marks_of};
-ghost use Rattle.area_image.specs.Spelled.{IsOpenable};
-ghost use Rattle.area_image.specs.Damage.{OnDamage, IsDamaged};
-ghost use Rattle.area_image.specs.Looks.{Looks};
-ghost use Rattle.area_image.specs.declared.error.AreaError.TheVariants.{Memory};
-ghost use Rattle.area_apply.specs.PoolsValue.{HasRanges, AreFree};
+ghost use Rattle.record_validation.specs.file_graph.Units.{charge};
+ghost use Rattle.change_plan.specs.batch_journal.declared.error.JournalError.TheVariants.{BatchTooLarge};
+ghost use Rattle.change_plan.specs.area_image.Store.{store_of, graph, marks as marks_of};
+ghost use Rattle.change_plan.specs.area_image.Spelled.{IsOpenable};
+ghost use Rattle.change_plan.specs.area_image.Damage.{OnDamage, IsDamaged};
+ghost use Rattle.change_plan.specs.area_image.Looks.{Looks};
+ghost use Rattle.change_plan.specs.area_image.declared.error.AreaError.TheVariants.{Memory};
+ghost use Rattle.change_plan.specs.area_commit.Value.{HasRanges, AreFree};
 ghost use Rattle.shared_area.specs.Opening.{IsToldAs};
 
-use area_apply::Pools;
-use area_image::{AreaError, open_area};
-use batch_journal::{Journal, JournalError};
-use layout::Marks;
+use change_plan::{AreaError, Journal, JournalError, Marks, Media, Pools, open_area};
 use std::alloc::Global;
-use tier_device::Media;
 
 /// What is kept in memory of opened media.
 #[derive(Drop)]

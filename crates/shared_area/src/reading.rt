@@ -1,24 +1,24 @@
 // Bytes of a file.
 ghost use Rattle.std.specs.Prelude.{◌≡◌, ◌≤◌, ◌<◌, ◌+◌, ◌-◌, ◌*◌, ◌%◌, ◌^◌, ℕ, min, length, replicate, false, OnOk, OnErr, IfOk, IfErr};
-ghost use Rattle.batch_journal.specs.Images.{slice};
-ghost use Rattle.layout.specs.declared.places.TheConstants.{BLOCK};
-ghost use Rattle.tree_blocks.specs.Inode.{bytes_of_blocks};
-ghost use Rattle.area_image.specs.Store.{store_of, logical, graph};
-ghost use Rattle.area_image.specs.Reads.{IsRoom};
-ghost use Rattle.area_image.specs.Spelled.{IsOpenable};
-ghost use Rattle.area_image.specs.Checks.{HasFound, IsOnce};
-ghost use Rattle.area_image.specs.Looks.{Looks};
-ghost use Rattle.area_image.specs.Map.{WantsMemory};
-ghost use Rattle.area_image.specs.declared.error.AreaError.TheVariants.{DeviceFault, Memory};
+ghost use Rattle.change_plan.specs.batch_journal.Images.{slice};
+ghost use Rattle.change_plan.specs.layout.declared.places.TheConstants.{BLOCK};
+ghost use Rattle.change_plan.specs.tree_blocks.Inode.{bytes_of_blocks};
+ghost use Rattle.change_plan.specs.area_image.Store.{store_of, logical, graph};
+ghost use Rattle.change_plan.specs.area_image.Reads.{IsRoom};
+ghost use Rattle.change_plan.specs.area_image.Spelled.{IsOpenable};
+ghost use Rattle.change_plan.specs.area_image.Checks.{HasFound, IsOnce};
+ghost use Rattle.change_plan.specs.area_image.Looks.{Looks};
+ghost use Rattle.change_plan.specs.area_image.Map.{WantsMemory};
+ghost use Rattle.change_plan.specs.area_image.declared.error.AreaError.TheVariants.{DeviceFault, Memory};
 ghost use Rattle.shared_area.specs.Parts.{IsNoDamage, HasParts};
 ghost use Rattle.shared_area.specs.Reading.{ShowsBytes, IsReadUpTo, IsReadFrom, bytes_of_inode};
 
 use crate::finding::find_parts;
-use area_image::{AreaError, InodeExtents, InodeParts, block_number, first_place};
-use batch_journal::Journal;
-use layout::{BLOCK, Slot};
+use change_plan::{
+    AreaError, BLOCK, InodeExtents, InodeParts, Journal, Media, Slot, Tier, block_number,
+    first_place,
+};
 use std::alloc::Global;
-use tier_device::{Media, Tier};
 
 // A part of a block that is of a pool or for data.
 fn read_part<M: Media>(

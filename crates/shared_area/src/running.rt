@@ -1,20 +1,16 @@
 // The first run of a file's blocks in a tier.
 ghost use Rattle.std.specs.Prelude.{◌≡◌, ◌≢◌, ◌⊎◌, ◌<◌, ◌≤◌, ◌+◌, ◌^◌, ℕ, None, IsSome, IsTrue, false, IfOk, IfErr, IfSome, IfNone};
-ghost use Rattle.area_image.specs.Store.{store_of, length_of};
-ghost use Rattle.area_image.specs.Spelled.{IsOpenable};
-ghost use Rattle.area_image.specs.Map.{place_by, IsOnceAt, WantsMemory};
-ghost use Rattle.area_image.specs.Looks.{Looks};
-ghost use Rattle.area_image.specs.declared.error.AreaError.TheVariants.{Memory};
+ghost use Rattle.change_plan.specs.area_image.Store.{store_of, length_of};
+ghost use Rattle.change_plan.specs.area_image.Spelled.{IsOpenable};
+ghost use Rattle.change_plan.specs.area_image.Map.{place_by, IsOnceAt, WantsMemory};
+ghost use Rattle.change_plan.specs.area_image.Looks.{Looks};
+ghost use Rattle.change_plan.specs.area_image.declared.error.AreaError.TheVariants.{Memory};
 ghost use Rattle.shared_area.specs.Parts.{IsNoDamage};
 ghost use Rattle.shared_area.specs.Running.{FindsRun, file_lies};
 
 use crate::finding::find_parts;
-use area_image::{AreaError, InodeParts, first_place, length_of};
-use batch_journal::Journal;
-use block_alloc::Run;
-use layout::Slot;
+use change_plan::{AreaError, InodeParts, Journal, Media, Run, Slot, Tier, first_place, length_of};
 use std::alloc::Global;
-use tier_device::{Media, Tier};
 
 fn is_same(one: Tier, other: Tier) -> bool
     ensures same { IsTrue result → one ≡ other }

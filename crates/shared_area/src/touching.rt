@@ -1,15 +1,12 @@
 // The number of the last digest that wrote an inode.
 ghost use Rattle.std.specs.Prelude.{◌≡◌, false, IfOk, IfErr};
-ghost use Rattle.area_image.specs.Store.{store_of, slot, touch_of};
-ghost use Rattle.area_image.specs.Spelled.{IsOpenable};
-ghost use Rattle.area_image.specs.Looks.{Looks};
-ghost use Rattle.area_image.specs.declared.error.AreaError.TheVariants.{DeviceFault};
+ghost use Rattle.change_plan.specs.area_image.Store.{store_of, slot, touch_of};
+ghost use Rattle.change_plan.specs.area_image.Spelled.{IsOpenable};
+ghost use Rattle.change_plan.specs.area_image.Looks.{Looks};
+ghost use Rattle.change_plan.specs.area_image.declared.error.AreaError.TheVariants.{DeviceFault};
 
-use area_image::{AreaError, read_slot};
-use batch_journal::Journal;
-use file_graph::is_inode;
-use layout::Slot;
-use tier_device::Media;
+use change_plan::{AreaError, Journal, Media, Slot, read_slot};
+use record_validation::is_inode;
 
 // The touch number that a slot tells.
 fn touch_of(slot: &Slot) -> u64

@@ -1,9 +1,7 @@
 // A file tree beside the run.
-use plain_tree::PlainTree;
-use posix_calls::{Call, Reply};
-use script_lines::{CallText, Manner, SystemLine, read_system_line};
+use plain_tree::{Call, PlainTree, Reply};
 use std::alloc::Global;
-use workload_cli::write_reply;
+use workload_cli::{CallText, Manner, SystemLine, read_system_line, write_reply};
 
 /// A tree that is asked what a script asks, and how the lines of the script were answered.
 #[derive(Drop)]

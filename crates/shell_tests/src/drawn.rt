@@ -2,10 +2,10 @@
 // print what the tree prints, but for those that are blocked, behind `try` or while a call waits, and those that want units or
 // numbers.
 use crate::beside::Beside;
-use crate::script::drawn_script;
+use crate::drawn_lines::drawn_script;
 use std::alloc::Global;
 use std::test::Fail;
-use system_shell::run_sh;
+use workload_cli::run_sh;
 
 // A run by some words over a script that is drawn from a number on, and what is told of it.
 struct Row {

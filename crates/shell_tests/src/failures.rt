@@ -1,12 +1,12 @@
 ghost use Rattle.std.specs.Prelude.{◌≤◌};
 
-use layout::Geometry;
-use script_lines::read_system_line;
 use std::alloc::{AllocError, Global};
 use std::io::{self, ErrorKind};
 use std::test::Fail;
-use system_shell::{MediaMaker, RamMedia, Running, answer_line, open_fresh, write_answer};
-use tier_device::{FaultMedia, Trip};
+use workload_cli::{
+    FaultMedia, Geometry, MediaMaker, RamMedia, Running, Trip, answer_line, open_fresh,
+    read_system_line, write_answer,
+};
 
 // Two clients hand over, and what they logged is digested, wiped and moved down.
 const LINES: [&str; 14] = [

@@ -1,6 +1,6 @@
 //! Tests of a shell's run over inputs and outputs that fail, of when what was printed is flushed, of a running system whose
 //! devices fail, and of scripts that are drawn, beside a plain file tree. What the runs print is told by the rows of
-//! `script_rows`.
+//! `strata_sh/stdin`.
 #![tactic(auto)]
 
 #[cfg(test)]
@@ -8,10 +8,10 @@ mod beside;
 #[cfg(test)]
 mod drawn;
 #[cfg(test)]
+mod drawn_lines;
+#[cfg(test)]
 mod draws;
 #[cfg(test)]
 mod failures;
-#[cfg(test)]
-mod script;
 #[cfg(test)]
 mod streams;

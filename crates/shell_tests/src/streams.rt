@@ -3,7 +3,7 @@ ghost use Rattle.std.specs.Prelude.{◌≤◌, length};
 use std::alloc::Global;
 use std::io::{self, BufReader, ErrorKind, Read, Write};
 use std::test::Fail;
-use system_shell::run_sh;
+use workload_cli::run_sh;
 
 const SCRIPT: &[u8] = b"1 mkdir /a\n1 open /f rwc\n1 pwrite 0 0 61x3\n1 pread 0 0 9\n1 list /\n";
 

@@ -1,9 +1,8 @@
 //! Two clients log a call each, the run stops, and a recovery shows what was kept.
 #![tactic(auto)]
 
-use first_run::run_first;
+use first_run::{run_first, run_program};
 use std::process::ExitCode;
-use workload_cli::run_program;
 
 fn main(rt: HostRuntime) -> ExitCode {
     let alloc = rt.alloc();

@@ -3,8 +3,7 @@
 
 use std::io::{BufReader, BufWriter};
 use std::process::ExitCode;
-use system_shell::run_sh;
-use workload_cli::run_program;
+use workload_cli::{run_program, run_sh};
 
 fn main(rt: HostRuntime) -> ExitCode {
     let alloc = rt.alloc();

@@ -9,9 +9,9 @@ use Rattle.std.specs.FinMap as fin
 use Rattle.std.specs.FinMap.Entries.{below_all}
 use Rattle.std.proofs.Math.Seq.{drop-cons}
 use Rattle.std.proofs.Math.ListN.{drop_of_length-le}
-use Rattle.posix_calls.specs.Content.{Entries}
-use Rattle.node_bodies.specs.Named.{pairs}
-use Rattle.node_bodies.specs.declared.name_map.NamedEntry.{NamedEntry}
+use Rattle.graph_change.specs.posix_calls.Content.{Entries}
+use Rattle.layout.specs.file_graph.Named.{pairs}
+use Rattle.layout.specs.file_graph.declared.name_map.NamedEntry.{NamedEntry}
 use Rattle.graph_change.specs.Net.{Child, with_entry, with_entries}
 use Rattle.tree_blocks.specs.Directory.{coming, counted}
 use Rattle.tree_blocks.proofs.Directories.{names_same, same_name, cases_name}

@@ -4,3 +4,5 @@ pub mod FileBlock
 pub mod Inode
 pub mod Rewritten
 pub mod Written
+-- Passed on to the crates above, which so need not list those below.
+pub use Rattle.graph_change.specs as graph_change

@@ -2,11 +2,11 @@
 
 ghost use Rattle.std.specs.Prelude.{◌≡◌, ◌≤◌, ◌<◌, ◌+◌, ◌*◌, ◌^◌, ◌↔◌, ℕ, length, true, false, is_some, IfSome, IfOk, OnOk, OnErr, IsTrue, vec_capacity};
 ghost use Rattle.std.specs.FinMap as fin;
-ghost use Rattle.posix_calls.specs.declared.limits.TheConstants.{MAX_ENTRIES};
+ghost use Rattle.graph_change.specs.posix_calls.declared.limits.TheConstants.{MAX_ENTRIES};
 ghost use Rattle.layout.specs.Places.{is_inode};
 ghost use Rattle.layout.specs.Lent.{owned};
 ghost use Rattle.layout.specs.Directory.{fits_entry};
-ghost use Rattle.node_bodies.specs.Named.{pairs, IsInOrder};
+ghost use Rattle.layout.specs.file_graph.Named.{pairs, IsInOrder};
 ghost use Rattle.graph_change.specs.Net.{with_entry, with_entries};
 ghost use Rattle.tree_blocks.specs.Inode.{entry_at, named, AreDirectoryBlocks, blocks_for};
 ghost use Rattle.tree_blocks.specs.Directory.{numbered, AreHeld, LeadToInodes, coming, counted};
@@ -14,10 +14,8 @@ ghost use Rattle.tree_blocks.specs.Written.{WereMarked};
 
 use crate::entry_blocks::{add_to, find_in, take_from};
 use crate::written::mark;
-use file_graph::Kind;
-use layout::{BLOCK, EntryRef, MAX_IN_BLOCK, set_target};
-use node_bodies::NamedEntry;
-use posix_calls::MAX_ENTRIES;
+use graph_change::MAX_ENTRIES;
+use layout::{BLOCK, EntryRef, Kind, MAX_IN_BLOCK, NamedEntry, set_target};
 use std::alloc::{AllocError, Global};
 
 // Enters an entry, over that of its name or behind the last one, and marks the block in which it stands. It answers how many there are then.

@@ -1,5 +1,5 @@
 ghost use Rattle.std.specs.Prelude.{◌≡◌, ◌≢◌, ◌≤◌, ◌<◌, ◌/◌, ◌%◌, ◌+◌, ◌-◌, ◌*◌, ◌↔◌, ℕ, [], length, get_or, true, IfOk, IfErr, IfNone, IfSome, OnOk, OnErr};
-ghost use Rattle.posix_calls.specs.declared.limits.TheConstants.{MAX_ENTRIES};
+ghost use Rattle.graph_change.specs.posix_calls.declared.limits.TheConstants.{MAX_ENTRIES};
 ghost use Rattle.layout.specs.Places.{is_inode};
 ghost use Rattle.layout.specs.Lent.{owned};
 ghost use Rattle.layout.specs.Directory.{fits_entry};
@@ -15,10 +15,8 @@ use crate::changing::{are_too_many, change_names, coming};
 use crate::entry_blocks::{add_to, find_in, take_from};
 use crate::error::EnterError;
 use crate::written::{MOST_BLOCKS, WrittenBlocks};
-use file_graph::Kind;
-use layout::{BLOCK, DirEntries, EntryRef, MAX_IN_BLOCK, set_target};
-use node_bodies::NameMap;
-use posix_calls::MAX_ENTRIES;
+use graph_change::MAX_ENTRIES;
+use layout::{BLOCK, DirEntries, EntryRef, Kind, MAX_IN_BLOCK, NameMap, set_target};
 use std::alloc::{AllocError, Global};
 use std::marker::Model;
 

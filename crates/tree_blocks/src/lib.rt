@@ -24,3 +24,6 @@ pub use file_blocks::{
 pub use reading::{alike_inodes_are_one_node, nodes_are_read_by_place};
 pub use rewritten::{bounded_entries_lead_to_inodes, rewritten_inode_is_inode_after};
 pub use written::WrittenBlocks;
+
+// Passed on to the crates above, which so need not list those below.
+pub use graph_change::{BlockChange, GraphChange, NodeBase, NodeChange, NodeLength};

@@ -1,1 +1,3 @@
-mod LineLemmas
+pub mod Lines
+pub mod Looked
+pub mod Walks

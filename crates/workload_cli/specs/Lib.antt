@@ -1,4 +1,6 @@
-pub mod Parts
-pub mod Printed
-pub mod Reading
-pub mod View
+pub mod Manners
+pub mod Paths
+pub mod OfSystem
+pub mod Told
+pub mod Answering
+pub mod Script

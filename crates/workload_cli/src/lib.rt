@@ -1,17 +1,26 @@
-//! What the programs of Strata have in common, as functions over their words, their input, their output and their errors: a script is read line by line, replies are printed,
-//! and what ends a run before its end is told.
+//! The program `strata_sh` as a function over its words, its input, its output and its errors: a script is answered line by line over a running system, which is a kernel over fresh media and eight clients.
 #![tactic(auto)]
 
-mod lines;
-mod program;
-mod run_error;
-mod script;
-mod usage;
+mod answer;
+mod calls;
+mod looking;
+mod needs;
+mod noting;
+mod opening;
+mod options;
+mod rows;
+mod run;
+mod running;
+mod shell;
+mod tiers;
 
-pub use lines::{write_data, write_name};
-pub use program::run_program;
-pub use run_error::RunError;
-pub use script::part::MAX_LINE;
-pub use script::reader::{ScriptError, ScriptLines};
-pub use script::replies::write_reply;
-pub use usage::{WordsError, tell, tell_fault};
+pub use answer::{Answer, write_answer};
+pub use run::run_sh;
+pub use running::Running;
+pub use shell::answer_line;
+
+// Passed on to the crates above, which so need not list those below.
+pub use fresh_system::{Geometry, MediaMaker, RamMedia, open_fresh};
+pub use script::{
+    CallText, FaultMedia, Manner, SystemLine, Trip, read_system_line, run_program, write_reply,
+};

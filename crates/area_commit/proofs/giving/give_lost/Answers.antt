@@ -1,8 +1,8 @@
 use Rattle.std.proofs.Common.{◌≡◌, ◌≢◌, ◌≤◌, ◌∙◌, List, length, sym, subst}
-use Rattle.tier_device.specs.declared.media.Tier.TheVariants.{Fast, Block, Slow}
-use Rattle.block_alloc.specs.declared.runs.Run.{Run}
-use Rattle.block_alloc.specs.Value.{FreeBlocks}
-use Rattle.area_move.specs.Given.{AreUsed}
+use Rattle.area_image.specs.tier_device.declared.media.Tier.TheVariants.{Fast, Block, Slow}
+use Rattle.area_image.specs.block_alloc.declared.runs.Run.{Run}
+use Rattle.area_image.specs.block_alloc.Value.{FreeBlocks}
+use Rattle.area_commit.specs.Given.{AreUsed}
 use Rattle.area_commit.proofs.giving.give_lost.Goals as goal
 
 used_still : (p q : FreeBlocks) (xs ys : List Run) → q ≡ p → ys ≡ xs → AreUsed p xs → AreUsed q ys

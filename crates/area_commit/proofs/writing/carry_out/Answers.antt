@@ -1,5 +1,5 @@
 use Rattle.std.proofs.Common.{ℕ, sym, subst}
-use Rattle.layout.specs.Places.{Sizes, IsAllowed}
+use Rattle.area_image.specs.layout.Places.{Sizes, IsAllowed}
 use Rattle.area_image.specs.Store.{store_of}
 use Rattle.area_commit.proofs.writing.carry_out.Goals as goal
 

@@ -1,11 +1,11 @@
 use Rattle.std.proofs.Common.{◌≡◌, ◌≤◌, ◌∙◌, ℕ, List, sym, subst, arith}
-use Rattle.layout.specs.Places.{Sizes}
-use Rattle.batch_journal.proofs.Courses.{left_before}
+use Rattle.area_image.specs.layout.Places.{Sizes}
+use Rattle.area_image.proofs.batch_journal_lemmas.Courses.{left_before}
 use Rattle.area_image.specs.Store.{Store, store_of}
 use Rattle.area_image.proofs.Looked.{carried}
-use Rattle.area_batch.specs.declared.slots.ChangedSlot.{ChangedSlot}
-use Rattle.area_batch.specs.Slots.{RiseIn}
-use Rattle.free_pools.proofs.Turns.{no_turn, turn_behind}
+use Rattle.area_commit.specs.declared.slots.ChangedSlot.{ChangedSlot}
+use Rattle.area_commit.specs.Slots.{RiseIn}
+use Rattle.area_commit.proofs.Turns.{no_turn, turn_behind}
 use Rattle.area_commit.specs.Plan.{IsPlan}
 use Rattle.area_commit.proofs.Read.{while_read, then_written, then_done}
 use Rattle.area_commit.proofs.writing.write_all.Goals as goal

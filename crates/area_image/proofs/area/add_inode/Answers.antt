@@ -1,10 +1,9 @@
-use Rattle.std.proofs.Common.{sym, subst}
+use Rattle.std.proofs.Common.{sym, subst, ◌∙◌, ◌≤◌, ℕ}
 use Rattle.area_image.specs.Store.{store_of}
 use Rattle.area_image.specs.Damage.{IsDamaged}
-use Rattle.std.proofs.Common.{◌∙◌, ◌≤◌, ℕ}
 use Rattle.area_image.proofs.Costs.{parts_units, few_units}
 use Rattle.area_image.proofs.Sharing.{room_for, marks_more, clash_damage}
-use Rattle.layout.specs.declared.error.What.TheVariants as what
+use Rattle.batch_journal.specs.layout.declared.error.What.TheVariants as what
 use Rattle.area_image.proofs.area.add_inode.Goals as goal
 
 pub mark_inode-requires : goal.mark_inode-requires

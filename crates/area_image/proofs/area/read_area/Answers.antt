@@ -1,6 +1,6 @@
 use Rattle.std.proofs.Common.{◌≡◌, ◌+◌, ◌⊎◌, ◌∙◌, Err, sym, arith}
 use Rattle.area_image.specs.Store.{store_of, graph}
-use Rattle.file_graph.specs.Graph.{cost}
+use Rattle.batch_journal.specs.file_graph.Graph.{cost}
 use Rattle.area_image.proofs.Costs.{total_none, total_more, total_all}
 use Rattle.area_image.specs.Spelled.{SpellsInode}
 use Rattle.area_image.specs.Damage.{IsDamaged}

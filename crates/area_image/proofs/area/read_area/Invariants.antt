@@ -1,7 +1,7 @@
 use Rattle.std.proofs.Common.{◌≡◌, ◌<◌, ◌≤◌, ◌-◌, ◌*◌, ℕ}
 use Rattle.area_image.specs.Store.{store_of, graph}
-use Rattle.posix_calls.specs.Tree.{sum_up_to}
-use Rattle.file_graph.specs.Graph.{cost}
+use Rattle.batch_journal.specs.posix_calls.Tree.{sum_up_to}
+use Rattle.batch_journal.specs.file_graph.Graph.{cost}
 use Rattle.area_image.specs.Spelled.{SpellsInode}
 use Rattle.area_image.specs.Looks.{Looks, looked}
 use Rattle.area_image.specs.Whole.{MarksUses}

@@ -1,8 +1,8 @@
 use Rattle.std.proofs.Common.{◌≡◌, ◌<◌, ◌∙◌, ℕ, List, length, Some, ap, sym, subst}
 use Rattle.std.specs.Prelude.{◌⊎◌, ◌↔◌, Bool, MatchBool, slice_get}
-use Rattle.layout.specs.declared.directory.DirEntry.{DirEntry}
-use Rattle.layout.specs.Directory.{EntryList, listed, entry_of}
-use Rattle.layout.specs.Lent.{owned}
+use Rattle.batch_journal.specs.layout.declared.directory.DirEntry.{DirEntry}
+use Rattle.batch_journal.specs.layout.Directory.{EntryList, listed, entry_of}
+use Rattle.batch_journal.specs.layout.Lent.{owned}
 use Rattle.tree_blocks.proofs.Lists.{got}
 use Rattle.area_image.specs.Names.{IsAmong}
 use Rattle.area_image.proofs.Twins.{adds_more, shares_name}

@@ -1,8 +1,8 @@
 use Rattle.std.proofs.Common.{◌≡◌, ◌<◌, ◌∙◌, ℕ, Some, length, sym, ap, subst, inl, inr}
-use Rattle.tier_device.specs.declared.media.Tier.{Tier}
-use Rattle.tier_device.specs.declared.media.Tier.TheVariants.{Fast}
-use Rattle.layout.specs.Places.{Sizes, tier_blocks}
-use Rattle.layout.specs.declared.error.What.TheVariants as what
+use Rattle.batch_journal.specs.tier_device.declared.media.Tier.{Tier}
+use Rattle.batch_journal.specs.tier_device.declared.media.Tier.TheVariants.{Fast}
+use Rattle.batch_journal.specs.layout.Places.{Sizes, tier_blocks}
+use Rattle.batch_journal.specs.layout.declared.error.What.TheVariants as what
 use Rattle.tree_blocks.specs.Inode.{IsDirectoryBlock}
 use Rattle.area_image.specs.declared.error.AreaError.{AreaError}
 use Rattle.area_image.specs.Store.{Store, store_of, place, logical}
@@ -10,7 +10,7 @@ use Rattle.area_image.specs.Damage.{OnDamage}
 use Rattle.area_image.specs.Reads.{IsRoom}
 use Rattle.area_image.specs.Checks.{IsSlotDamageOf, IsDirectoryDamageOf}
 use Rattle.area_image.specs.Names.{SharesName, AddsNames}
-use Rattle.layout.specs.Directory.{listed}
+use Rattle.batch_journal.specs.layout.Directory.{listed}
 use Rattle.std.specs.Prelude.{Bool, MatchBool, List}
 use Rattle.area_image.proofs.Damages.{is_some_at}
 use Rattle.area_image.proofs.Tails.{place_is, placed_by}

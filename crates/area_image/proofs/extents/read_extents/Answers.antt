@@ -1,9 +1,9 @@
 use Rattle.std.proofs.Common.{◌≡◌, ◌≢◌, ◌∙◌, Err, Some, None, refl, sym, ap, subst}
-use Rattle.tier_device.specs.declared.media.Tier.TheVariants.{Fast}
+use Rattle.batch_journal.specs.tier_device.declared.media.Tier.TheVariants.{Fast}
 use Rattle.batch_journal.specs.Blocks.{Blocks, home}
-use Rattle.layout.specs.Places.{Sizes}
-use Rattle.layout.specs.declared.geometry.Space.{Space}
-use Rattle.layout.specs.Extents.{ExtentList}
+use Rattle.batch_journal.specs.layout.Places.{Sizes}
+use Rattle.batch_journal.specs.layout.declared.geometry.Space.{Space}
+use Rattle.batch_journal.specs.layout.Extents.{ExtentList}
 use Rattle.area_image.specs.Store.{root_of, own_extents, space_of}
 use Rattle.area_image.specs.Map.{IsOwnList}
 use Rattle.area_image.proofs.Looked.{looks_other, looks_none, looks_failed}

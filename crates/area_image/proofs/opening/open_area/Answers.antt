@@ -1,6 +1,6 @@
 use Rattle.std.proofs.Common.{◌≡◌, ℕ, Some}
-use Rattle.std.specs.Prelude.{◌↔◌}
-use Rattle.tier_device.specs.declared.media.Tier.{Tier}
+use Rattle.std.specs.Prelude.{◌↔◌, Ok}
+use Rattle.batch_journal.specs.tier_device.declared.media.Tier.{Tier}
 use Rattle.area_image.specs.Store.{store_of}
 use Rattle.area_image.specs.Spelled.{Use, used, IsOpenable}
 use Rattle.area_image.specs.Used.{IsMarked}
@@ -8,7 +8,6 @@ use Rattle.area_image.proofs.Damages.{damage_none}
 use Rattle.area_image.proofs.Parts.{on_damage}
 use Rattle.area_image.proofs.Looked.{carried_back}
 use Rattle.area_image.specs.Damage.{IsDamaged}
-use Rattle.std.specs.Prelude.{Ok}
 use Rattle.area_image.proofs.opening.open_area.Goals as goal
 
 pub returns-in-Ok-read_inodes-clause-openable : goal.returns-in-Ok-read_inodes-clause-openable

@@ -1,6 +1,6 @@
 use Rattle.std.proofs.Common.{ap, arith}
-use Rattle.tier_device.specs.declared.media.Tier.TheVariants.{Fast}
-use Rattle.layout.specs.Places.{Sizes}
+use Rattle.batch_journal.specs.tier_device.declared.media.Tier.TheVariants.{Fast}
+use Rattle.batch_journal.specs.layout.Places.{Sizes}
 use Rattle.area_image.proofs.Damages.{is_some_at}
 use Rattle.area_image.proofs.opening.read_inodes.Goals as goal
 

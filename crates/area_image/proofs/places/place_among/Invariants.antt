@@ -1,5 +1,5 @@
 use Rattle.std.proofs.Common.{◌≡◌, drop}
-use Rattle.extent_nodes.specs.Places.{place_of}
+use Rattle.extent_tree.specs.Places.{place_of}
 use Rattle.area_image.proofs.places.place_among.Given as goal
 
 abbrev pub invariant-loop-index : goal.invariant-loop-index

@@ -1,6 +1,6 @@
 use Rattle.std.proofs.Common.{◌≡◌, ◌∙◌, Some, ap, subst, true}
-use Rattle.layout.specs.declared.slot.Slot.{Slot}
-use Rattle.layout.specs.Slot.{fits_slot}
+use Rattle.batch_journal.specs.layout.declared.slot.Slot.{Slot}
+use Rattle.batch_journal.specs.layout.Slot.{fits_slot}
 use Rattle.area_image.specs.Store.{Store, store_of}
 use Rattle.area_image.proofs.Shown.{inode_is}
 use Rattle.area_image.proofs.Parts.{on_damage}

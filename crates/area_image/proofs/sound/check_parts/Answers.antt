@@ -1,5 +1,5 @@
 use Rattle.std.proofs.Common.{◌<◌, Err, sym, subst, inl, inr}
-use Rattle.layout.specs.declared.error.What.TheVariants as what
+use Rattle.batch_journal.specs.layout.declared.error.What.TheVariants as what
 use Rattle.area_image.specs.declared.error.AreaError.TheVariants as errors
 use Rattle.area_image.specs.Store.{Store, store_of}
 use Rattle.area_image.specs.Checks.{IsOnce}

@@ -1,5 +1,5 @@
 use Rattle.std.proofs.Common.{◌≡◌, Ok, Err, Some, true, inl, inr}
-use Rattle.layout.specs.Slot.{fits_slot}
+use Rattle.batch_journal.specs.layout.Slot.{fits_slot}
 use Rattle.area_image.specs.Store.{store_of, slot_read}
 use Rattle.area_image.specs.Spelled.{SpellsInode}
 use Rattle.area_image.specs.Checks.{HasFound, HasPart, IsOwnDamage}

@@ -1,8 +1,8 @@
 use Rattle.std.proofs.Common.{◌≡◌, ◌<◌, ◌/◌, ◌%◌, ◌∙◌, Some, ℕ, drop, false, length, sym, ap, subst}
-use Rattle.layout.specs.Bytes.{are_zero}
-use Rattle.layout.specs.Places.{Sizes, tier_blocks}
-use Rattle.layout.specs.declared.error.What.{What}
-use Rattle.layout.specs.declared.error.What.TheVariants as what
+use Rattle.batch_journal.specs.layout.Bytes.{are_zero}
+use Rattle.batch_journal.specs.layout.Places.{Sizes, tier_blocks}
+use Rattle.batch_journal.specs.layout.declared.error.What.{What}
+use Rattle.batch_journal.specs.layout.declared.error.What.TheVariants as what
 use Rattle.area_image.specs.Store.{Store, store_of, place, logical}
 use Rattle.area_image.specs.Reads.{IsRoom}
 use Rattle.area_image.specs.Checks.{IsTailDamageOf}

@@ -1,5 +1,5 @@
 use Rattle.std.proofs.Common.{◌≡◌, ◌==◌, ℕ, length, sym, ◌∙◌, ap, refl, rules}
-use Rattle.tier_device.specs.declared.media.Tier.TheVariants.{Fast}
+use Rattle.layout.specs.tier_device.declared.media.Tier.TheVariants.{Fast}
 use Rattle.layout.specs.Bytes.{are_zero}
 use Rattle.batch_journal.specs.Images.{slice}
 use Rattle.batch_journal.proofs.Found.{gate_of_block, rest_of_block}

@@ -1,6 +1,6 @@
 use Rattle.std.proofs.Common.{◌≡◌, ◌∙◌, ℕ, List, length, ap, subst, refl, rules}
-use Rattle.tier_device.specs.declared.media.Tier.{Tier}
-use Rattle.tier_device.specs.declared.media.Tier.TheVariants.{Fast}
+use Rattle.layout.specs.tier_device.declared.media.Tier.{Tier}
+use Rattle.layout.specs.tier_device.declared.media.Tier.TheVariants.{Fast}
 use Rattle.batch_journal.specs.Images.{slice}
 use Rattle.batch_journal.specs.Volume.{Spells}
 use Rattle.batch_journal.specs.Damage.{TellsNone}

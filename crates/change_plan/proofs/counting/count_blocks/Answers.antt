@@ -1,12 +1,12 @@
 use Rattle.std.proofs.Common.{◌≡◌, ◌∙◌, ℕ, List, true, Err, refl, sym, subst, arith}
-use Rattle.graph_change.specs.Change.{Change, Changes, change_at, writes_block}
-use Rattle.graph_change.specs.View.{change_of, changes_of}
-use Rattle.graph_change.specs.declared.node_change.NodeChange.{NodeChange}
-use Rattle.area_image.specs.Looks.{looked}
-use Rattle.area_image.specs.Spelled.{IsSpelled}
-use Rattle.area_image.specs.Store.{Store, store_of}
-use Rattle.area_image.proofs.Looked.{carried, carried_back, looks_on, looks_none, looks_answer}
-use Rattle.area_commit.proofs.Members.{cons_here}
+use Rattle.inode_plan.specs.graph_change.Change.{Change, Changes, change_at, writes_block}
+use Rattle.inode_plan.specs.graph_change.View.{change_of, changes_of}
+use Rattle.inode_plan.specs.graph_change.declared.node_change.NodeChange.{NodeChange}
+use Rattle.inode_plan.specs.area_image.Looks.{looked}
+use Rattle.inode_plan.specs.area_image.Spelled.{IsSpelled}
+use Rattle.inode_plan.specs.area_image.Store.{Store, store_of}
+use Rattle.inode_plan.proofs.area_image_lemmas.Looked.{carried, carried_back, looks_on, looks_none, looks_answer}
+use Rattle.inode_plan.proofs.area_commit_lemmas.Members.{cons_here}
 use Rattle.change_plan.specs.Laid.{LeavesFile}
 use Rattle.change_plan.specs.Next.{WantsData}
 use Rattle.change_plan.proofs.Climbs.{seen_as, entries_seen, change_here, has_here}

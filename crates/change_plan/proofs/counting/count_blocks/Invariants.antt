@@ -1,6 +1,6 @@
-use Rattle.graph_change.specs.View.{change_of, changes_of}
-use Rattle.area_image.specs.Store.{store_of}
-use Rattle.area_image.specs.Looks.{Looks, looked}
+use Rattle.inode_plan.specs.graph_change.View.{change_of, changes_of}
+use Rattle.inode_plan.specs.area_image.Store.{store_of}
+use Rattle.inode_plan.specs.area_image.Looks.{Looks, looked}
 use Rattle.change_plan.proofs.Climbs.{seen_as}
 use Rattle.change_plan.proofs.Wants.{Counted}
 use Rattle.change_plan.proofs.counting.count_blocks.Given as goal

@@ -1,4 +1,4 @@
-use Rattle.area_image.specs.Store.{Store, store_of}
+use Rattle.inode_plan.specs.area_image.Store.{Store, store_of}
 use Rattle.change_plan.proofs.NoDamage.{slot_is_whole}
 use Rattle.change_plan.proofs.counting.count_in.Goals as goal
 

@@ -1,7 +1,7 @@
 use Rattle.std.proofs.Common.{◌∙◌, ℕ, List, [], refl, sym, ap, subst, append-nil}
-use Rattle.graph_change.specs.View.{change_of}
-use Rattle.area_image.specs.Store.{Store, store_of}
-use Rattle.directory_plan.specs.Planned.{IsPlannedFrom, on_fast}
+use Rattle.inode_plan.specs.graph_change.View.{change_of}
+use Rattle.inode_plan.specs.area_image.Store.{Store, store_of}
+use Rattle.inode_plan.specs.PlannedDirectory.{IsPlannedFrom, on_fast}
 use Rattle.change_plan.specs.Part.{IsPart}
 use Rattle.change_plan.specs.Directory.{of_nodes}
 use Rattle.change_plan.proofs.directories.plan_over_spares.Goals as goal

@@ -1,11 +1,11 @@
 use Rattle.std.proofs.Common.{◌≡◌, ◌∙◌, Some, sym, ap, subst}
-use Rattle.file_graph.specs.declared.effect.Kind.{Kind}
-use Rattle.file_graph.specs.declared.effect.Kind.TheVariants as kind
-use Rattle.graph_change.specs.Net.{Base, Made}
-use Rattle.graph_change.specs.View.{base_of}
-use Rattle.tree_blocks.specs.After.{started}
-use Rattle.area_image.specs.Store.{Store, store_of, inode}
-use Rattle.directory_plan.specs.Started.{IsStarted}
+use Rattle.inode_plan.specs.file_graph.declared.effect.Kind.{Kind}
+use Rattle.inode_plan.specs.file_graph.declared.effect.Kind.TheVariants as kind
+use Rattle.inode_plan.specs.graph_change.Net.{Base, Made}
+use Rattle.inode_plan.specs.graph_change.View.{base_of}
+use Rattle.inode_plan.specs.tree_blocks.After.{started}
+use Rattle.inode_plan.specs.area_image.Store.{Store, store_of, inode}
+use Rattle.inode_plan.specs.Started.{IsStarted}
 use Rattle.change_plan.proofs.directories.start_directory.Goals as goal
 
 the_kind : (a b : Kind) → Some a ≡ Some b → a ≡ b

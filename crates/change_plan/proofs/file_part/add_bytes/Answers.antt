@@ -1,13 +1,13 @@
 use Rattle.std.proofs.Common.{◌≡◌, ◌*◌, ℕ, List, length, Option, sym, ap, subst}
-use Rattle.layout.specs.declared.places.TheConstants.{BLOCK}
-use Rattle.batch_journal.specs.Images.{slice}
-use Rattle.graph_change.specs.Change.{Change}
-use Rattle.graph_change.specs.View.{change_of}
-use Rattle.tree_blocks.specs.Inode.{LogicalBlocks}
-use Rattle.area_image.specs.Store.{store_of, logical}
-use Rattle.area_image.specs.declared.tiers.InodeExtents.{InodeExtents}
-use Rattle.file_plan.specs.Bytes.{IsBlockAfter, AddsBlocks, blocks_from}
-use Rattle.file_plan.specs.Placed.{nth_number}
+use Rattle.inode_plan.specs.layout.declared.places.TheConstants.{BLOCK}
+use Rattle.inode_plan.specs.batch_journal.Images.{slice}
+use Rattle.inode_plan.specs.graph_change.Change.{Change}
+use Rattle.inode_plan.specs.graph_change.View.{change_of}
+use Rattle.inode_plan.specs.tree_blocks.Inode.{LogicalBlocks}
+use Rattle.inode_plan.specs.area_image.Store.{store_of, logical}
+use Rattle.inode_plan.specs.area_image.declared.tiers.InodeExtents.{InodeExtents}
+use Rattle.inode_plan.specs.Bytes.{IsBlockAfter, AddsBlocks, blocks_from}
+use Rattle.inode_plan.specs.PlacedFile.{nth_number}
 use Rattle.change_plan.proofs.file_part.add_bytes.Goals as goal
 
 -- of blocks that read the same the change makes the same

@@ -1,5 +1,5 @@
-use Rattle.graph_change.specs.View.{change_of}
-use Rattle.area_image.proofs.Looked.{carried, carried_back}
+use Rattle.inode_plan.specs.graph_change.View.{change_of}
+use Rattle.inode_plan.proofs.area_image_lemmas.Looked.{carried, carried_back}
 use Rattle.change_plan.specs.Next.{IsNext, HasPlaces, PlansInode}
 use Rattle.change_plan.specs.Started.{IsStartedFile}
 use Rattle.change_plan.proofs.file_part.plan_file_part.Goals as goal

@@ -1,8 +1,8 @@
 use Rattle.std.proofs.Common.{◌≡◌, ◌+◌, ◌*◌, ◌∙◌, inl, ℕ, length, Option, refl, sym, ap, subst, arith}
 use Rattle.std.specs.FinMap as fin
-use Rattle.file_graph.specs.declared.effect.Kind.{Kind}
-use Rattle.graph_change.specs.View.{change_of}
-use Rattle.area_image.specs.Store.{Store, store_of}
+use Rattle.inode_plan.specs.file_graph.declared.effect.Kind.{Kind}
+use Rattle.inode_plan.specs.graph_change.View.{change_of}
+use Rattle.inode_plan.specs.area_image.Store.{Store, store_of}
 use Rattle.change_plan.specs.Adding.{AddsPart}
 use Rattle.change_plan.specs.Next.{nodes_for, nodes_left}
 use Rattle.change_plan.proofs.PlansFile.{long}

@@ -1,20 +1,20 @@
 use Rattle.std.proofs.Common.{◌≡◌, ◌∙◌, ℕ, List, Some, length, take, sym, ap, subst, true}
 use Rattle.std.proofs.lemmas.List.{length-take-le, take-map}
-use Rattle.file_graph.specs.declared.effect.Kind.TheVariants as kind
-use Rattle.graph_change.specs.View.{base_of, change_of}
-use Rattle.layout.specs.Places.{Sizes}
-use Rattle.layout.specs.Slot.{fits_slot}
-use Rattle.block_map.specs.Map.{runs_in}
-use Rattle.block_map.specs.declared.map.Place.{Place}
-use Rattle.tree_blocks.specs.After.{started}
-use Rattle.area_image.specs.Map.{in_tier}
-use Rattle.area_image.specs.Spelled.{IsSpelled}
-use Rattle.area_image.specs.Store.{Store, store_of, slot_read, logical, inode}
-use Rattle.area_image.proofs.Looked.{carried, carried_back}
-use Rattle.file_plan.specs.Bytes.{HoldsBlocks, blocks_from}
-use Rattle.file_plan.specs.Mapped.{AreData}
-use Rattle.file_plan.specs.Planned.{pair_of, pairs_of}
-use Rattle.file_plan.specs.Roots.{roots_wanted}
+use Rattle.inode_plan.specs.file_graph.declared.effect.Kind.TheVariants as kind
+use Rattle.inode_plan.specs.graph_change.View.{base_of, change_of}
+use Rattle.inode_plan.specs.layout.Places.{Sizes}
+use Rattle.inode_plan.specs.layout.Slot.{fits_slot}
+use Rattle.inode_plan.specs.extent_tree.Map.{runs_in}
+use Rattle.inode_plan.specs.extent_tree.declared.map.Place.{Place}
+use Rattle.inode_plan.specs.tree_blocks.After.{started}
+use Rattle.inode_plan.specs.area_image.Map.{in_tier}
+use Rattle.inode_plan.specs.area_image.Spelled.{IsSpelled}
+use Rattle.inode_plan.specs.area_image.Store.{Store, store_of, slot_read, logical, inode}
+use Rattle.inode_plan.proofs.area_image_lemmas.Looked.{carried, carried_back}
+use Rattle.inode_plan.specs.Bytes.{HoldsBlocks, blocks_from}
+use Rattle.inode_plan.specs.Mapped.{AreData}
+use Rattle.inode_plan.specs.PlannedFile.{pair_of, pairs_of}
+use Rattle.inode_plan.specs.Roots.{roots_wanted}
 use Rattle.change_plan.specs.Part.{IsPart}
 use Rattle.change_plan.specs.FileSteps.{AddsFile}
 use Rattle.change_plan.specs.declared.partial.PartialPlan.{PartialPlan}

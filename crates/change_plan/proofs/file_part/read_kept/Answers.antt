@@ -1,5 +1,5 @@
 use Rattle.std.proofs.Common.{[]}
-use Rattle.area_image.specs.Store.{Store, store_of}
+use Rattle.inode_plan.specs.area_image.Store.{Store, store_of}
 use Rattle.change_plan.proofs.PlansFile.{slot_tells_file}
 use Rattle.change_plan.proofs.file_part.read_kept.Goals as goal
 

@@ -1,7 +1,6 @@
-use Rattle.std.proofs.Common.{sym, subst}
-use Rattle.tier_device.specs.declared.media.Tier.TheVariants as tiers
-use Rattle.block_alloc.specs.declared.runs.Run.{Run}
-use Rattle.std.proofs.Common.{List}
+use Rattle.std.proofs.Common.{sym, subst, List}
+use Rattle.inode_plan.specs.tier_device.declared.media.Tier.TheVariants as tiers
+use Rattle.inode_plan.specs.block_alloc.declared.runs.Run.{Run}
 use Rattle.change_plan.specs.Gone.{AreAllRuns}
 use Rattle.change_plan.proofs.gone.all_blocks.Goals as goal
 

@@ -1,7 +1,7 @@
 use Rattle.std.proofs.Common.{[], refl, sym, append-nil}
-use Rattle.layout.specs.declared.slot.Slot.TheVariants as slots
-use Rattle.block_alloc.specs.Runs.{blocks_of}
-use Rattle.area_image.specs.Store.{Store, store_of}
+use Rattle.inode_plan.specs.layout.declared.slot.Slot.TheVariants as slots
+use Rattle.inode_plan.specs.block_alloc.Runs.{blocks_of}
+use Rattle.inode_plan.specs.area_image.Store.{Store, store_of}
 use Rattle.change_plan.specs.Adding.{no_runs}
 use Rattle.change_plan.specs.Directory.{of_nodes}
 use Rattle.change_plan.proofs.gone.plan_gone_part.Goals as goal

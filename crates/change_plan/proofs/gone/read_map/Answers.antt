@@ -1,12 +1,12 @@
 use Rattle.std.proofs.Common.{◌∙◌, sym, subst}
-use Rattle.tier_device.specs.declared.media.Tier.{Tier}
-use Rattle.layout.specs.Places.{Sizes}
-use Rattle.extent_nodes.specs.Spelled.{LiesWithin}
-use Rattle.block_map.specs.Map.{runs_in}
-use Rattle.area_image.specs.Store.{Store, store_of, space_of}
-use Rattle.area_image.proofs.Parts.{extents_all}
-use Rattle.area_image.proofs.Tails.{place_is}
-use Rattle.area_commit.specs.MovedLists.{AreOwnLists}
+use Rattle.inode_plan.specs.tier_device.declared.media.Tier.{Tier}
+use Rattle.inode_plan.specs.layout.Places.{Sizes}
+use Rattle.inode_plan.specs.extent_tree.Spelled.{LiesWithin}
+use Rattle.inode_plan.specs.extent_tree.Map.{runs_in}
+use Rattle.inode_plan.specs.area_image.Store.{Store, store_of, space_of}
+use Rattle.inode_plan.proofs.area_image_lemmas.Parts.{extents_all}
+use Rattle.inode_plan.proofs.area_image_lemmas.Tails.{place_is}
+use Rattle.inode_plan.specs.Lists.{AreOwnLists}
 use Rattle.change_plan.proofs.NoDamage.{no_damage}
 use Rattle.change_plan.proofs.gone.read_map.Goals as goal
 

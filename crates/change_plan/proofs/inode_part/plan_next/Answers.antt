@@ -1,6 +1,6 @@
-use Rattle.graph_change.specs.View.{change_of}
-use Rattle.area_image.specs.Store.{Store, store_of}
-use Rattle.area_image.proofs.Looked.{carried, carried_back}
+use Rattle.inode_plan.specs.graph_change.View.{change_of}
+use Rattle.inode_plan.specs.area_image.Store.{Store, store_of}
+use Rattle.inode_plan.proofs.area_image_lemmas.Looked.{carried, carried_back}
 use Rattle.change_plan.specs.Next.{IsNext, HasPlaces, PlansInode}
 use Rattle.change_plan.proofs.NoDamage.{slot_is_whole}
 use Rattle.change_plan.proofs.TakingMore.{takes_none}

@@ -1,4 +1,4 @@
-use Rattle.file_plan.specs.Planned.{left_in}
+use Rattle.inode_plan.specs.PlannedFile.{left_in}
 use Rattle.change_plan.proofs.FilePlaced.{whole_tier, all_below, in_use}
 use Rattle.change_plan.proofs.placing.place_file.Goals as goal
 

@@ -1,15 +1,15 @@
 use Rattle.std.proofs.Common.{◌∙◌, sym, subst}
-use Rattle.tier_device.specs.declared.media.Tier.{Tier}
-use Rattle.layout.specs.Places.{Sizes}
-use Rattle.extent_nodes.specs.Spelled.{LiesWithin}
-use Rattle.block_map.specs.Map.{runs_in}
-use Rattle.area_image.specs.Store.{Store, store_of, space_of}
-use Rattle.area_image.proofs.Lists.{slot_here_fits}
-use Rattle.area_image.proofs.Parts.{extents_all, slot_as}
-use Rattle.area_image.proofs.Tails.{place_is}
-use Rattle.area_commit.specs.MovedLists.{AreOwnLists, LieAsIn}
-use Rattle.layout.specs.Slot.{fits_slot}
-use Rattle.layout.specs.declared.slot.Slot.{Slot}
+use Rattle.inode_plan.specs.tier_device.declared.media.Tier.{Tier}
+use Rattle.inode_plan.specs.layout.Places.{Sizes}
+use Rattle.inode_plan.specs.extent_tree.Spelled.{LiesWithin}
+use Rattle.inode_plan.specs.extent_tree.Map.{runs_in}
+use Rattle.inode_plan.specs.area_image.Store.{Store, store_of, space_of}
+use Rattle.inode_plan.proofs.area_image_lemmas.Lists.{slot_here_fits}
+use Rattle.inode_plan.proofs.area_image_lemmas.Parts.{extents_all, slot_as}
+use Rattle.inode_plan.proofs.area_image_lemmas.Tails.{place_is}
+use Rattle.inode_plan.specs.Lists.{AreOwnLists, LieAsIn}
+use Rattle.inode_plan.specs.layout.Slot.{fits_slot}
+use Rattle.inode_plan.specs.layout.declared.slot.Slot.{Slot}
 use Rattle.std.specs.Prelude.{◌≡◌, true}
 use Rattle.change_plan.proofs.StartsFile.{kept_kind, kept_blocks, kept_map, no_damage}
 use Rattle.change_plan.proofs.starting.read_file.Goals as goal

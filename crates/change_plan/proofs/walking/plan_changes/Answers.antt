@@ -1,13 +1,13 @@
 use Rattle.std.proofs.Common.{◌≡◌, ◌∙◌, [], ◌∷◌, ℕ, List, length, drop, Err, Some, true, sym, subst, arith}
-use Rattle.graph_change.specs.Change.{Change, Changes}
-use Rattle.graph_change.specs.View.{change_of, changes_of}
-use Rattle.layout.specs.Slot.{fits_slot}
-use Rattle.layout.specs.declared.slot.Slot.{Slot}
-use Rattle.block_map.specs.declared.map.Place.{Place}
-use Rattle.area_image.specs.Looks.{looked}
-use Rattle.area_image.specs.Spelled.{IsSpelled}
-use Rattle.area_image.specs.Store.{Store, store_of, slot_read}
-use Rattle.area_image.proofs.Looked.{carried, carried_back, looks_on, looks_none, looks_answer, looks_err}
+use Rattle.inode_plan.specs.graph_change.Change.{Change, Changes}
+use Rattle.inode_plan.specs.graph_change.View.{change_of, changes_of}
+use Rattle.inode_plan.specs.layout.Slot.{fits_slot}
+use Rattle.inode_plan.specs.layout.declared.slot.Slot.{Slot}
+use Rattle.inode_plan.specs.extent_tree.declared.map.Place.{Place}
+use Rattle.inode_plan.specs.area_image.Looks.{looked}
+use Rattle.inode_plan.specs.area_image.Spelled.{IsSpelled}
+use Rattle.inode_plan.specs.area_image.Store.{Store, store_of, slot_read}
+use Rattle.inode_plan.proofs.area_image_lemmas.Looked.{carried, carried_back, looks_on, looks_none, looks_answer, looks_err}
 use Rattle.change_plan.specs.Adding.{HasTaken}
 use Rattle.change_plan.specs.Next.{IsNext, HasPlaces, PlansInode}
 use Rattle.change_plan.proofs.Climbs.{seen_as, entries_seen}

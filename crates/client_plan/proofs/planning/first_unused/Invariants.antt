@@ -1,5 +1,5 @@
 use Rattle.std.proofs.Common.{◌≡◌, drop}
-use Rattle.posix_calls.specs.Own.{own_of}
+use Rattle.call_effects.specs.posix_calls.Own.{own_of}
 use Rattle.client_plan.specs.Holdings.{first_unused}
 use Rattle.client_plan.proofs.planning.first_unused.Given as goal
 

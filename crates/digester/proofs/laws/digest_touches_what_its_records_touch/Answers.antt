@@ -1,6 +1,6 @@
 use Rattle.std.proofs.Common.{◌∙◌, take}
 use Rattle.coalescer.specs.Records.{effects_in}
-use Rattle.digest_plan.proofs.Applied.{changes_touched}
+use Rattle.digester.proofs.Applied.{changes_touched}
 use Rattle.digester.specs.SealedLog.{undone}
 use Rattle.digester.proofs.laws.digest_touches_what_its_records_touch.Goals as goal
 

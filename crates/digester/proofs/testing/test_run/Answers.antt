@@ -1,7 +1,7 @@
 use Rattle.std.proofs.Common.{ℕ, subst}
 use Rattle.std.specs.Prelude.{IfOk}
-use Rattle.shared_area.specs.Store.{store_of, graph}
-use Rattle.digest_plan.specs.Plan.{Finds}
+use Rattle.shared_area.specs.area_image.Store.{store_of, graph}
+use Rattle.digester.specs.Plan.{Finds}
 use Rattle.digester.proofs.testing.test_run.Goals as goal
 
 pub returns-clause-tells : goal.returns-clause-tells

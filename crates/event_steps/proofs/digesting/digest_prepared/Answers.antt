@@ -1,10 +1,10 @@
 use Rattle.std.proofs.Common.{ap}
 use Rattle.std.specs.Prelude.{Ok}
-use Rattle.libfs.specs.KernelView.{KernelView}
-use Rattle.libfs.specs.Digestion.{Digestion}
-use Rattle.libfs.specs.Digestion.TheVariants as digestion
-use Rattle.libfs.specs.DigestError.TheVariants as digests
-use Rattle.libfs.specs.KernelError.TheVariants as kernel
+use Rattle.libfs.specs.kernel_fs.KernelView.{KernelView}
+use Rattle.libfs.specs.kernel_fs.declared.digesting.Digestion.{Digestion}
+use Rattle.libfs.specs.kernel_fs.declared.digesting.Digestion.TheVariants as digestion
+use Rattle.libfs.specs.digester.declared.error.DigestError.TheVariants as digests
+use Rattle.libfs.specs.kernel_fs.declared.error.KernelError.TheVariants as kernel
 use Rattle.event_steps.proofs.Chunks.{next_run, ok_is_none, same_ok}
 use Rattle.event_steps.proofs.digesting.digest_prepared.Goals as goal
 

@@ -1,8 +1,8 @@
 use Rattle.std.proofs.Common.{◌++◌, ◌+◌, ◌∙◌, arith, sym, ap, subst, length}
-use Rattle.extent_nodes.specs.Normal.{IsRising}
-use Rattle.extent_nodes.specs.Nodes.{flat, summaries}
-use Rattle.extent_nodes.proofs.Rising.{rising-left}
-use Rattle.extent_nodes.proofs.Levels.{summaries-rising}
+use Rattle.extent_tree.specs.Normal.{IsRising}
+use Rattle.extent_tree.specs.Nodes.{flat, summaries}
+use Rattle.extent_tree.proofs.Rising.{rising-left}
+use Rattle.extent_tree.proofs.Levels.{summaries-rising}
 use Rattle.extent_tree.proofs.Rewrites.{flat-three, three-few, three-filled, three-covers, middle-rises, back-rises}
 use Rattle.extent_tree.proofs.building.levels_above.Goals as goal
 

@@ -1,8 +1,8 @@
 use Rattle.std.proofs.Common.{◌≤◌, ◌<◌, ◌∷◌, [], ◌++◌, ◌∙◌, arith, sym, ap, subst, length, append_assoc}
 use Rattle.std.proofs.lemmas.List.{append-nil}
-use Rattle.extent_nodes.specs.Normal.{IsRising}
-use Rattle.extent_nodes.proofs.Summaries.{length-summaries}
-use Rattle.extent_nodes.proofs.Levels.{summaries-rising}
+use Rattle.extent_tree.specs.Normal.{IsRising}
+use Rattle.extent_tree.proofs.Summaries.{length-summaries}
+use Rattle.extent_tree.proofs.Levels.{summaries-rising}
 use Rattle.extent_tree.specs.Tree.{IsTree}
 use Rattle.extent_tree.proofs.Trees.{level-fewer}
 use Rattle.extent_tree.proofs.building.levels_over.Goals as goal

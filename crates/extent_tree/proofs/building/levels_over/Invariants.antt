@@ -1,7 +1,7 @@
 use Rattle.std.proofs.Common.{◌≡◌, List, ◌++◌, length}
 use Rattle.layout.specs.declared.extents.Extent.{Extent}
-use Rattle.extent_nodes.specs.Normal.{IsRising}
-use Rattle.extent_nodes.specs.Nodes.{summaries}
+use Rattle.extent_tree.specs.Normal.{IsRising}
+use Rattle.extent_tree.specs.Nodes.{summaries}
 use Rattle.extent_tree.specs.Tree.{IsTree}
 use Rattle.extent_tree.proofs.building.levels_over.Given as goal
 

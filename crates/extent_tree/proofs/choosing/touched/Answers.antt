@@ -1,6 +1,6 @@
 use Rattle.std.proofs.Common.{◌≤◌, ◌<◌, ◌+◌, ◌-◌, arith, get_or, length}
-use Rattle.extent_nodes.specs.Nodes.{begin_of, last_end}
-use Rattle.extent_nodes.proofs.Levels.{behind-less, ends-in-order, begins-in-order}
+use Rattle.extent_tree.specs.Nodes.{begin_of, last_end}
+use Rattle.extent_tree.proofs.Levels.{behind-less, ends-in-order, begins-in-order}
 use Rattle.extent_tree.proofs.choosing.touched.Goals as goal
 
 pub returns-clause-touched : goal.returns-clause-touched

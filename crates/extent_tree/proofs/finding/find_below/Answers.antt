@@ -1,8 +1,8 @@
 use Rattle.std.proofs.Common.{◌≡◌, ◌-◌, ◌∙◌, arith, sym, ap, subst, length, get_or, []}
-use Rattle.extent_nodes.specs.Places.{extent_with}
-use Rattle.extent_nodes.specs.Normal.{IsRising}
-use Rattle.extent_nodes.proofs.Packs.{node-rising, have-at}
-use Rattle.extent_nodes.proofs.Levels.{none-below, one-below}
+use Rattle.extent_tree.specs.Places.{extent_with}
+use Rattle.extent_tree.specs.Normal.{IsRising}
+use Rattle.extent_tree.proofs.Packs.{node-rising, have-at}
+use Rattle.extent_tree.proofs.Levels.{none-below, one-below}
 use Rattle.extent_tree.proofs.finding.find_below.Goals as goal
 
 pub bounds-nodes-entry : goal.bounds-nodes-entry

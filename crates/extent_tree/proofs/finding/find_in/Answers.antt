@@ -1,7 +1,7 @@
 use Rattle.std.proofs.Common.{◌≡◌, ◌≤◌, ◌+◌, ◌-◌, ◌*◌, ◌^◌, suc, ◌∙◌, arith, sym, ap, subst, length}
-use Rattle.extent_nodes.specs.Places.{extent_with}
-use Rattle.extent_nodes.specs.Normal.{IsRising}
-use Rattle.extent_nodes.specs.Nodes.{flat, summaries}
+use Rattle.extent_tree.specs.Places.{extent_with}
+use Rattle.extent_tree.specs.Normal.{IsRising}
+use Rattle.extent_tree.specs.Nodes.{flat, summaries}
 use Rattle.extent_tree.specs.Tree.{IsLevel, level_at}
 use Rattle.extent_tree.proofs.Trees.{nodes-few, levels-few, some-above}
 use Rattle.extent_tree.proofs.Searches.{tree-at, covers-at, top-one, root-few, small-product}

@@ -1,6 +1,6 @@
 use Rattle.std.proofs.Common.{◌≡◌, ◌<◌, ◌≤◌, ◌+◌, ◌-◌, ◌*◌, length}
-use Rattle.extent_nodes.specs.Places.{extent_with}
-use Rattle.extent_nodes.specs.Nodes.{flat}
+use Rattle.extent_tree.specs.Places.{extent_with}
+use Rattle.extent_tree.specs.Nodes.{flat}
 use Rattle.extent_tree.specs.Tree.{level_at}
 use Rattle.extent_tree.proofs.finding.find_in.Given as goal
 

@@ -1,7 +1,7 @@
 use Rattle.std.proofs.Common.{◌≡◌, ◌∙◌, arith, sym, Some}
-use Rattle.extent_nodes.specs.Places.{extent_with}
-use Rattle.extent_nodes.specs.Nodes.{flat}
-use Rattle.extent_nodes.proofs.Maps.{extent_with-has, has-parts}
+use Rattle.extent_tree.specs.Places.{extent_with}
+use Rattle.extent_tree.specs.Nodes.{flat}
+use Rattle.extent_tree.proofs.Maps.{extent_with-has, has-parts}
 use Rattle.extent_tree.proofs.Searches.{found-fits}
 use Rattle.extent_tree.proofs.tree.look_up.Goals as goal
 

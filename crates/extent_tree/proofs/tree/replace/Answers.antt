@@ -1,7 +1,7 @@
 use Rattle.std.proofs.Common.{◌-◌, ◌∙◌, length, sym, ap, subst, take, drop}
-use Rattle.extent_nodes.specs.Places.{place_of}
-use Rattle.extent_nodes.specs.Normal.{IsRising, IsNormal}
-use Rattle.extent_nodes.specs.Nodes.{flat}
+use Rattle.extent_tree.specs.Places.{place_of}
+use Rattle.extent_tree.specs.Normal.{IsRising, IsNormal}
+use Rattle.extent_tree.specs.Nodes.{flat}
 use Rattle.extent_tree.specs.Tree.{IsLevel, IsNeeded, IsTree}
 use Rattle.extent_tree.specs.Value.{OthersStay}
 use Rattle.extent_tree.proofs.Trees.{grown-by-need, stays-one}

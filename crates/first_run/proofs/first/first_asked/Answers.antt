@@ -1,9 +1,9 @@
 use Rattle.std.proofs.Common.{◌≡◌, subst}
 use Rattle.std.specs.Prelude.{IfOk}
 use Rattle.std.proofs.Math.Path.{fun_ext}
-use Rattle.posix_calls.specs.Own.{own_of}
-use Rattle.posix_calls.specs.Tree.{Own}
-use Rattle.file_graph.specs.Graph.{graph_of}
+use Rattle.call_effects.specs.posix_calls.Own.{own_of}
+use Rattle.call_effects.specs.posix_calls.Tree.{Own}
+use Rattle.call_effects.specs.file_graph.Graph.{graph_of}
 use Rattle.first_run.specs.FirstPath.{IsLogged, file_open, first_call}
 use Rattle.first_run.specs.declared.two_clients.TheConstants.{NEW}
 use Rattle.first_run.proofs.first.first_asked.Goals as goal

@@ -1,4 +1,4 @@
-use Rattle.tier_device.specs.declared.media.Tier.TheVariants.{Fast}
+use Rattle.script.specs.tier_device.declared.media.Tier.TheVariants.{Fast}
 use Rattle.first_run.proofs.regions.records_after_stop.Goals as goal
 
 pub records_on-requires : goal.records_on-requires

@@ -1,7 +1,7 @@
 use Rattle.std.proofs.Common.{◌≡◌, List, drop, subst}
 use Rattle.std.proofs.lemmas.Result.{on_ok_weaker}
-use Rattle.file_graph.specs.Graph.{graph_of}
-use Rattle.log_record.specs.declared.format.Record.{Record}
+use Rattle.call_effects.specs.file_graph.Graph.{graph_of}
+use Rattle.call_effects.specs.log_record.declared.format.Record.{Record}
 use Rattle.first_run.specs.FirstPath.{after_replay}
 use Rattle.first_run.proofs.regions.recover.Goals as goal
 

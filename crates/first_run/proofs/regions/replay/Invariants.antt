@@ -1,5 +1,5 @@
 use Rattle.std.proofs.Common.{◌≡◌, drop}
-use Rattle.file_graph.specs.Graph.{graph_of}
+use Rattle.call_effects.specs.file_graph.Graph.{graph_of}
 use Rattle.first_run.specs.FirstPath.{after_replay}
 use Rattle.first_run.proofs.regions.replay.Given as goal
 

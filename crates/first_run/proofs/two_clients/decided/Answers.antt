@@ -1,6 +1,6 @@
-use Rattle.posix_calls.specs.Decide.{decide}
-use Rattle.posix_calls.specs.Own.{own_of}
-use Rattle.file_graph.specs.Graph.{graph_of}
+use Rattle.call_effects.specs.posix_calls.Decide.{decide}
+use Rattle.call_effects.specs.posix_calls.Own.{own_of}
+use Rattle.call_effects.specs.file_graph.Graph.{graph_of}
 use Rattle.first_run.proofs.Asked.{told_is_run}
 use Rattle.first_run.proofs.two_clients.decided.Goals as goal
 

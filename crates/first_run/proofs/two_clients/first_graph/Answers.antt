@@ -1,7 +1,7 @@
 use Rattle.std.proofs.Common.{ℕ, List, ◌∙◌, ap}
-use Rattle.posix_calls.specs.declared.limits.TheConstants.{ROOT}
-use Rattle.file_graph.specs.declared.effect.Kind.TheVariants.{File}
-use Rattle.file_graph.specs.Graph.{Graph, fresh, after_effects}
+use Rattle.call_effects.specs.posix_calls.declared.limits.TheConstants.{ROOT}
+use Rattle.call_effects.specs.file_graph.declared.effect.Kind.TheVariants.{File}
+use Rattle.call_effects.specs.file_graph.Graph.{Graph, fresh, after_effects}
 use Rattle.call_effects.specs.Effects.{making}
 use Rattle.first_run.specs.declared.two_clients.TheConstants.{FILE}
 use Rattle.first_run.proofs.two_clients.first_graph.Goals as goal

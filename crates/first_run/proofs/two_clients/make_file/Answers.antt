@@ -1,8 +1,8 @@
 use Rattle.std.proofs.Common.{◌≡◌, ◌∙◌, OnOk, ap, subst}
-use Rattle.posix_calls.specs.declared.limits.TheConstants.{ROOT}
-use Rattle.file_graph.specs.declared.effect.Effect.TheVariants.{Enter, Names}
-use Rattle.file_graph.specs.declared.effect.Kind.TheVariants.{File}
-use Rattle.file_graph.specs.Graph.{Graph, graph_of, after_effect}
+use Rattle.call_effects.specs.posix_calls.declared.limits.TheConstants.{ROOT}
+use Rattle.call_effects.specs.file_graph.declared.effect.Effect.TheVariants.{Enter, Names}
+use Rattle.call_effects.specs.file_graph.declared.effect.Kind.TheVariants.{File}
+use Rattle.call_effects.specs.file_graph.Graph.{Graph, graph_of, after_effect}
 use Rattle.first_run.specs.declared.two_clients.TheConstants.{FILE}
 use Rattle.first_run.proofs.two_clients.make_file.Goals as goal
 

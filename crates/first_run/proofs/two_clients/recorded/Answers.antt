@@ -1,6 +1,6 @@
 use Rattle.std.proofs.Common.{Option, Ok, ap}
-use Rattle.file_graph.specs.Graph.{graph_of}
-use Rattle.log_record.specs.declared.format.Record.{Record}
+use Rattle.call_effects.specs.file_graph.Graph.{graph_of}
+use Rattle.call_effects.specs.log_record.declared.format.Record.{Record}
 use Rattle.call_effects.specs.Recorded.{effects_told}
 use Rattle.call_effects.specs.Records.{effects_asked}
 use Rattle.first_run.proofs.Asked.{told_is_run}

@@ -1,4 +1,4 @@
-use Rattle.file_graph.specs.Graph.{graph_of}
+use Rattle.call_effects.specs.file_graph.Graph.{graph_of}
 use Rattle.call_effects.specs.Known.{stored_view}
 use Rattle.call_effects.specs.Records.{units_asked}
 use Rattle.first_run.proofs.Asked.{told_is_run, units_in_full}

@@ -1,9 +1,9 @@
 use Rattle.std.proofs.Common.{◌≡◌, ◌≤◌, ◌+◌, ◌-◌, ℕ, List, take, drop, ap, sym, ◌∙◌, subst, arith}
-use Rattle.log_record.specs.declared.format.Record.{Record}
+use Rattle.digester.specs.log_record.declared.format.Record.{Record}
 use Rattle.digester.specs.SealedLog.{done_to, undone}
 use Rattle.digester.specs.declared.sealed_log.SealedLog.{SealedLog}
-use Rattle.world_facts.specs.Logs.{units_in}
-use Rattle.kernel_book.specs.Book.{units_of, out_of}
+use Rattle.world_invariant.specs.Logs.{units_in}
+use Rattle.kernel_fs.specs.Book.{units_of, out_of}
 use Rattle.kernel_fs.specs.Accepting.{client_of}
 use Rattle.kernel_fs.proofs.Digested.{lent}
 use Rattle.kernel_fs.proofs.digesting.digest_and_follow.Goals as goal

@@ -1,10 +1,10 @@
 use Rattle.std.proofs.Common.{◌+◌, ◌∙◌, sym}
-use Rattle.layout.specs.Places.{Sizes}
-use Rattle.digester.specs.Store.{Store, store_of, graph}
-use Rattle.digester.specs.Looks.{looked}
-use Rattle.digester.specs.Map.{WantsMemory}
-use Rattle.digester.proofs.Looked.{carried, carried_back, looks_on, looks_none}
-use Rattle.kernel_book.specs.Inodes.{has}
+use Rattle.digester.specs.layout.Places.{Sizes}
+use Rattle.digester.specs.area_image.Store.{Store, store_of, graph}
+use Rattle.digester.specs.area_image.Looks.{looked}
+use Rattle.digester.specs.area_image.Map.{WantsMemory}
+use Rattle.digester.proofs.area_image_lemmas.Looked.{carried, carried_back, looks_on, looks_none}
+use Rattle.kernel_fs.specs.Inodes.{has}
 use Rattle.kernel_fs.specs.Opening.{AreNodesBelow}
 use Rattle.kernel_fs.proofs.FirstNodes.{begins, ends}
 use Rattle.kernel_fs.proofs.opening.nodes_of.Goals as goal

@@ -1,6 +1,6 @@
-use Rattle.digester.specs.Store.{store_of, graph}
-use Rattle.digester.specs.Looks.{Looks, looked}
-use Rattle.kernel_book.specs.Inodes.{has}
+use Rattle.digester.specs.area_image.Store.{store_of, graph}
+use Rattle.digester.specs.area_image.Looks.{Looks, looked}
+use Rattle.kernel_fs.specs.Inodes.{has}
 use Rattle.kernel_fs.specs.Opening.{AreNodesBelow}
 use Rattle.kernel_fs.proofs.opening.nodes_of.Given as goal
 

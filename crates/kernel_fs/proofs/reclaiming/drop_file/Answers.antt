@@ -1,6 +1,6 @@
 use Rattle.std.proofs.Common.{◌≡◌, ◌≤◌, inl, refl, sym, subst, arith}
 use Rattle.std.specs.Prelude.{Err}
-use Rattle.digester.specs.Store.{Store, store_of}
+use Rattle.digester.specs.area_image.Store.{Store, store_of}
 use Rattle.kernel_fs.specs.Reclaiming.{ReclaimsOrStays}
 use Rattle.kernel_fs.specs.declared.error.ReclaimError.{ReclaimError}
 use Rattle.kernel_fs.specs.declared.error.ReclaimError.TheVariants as errors

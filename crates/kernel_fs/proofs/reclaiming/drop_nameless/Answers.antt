@@ -1,15 +1,15 @@
 use Rattle.std.proofs.Common.{◌≡◌, ◌≤◌, [], ◌∷◌, inl, inr, Some, None, Option, arith, ap, sym, ◌∙◌, subst}
 use Rattle.std.specs.Prelude.{Ok, OnOk}
 use Rattle.std.proofs.lemmas.Bool.{false≢true}
-use Rattle.batch_journal.proofs.Courses.{any_ok}
-use Rattle.file_graph.specs.declared.effect.Effect.TheVariants as effect
-use Rattle.graph_change.specs.Change.{coalesced}
+use Rattle.digester.proofs.batch_journal_lemmas.Courses.{any_ok}
+use Rattle.digester.specs.file_graph.declared.effect.Effect.TheVariants as effect
+use Rattle.digester.specs.graph_change.Change.{coalesced}
 use Rattle.digester.proofs.Composed.{few_looked}
-use Rattle.call_effects.specs.NodeView.{NodeView, view_at}
-use Rattle.layout.specs.Places.{Sizes}
-use Rattle.digester.specs.Store.{Store, store_of, graph}
-use Rattle.digester.proofs.Looked.{carried_back}
-use Rattle.world_facts.specs.Logs.{IsNameless}
+use Rattle.world_invariant.specs.call_effects.NodeView.{NodeView, view_at}
+use Rattle.digester.specs.layout.Places.{Sizes}
+use Rattle.digester.specs.area_image.Store.{Store, store_of, graph}
+use Rattle.digester.proofs.area_image_lemmas.Looked.{carried_back}
+use Rattle.world_invariant.specs.Logs.{IsNameless}
 use Rattle.kernel_fs.specs.Reclaiming.{IsNamelessView, IsReclaimed, StaysOrReclaims}
 use Rattle.kernel_fs.specs.declared.error.ReclaimError.TheVariants as errors
 use Rattle.kernel_fs.proofs.Dropping.{its_inode, nameless_by, still_open, view_nameless, reclaims_behind}

@@ -1,11 +1,11 @@
 use Rattle.std.proofs.Common.{◌≡◌, ℕ, List, [], ◌∷◌, Some, refl, ap, sym, ◌∙◌, subst}
-use Rattle.batch_journal.specs.Course.{Unmoved}
-use Rattle.file_graph.specs.declared.effect.Effect.TheVariants as effect
-use Rattle.graph_change.specs.Bounds.{AreBounded}
-use Rattle.graph_change.specs.Change.{Changes, Coalesces, coalesced}
-use Rattle.graph_change.specs.View.{changes_of}
-use Rattle.digester.specs.ChangeApplying.{MakesFewCalls}
-use Rattle.digester.specs.Store.{Store, store_of, graph}
+use Rattle.digester.specs.batch_journal.Course.{Unmoved}
+use Rattle.digester.specs.file_graph.declared.effect.Effect.TheVariants as effect
+use Rattle.digester.specs.graph_change.Bounds.{AreBounded}
+use Rattle.digester.specs.graph_change.Change.{Changes, Coalesces, coalesced}
+use Rattle.digester.specs.graph_change.View.{changes_of}
+use Rattle.digester.specs.shared_area.ChangeApplying.{MakesFewCalls}
+use Rattle.digester.specs.area_image.Store.{Store, store_of, graph}
 use Rattle.kernel_fs.proofs.Dropping.{charge_fits, few_entries, few_images, none_written, one_inode, reclaimed, then_reclaimed}
 use Rattle.kernel_fs.proofs.Reclaimed.{applied_stays, apply_stays, change_no_use}
 use Rattle.kernel_fs.proofs.reclaiming.drop_node.Goals as goal

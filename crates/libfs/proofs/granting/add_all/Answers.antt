@@ -1,5 +1,5 @@
 use Rattle.std.proofs.Common.{arith}
-use Rattle.file_graph.specs.Graph.{is_among}
+use Rattle.lease_manager.specs.file_graph.Graph.{is_among}
 use Rattle.libfs.proofs.Granted.{all_of_them, next_one, none_yet}
 use Rattle.libfs.proofs.granting.add_all.Goals as goal
 

@@ -1,7 +1,7 @@
 use Rattle.std.proofs.Common.{◌≡◌, ℕ, ◌+◌, ◌≤◌}
 use Rattle.std.specs.Prelude.{◌||◌, ◌&&◌, nat_le, vec_len, vec_capacity}
-use Rattle.file_graph.specs.Graph.{is_among}
-use Rattle.kernel_book.specs.Inodes.{has}
+use Rattle.lease_manager.specs.file_graph.Graph.{is_among}
+use Rattle.kernel_fs.specs.Inodes.{has}
 use Rattle.libfs.proofs.granting.add_all.Given as goal
 
 abbrev pub invariant-loop-before : goal.invariant-loop-before

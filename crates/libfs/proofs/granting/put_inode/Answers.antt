@@ -1,5 +1,5 @@
 use Rattle.std.proofs.Common.{◌∙◌, sym}
-use Rattle.kernel_book.specs.Inodes.{has}
+use Rattle.kernel_fs.specs.Inodes.{has}
 use Rattle.libfs.proofs.Granted.{inode_put, other_put}
 use Rattle.libfs.proofs.granting.put_inode.Goals as goal
 

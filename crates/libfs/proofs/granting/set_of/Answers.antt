@@ -1,5 +1,5 @@
 use Rattle.std.proofs.Common.{◌∙◌, refl}
-use Rattle.kernel_book.specs.Inodes.{has}
+use Rattle.kernel_fs.specs.Inodes.{has}
 use Rattle.libfs.proofs.Granted.{all_numbers, next_number}
 use Rattle.libfs.proofs.granting.set_of.Goals as goal
 

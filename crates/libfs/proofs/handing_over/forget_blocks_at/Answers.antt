@@ -1,5 +1,5 @@
 use Rattle.std.proofs.Common.{refl, rules}
-use Rattle.client_copies.specs.Held.{knows}
+use Rattle.client_view.specs.Held.{knows}
 use Rattle.libfs.proofs.Forgetting.{at_all, at_next, at_none}
 use Rattle.libfs.proofs.handing_over.forget_blocks_at.Goals as goal
 

@@ -1,5 +1,5 @@
 use Rattle.std.proofs.Common.{◌≡◌, take}
-use Rattle.client_copies.specs.Held.{knows}
+use Rattle.client_view.specs.Held.{knows}
 use Rattle.libfs.specs.HandingOver.{without_blocks_at}
 use Rattle.libfs.proofs.handing_over.forget_blocks_at.Given as goal
 

@@ -1,5 +1,5 @@
 use Rattle.std.proofs.Common.{refl, ap, ◌∙◌, rules}
-use Rattle.client_copies.specs.Held.{knows}
+use Rattle.client_view.specs.Held.{knows}
 use Rattle.libfs.specs.HandingOver.{without_blocks_at}
 use Rattle.libfs.proofs.Forgetting.{of_all, of_next, of_none}
 use Rattle.libfs.proofs.handing_over.forget_blocks_of.Goals as goal

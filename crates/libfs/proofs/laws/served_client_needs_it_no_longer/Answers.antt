@@ -1,13 +1,13 @@
 use Rattle.std.proofs.Common.{◌≡◌, ◌≢◌, false, refl, ap, sym, ◌∙◌, subst}
 use Rattle.std.proofs.lemmas.Bool.{true≢false}
-use Rattle.file_graph.specs.Graph.{is_among}
-use Rattle.call_effects.specs.Known.{Knowledge, part_of}
-use Rattle.call_effects.specs.NodeView.{view_at}
-use Rattle.client_plan.specs.declared.need.Need.TheVariants as needs
-use Rattle.client_plan.specs.declared.outcome.Outcome.TheVariants as outcomes
-use Rattle.client_plan.specs.Planned.{outcome}
-use Rattle.client_copies.specs.Forgotten.{without_blocks}
-use Rattle.own_records.specs.After.{node_laid}
+use Rattle.lease_manager.specs.file_graph.Graph.{is_among}
+use Rattle.client_log.specs.call_effects.Known.{Knowledge, part_of}
+use Rattle.client_log.specs.call_effects.NodeView.{view_at}
+use Rattle.client_view.specs.client_plan.declared.need.Need.TheVariants as needs
+use Rattle.client_view.specs.client_plan.declared.outcome.Outcome.TheVariants as outcomes
+use Rattle.client_view.specs.client_plan.Planned.{outcome}
+use Rattle.client_view.specs.Forgotten.{without_blocks}
+use Rattle.client_view.specs.After.{node_laid}
 use Rattle.libfs.specs.Holding.{holdings_of, known_to}
 use Rattle.libfs.specs.Serving.{behind, shared_by}
 use Rattle.libfs.specs.View.{ClientView}

@@ -1,10 +1,10 @@
 use Rattle.std.proofs.Common.{◌≡◌, ◌∙◌, ap, sym, ℕ, List, ◌/◌}
 use Rattle.std.specs.Prelude.{Option, Some, None}
-use Rattle.posix_calls.specs.Own.{own_of}
-use Rattle.posix_calls.specs.Tree.{Own}
-use Rattle.posix_calls.specs.declared.limits.TheConstants.{UNIT_BYTES}
-use Rattle.block_cache.specs.Cached.{Block, used_run}
-use Rattle.client_copies.specs.Held.{Held, knows}
+use Rattle.lease_manager.specs.posix_calls.Own.{own_of}
+use Rattle.lease_manager.specs.posix_calls.Tree.{Own}
+use Rattle.lease_manager.specs.posix_calls.declared.limits.TheConstants.{UNIT_BYTES}
+use Rattle.client_view.specs.block_cache.Cached.{Block, used_run}
+use Rattle.client_view.specs.Held.{Held, knows}
 use Rattle.libfs.specs.Used.{blocks_read}
 use Rattle.libfs.proofs.Used.{read_uses}
 use Rattle.libfs.proofs.starting.use_read.Goals as goal

@@ -1,5 +1,5 @@
 use Rattle.std.proofs.Common.{Option, subst}
-use Rattle.shared_area.specs.Store.{store_of}
+use Rattle.shared_area.specs.area_image.Store.{store_of}
 use Rattle.migrator.specs.Picking.{FoundFile, IsCandidate}
 use Rattle.migrator.proofs.Best.{best_or_found, best_stays}
 use Rattle.migrator.proofs.picking.next_best.Goals as goal

@@ -1,8 +1,8 @@
 use Rattle.std.proofs.Common.{◌≡◌, true, refl, sym, subst}
-use Rattle.tier_device.specs.declared.media.Tier.{Tier}
-use Rattle.tier_device.specs.declared.media.Tier.TheVariants as tiers
-use Rattle.shared_area.specs.Store.{store_of}
-use Rattle.shared_area.specs.Placed.{is_faster}
+use Rattle.shared_area.specs.tier_device.declared.media.Tier.{Tier}
+use Rattle.shared_area.specs.tier_device.declared.media.Tier.TheVariants as tiers
+use Rattle.shared_area.specs.area_image.Store.{store_of}
+use Rattle.shared_area.specs.inode_plan.Placed.{is_faster}
 use Rattle.migrator.proofs.Movable.{pick_may_be_moved}
 use Rattle.migrator.proofs.picking.pick.Goals as goal
 

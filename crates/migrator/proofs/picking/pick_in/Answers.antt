@@ -1,8 +1,8 @@
 use Rattle.std.proofs.Common.{◌+◌, ◌∙◌, Option, sym, subst}
-use Rattle.layout.specs.Places.{Sizes}
-use Rattle.shared_area.specs.Store.{Store, store_of}
-use Rattle.shared_area.specs.Looks.{looked}
-use Rattle.shared_area.proofs.Looked.{carried, carried_back, looks_on, looks_none, looks_answer}
+use Rattle.shared_area.specs.layout.Places.{Sizes}
+use Rattle.shared_area.specs.area_image.Store.{Store, store_of}
+use Rattle.shared_area.specs.area_image.Looks.{looked}
+use Rattle.shared_area.proofs.area_image_lemmas.Looked.{carried, carried_back, looks_on, looks_none, looks_answer}
 use Rattle.migrator.specs.declared.picking.FileRun.{FileRun}
 use Rattle.migrator.specs.Picking.{IsBestBelow, IsPickedIn}
 use Rattle.migrator.proofs.Best.{best_none, best_of_all}

@@ -1,5 +1,5 @@
-use Rattle.shared_area.specs.Store.{store_of}
-use Rattle.shared_area.specs.Looks.{Looks, looked}
+use Rattle.shared_area.specs.area_image.Store.{store_of}
+use Rattle.shared_area.specs.area_image.Looks.{Looks, looked}
 use Rattle.migrator.specs.Picking.{IsBestBelow}
 use Rattle.migrator.proofs.picking.pick_in.Given as goal
 

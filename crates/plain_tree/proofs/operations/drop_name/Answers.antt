@@ -1,6 +1,6 @@
 use Rattle.std.proofs.Common.{subst, sym, ap, ◌∙◌}
-use Rattle.posix_calls.specs.Tree.{Tree, IsBare}
-use Rattle.posix_calls.specs.Operations.{left, less_unused}
+use Rattle.file_graph.specs.posix_calls.Tree.{Tree, IsBare}
+use Rattle.file_graph.specs.posix_calls.Operations.{left, less_unused}
 use Rattle.plain_tree.specs.Plain.{stored_tree, held_of}
 use Rattle.plain_tree.proofs.Tallies.{bare_left}
 use Rattle.plain_tree.proofs.operations.drop_name.Goals as goal

@@ -1,6 +1,6 @@
 use Rattle.std.proofs.Common.{None, subst, sym, ap, ◌∙◌}
-use Rattle.posix_calls.specs.Tree.{Tree, set_node, IsBare}
-use Rattle.posix_calls.specs.Operations.{left}
+use Rattle.file_graph.specs.posix_calls.Tree.{Tree, set_node, IsBare}
+use Rattle.file_graph.specs.posix_calls.Operations.{left}
 use Rattle.plain_tree.specs.Plain.{stored_tree}
 use Rattle.plain_tree.proofs.Tallies.{bare_left}
 use Rattle.plain_tree.proofs.operations.remove_dir.Goals as goal

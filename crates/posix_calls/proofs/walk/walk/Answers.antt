@@ -1,8 +1,7 @@
 use Rattle.std.proofs.Common.{◌≡◌, Some, subst, ◌+◌, ◌-◌, length, take, drop, ap, sym, ◌∙◌}
 use Rattle.std.specs.Prelude.{option_map}
 use Rattle.posix_calls.specs.Answers.{entry_in, count_in}
-use Rattle.posix_calls.proofs.Walks.{exits_untold}
-use Rattle.posix_calls.proofs.Walks.{walked_first, walked_stops, walked_on, walked_missing, walked_lands, walked_next, walked_last, lands_at_root, split_last}
+use Rattle.posix_calls.proofs.Walks.{exits_untold, walked_first, walked_stops, walked_on, walked_missing, walked_lands, walked_next, walked_last, lands_at_root, split_last}
 use Rattle.posix_calls.proofs.walk.walk.Goals as goal
 
 pub returns-in_default-clause-tells : goal.returns-in_default-clause-tells

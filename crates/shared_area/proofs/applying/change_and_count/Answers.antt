@@ -1,15 +1,15 @@
 use Rattle.std.proofs.Common.{◌≡◌, refl, sym, subst}
-use Rattle.graph_change.specs.View.{changes_of}
-use Rattle.area_image.specs.declared.error.AreaError.{AreaError}
-use Rattle.area_image.proofs.Looked.{carried, carried_back}
-use Rattle.area_apply.proofs.Course.{Rests}
-use Rattle.area_apply.specs.Applying.{CanApply}
-use Rattle.area_apply.specs.Costs.{units_in, inodes_of}
-use Rattle.area_apply.specs.Errors.{IsTold}
-use Rattle.area_apply.specs.Wanted.{AreWritten}
-use Rattle.area_apply.specs.declared.error.ApplyError.TheVariants.{DeviceFault}
-use Rattle.area_apply.proofs.Ending.{settled_still, ends_told, ends_on}
-use Rattle.shared_area.proofs.Applied.{charge_on, units_few}
+use Rattle.change_plan.specs.graph_change.View.{changes_of}
+use Rattle.change_plan.specs.area_image.declared.error.AreaError.{AreaError}
+use Rattle.change_plan.proofs.area_image_lemmas.Looked.{carried, carried_back}
+use Rattle.change_plan.proofs.area_commit_lemmas.Course.{Rests}
+use Rattle.shared_area.specs.ChangeApplying.{CanApply}
+use Rattle.shared_area.specs.Costs.{units_in, inodes_of}
+use Rattle.shared_area.specs.Errors.{IsTold}
+use Rattle.change_plan.specs.Wanted.{AreWritten}
+use Rattle.shared_area.specs.declared.error.ApplyError.TheVariants.{DeviceFault}
+use Rattle.shared_area.proofs.Ending.{settled_still, ends_told, ends_on}
+use Rattle.shared_area.proofs.AppliedChange.{charge_on, units_few}
 use Rattle.shared_area.proofs.applying.change_and_count.Goals as goal
 
 pub units_of_change-requires-clause-opens : goal.units_of_change-requires-clause-opens

@@ -1,11 +1,11 @@
 use Rattle.std.proofs.Common.{◌≡◌, ◌+◌, ◌-◌, ℕ, sym, subst, arith}
 use Rattle.std.specs.Prelude.{Ok, Err}
-use Rattle.file_graph.specs.Units.{charge}
-use Rattle.graph_change.specs.View.{changes_of}
-use Rattle.layout.specs.Places.{Sizes}
-use Rattle.area_image.specs.Store.{Store, store_of, graph}
-use Rattle.area_apply.specs.Costs.{inodes_of, units_in}
-use Rattle.shared_area.proofs.Applied.{ends_of, ends_read, ends_broken, charge_on, counted}
+use Rattle.record_validation.specs.file_graph.Units.{charge}
+use Rattle.change_plan.specs.graph_change.View.{changes_of}
+use Rattle.change_plan.specs.layout.Places.{Sizes}
+use Rattle.change_plan.specs.area_image.Store.{Store, store_of, graph}
+use Rattle.shared_area.specs.Costs.{inodes_of, units_in}
+use Rattle.shared_area.proofs.AppliedChange.{ends_of, ends_read, ends_broken, charge_on, counted}
 use Rattle.shared_area.proofs.applying.change_from.Goals as goal
 
 pub apply-requires-clause-settled : goal.apply-requires-clause-settled

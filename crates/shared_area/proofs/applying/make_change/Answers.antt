@@ -1,12 +1,12 @@
 use Rattle.std.proofs.Common.{◌∙◌, ℕ, length, inl, inr, sym, subst, arith}
 use Rattle.std.specs.Prelude.{Ok, Err}
 use Rattle.std.proofs.lemmas.Bool.{true≢false}
-use Rattle.graph_change.specs.View.{changes_of}
-use Rattle.area_image.specs.Store.{store_of}
-use Rattle.area_apply.specs.declared.error.ApplyError.TheVariants.{DeviceFault, NoBlock}
-use Rattle.area_apply.proofs.Ending.{block_fault, err_same}
+use Rattle.change_plan.specs.graph_change.View.{changes_of}
+use Rattle.change_plan.specs.area_image.Store.{store_of}
+use Rattle.shared_area.specs.declared.error.ApplyError.TheVariants.{DeviceFault, NoBlock}
+use Rattle.shared_area.proofs.Ending.{block_fault, err_same}
 use Rattle.shared_area.specs.Ready.{IsReady}
-use Rattle.shared_area.proofs.Applied.{stays_or_changes, too_few_data, ready_made, ready_refused, applies_or_stays, failed_stays}
+use Rattle.shared_area.proofs.AppliedChange.{stays_or_changes, too_few_data, ready_made, ready_refused, applies_or_stays, failed_stays}
 use Rattle.shared_area.proofs.applying.make_change.Goals as goal
 
 -- ---- where a device has failed

@@ -1,4 +1,4 @@
-use Rattle.area_image.specs.Store.{store_of}
+use Rattle.change_plan.specs.area_image.Store.{store_of}
 use Rattle.shared_area.proofs.Sound.{tier_none, tier_of, parts_some, parts_none}
 use Rattle.shared_area.proofs.finding.find_tier.Goals as goal
 

@@ -1,6 +1,6 @@
 use Rattle.std.proofs.Common.{◌≡◌, false}
-use Rattle.area_image.specs.Store.{store_of}
-use Rattle.area_image.proofs.Parts.{on_damage, own_damage}
+use Rattle.change_plan.specs.area_image.Store.{store_of}
+use Rattle.change_plan.proofs.area_image_lemmas.Parts.{on_damage, own_damage}
 use Rattle.shared_area.proofs.Sound.{undamaged}
 use Rattle.shared_area.proofs.finding.sound_parts.Goals as goal
 

@@ -1,7 +1,7 @@
 use Rattle.std.proofs.Common.{◌≡◌, ◌+◌, ◌*◌, ◌∙◌, ℕ, sym, ap, subst, length}
-use Rattle.layout.specs.Directory.{EntryList, listed}
-use Rattle.tree_blocks.specs.Inode.{entry_at, named}
-use Rattle.area_image.specs.Store.{store_of, logical}
+use Rattle.change_plan.specs.layout.Directory.{EntryList, listed}
+use Rattle.change_plan.specs.tree_blocks.Inode.{entry_at, named}
+use Rattle.change_plan.specs.area_image.Store.{store_of, logical}
 use Rattle.shared_area.specs.Naming.{AreNext}
 use Rattle.shared_area.proofs.Entries.{next_block, so_far, and_more}
 use Rattle.shared_area.proofs.naming.add_part.Goals as goal

@@ -1,9 +1,9 @@
 use Rattle.std.proofs.Common.{◌≡◌, ◌<◌, ◌∙◌, length, sym, ap, arith, Some}
 use Rattle.std.specs.Prelude.{slice_get}
 use Rattle.std.specs.FinMap as fin
-use Rattle.posix_calls.specs.Content.{Entries}
-use Rattle.layout.specs.Directory.{EntryList, listed}
-use Rattle.layout.specs.Lent.{owned}
+use Rattle.record_validation.specs.posix_calls.Content.{Entries}
+use Rattle.change_plan.specs.layout.Directory.{EntryList, listed}
+use Rattle.change_plan.specs.layout.Lent.{owned}
 use Rattle.shared_area.proofs.Entries.{next_entry}
 use Rattle.shared_area.proofs.naming.put_entries.Goals as goal
 

@@ -1,6 +1,6 @@
 use Rattle.std.proofs.Common.{◌≡◌, ◌+◌, ℕ}
-use Rattle.layout.specs.Directory.{listed}
-use Rattle.tree_blocks.specs.Inode.{Entry, named}
+use Rattle.change_plan.specs.layout.Directory.{listed}
+use Rattle.change_plan.specs.tree_blocks.Inode.{Entry, named}
 use Rattle.shared_area.specs.Naming.{AreNext}
 use Rattle.shared_area.proofs.naming.put_entries.Given as goal
 

@@ -1,8 +1,8 @@
-use Rattle.tree_blocks.specs.Inode.{AreDirectoryBlocks}
-use Rattle.area_image.specs.Store.{logical}
-use Rattle.area_image.specs.Looks.{looked}
-use Rattle.area_image.specs.Checks.{IsOnce}
-use Rattle.area_image.proofs.Looked.{carried}
+use Rattle.change_plan.specs.tree_blocks.Inode.{AreDirectoryBlocks}
+use Rattle.change_plan.specs.area_image.Store.{logical}
+use Rattle.change_plan.specs.area_image.Looks.{looked}
+use Rattle.change_plan.specs.area_image.Checks.{IsOnce}
+use Rattle.change_plan.proofs.area_image_lemmas.Looked.{carried}
 use Rattle.shared_area.proofs.naming.read_entries.Goals as goal
 
 pub add_part-requires-clause-directory : goal.add_part-requires-clause-directory

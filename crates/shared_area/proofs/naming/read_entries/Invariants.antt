@@ -1,8 +1,8 @@
 use Rattle.std.proofs.Common.{◌≡◌, ◌*◌}
 use Rattle.std.specs.Prelude.{min}
-use Rattle.tree_blocks.specs.Inode.{entry_at, named}
-use Rattle.area_image.specs.Store.{store_of, logical}
-use Rattle.area_image.specs.Looks.{Looks, looked}
+use Rattle.change_plan.specs.tree_blocks.Inode.{entry_at, named}
+use Rattle.change_plan.specs.area_image.Store.{store_of, logical}
+use Rattle.change_plan.specs.area_image.Looks.{Looks, looked}
 use Rattle.shared_area.proofs.naming.read_entries.Given as goal
 
 abbrev pub invariant-parts : goal.invariant-parts

@@ -1,5 +1,5 @@
 use Rattle.std.proofs.Common.{◌≡◌, length, rules}
-use Rattle.area_image.specs.Store.{store_of, logical}
+use Rattle.change_plan.specs.area_image.Store.{store_of, logical}
 use Rattle.shared_area.proofs.Entries.{block_shown}
 use Rattle.shared_area.proofs.naming.read_entry_block.Goals as goal
 

@@ -1,7 +1,7 @@
 use Rattle.std.proofs.Common.{Ok}
-use Rattle.area_image.specs.Store.{store_of}
-use Rattle.area_image.specs.Spelled.{IsOpenable}
-use Rattle.area_image.proofs.Looked.{carried}
+use Rattle.change_plan.specs.area_image.Store.{store_of}
+use Rattle.change_plan.specs.area_image.Spelled.{IsOpenable}
+use Rattle.change_plan.proofs.area_image_lemmas.Looked.{carried}
 use Rattle.shared_area.proofs.Sound.{parts_none}
 use Rattle.shared_area.proofs.Entries.{no_view}
 use Rattle.shared_area.proofs.node.find_node.Goals as goal

@@ -1,5 +1,5 @@
 use Rattle.std.proofs.Common.{◌<◌, ◌∙◌, ℕ, Some, ap, subst}
-use Rattle.area_image.specs.Store.{store_of, length_of}
+use Rattle.change_plan.specs.area_image.Store.{store_of, length_of}
 use Rattle.shared_area.proofs.Entries.{file_view}
 use Rattle.shared_area.proofs.Wants.{directory_wants}
 use Rattle.shared_area.proofs.node.node_of.Goals as goal

@@ -1,7 +1,7 @@
 use Rattle.std.proofs.Common.{◌≡◌, ◌∙◌, sym, subst}
-use Rattle.layout.specs.Places.{Sizes}
-use Rattle.area_image.specs.Store.{store_of}
-use Rattle.area_apply.specs.PoolsValue.{AreFree, MarksAll}
+use Rattle.change_plan.specs.layout.Places.{Sizes}
+use Rattle.change_plan.specs.area_image.Store.{store_of}
+use Rattle.change_plan.specs.area_commit.Value.{AreFree, MarksAll}
 use Rattle.shared_area.proofs.opening.read_contents.Goals as goal
 
 pub returns-in-Ok-from_used-clause-free : goal.returns-in-Ok-from_used-clause-free

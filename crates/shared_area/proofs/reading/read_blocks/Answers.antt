@@ -1,9 +1,9 @@
 use Rattle.std.proofs.Common.{◌≡◌, ◌≤◌, ◌+◌, ◌-◌, ◌∙◌, ◌++◌, ℕ, List, length, take, drop, sym, ap, subst, arith}
 use Rattle.std.proofs.lemmas.List.{drop-drop, length-drop, length-take-le}
-use Rattle.area_image.specs.Store.{store_of, logical}
-use Rattle.area_image.specs.Looks.{looked}
-use Rattle.area_image.specs.Checks.{IsOnce}
-use Rattle.area_image.proofs.Looked.{carried, carried_back, looks_on}
+use Rattle.change_plan.specs.area_image.Store.{store_of, logical}
+use Rattle.change_plan.specs.area_image.Looks.{looked}
+use Rattle.change_plan.specs.area_image.Checks.{IsOnce}
+use Rattle.change_plan.proofs.area_image_lemmas.Looked.{carried, carried_back, looks_on}
 use Rattle.shared_area.specs.Reading.{IsReadUpTo, ShowsBytes}
 use Rattle.shared_area.proofs.Files.{up_to_more}
 use Rattle.shared_area.proofs.reading.read_blocks.Goals as goal

@@ -1,6 +1,6 @@
 use Rattle.std.proofs.Common.{◌≤◌, ◌-◌, length}
-use Rattle.area_image.specs.Store.{store_of, logical}
-use Rattle.area_image.specs.Looks.{Looks, looked}
+use Rattle.change_plan.specs.area_image.Store.{store_of, logical}
+use Rattle.change_plan.specs.area_image.Looks.{Looks, looked}
 use Rattle.shared_area.specs.Reading.{IsReadUpTo}
 use Rattle.shared_area.proofs.reading.read_blocks.Given as goal
 

@@ -1,6 +1,6 @@
 use Rattle.std.proofs.Common.{◌≤◌, ◌+◌, ℕ, length, take, subst, arith}
 use Rattle.std.proofs.lemmas.List.{length-take-le}
-use Rattle.area_image.specs.Store.{store_of, logical}
+use Rattle.change_plan.specs.area_image.Store.{store_of, logical}
 use Rattle.shared_area.specs.Reading.{IsReadUpTo}
 use Rattle.shared_area.proofs.Files.{read_from}
 use Rattle.shared_area.proofs.reading.read_bytes.Goals as goal

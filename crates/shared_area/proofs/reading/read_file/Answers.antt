@@ -1,7 +1,7 @@
 use Rattle.std.proofs.Common.{Ok, length}
-use Rattle.area_image.specs.Store.{store_of, graph}
-use Rattle.area_image.specs.Spelled.{IsOpenable}
-use Rattle.area_image.proofs.Looked.{carried}
+use Rattle.change_plan.specs.area_image.Store.{store_of, graph}
+use Rattle.change_plan.specs.area_image.Spelled.{IsOpenable}
+use Rattle.change_plan.proofs.area_image_lemmas.Looked.{carried}
 use Rattle.shared_area.specs.Reading.{bytes_of_inode}
 use Rattle.shared_area.proofs.Sound.{parts_none}
 use Rattle.shared_area.proofs.Files.{no_bytes, none_of}

@@ -1,6 +1,6 @@
 use Rattle.std.proofs.Common.{◌-◌, ◌∙◌, ℕ, Some, length, sym, ap}
 use Rattle.std.specs.Prelude.{min}
-use Rattle.area_image.specs.Store.{store_of}
+use Rattle.change_plan.specs.area_image.Store.{store_of}
 use Rattle.shared_area.proofs.Files.{bytes_long}
 use Rattle.shared_area.proofs.reading.read_parts_bytes.Goals as goal
 

@@ -1,9 +1,9 @@
 use Rattle.std.proofs.Common.{◌≡◌, ◌<◌, ◌/◌, ◌∙◌, ℕ, Some, length, sym, ap, subst}
-use Rattle.layout.specs.Places.{Sizes, tier_blocks}
-use Rattle.area_image.specs.Store.{Store, store_of, place, logical}
-use Rattle.area_image.specs.Reads.{IsRoom}
-use Rattle.area_image.proofs.Damages.{logical_is}
-use Rattle.area_image.proofs.Tails.{place_is, placed_by}
+use Rattle.change_plan.specs.layout.Places.{Sizes, tier_blocks}
+use Rattle.change_plan.specs.area_image.Store.{Store, store_of, place, logical}
+use Rattle.change_plan.specs.area_image.Reads.{IsRoom}
+use Rattle.change_plan.proofs.area_image_lemmas.Damages.{logical_is}
+use Rattle.change_plan.proofs.area_image_lemmas.Tails.{place_is, placed_by}
 use Rattle.shared_area.proofs.Files.{piece_shows, hole_shows, no_block}
 use Rattle.shared_area.proofs.reading.read_within.Goals as goal
 

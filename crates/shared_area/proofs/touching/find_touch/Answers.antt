@@ -1,5 +1,5 @@
 use Rattle.std.proofs.Common.{sym, ap}
-use Rattle.area_image.specs.Store.{store_of, touch_of}
+use Rattle.change_plan.specs.area_image.Store.{store_of, touch_of}
 use Rattle.shared_area.proofs.Sound.{no_slot}
 use Rattle.shared_area.proofs.touching.find_touch.Goals as goal
 

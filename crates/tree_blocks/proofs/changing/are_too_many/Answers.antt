@@ -1,7 +1,7 @@
 use Rattle.std.proofs.Common.{◌≡◌, ◌+◌, ◌≤◌, arith}
 use Rattle.std.specs.FinMap as fin
-use Rattle.posix_calls.specs.Content.{Entries}
-use Rattle.node_bodies.specs.Named.{pairs}
+use Rattle.graph_change.specs.posix_calls.Content.{Entries}
+use Rattle.layout.specs.file_graph.Named.{pairs}
 use Rattle.graph_change.specs.Net.{Child, with_entries}
 use Rattle.tree_blocks.specs.Inode.{entry_at, named}
 use Rattle.tree_blocks.specs.Directory.{numbered, coming}

@@ -1,7 +1,7 @@
 use Rattle.std.proofs.Common.{◌≡◌, ◌∙◌, List, length, ap, arith, sym, Option, false}
 use Rattle.std.specs.Prelude.{is_some}
-use Rattle.node_bodies.specs.Named.{pairs}
-use Rattle.node_bodies.specs.declared.name_map.NamedEntry.{NamedEntry}
+use Rattle.layout.specs.file_graph.Named.{pairs}
+use Rattle.layout.specs.file_graph.declared.name_map.NamedEntry.{NamedEntry}
 use Rattle.graph_change.specs.Net.{Child}
 use Rattle.tree_blocks.specs.Directory.{coming, counted}
 use Rattle.tree_blocks.proofs.NameChanges.{behind, none_done, all_behind, next_behind, counted_one}

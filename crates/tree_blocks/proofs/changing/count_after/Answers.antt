@@ -1,9 +1,9 @@
 use Rattle.std.proofs.Common.{◌≡◌, ◌∙◌, ℕ, List, length, ap, arith, sym, Option}
 use Rattle.std.specs.Prelude.{is_some}
 use Rattle.std.specs.FinMap as fin
-use Rattle.posix_calls.specs.Content.{Entries}
-use Rattle.node_bodies.specs.Named.{pairs}
-use Rattle.node_bodies.specs.declared.name_map.NamedEntry.{NamedEntry}
+use Rattle.graph_change.specs.posix_calls.Content.{Entries}
+use Rattle.layout.specs.file_graph.Named.{pairs}
+use Rattle.layout.specs.file_graph.declared.name_map.NamedEntry.{NamedEntry}
 use Rattle.graph_change.specs.Net.{Child, with_entries}
 use Rattle.tree_blocks.specs.Inode.{entry_at, named}
 use Rattle.tree_blocks.specs.Directory.{numbered, counted}

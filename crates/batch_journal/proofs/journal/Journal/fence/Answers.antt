@@ -1,4 +1,4 @@
-use Rattle.tier_device.specs.declared.media.Tier.TheVariants.{Fast}
+use Rattle.layout.specs.tier_device.declared.media.Tier.TheVariants.{Fast}
 use Rattle.batch_journal.proofs.Views.{shut_still, fenced}
 use Rattle.batch_journal.proofs.journal.Journal.fence.Goals as goal
 

@@ -1,7 +1,7 @@
 use Rattle.std.proofs.Common.{◌≡◌, ℕ, List, None, true, false, arith, inr, refl, subst, sym, ◌∙◌}
 use Rattle.std.specs.Option.{ForSome}
 use Rattle.std.specs.Prelude.{is_some}
-use Rattle.file_graph.specs.Graph.{is_among}
+use Rattle.libfs.specs.file_graph.Graph.{is_among}
 use Rattle.event_steps.specs.Regions.{IsAwayRead, IsNotAcceptedFor}
 use Rattle.event_steps.specs.declared.outcome.Refusal.{Refusal}
 use Rattle.event_steps.specs.Sound.{IsLogOf}

@@ -1,5 +1,5 @@
 use Rattle.std.proofs.Common.{◌≡◌, Some, ap, subst}
-use Rattle.libfs.specs.DeclaredSealedLog.{SealedLog}
+use Rattle.libfs.specs.digester.declared.sealed_log.SealedLog.{SealedLog}
 use Rattle.event_steps.specs.Regions.{ChunkCame}
 use Rattle.event_steps.specs.View.{AwayView}
 use Rattle.event_steps.proofs.Chunks.{same_some}

@@ -1,10 +1,10 @@
 use Rattle.std.proofs.Common.{◌≡◌, ◌+◌, ◌-◌, ◌<◌, ◌^◌, List, arith, length, refl, subst, sym}
 use Rattle.std.specs.List.{AllByRecursion}
 use Rattle.std.specs.List.Sorted.{IsNonDecreasing}
-use Rattle.log_record.specs.Grammar.{IsRecord}
-use Rattle.log_record.specs.declared.format.Record.{Record}
-use Rattle.libfs.specs.SealedLog.{IsSealed}
-use Rattle.libfs.specs.DeclaredSealedLog.{SealedLog}
+use Rattle.libfs.specs.log_record.Grammar.{IsRecord}
+use Rattle.libfs.specs.log_record.declared.format.Record.{Record}
+use Rattle.libfs.specs.digester.SealedLog.{IsSealed}
+use Rattle.libfs.specs.digester.declared.sealed_log.SealedLog.{SealedLog}
 use Rattle.event_steps.specs.Sound.{IsLogOf}
 use Rattle.event_steps.specs.View.{AwayView}
 use Rattle.event_steps.proofs.Chunks.{has_some}

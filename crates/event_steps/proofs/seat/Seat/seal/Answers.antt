@@ -1,9 +1,9 @@
 use Rattle.std.proofs.Common.{◌≡◌, Some, arith, inl, refl, subst, sym, ◌∙◌}
 use Rattle.std.specs.Prelude.{IfSome}
-use Rattle.client_leases.specs.Held.{AreWritten}
-use Rattle.client_log.specs.Steps.{CanBeSealed}
-use Rattle.client_log.specs.View.{HandedView}
-use Rattle.lease_manager.specs.Passes.{client_of}
+use Rattle.libfs.specs.lease_manager.Held.{AreWritten}
+use Rattle.libfs.specs.client_log.Steps.{CanBeSealed}
+use Rattle.libfs.specs.client_log.View.{HandedView}
+use Rattle.libfs.specs.lease_manager.Passes.{client_of}
 use Rattle.libfs.specs.HandingOver.{HasSealed}
 use Rattle.event_steps.specs.Played.{Carries}
 use Rattle.event_steps.specs.Regions.{IsHandedOver}

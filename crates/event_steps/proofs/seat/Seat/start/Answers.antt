@@ -1,5 +1,5 @@
 use Rattle.std.proofs.Common.{ap, ◌∙◌}
-use Rattle.lease_manager.specs.Passes.{client_of}
+use Rattle.libfs.specs.lease_manager.Passes.{client_of}
 use Rattle.event_steps.specs.View.{SeatView}
 use Rattle.event_steps.proofs.Keeps.{seated, start_keeps}
 use Rattle.event_steps.proofs.seat.Seat.start.Goals as goal

@@ -1,8 +1,8 @@
 use Rattle.std.proofs.Common.{◌≡◌, true, ap, ◌∙◌}
 use Rattle.std.specs.Prelude.{is_some, not}
 use Rattle.std.proofs.lemmas.Bool.{and_parts}
-use Rattle.lease_manager.specs.Passes.{client_of}
-use Rattle.update_log.specs.Stage.{progress}
+use Rattle.libfs.specs.lease_manager.Passes.{client_of}
+use Rattle.libfs.specs.update_log.Stage.{progress}
 use Rattle.libfs.specs.View.{is_pending}
 use Rattle.event_steps.specs.View.{SeatView}
 use Rattle.event_steps.proofs.Keeps.{stepped_keeps}

@@ -1,11 +1,11 @@
 use Rattle.std.proofs.Common.{◌≡◌, subst}
 use Rattle.std.specs.Prelude.{IfErr, IfOk}
-use Rattle.call_effects.specs.NodeView.{view_at}
-use Rattle.libfs.specs.Answering.{OnRefusal}
-use Rattle.libfs.specs.AreaError.TheVariants.{Memory}
-use Rattle.libfs.specs.Map.{WantsMemory}
-use Rattle.libfs.specs.Standing.{IsMarkIn}
-use Rattle.libfs.specs.Store.{graph, store_of}
+use Rattle.libfs.specs.call_effects.NodeView.{view_at}
+use Rattle.libfs.specs.kernel_fs.Answering.{OnRefusal}
+use Rattle.libfs.specs.area_image.declared.error.AreaError.TheVariants.{Memory}
+use Rattle.libfs.specs.area_image.Map.{WantsMemory}
+use Rattle.libfs.specs.kernel_fs.Standing.{IsMarkIn}
+use Rattle.libfs.specs.area_image.Store.{graph, store_of}
 use Rattle.event_steps.specs.View.{SystemView}
 use Rattle.event_steps.proofs.system.System.look.Goals as goal
 

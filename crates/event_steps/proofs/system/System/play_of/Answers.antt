@@ -1,9 +1,8 @@
-use Rattle.std.proofs.Common.{◌≡◌, ◌-◌, ◌<◌, true, arith, length, subst}
-use Rattle.lease_manager.specs.Words.{IsClient}
+use Rattle.std.proofs.Common.{◌≡◌, ◌-◌, ◌<◌, true, arith, length, subst, Some}
+use Rattle.libfs.specs.lease_manager.Words.{IsClient}
 use Rattle.event_steps.specs.Played.{Carries, MakesAt}
 use Rattle.event_steps.specs.Turns.{IsTurnOf}
 use Rattle.event_steps.specs.View.{SystemView}
-use Rattle.std.proofs.Common.{Some}
 use Rattle.event_steps.proofs.Seats.{at_seat, set_seats}
 use Rattle.event_steps.proofs.system.System.play_of.Goals as goal
 

@@ -1,9 +1,9 @@
 use Rattle.std.proofs.Common.{◌≡◌, subst}
 use Rattle.std.specs.Prelude.{IfErr}
-use Rattle.libfs.specs.Answering.{OnRefusal}
-use Rattle.libfs.specs.AreaError.TheVariants.{Memory}
-use Rattle.libfs.specs.Map.{WantsMemory}
-use Rattle.libfs.specs.Store.{store_of}
+use Rattle.libfs.specs.kernel_fs.Answering.{OnRefusal}
+use Rattle.libfs.specs.area_image.declared.error.AreaError.TheVariants.{Memory}
+use Rattle.libfs.specs.area_image.Map.{WantsMemory}
+use Rattle.libfs.specs.area_image.Store.{store_of}
 use Rattle.event_steps.specs.View.{SystemView}
 use Rattle.event_steps.proofs.system.System.tier_of.Goals as goal
 

@@ -1,8 +1,8 @@
 use Rattle.std.proofs.Common.{◌++◌, ◌∙◌, arith, ap, subst, length}
 use Rattle.std.proofs.lemmas.List.{append-nil}
-use Rattle.extent_nodes.specs.Places.{place_of}
-use Rattle.extent_nodes.specs.Parts.{part}
-use Rattle.extent_nodes.proofs.Parts.{part-all}
+use Rattle.extent_tree.specs.Places.{place_of}
+use Rattle.extent_tree.specs.Parts.{part}
+use Rattle.extent_tree.proofs.Parts.{part-all}
 use Rattle.extent_tree.specs.Tree.{IsTree}
 use Rattle.extent_tree.proofs.Trees.{one-level}
 use Rattle.extent_tree.proofs.tree.Extents.from_extents.Goals as goal

@@ -1,5 +1,5 @@
 use Rattle.std.proofs.Common.{◌≡◌, ◌≤◌, ◌<◌, ◌+◌, ◌-◌, ◌*◌, ◌/◌, ◌^◌, suc, arith, subst, length}
-use Rattle.extent_nodes.specs.Nodes.{flat}
+use Rattle.extent_tree.specs.Nodes.{flat}
 use Rattle.extent_tree.proofs.Trees.{nodes-few, levels-few, most-entries, some-levels}
 use Rattle.extent_tree.proofs.tree.Extents.height.Goals as goal
 

@@ -1,4 +1,4 @@
-use Rattle.tier_device.specs.declared.media.Tier.TheVariants.{Fast}
+use Rattle.script.specs.tier_device.declared.media.Tier.TheVariants.{Fast}
 use Rattle.first_run.proofs.regions.StopMediaStopping.after_stop.Goals as goal
 
 pub returns-in-Ok-clause-allowed : goal.returns-in-Ok-clause-allowed

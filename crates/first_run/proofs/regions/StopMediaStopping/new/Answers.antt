@@ -1,6 +1,6 @@
 use Rattle.std.proofs.Common.{sym, subst}
-use Rattle.tier_device.specs.Memory.{IsAtRest}
-use Rattle.tier_device.specs.declared.media.Tier.TheVariants.{Fast}
+use Rattle.script.specs.tier_device.Memory.{IsAtRest}
+use Rattle.script.specs.tier_device.declared.media.Tier.TheVariants.{Fast}
 use Rattle.first_run.proofs.regions.StopMediaStopping.new.Goals as goal
 
 -- the medium is the one that was given

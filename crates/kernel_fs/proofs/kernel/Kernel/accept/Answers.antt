@@ -1,15 +1,15 @@
 use Rattle.std.proofs.Common.{◌≡◌, ◌∙◌, ◌+◌, ℕ, length, ap, sym, subst, refl}
-use Rattle.digester.specs.Store.{store_of}
+use Rattle.digester.specs.area_image.Store.{store_of}
 use Rattle.digester.specs.SealedLog.{StandsAtMark}
-use Rattle.world_facts.specs.Machine.{accept, Sealed}
-use Rattle.kernel_book.specs.Book.{IsBookOf, waiting_of}
-use Rattle.kernel_book.specs.declared.account.ClientAccount.{ClientAccount}
+use Rattle.world_invariant.specs.Machine.{accept, Sealed}
+use Rattle.kernel_fs.specs.Book.{IsBookOf, waiting_of}
+use Rattle.kernel_fs.specs.declared.account.ClientAccount.{ClientAccount}
 use Rattle.kernel_fs.specs.Accepting.{client_of}
 use Rattle.kernel_fs.specs.KernelView.{KernelView}
 use Rattle.kernel_fs.specs.Standing.{IsKernelOf}
 use Rattle.kernel_fs.proofs.Digested.{accepted_kernel, its_region, may_accept, whole}
 use Rattle.kernel_fs.proofs.Runs.{goes_on, region_of}
-use Rattle.kernel_book.specs.Run as entry
+use Rattle.kernel_fs.specs.Run as entry
 use Rattle.kernel_fs.proofs.kernel.Kernel.accept.Goals as goal
 
 pub returns-clause-step : goal.returns-clause-step

@@ -1,10 +1,10 @@
 use Rattle.std.proofs.Common.{ℕ, ◌+◌, ◌-◌, ◌||◌, ◌&&◌, not, refl, ◌∙◌, sym}
-use Rattle.kernel_book.specs.Inodes.{has}
-use Rattle.world_facts.specs.LeaseSteps.{also, without}
-use Rattle.world_facts.specs.Opening.{idle_account}
+use Rattle.kernel_fs.specs.Inodes.{has}
+use Rattle.world_invariant.specs.LeaseSteps.{also, without}
+use Rattle.world_invariant.specs.Opening.{idle_account}
 use Rattle.kernel_fs.proofs.BookSteps.{stepped}
 use Rattle.kernel_fs.proofs.Runs.{goes_on}
-use Rattle.kernel_book.specs.Run as entry
+use Rattle.kernel_fs.specs.Run as entry
 use Rattle.kernel_fs.proofs.kernel.Kernel.bury.Goals as goal
 
 pub returns-clause-step : goal.returns-clause-step

@@ -1,13 +1,13 @@
 use Rattle.std.proofs.Common.{◌≡◌, ◌∙◌, ℕ, ◌≤◌, ◌+◌, true, false, refl, ap, sym, subst, take, arith, drop, length, ◌<◌, ◌-◌, List}
-use Rattle.digester.specs.Store.{store_of, graph}
+use Rattle.digester.specs.area_image.Store.{store_of, graph}
 use Rattle.digester.specs.SealedLog.{StandsAtMark, done_to, undone}
 use Rattle.digester.specs.declared.sealed_log.SealedLog.{SealedLog}
-use Rattle.file_graph.specs.Units.{charge}
-use Rattle.layout.specs.Places.{Sizes}
-use Rattle.kernel_book.specs.Book.{units_of, out_of, Accounts}
-use Rattle.world_facts.specs.Logs.{units_in}
-use Rattle.kernel_book.specs.Inodes.{has}
-use Rattle.kernel_fs.specs.Accepting.{client_of, HasAsManyWaiting}
+use Rattle.digester.specs.file_graph.Units.{charge}
+use Rattle.digester.specs.layout.Places.{Sizes}
+use Rattle.kernel_fs.specs.Book.{units_of, out_of, Accounts}
+use Rattle.world_invariant.specs.Logs.{units_in}
+use Rattle.kernel_fs.specs.Inodes.{has}
+use Rattle.kernel_fs.specs.Accepting.{client_of, HasAsManyWaiting, BeginsAtMark}
 use Rattle.kernel_fs.specs.KernelView.{KernelView}
 use Rattle.kernel_fs.specs.Standing.{IsKernelOf}
 use Rattle.kernel_fs.proofs.Digested.{digested_kernel}
@@ -15,13 +15,12 @@ use Rattle.kernel_fs.proofs.ChunkSteps.{charge_moved, fewer_units, never_told, n
 use Rattle.std.specs.Prelude.{Ok, Err}
 use Rattle.std.proofs.lemmas.Bool.{false≢true}
 use Rattle.digester.specs.Digesting.{DigestsOrStays}
-use Rattle.kernel_fs.specs.Accepting.{BeginsAtMark}
 use Rattle.kernel_fs.specs.declared.digesting.Digestion.TheVariants.{Digested, NotNext, NotAccepted}
 use Rattle.kernel_fs.specs.Answering.{Answers, told}
 use Rattle.kernel_fs.proofs.Answered.{answered}
 use Rattle.kernel_fs.proofs.DigestAnswers.{another, none, refused}
 use Rattle.kernel_fs.proofs.Runs.{Inside, digest_refused, goes_on, region_of, told_region}
-use Rattle.kernel_book.specs.Run as entry
+use Rattle.kernel_fs.specs.Run as entry
 use Rattle.kernel_fs.proofs.SealedRecords.{next}
 use Rattle.std.proofs.lemmas.List.{length-drop}
 use Rattle.kernel_fs.proofs.kernel.Kernel.digest.Goals as goal

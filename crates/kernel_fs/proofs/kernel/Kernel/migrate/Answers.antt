@@ -1,10 +1,10 @@
 use Rattle.std.proofs.Common.{◌∙◌, sym, subst}
-use Rattle.digester.specs.Store.{store_of}
-use Rattle.digester.specs.RunMoving.{CanMove}
-use Rattle.digester.specs.Moving.{HasTooFew}
+use Rattle.digester.specs.area_image.Store.{store_of}
+use Rattle.digester.specs.relocation.Moving.{CanMove}
+use Rattle.digester.specs.shared_area.Moving.{HasTooFew}
 use Rattle.kernel_fs.specs.KernelView.{KernelView}
 use Rattle.kernel_fs.specs.Standing.{IsKernelOf}
-use Rattle.kernel_book.specs.Inodes.{has}
+use Rattle.kernel_fs.specs.Inodes.{has}
 use Rattle.kernel_fs.proofs.MediaSteps.{moved_kernel, moved_nodes}
 use Rattle.kernel_fs.proofs.Runs.{move_refused, stays_there}
 use Rattle.kernel_fs.proofs.kernel.Kernel.migrate.Goals as goal

@@ -1,7 +1,7 @@
 use Rattle.std.proofs.Common.{ap}
-use Rattle.batch_journal.proofs.Courses.{tiers_same}
-use Rattle.digester.specs.Store.{store_of, graph}
-use Rattle.kernel_book.specs.Inodes.{has}
+use Rattle.digester.proofs.batch_journal_lemmas.Courses.{tiers_same}
+use Rattle.digester.specs.area_image.Store.{store_of, graph}
+use Rattle.kernel_fs.specs.Inodes.{has}
 use Rattle.kernel_fs.proofs.MediaSteps.{moved_nodes, opened_kernel}
 use Rattle.kernel_fs.proofs.Runs.{begins}
 use Rattle.kernel_fs.proofs.kernel.Kernel.open.Goals as goal

@@ -1,20 +1,20 @@
 use Rattle.std.proofs.Common.{◌≡◌, ◌⊎◌, false, refl, ◌∙◌, sym, subst}
 use Rattle.std.specs.Prelude.{Ok, Err}
-use Rattle.digester.specs.Store.{store_of, graph}
-use Rattle.digester.specs.Map.{WantsMemory}
-use Rattle.world_facts.specs.Logs.{IsNameless}
+use Rattle.digester.specs.area_image.Store.{store_of, graph}
+use Rattle.digester.specs.area_image.Map.{WantsMemory}
+use Rattle.world_invariant.specs.Logs.{IsNameless}
 use Rattle.kernel_fs.specs.Answering.{Answers, told}
 use Rattle.kernel_fs.specs.Reclaiming.{IsUnused, ReclaimsOrStays, StaysOrReclaims}
 use Rattle.kernel_fs.specs.declared.error.ReclaimError.TheVariants as errors
 use Rattle.kernel_fs.proofs.Dropping.{still_open}
 use Rattle.kernel_fs.proofs.Answered.{answered}
 use Rattle.kernel_fs.proofs.Reclaimed.{in_use_no_fault, nothing_stays}
-use Rattle.kernel_book.specs.Inodes.{has}
+use Rattle.kernel_fs.specs.Inodes.{has}
 use Rattle.kernel_fs.specs.KernelView.{KernelView}
 use Rattle.kernel_fs.specs.Standing.{IsKernelOf}
 use Rattle.kernel_fs.proofs.DropSteps.{may_reclaim, reclaimed_kernel, reclaimed_nodes}
 use Rattle.kernel_fs.proofs.Runs.{goes_on, reclaim_refused}
-use Rattle.kernel_book.specs.Run as entry
+use Rattle.kernel_fs.specs.Run as entry
 use Rattle.kernel_fs.proofs.kernel.Kernel.reclaim.Goals as goal
 
 pub returns-clause-step : goal.returns-clause-step

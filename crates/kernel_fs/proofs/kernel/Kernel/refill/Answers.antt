@@ -1,20 +1,20 @@
 use Rattle.std.proofs.Common.{◌≡◌, ◌∙◌, ℕ, ◌+◌, ◌-◌, ◌<◌, ◌≤◌, ◌||◌, ◌&&◌, not, List, Bool, false, refl, sym, subst, ap}
 use Rattle.std.specs.Prelude.{◌↔◌, Ok, Err, IsErrOf}
-use Rattle.file_graph.specs.Units.{charge}
-use Rattle.digester.specs.Store.{store_of, graph}
-use Rattle.kernel_book.specs.Book.{is_free, out_of, Accounts}
-use Rattle.kernel_book.specs.Free.{AreLowest, count_of}
-use Rattle.kernel_book.specs.Nodes.{nodes_in}
-use Rattle.kernel_book.specs.declared.error.RefillError.TheVariants as book_why
+use Rattle.digester.specs.file_graph.Units.{charge}
+use Rattle.digester.specs.area_image.Store.{store_of, graph}
+use Rattle.kernel_fs.specs.Book.{is_free, out_of, Accounts}
+use Rattle.kernel_fs.specs.Free.{AreLowest, count_of}
+use Rattle.kernel_fs.specs.Nodes.{nodes_in}
+use Rattle.kernel_fs.specs.declared.book_error.RefillError.TheVariants as book_why
 use Rattle.kernel_fs.specs.KernelView.{KernelView}
 use Rattle.kernel_fs.specs.declared.error.KernelError.TheVariants as why
 use Rattle.kernel_fs.proofs.Refilled.{told_few, told_none}
-use Rattle.kernel_book.specs.Inodes.{has}
-use Rattle.world_facts.specs.LeaseSteps.{also, without}
-use Rattle.world_facts.specs.Opening.{idle_account}
+use Rattle.kernel_fs.specs.Inodes.{has}
+use Rattle.world_invariant.specs.LeaseSteps.{also, without}
+use Rattle.world_invariant.specs.Opening.{idle_account}
 use Rattle.kernel_fs.proofs.BookSteps.{stepped}
 use Rattle.kernel_fs.proofs.Runs.{Inside, goes_on, may_refill}
-use Rattle.kernel_book.specs.Run as entry
+use Rattle.kernel_fs.specs.Run as entry
 use Rattle.kernel_fs.proofs.kernel.Kernel.refill.Goals as goal
 
 pub returns-clause-step : goal.returns-clause-step

@@ -1,5 +1,5 @@
 use Rattle.std.proofs.Common.{◌∙◌, sym}
-use Rattle.kernel_book.specs.Inodes.{has}
+use Rattle.kernel_fs.specs.Inodes.{has}
 use Rattle.kernel_fs.proofs.Runs.{unmoved_inside}
 use Rattle.kernel_fs.proofs.kernel.Kernel.tier_of.Goals as goal
 

@@ -1,6 +1,6 @@
 use Rattle.std.proofs.Common.{◌≡◌, ◌+◌, ◌∙◌, subst, arith}
-use Rattle.kernel_fs.specs.Looks.{looked}
-use Rattle.kernel_fs.proofs.Looked.{looks_on, store_same}
+use Rattle.kernel_fs.specs.area_image.Looks.{looked}
+use Rattle.kernel_fs.proofs.area_image_lemmas.Looked.{looks_on, store_same}
 use Rattle.libfs.specs.Serving.{HasThem}
 use Rattle.libfs.proofs.FetchedNodes.{has_more, more_came, no_more_than}
 use Rattle.libfs.proofs.client.Client.fetch_each.Goals as goal

@@ -1,5 +1,5 @@
 use Rattle.std.proofs.Common.{◌≡◌, length}
-use Rattle.kernel_fs.specs.Looks.{Looks, looked}
+use Rattle.kernel_fs.specs.area_image.Looks.{Looks, looked}
 use Rattle.libfs.specs.Serving.{HasFetchedBlocks, HasThem}
 use Rattle.libfs.proofs.client.Client.fetch_each.Given as goal
 

@@ -1,11 +1,11 @@
 use Rattle.std.proofs.Common.{◌≡◌, ℕ, Bool, ap, ◌∙◌, subst}
 use Rattle.std.specs.Prelude.{◌&&◌}
-use Rattle.file_graph.specs.Numbers.{is_inode}
-use Rattle.kernel_book.specs.Inodes.{has}
-use Rattle.kernel_book.specs.Steps.{take_back}
+use Rattle.lease_manager.specs.file_graph.Numbers.{is_inode}
+use Rattle.kernel_fs.specs.Inodes.{has}
+use Rattle.kernel_fs.specs.Steps.{take_back}
 use Rattle.kernel_fs.specs.Standing.{IsKernelOf}
 use Rattle.lease_manager.specs.Passes.{client_of}
-use Rattle.client_copies.specs.Held.{knows}
+use Rattle.client_view.specs.Held.{knows}
 use Rattle.libfs.specs.Serving.{HasGivenBack, inodes_granted}
 use Rattle.libfs.specs.View.{ClientView}
 use Rattle.libfs.proofs.Granted.{given_back}

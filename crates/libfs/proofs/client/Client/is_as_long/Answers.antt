@@ -1,6 +1,6 @@
 use Rattle.std.proofs.Common.{◌↔◌, sym, ◌∙◌, subst}
 use Rattle.std.specs.Prelude.{IsTrue, ◌==◌}
-use Rattle.client_copies.specs.Put.{IsBlockLong}
+use Rattle.client_view.specs.Put.{IsBlockLong}
 use Rattle.libfs.specs.View.{ClientView}
 use Rattle.libfs.specs.Holding.{known_to}
 use Rattle.libfs.proofs.Lengths.{as_long}

@@ -1,8 +1,8 @@
 use Rattle.std.proofs.Common.{◌≡◌, List, ap, ◌∙◌, subst}
 use Rattle.std.specs.Prelude.{IfOk}
-use Rattle.log_record.specs.declared.format.Record.{Record}
+use Rattle.lease_manager.specs.log_record.declared.format.Record.{Record}
 use Rattle.client_log.specs.View.{written}
-use Rattle.own_records.specs.After.{node_laid}
+use Rattle.client_view.specs.After.{node_laid}
 use Rattle.libfs.specs.View.{ClientView}
 use Rattle.libfs.proofs.Behind.{kept_behind}
 use Rattle.libfs.proofs.client.Client.laid_over.Goals as goal

@@ -1,8 +1,8 @@
 use Rattle.std.proofs.Common.{◌≡◌, ◌*◌, ℕ, take, ap, ◌∙◌, subst}
 use Rattle.lease_manager.specs.Passes.{client_of}
 use Rattle.client_log.specs.View.{written}
-use Rattle.own_records.specs.After.{bytes_at}
-use Rattle.kernel_fs.specs.Store.{store_of}
+use Rattle.client_view.specs.After.{bytes_at}
+use Rattle.kernel_fs.specs.area_image.Store.{store_of}
 use Rattle.kernel_fs.specs.Standing.{IsMarkIn}
 use Rattle.libfs.specs.View.{ClientView}
 use Rattle.libfs.specs.Serving.{shared_by}

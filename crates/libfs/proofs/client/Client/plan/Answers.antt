@@ -1,9 +1,9 @@
 use Rattle.std.proofs.Common.{◌≡◌, ◌∙◌, ap}
 use Rattle.std.specs.Option.{ForSome}
-use Rattle.call_effects.specs.Known.{part_of}
-use Rattle.client_plan.specs.Planned.{outcome, OpensInRange, change_in}
-use Rattle.client_plan.specs.declared.outcome.Outcome.{Outcome}
-use Rattle.client_copies.specs.Held.{knows}
+use Rattle.client_log.specs.call_effects.Known.{part_of}
+use Rattle.client_view.specs.client_plan.Planned.{outcome, OpensInRange, change_in}
+use Rattle.client_view.specs.client_plan.declared.outcome.Outcome.{Outcome}
+use Rattle.client_view.specs.Held.{knows}
 use Rattle.libfs.specs.View.{ClientView}
 use Rattle.libfs.specs.Holding.{holdings_of}
 use Rattle.libfs.specs.Starting.{MayGoOn}

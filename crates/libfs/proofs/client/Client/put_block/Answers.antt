@@ -1,5 +1,5 @@
 use Rattle.std.proofs.Common.{sym, subst}
-use Rattle.client_copies.specs.Held.{Held}
+use Rattle.client_view.specs.Held.{Held}
 use Rattle.libfs.specs.Sound.{IsSound}
 use Rattle.libfs.proofs.Kept.{sound_blocks}
 use Rattle.libfs.proofs.client.Client.put_block.Goals.{in-Ok, in-Err}

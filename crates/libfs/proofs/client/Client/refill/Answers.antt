@@ -1,8 +1,8 @@
 use Rattle.std.proofs.Common.{ℕ, List, ap, sym, ◌∙◌, subst}
 use Rattle.std.specs.Prelude.{◌+◌, ◌||◌}
-use Rattle.file_graph.specs.Graph.{is_among}
-use Rattle.kernel_book.specs.Inodes.{has}
-use Rattle.kernel_book.specs.Steps.{grant}
+use Rattle.lease_manager.specs.file_graph.Graph.{is_among}
+use Rattle.kernel_fs.specs.Inodes.{has}
+use Rattle.kernel_fs.specs.Steps.{grant}
 use Rattle.kernel_fs.specs.Standing.{IsKernelOf}
 use Rattle.libfs.specs.Serving.{HasRefilled}
 use Rattle.libfs.specs.View.{ClientView}

@@ -1,8 +1,8 @@
 use Rattle.std.proofs.Common.{◌≤◌, List, ap, sym, ◌∙◌, subst}
-use Rattle.log_record.specs.declared.format.Record.{Record}
+use Rattle.lease_manager.specs.log_record.declared.format.Record.{Record}
 use Rattle.lease_manager.specs.Passes.{records_of}
-use Rattle.client_leases.specs.Counted.{HasCleaned, touching}
-use Rattle.client_copies.specs.Held.{knows}
+use Rattle.lease_manager.specs.Counted.{HasCleaned, touching}
+use Rattle.client_view.specs.Held.{knows}
 use Rattle.client_log.specs.View.{LogView, written}
 use Rattle.libfs.specs.HandingOver.{without_blocks_of}
 use Rattle.libfs.proofs.Kept.{away_counted, sound_back}

@@ -1,6 +1,6 @@
 use Rattle.std.proofs.Common.{List, Option, Some, refl, subst, sym}
-use Rattle.posix_calls.specs.Content.{resized}
-use Rattle.posix_calls.specs.Tree.{Node, File, bytes_of, IsBare}
+use Rattle.file_graph.specs.posix_calls.Content.{resized}
+use Rattle.file_graph.specs.posix_calls.Tree.{Node, File, bytes_of, IsBare}
 use Rattle.plain_tree.specs.Plain.{stored_tree}
 use Rattle.plain_tree.proofs.Tallies.{counted_if}
 use Rattle.plain_tree.proofs.nodes.PlainNodes.resize.Goals as goal

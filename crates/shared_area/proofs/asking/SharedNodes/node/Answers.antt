@@ -1,6 +1,6 @@
 use Rattle.std.proofs.Common.{◌≡◌, refl, Ok, Err}
-use Rattle.area_image.specs.Store.{store_of, graph}
-use Rattle.area_image.proofs.Looked.{carried, looks_err, looks_answer}
+use Rattle.change_plan.specs.area_image.Store.{store_of, graph}
+use Rattle.change_plan.proofs.area_image_lemmas.Looked.{carried, looks_err, looks_answer}
 use Rattle.shared_area.proofs.asking.SharedNodes.node.Goals as goal
 
 pub returns-in-Ok-clause-stays : goal.returns-in-Ok-clause-stays

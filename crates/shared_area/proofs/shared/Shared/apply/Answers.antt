@@ -1,15 +1,15 @@
 use Rattle.std.proofs.Common.{◌≡◌, ◌≤◌, ℕ, List, length, true, false, sym, subst}
 use Rattle.std.specs.FinMap as fin
 use Rattle.std.specs.Prelude.{OnOk, IsErrOf}
-use Rattle.file_graph.specs.Units.{charge}
-use Rattle.graph_change.specs.Change.{changed}
-use Rattle.graph_change.specs.View.{changes_of}
-use Rattle.batch_journal.specs.View.{JournalView}
-use Rattle.area_image.specs.Store.{store_of, graph}
-use Rattle.area_apply.specs.Applying.{IsAppliedStore, MakesFewCalls}
-use Rattle.area_apply.specs.Next.{HasFewEntries}
-use Rattle.area_apply.specs.Wanted.{AreWritten}
-use Rattle.area_apply.specs.declared.error.ApplyError.TheVariants.{NoBlock}
+use Rattle.record_validation.specs.file_graph.Units.{charge}
+use Rattle.change_plan.specs.graph_change.Change.{changed}
+use Rattle.change_plan.specs.graph_change.View.{changes_of}
+use Rattle.change_plan.specs.batch_journal.View.{JournalView}
+use Rattle.change_plan.specs.area_image.Store.{store_of, graph}
+use Rattle.shared_area.specs.ChangeApplying.{IsAppliedStore, MakesFewCalls}
+use Rattle.change_plan.specs.Next.{HasFewEntries}
+use Rattle.change_plan.specs.Wanted.{AreWritten}
+use Rattle.shared_area.specs.declared.error.ApplyError.TheVariants.{NoBlock}
 use Rattle.shared_area.specs.Applying.{HasTooFewData, StaysOrChanges, AppliesOrStays}
 use Rattle.shared_area.proofs.shared.Shared.apply.Goals as goal
 

@@ -1,11 +1,11 @@
 use Rattle.std.proofs.Common.{◌≡◌, false, length, refl, subst}
 use Rattle.std.specs.Prelude.{OnOk, IsErrOf}
-use Rattle.batch_journal.specs.View.{JournalView}
-use Rattle.area_image.specs.Store.{store_of, graph, marks}
-use Rattle.area_apply.specs.PoolsValue.{data_pool}
-use Rattle.area_relocate.specs.RunMoving.{CanMove, IsMoved}
-use Rattle.area_relocate.specs.Moving.{LieInLowest, MovesInFewCalls}
-use Rattle.area_relocate.specs.RelocateError.TheVariants.{NoBlock}
+use Rattle.change_plan.specs.batch_journal.View.{JournalView}
+use Rattle.change_plan.specs.area_image.Store.{store_of, graph, marks}
+use Rattle.change_plan.specs.area_commit.Value.{data_pool}
+use Rattle.relocation.specs.Moving.{CanMove, IsMoved}
+use Rattle.relocation.specs.RunMoving.{LieInLowest, MovesInFewCalls}
+use Rattle.relocation.specs.declared.error.RelocateError.TheVariants.{NoBlock}
 use Rattle.shared_area.specs.Moving.{HasTooFew, HasEnough, StaysOpen, MovesOrStays}
 use Rattle.shared_area.proofs.Counts.{data_count}
 use Rattle.shared_area.proofs.Moved.{ready_moved, stays_open, moves_or_stays, ok_moved, ok_lowest, ok_graph, ok_marks, ok_enough, err_few}

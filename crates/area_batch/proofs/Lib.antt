@@ -1,6 +1,0 @@
-mod SlotBytes
-mod Blocks
-mod Images
-mod ByNumber
-mod Put
-mod Listed

@@ -1,6 +1,0 @@
-pub mod Reading
-pub mod Places
-pub mod Moving
-pub mod Changing
-pub mod Taking
-pub mod Freeing

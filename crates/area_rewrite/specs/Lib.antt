@@ -1,4 +1,0 @@
-pub mod Written
-pub mod Moved
-pub mod Changed
-pub mod Many

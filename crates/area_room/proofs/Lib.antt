@@ -1,9 +1,0 @@
-mod Counting
-mod Allowed
-mod FilePlaces
-mod Held
-mod DataRoom
-mod NodeRoom
-mod Exchanged
-mod Differing
-mod Found

@@ -1,0 +1,92 @@
+// Logs that are sealed.
+ghost use Rattle.std.specs.Prelude.{IsTrue};
+ghost use Rattle.test_media.specs.digester.SealedLog.{IsSealed};
+
+use crate::made_logs::{BLOCK, made, mkdir, one};
+use migrator::{CLIENTS, Mark};
+use script::Kind::File;
+use script::Record;
+use std::alloc::{AllocError, Global};
+use test_media::Step::{Bytes, Enter};
+use test_media::{SealedLog, Step, are_rising, are_spelled};
+
+/// So many calls of `mkdir`, which make the inodes from 2 on.
+pub fn directories(alloc: Global, count: u32) -> Result<Vec<Record>, AllocError> {
+    let mut records = Vec::new(alloc);
+    for number in 0..count {
+        records.push(mkdir(alloc, number % 1_000 + 2)?)?;
+    }
+    Ok(records)
+}
+
+/// A file that is made under the root, and gets a byte at the front of each of so many blocks.
+pub fn add_file(
+    alloc: Global,
+    records: &mut Vec<Record>,
+    inode: u32,
+    blocks: u32,
+) -> Result<(), AllocError> {
+    records.push(made(alloc, inode, File)?)?;
+    for block in 0..blocks {
+        let at = block as u64 * BLOCK;
+        records.push(one(alloc, 1, Bytes(inode, at, b'd', 1))?)?;
+    }
+    Ok(())
+}
+
+/// Records of one effect each, with the units that they pay.
+pub fn add_steps(
+    alloc: Global,
+    records: &mut Vec<Record>,
+    steps: &[(u32, Step<'_>)],
+) -> Result<(), AllocError> {
+    for (units, step) in steps {
+        records.push(one(alloc, *units, *step)?)?;
+    }
+    Ok(())
+}
+
+/// So many entries of the root, each in a record of its own, which lead to one inode.
+pub fn entries(alloc: Global, count: u32) -> Result<Vec<Record>, AllocError> {
+    let mut records = Vec::new(alloc);
+    for number in 0..count {
+        let name = long_name_of(number);
+        records.push(one(alloc, 1, Enter(1, &name, 2, File))?)?;
+    }
+    Ok(records)
+}
+
+/// The name of an entry, by its number.
+pub fn long_name_of(number: u32) -> [u8; 3] {
+    [
+        b'a' + (number % 26) as u8,
+        b'a' + (number / 26 % 26) as u8,
+        b'a' + (number / 676 % 26) as u8,
+    ]
+}
+
+/// The log of the third client, which stands at this mark. It holds the inodes up to 99 for writing.
+pub fn sealed(alloc: Global, records: Vec<Record>, mark: Mark) -> Result<SealedLog, AllocError> {
+    let mut held = Vec::new(alloc);
+    for inode in 1u32..100 {
+        held.push(inode)?;
+    }
+    Ok(SealedLog {
+        client: 2,
+        generation: mark.generation,
+        done: mark.done,
+        held,
+        records,
+    })
+}
+
+/// Whether records of the log are left to be digested, and each has a spelling.
+pub fn may_be_digested(sealed: &SealedLog) -> bool
+    ensures { IsTrue result → IsSealed sealed.now }
+{
+    let total = sealed.records.len();
+    if sealed.client >= CLIENTS || sealed.done as usize >= total || total > u32::MAX as usize {
+        return false;
+    }
+    are_rising(&sealed.held) && are_spelled(&sealed.records)
+}

@@ -1,5 +1,0 @@
-use Rattle.block_map.proofs.Moved.{put_apart, cut_apart}
-use Rattle.block_map.proofs.laws.put_blocks_lie_apart.Goals as goal
-
-pub returns : goal.returns
-returns c = record { put = put_apart; cut = cut_apart }

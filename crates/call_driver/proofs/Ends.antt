@@ -1,0 +1,92 @@
+-- How a call goes on or ends.
+use Rattle.std.proofs.Common.{◌≡◌, ◌≢◌, ◌+◌, ℕ, Bool, inl, inr, refl, ap, sym, add-one, subst, Some, None}
+use Rattle.std.specs.Prelude.{Result, Ok, Err}
+use Rattle.event_steps.specs.posix_calls.declared.call.Call.{Call}
+use Rattle.event_steps.specs.client_plan.declared.need.Need.{Need}
+use Rattle.event_steps.specs.lease_manager.declared.view.LeaseMode.{LeaseMode}
+use Rattle.event_steps.specs.libfs.declared.denying.Denied.{Denied}
+use Rattle.event_steps.specs.declared.event.Event.{Event}
+use Rattle.event_steps.specs.declared.event.Event.TheVariants as kinds
+use Rattle.event_steps.specs.declared.outcome.Outcome.{Outcome}
+use Rattle.event_steps.specs.declared.outcome.Outcome.TheVariants as outcome
+use Rattle.call_driver.specs.Needs.{IsServed}
+use Rattle.call_driver.specs.Serving.{GoesOn, IsCarriedOn, IsEndedBy, IsLastStep, IsStepOf, IsTold, Turns}
+use Rattle.call_driver.specs.Whose.{after_start, after_step}
+use Rattle.call_driver.specs.declared.answering.Served.{Served}
+use Rattle.call_driver.specs.declared.answering.Served.TheVariants as served
+use Rattle.call_driver.specs.declared.needs.Turn.{Turn}
+use Rattle.call_driver.specs.declared.needs.Turn.TheVariants as turns
+
+-- ---- steps
+
+went_on : (o : Outcome) → Some served.Pending ≡ after_step o → o ≡ outcome.Stepped
+went_on (outcome.Reply reply) is = absurd (cc)
+went_on outcome.Pending is = absurd (cc)
+went_on (outcome.Need need) is = absurd (cc)
+went_on outcome.Stepped is = refl
+went_on (outcome.Refused why) is = absurd (cc)
+went_on outcome.Idle is = absurd (cc)
+
+same_served : (x y : Served) → Some x ≡ Some y → x ≡ y
+same_served x y is = cc is
+
+last_step : (o : Outcome) (x : Served) → Some x ≡ after_step o → x ≢ served.Pending → IsLastStep o x
+last_step (outcome.Reply reply) x is other = same_served x (served.Reply reply) is
+last_step outcome.Pending x is other = absurd (cc)
+last_step (outcome.Need need) x is other = absurd (cc)
+last_step outcome.Stepped x is other = absurd (other (same_served x served.Pending is))
+last_step (outcome.Refused why) x is other = absurd (cc)
+last_step outcome.Idle x is other = absurd (cc)
+
+of_none : (x : Served) → None ≡ Some x → ⊥
+of_none x is = absurd (cc)
+
+none_step : (o : Outcome) → None ≡ after_step o → IsLastStep o served.Blocked
+none_step (outcome.Reply reply) is = absurd (of_none (served.Reply reply) is)
+none_step outcome.Pending is = refl
+none_step (outcome.Need need) is = refl
+none_step outcome.Stepped is = absurd (of_none served.Pending is)
+none_step (outcome.Refused why) is = refl
+none_step outcome.Idle is = refl
+
+module _ {S : Type 0} (plays : S → Event → Outcome → S → Type 0) (client : ℕ) where
+  pub one_more_step : (n : ℕ) (s t u : S) → GoesOn plays client n s t → IsStepOf plays client (Some served.Pending) t u → GoesOn plays client (n + 1) s u
+  one_more_step n s t u before (o, played, is) = subst (λ m. GoesOn plays client m s u) (sym (add-one n)) (t, before, subst (λ p. plays t (kinds.Step client) p u) (went_on o is) played)
+
+  pub ended_by_step : (n : ℕ) (x : Served) (s t u : S) → GoesOn plays client n s t → IsStepOf plays client (Some x) t u → x ≢ served.Pending → IsCarriedOn plays client x s u
+  ended_by_step n x s t u before (o, played, is) other = record { count = n; last = t; steps = before; end = inr (o, played, last_step o x is other) }
+
+  pub ended_by_none : (n : ℕ) (s t u : S) → GoesOn plays client n s t → IsStepOf plays client None t u → IsCarriedOn plays client served.Blocked s u
+  ended_by_none n s t u before (o, played, is) = record { count = n; last = t; steps = before; end = inr (o, played, none_step o is) }
+
+-- ---- turns
+
+abbrev lacking : Need → Result Served Need
+lacking need = Err need
+
+abbrev told_now : Served → Result Served Need
+told_now x = Ok x
+
+same_need : (x y : Need) → lacking x ≡ lacking y → x ≡ y
+same_need x y is = cc is
+
+needed : (o : Outcome) (need : Need) → lacking need ≡ after_start o → o ≡ outcome.Need need
+needed (outcome.Reply reply) need is = absurd (cc)
+needed outcome.Pending need is = absurd (cc)
+needed (outcome.Need other) need is = ap (λ (x : Need). outcome.Need x) (same_need other need (sym is))
+needed outcome.Stepped need is = absurd (cc)
+needed (outcome.Refused why) need is = absurd (cc)
+needed outcome.Idle need is = absurd (cc)
+
+module _ {S : Type 0} (plays : S → Event → Outcome → S → Type 0) (owes : S → ℕ → ℕ) (leases : S → ℕ → ℕ → LeaseMode) (waits broken : S → ℕ → Bool) (hands : Bool) (client : ℕ) (call : Call) (e : Event) (starts : e ≡ kinds.Start client call) where
+  lacked : (need : Need) (s t : S) → (o : Outcome) × plays s e o t × (lacking need ≡ after_start o) → plays s (kinds.Start client call) (outcome.Need need) t
+  lacked need s t (o, played, is) = subst (λ f. plays s f (outcome.Need need) t) starts (subst (λ p. plays s e p t) (needed o need is) played)
+
+  pub one_more_turn : (n : ℕ) (need : Need) (s t u v : S) → Turns plays owes leases waits broken hands client call n s t → (o : Outcome) × plays t e o u × (lacking need ≡ after_start o) → IsServed plays owes leases waits broken hands client need turns.Again u v → Turns plays owes leases waits broken hands client call (n + 1) s v
+  one_more_turn n need s t u v before lacks has = subst (λ m. Turns plays owes leases waits broken hands client call m s v) (sym (add-one n)) (t, u, need, before, lacked need t u lacks, has)
+
+  pub told_at_once : (n : ℕ) (x : Served) (s t u : S) → Turns plays owes leases waits broken hands client call n s t → (o : Outcome) × plays t e o u × (told_now x ≡ after_start o) → IsTold plays owes leases waits broken hands client call (Ok x) s u
+  told_at_once n x s t u before (o, played, is) = record { count = n; last = t; turns = before; end = inr (inl (x, o, subst (λ f. plays t f o u) starts played, sym is, refl)) }
+
+  pub told_by_need : (n : ℕ) (need : Need) (turn : Turn) (r : Result Served Denied) (s t u v : S) → Turns plays owes leases waits broken hands client call n s t → (o : Outcome) × plays t e o u × (lacking need ≡ after_start o) → IsServed plays owes leases waits broken hands client need turn u v → IsEndedBy turn r → IsTold plays owes leases waits broken hands client call r s v
+  told_by_need n need turn r s t u v before lacks has ends = record { count = n; last = t; turns = before; end = inr (inr (need, u, turn, lacked need t u lacks, has, ends)) }

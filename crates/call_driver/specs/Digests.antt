@@ -1,0 +1,81 @@
+-- What a client logged is digested, and its regions are wiped.
+use Rattle.std.specs.Prelude.{◌≡◌, ◌⊎◌, ◌-◌, ℕ, zero, suc, nat_lt, Bool, Result, Ok, Err}
+use Rattle.event_steps.specs.lease_manager.declared.layout.TheConstants.{INODES}
+use Rattle.event_steps.specs.declared.event.Event.{Event}
+use Rattle.event_steps.specs.declared.event.Event.TheVariants as event
+use Rattle.event_steps.specs.declared.outcome.Outcome.{Outcome}
+use Rattle.event_steps.specs.declared.outcome.Refusal.{Refusal}
+use Rattle.event_steps.specs.declared.outcome.Refusal.TheVariants as refusals
+use Rattle.call_driver.specs.Came.{CameTo, IsRefusedIn}
+use Rattle.call_driver.specs.Whose.{IsClearing, IsDigesting, IsReclaim}
+use Rattle.call_driver.specs.declared.digests.TheConstants.{WIPE_STEPS}
+use Rattle.call_driver.specs.declared.playing.Did.{Did}
+use Rattle.call_driver.specs.declared.playing.Did.TheVariants as did
+
+-- An event was done so many times, one after the other.
+abbrev pub Times : {S : Type 0} → (S → Event → Outcome → S → Type 0) → Event → ℕ → S → S → Type 0
+Times plays e zero s t = t ≡ s
+Times {S = S} plays e (suc n) s t = (u : S) × Times plays e n s u × CameTo plays e did.Done u t
+
+-- It was done until there was nothing more to do, or so many times.
+pub record IsDoneUpTo {S : Type 0} (plays : S → Event → Outcome → S → Type 0) (e : Event) (most count : ℕ) (s t : S) : Type 0 where
+  pub last : S
+  pub times : Times plays e count s last
+  pub end : ((count ≡ most) × (t ≡ last)) ⊎ CameTo plays e did.Nothing last t
+
+-- All records of the region that a client handed over are digested: each chunk has one of them at least.
+abbrev pub IsRegionDigested : {S : Type 0} → (S → Event → Outcome → S → Type 0) → (S → ℕ → ℕ) → ℕ → S → S → Type 0
+IsRegionDigested plays owes client s t = (count : ℕ) × IsDoneUpTo plays (event.Digest client) (owes s client) count s t
+
+-- So they are, or one of the events was refused.
+abbrev pub IsRegionDone : {S : Type 0} → (S → Event → Outcome → S → Type 0) → (S → ℕ → ℕ) → ℕ → Result (Unit {0}) Refusal → S → S → Type 0
+IsRegionDone plays owes client (Ok x) s t = IsRegionDigested plays owes client s t
+IsRegionDone plays owes client (Err why) s t = IsRefusedIn plays (IsDigesting client) why s t
+
+-- So are all that it logged: those of the region that it handed over, and then those of the region that it hands over now, if it does.
+pub record HasDigested {S : Type 0} (plays : S → Event → Outcome → S → Type 0) (owes : S → ℕ → ℕ) (client : ℕ) (s t : S) : Type 0 where
+  pub before : S
+  pub first : IsRegionDigested plays owes client s before
+  pub rest : ((u : S) × CameTo plays (event.Seal client) did.Done before u × IsRegionDigested plays owes client u t) ⊎ CameTo plays (event.Seal client) did.Nothing before t
+
+-- They are, or one of the events was refused.
+abbrev pub IsDigested : {S : Type 0} → (S → Event → Outcome → S → Type 0) → (S → ℕ → ℕ) → ℕ → Result (Unit {0}) Refusal → S → S → Type 0
+IsDigested plays owes client (Ok x) s t = HasDigested plays owes client s t
+IsDigested plays owes client (Err why) s t = IsRefusedIn plays (IsDigesting client) why s t
+
+-- whether a file may be passed over that was to be dropped: nothing was refused but that it is in use
+abbrev pub IsPassed : Did → Type 0
+IsPassed d = (why : Refusal) → d ≡ did.Refused why → why ≡ refusals.InUse
+
+-- It was dropped, or passed over.
+abbrev pub IsReclaimed : {S : Type 0} → (S → Event → Outcome → S → Type 0) → ℕ → S → S → Type 0
+IsReclaimed plays i s t = (d : Did) × CameTo plays (event.Reclaim i) d s t × IsPassed d
+
+-- So was each file up to a number, rising.
+abbrev pub Reclaims : {S : Type 0} → (S → Event → Outcome → S → Type 0) → ℕ → S → S → Type 0
+Reclaims plays zero s t = t ≡ s
+Reclaims {S = S} plays (suc n) s t = (u : S) × Reclaims plays n s u × IsReclaimed plays (suc n) u t
+
+abbrev pub AreReclaimed : {S : Type 0} → (S → Event → Outcome → S → Type 0) → Result (Unit {0}) Refusal → S → S → Type 0
+AreReclaimed plays (Ok x) s t = Reclaims plays INODES s t
+AreReclaimed plays (Err why) s t = IsRefusedIn plays IsReclaim why s t
+
+-- All that a client logged is digested, so many records, and then each file was dropped that may go.
+pub record HasCleared {S : Type 0} (plays : S → Event → Outcome → S → Type 0) (owes : S → ℕ → ℕ) (client count : ℕ) (s t : S) : Type 0 where
+  pub between : S
+  pub digested : HasDigested plays owes client s between
+  pub counted : count ≡ owes s client - owes between client
+  pub reclaimed : Reclaims plays INODES between t
+
+-- So it was, or one of the events was refused.
+abbrev pub IsCleared : {S : Type 0} → (S → Event → Outcome → S → Type 0) → (S → ℕ → ℕ) → ℕ → Result ℕ Refusal → S → S → Type 0
+IsCleared plays owes client (Ok count) s t = HasCleared plays owes client count s t
+IsCleared plays owes client (Err why) s t = IsRefusedIn plays (IsClearing client) why s t
+
+-- What there is to wipe of a client's regions is wiped; whether there was something.
+abbrev pub HasWiped : {S : Type 0} → (S → Event → Outcome → S → Type 0) → ℕ → Bool → S → S → Type 0
+HasWiped plays client wiped s t = (count : ℕ) × IsDoneUpTo plays (event.WipeStep client) WIPE_STEPS count s t × (wiped ≡ nat_lt 0 count)
+
+abbrev pub IsWiped : {S : Type 0} → (S → Event → Outcome → S → Type 0) → ℕ → Result Bool Refusal → S → S → Type 0
+IsWiped plays client (Ok wiped) s t = HasWiped plays client wiped s t
+IsWiped plays client (Err why) s t = IsRefusedIn plays (λ e. e ≡ event.WipeStep client) why s t

@@ -1,0 +1,117 @@
+// What a client logged is digested, and its regions are wiped.
+ghost use Rattle.std.specs.Prelude.{◌≡◌, IfErr, OnOk};
+ghost use Rattle.event_steps.specs.declared.event.Event.TheVariants as event;
+ghost use Rattle.event_steps.specs.declared.outcome.Refusal.TheVariants as refusals;
+ghost use Rattle.call_driver.specs.declared.playing.Did.TheVariants as did;
+ghost use Rattle.call_driver.specs.Came.{CameTo};
+ghost use Rattle.call_driver.specs.Digests.{AreReclaimed, IsCleared, IsDigested, IsReclaimed, IsRegionDone, IsWiped};
+ghost use Rattle.call_driver.specs.Runs.{Leads};
+ghost use Rattle.call_driver.specs.Whose.{IsDigesting, IsReclaim, IsClearing};
+
+use crate::events::Events;
+use crate::playing::{Did, carry_out};
+use event_steps::{Event, INODES, Refusal};
+
+// A wipe makes four device calls, and a client has two regions.
+const WIPE_STEPS: u32 = 8;
+
+/// Digests all that a client logged: the records of the region that it handed over, if it did, and then those of its current one. Where an event is refused the rest is left undone.
+pub fn digest_all<E: Events>(events: &mut E, client: u32) -> Result<(), Refusal>
+    ensures digested { IsDigested E.plays E.owes client result events.old events.new }
+    ensures events { Leads E.plays (IsDigesting client) events.old events.new }
+{
+    match digest_region(events, client) {
+        Ok(()) => {}
+        Err(refusal) => return Err(refusal),
+    }
+    match carry_out(events, Event::Seal { client }) {
+        Did::Done => digest_region(events, client),
+        Did::Nothing => Ok(()),
+        Did::Refused(refusal) => Err(refusal),
+    }
+}
+
+// Digests what a client handed over, chunk by chunk. Each chunk has a record at least.
+fn digest_region<E: Events>(events: &mut E, client: u32) -> Result<(), Refusal>
+    ensures digested { IsRegionDone E.plays E.owes client result events.old events.new }
+    ensures events { Leads E.plays (IsDigesting client) events.old events.new }
+{
+    for chunk in 0..events.undigested(client) {
+        match carry_out(events, Event::Digest { client }) {
+            Did::Done => {}
+            Did::Nothing => return Ok(()),
+            Did::Refused(refusal) => return Err(refusal),
+        }
+    }
+    Ok(())
+}
+
+/// Digests all that a client logged, and then drops each file that has no name and no pin, rising. It answers how many records were digested.
+pub fn digest_and_reclaim<E: Events>(events: &mut E, client: u32) -> Result<usize, Refusal>
+    ensures cleared { IsCleared E.plays E.owes client result events.old events.new }
+    ensures events { Leads E.plays (IsClearing client) events.old events.new }
+{
+    let before = events.undigested(client);
+    match digest_all(events, client) {
+        Ok(()) => {}
+        Err(refusal) => return Err(refusal),
+    }
+    let count = before.saturating_sub(events.undigested(client));
+    match reclaim_all(events) {
+        Ok(()) => Ok(count),
+        Err(refusal) => Err(refusal),
+    }
+}
+
+// Drops each file that may go, rising.
+fn reclaim_all<E: Events>(events: &mut E) -> Result<(), Refusal>
+    ensures reclaimed { AreReclaimed E.plays result events.old events.new }
+    ensures events { Leads E.plays IsReclaim events.old events.new }
+{
+    for before in 0..INODES {
+        match reclaim(events, before + 1) {
+            Ok(()) => {}
+            Err(refusal) => return Err(refusal),
+        }
+    }
+    Ok(())
+}
+
+// Drops a file, if it may go.
+fn reclaim<E: Events>(events: &mut E, inode: u32) -> Result<(), Refusal>
+    ensures reclaimed { OnOk result (IsReclaimed E.plays inode events.old events.new) }
+    ensures refused { IfErr result (λ why. CameTo E.plays (event.Reclaim inode) (did.Refused why) events.old events.new) }
+{
+    match carry_out(events, Event::Reclaim { inode }) {
+        Did::Done => Ok(()),
+        Did::Nothing => Ok(()),
+        Did::Refused(refusal) => passed(refusal),
+    }
+}
+
+// A file that is in use is passed over.
+fn passed(refusal: Refusal) -> Result<(), Refusal>
+    ensures passed { OnOk result (refusal ≡ refusals.InUse) }
+    ensures refused { IfErr result (λ why. why ≡ refusal) }
+{
+    match refusal {
+        Refusal::InUse => Ok(()),
+        refusal => Err(refusal),
+    }
+}
+
+/// Wipes what there is to wipe of a client's regions. It answers whether there was something.
+pub fn wipe_all<E: Events>(events: &mut E, client: u32) -> Result<bool, Refusal>
+    ensures wiped { IsWiped E.plays client result events.old events.new }
+    ensures events { Leads E.plays (λ e. e ≡ event.WipeStep client) events.old events.new }
+{
+    let mut wiped = false;
+    for step in 0..WIPE_STEPS {
+        match carry_out(events, Event::WipeStep { client }) {
+            Did::Done => wiped = true,
+            Did::Nothing => return Ok(wiped),
+            Did::Refused(refusal) => return Err(refusal),
+        }
+    }
+    Ok(wiped)
+}

@@ -1,0 +1,44 @@
+ghost use Rattle.std.specs.Prelude.{◌≡◌, ℕ, Bool};
+ghost use Rattle.event_steps.specs.declared.event.Event.{Event};
+ghost use Rattle.event_steps.specs.declared.outcome.Outcome.{Outcome};
+ghost use Rattle.event_steps.specs.lease_manager.declared.view.LeaseMode.{LeaseMode};
+
+use event_steps::{Event, LeaseMode, Outcome};
+
+/// A running system, one event after the other. Clients are numbered from 1 to 8.
+pub trait Events {
+    /// What an event comes to in a system, and the system after it.
+    ghost plays: { Self → Event → Outcome → Self → Type 0 };
+
+    /// Whether a call of a client waits for its answer.
+    ghost waits: { Self → ℕ → Bool };
+
+    /// How a client stands to an inode.
+    ghost leases: { Self → ℕ → ℕ → LeaseMode };
+
+    /// Whether a device of a client's regions has failed.
+    ghost broken: { Self → ℕ → Bool };
+
+    /// How many records of a client are not digested.
+    ghost owes: { Self → ℕ → ℕ };
+
+    /// Carries out an event.
+    fn play(&mut self, event: &Event) -> Outcome
+        ensures { plays self.old event.now result self.new };
+
+    /// How a client stands to an inode; `Free` where there is no such client or no such inode.
+    fn holds(&self, client: u32, inode: u32) -> LeaseMode
+        ensures { result ≡ leases self.now client inode };
+
+    /// Whether a call of a client waits for its answer.
+    fn is_pending(&self, client: u32) -> bool
+        ensures { result ≡ waits self.now client };
+
+    /// Whether a device of a client's regions has failed.
+    fn has_failed(&self, client: u32) -> bool
+        ensures { result ≡ broken self.now client };
+
+    /// How many records of a client are not digested.
+    fn undigested(&self, client: u32) -> usize
+        ensures { result ≡ owes self.now client };
+}

@@ -1,9 +1,0 @@
-use Rattle.std.proofs.Common.{ap, sym, ◌∙◌}
-use Rattle.call_effects.specs.Known.{Knowledge}
-use Rattle.client_copies.specs.Forgotten.{without_granted}
-use Rattle.client_copies.specs.Held.{knows}
-use Rattle.client_copies.specs.Logged.{with_made}
-use Rattle.client_copies.proofs.copies.ClientCopies.use_made.Goals as goal
-
-pub returns-in-Some : goal.returns-in-Some
-returns-in-Some c = c.use_number.ensures.known ∙ ap (λ (k : Knowledge). without_granted k c.in-Some.number) c.put_view.ensures.known ∙ ap (with_made (knows c.args.self.now)) (sym c.in-Some.is)

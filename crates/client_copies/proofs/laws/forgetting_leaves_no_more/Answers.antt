@@ -1,5 +1,0 @@
-use Rattle.client_copies.proofs.Forgetting.{no_inode, no_blocks, no_number}
-use Rattle.client_copies.proofs.laws.forgetting_leaves_no_more.Goals as goal
-
-pub returns : goal.returns
-returns c = record { inode = no_inode; blocks = no_blocks; number = no_number }

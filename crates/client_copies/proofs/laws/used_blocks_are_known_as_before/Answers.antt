@@ -1,5 +1,0 @@
-use Rattle.client_copies.proofs.Put.{used_is_known}
-use Rattle.client_copies.proofs.laws.used_blocks_are_known_as_before.Goals as goal
-
-pub returns : goal.returns
-returns c = used_is_known

@@ -1,5 +1,0 @@
-use Rattle.client_copies.proofs.Tables.{AreUnknown}
-use Rattle.client_copies.proofs.slots.unknown_slots.Given as goal
-
-abbrev pub invariant-loop : goal.invariant-loop
-invariant-loop l = AreUnknown l.slots.items l.counter

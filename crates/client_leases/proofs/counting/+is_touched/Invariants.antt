@@ -1,5 +1,0 @@
-use Rattle.std.proofs.Common.{length}
-use Rattle.client_leases.proofs.counting.+is_touched.Given as goal
-
-abbrev pub decreases-is_touched : goal.decreases-is_touched
-decreases-is_touched l = length l.effects.now

@@ -1,5 +1,0 @@
-use Rattle.std.proofs.Common.{length}
-use Rattle.client_leases.proofs.counting.+note_effects.Given as goal
-
-abbrev pub decreases-note_effects : goal.decreases-note_effects
-decreases-note_effects l = length l.effects.now

@@ -1,5 +1,0 @@
-use Rattle.client_log_laws.proofs.Turning.{appends}
-use Rattle.client_log_laws.proofs.laws.appended_record_is_a_step.Goals as goal
-
-pub returns : goal.returns
-returns c w d t b h = appends w d t h b

@@ -1,5 +1,0 @@
-use Rattle.client_log_laws.proofs.Turning.{begins}
-use Rattle.client_log_laws.proofs.laws.begun_record_is_in_the_turn.Goals as goal
-
-pub returns : goal.returns
-returns c w d t b h = begins w d t h b

@@ -1,5 +1,0 @@
-use Rattle.client_log_laws.proofs.Turning.{takes_back}
-use Rattle.client_log_laws.proofs.laws.taken_back_region_is_a_step.Goals as goal
-
-pub returns-clause-goes_on : goal.returns-clause-goes_on
-returns-clause-goes_on c w d t h = takes_back w d t h

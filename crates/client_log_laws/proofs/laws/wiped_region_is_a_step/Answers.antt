@@ -1,8 +1,0 @@
-use Rattle.client_log_laws.proofs.Turning.{wipes_current, wipes_other}
-use Rattle.client_log_laws.proofs.laws.wiped_region_is_a_step.Goals as goal
-
-pub returns-clause-other : goal.returns-clause-other
-returns-clause-other c w d t h = wipes_other w d t h
-
-pub returns-clause-current : goal.returns-clause-current
-returns-clause-current c w d t h = wipes_current w d t h

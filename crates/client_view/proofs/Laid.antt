@@ -1,0 +1,80 @@
+-- Records laid over what a graph has at an inode come to what it has there after them.
+use Rattle.std.proofs.Common.{◌≡◌, ℕ, ◌*◌, Bool, true, false, cond, List, [], ◌∷◌, take, Option, Some, None, refl, ap, sym, ◌∙◌}
+use Rattle.std.specs.Prelude.{option_map, unwrap_or}
+use Rattle.std.specs.FinMap as fin
+use Rattle.std.proofs.Math.Seq.{drop-nil}
+use Rattle.client_plan.specs.posix_calls.Content.{Entries, resized, written}
+use Rattle.client_plan.specs.file_graph.Graph.{Graph, Node, FileBody, DirBody, acted, after_effect, after_effects, file_bytes, in_directory, in_file, is_among, subjects, with_body}
+use Rattle.client_plan.specs.file_graph.declared.effect.Effect.{Effect}
+use Rattle.client_plan.specs.file_graph.declared.effect.Effect.TheVariants as effect
+use Rattle.client_plan.specs.file_graph.declared.effect.Kind.{Kind}
+use Rattle.client_plan.specs.file_graph.declared.effect.Kind.TheVariants as kind
+use Rattle.client_plan.specs.log_record.declared.format.Record.{Record}
+use Rattle.world_invariant.specs.call_effects.Blocks.{block_acted, block_after, block_of, block_resized, block_written}
+use Rattle.world_invariant.specs.call_effects.NodeView.{NodeView, view_after, view_at}
+use Rattle.world_invariant.proofs.call_effects_lemmas.Blocks.{resized_block, written_block}
+use Rattle.world_invariant.proofs.call_effects_lemmas.NodeViews.{viewed_after}
+use Rattle.world_invariant.specs.Logs.{after_records}
+use Rattle.client_view.specs.After.{block_laid, bytes_at, node_laid}
+
+-- ---- a node
+
+pub node_is : (g : Graph) (rs : List Record) (i : ℕ) (there : Option NodeView) → view_at g i ≡ there → view_at (after_records g rs) i ≡ node_laid rs i there
+node_is g [] i there is = is
+node_is g (r ∷ rs) i there is = node_is (after_effects g r.effects) rs i (view_after r.effects i there) (viewed_after g r.effects i there is)
+
+-- ---- a block
+
+-- where a file stands, this is its block
+abbrev IsTold : ℕ → Option Node → Option (List ℕ) → Type 0
+IsTold b o block = (bytes : List ℕ) → file_bytes o ≡ Some bytes → block ≡ Some (block_of b bytes)
+
+entries_keep : (f : Entries (ℕ × Kind) → Entries (ℕ × Kind)) (o : Option Node) → file_bytes (option_map (with_body (in_directory f)) o) ≡ file_bytes o
+entries_keep f None = refl
+entries_keep f (Some n) = elim (n.body) as (λ y. file_bytes (Some (with_body (in_directory f) (record { names = n.names; body = y }))) ≡ file_bytes (Some (record { names = n.names; body = y }))) [ FileBody bytes ↦ refl | DirBody es ↦ refl ]
+
+names_keep : (m : ℕ) (o : Option Node) → file_bytes (option_map (λ (x : Node). let y : Node = record { names = m; body = x.body } in y) o) ≡ file_bytes o
+names_keep m None = refl
+names_keep m (Some n) = elim (n.body) as (λ y. file_bytes (Some (record { names = m; body = y })) ≡ file_bytes (Some (record { names = n.names; body = y }))) [ FileBody bytes ↦ refl | DirBody es ↦ refl ]
+
+-- bytes that were changed, as they were before
+before : (f : List ℕ → List ℕ) (o : Option Node) (bytes : List ℕ) → file_bytes (option_map (with_body (in_file f)) o) ≡ Some bytes → (old : List ℕ) × (file_bytes o ≡ Some old) × (f old ≡ bytes)
+before f None bytes is = absurd (cc)
+before f (Some n) bytes is = elim (n.body) as (λ y. file_bytes (Some (with_body (in_file f) (record { names = n.names; body = y }))) ≡ Some bytes → (old : List ℕ) × (file_bytes (Some (record { names = n.names; body = y })) ≡ Some old) × (f old ≡ bytes)) [
+  | FileBody old ↦ λ e. let same : f old ≡ bytes = cc in (old, refl, same)
+  | DirBody es ↦ λ e. absurd (cc)
+] is
+
+changed : (f h : List ℕ → List ℕ) (b : ℕ) → ((bytes : List ℕ) → block_of b (f bytes) ≡ h (block_of b bytes)) → (o : Option Node) (block : Option (List ℕ)) → IsTold b o block → IsTold b (option_map (with_body (in_file f)) o) (option_map h block)
+changed f h b acts o block told bytes is =
+    let was = before f o bytes is in
+    ap (option_map h) (told was.0 was.1) ∙ ap (λ x. Some x) (sym (acts was.0)) ∙ ap (λ xs. Some (block_of b xs)) was.2
+
+told_acted : (e : Effect) (b : ℕ) (o : Option Node) (block : Option (List ℕ)) → IsTold b o block → IsTold b (acted e o) (block_acted e b block)
+told_acted (effect.Make i kind.File) b o block told bytes is =
+    let none : [] ≡ bytes = cc in
+    sym (ap (λ xs. Some (take 4096 xs)) (drop-nil (4096 * b))) ∙ ap (λ xs. Some (block_of b xs)) none
+told_acted (effect.Make i kind.Directory) b o block told bytes is = absurd (cc)
+told_acted (effect.Enter d i k name) b o block told bytes is = told bytes (sym (entries_keep (λ es. fin.insert es name (i, k)) o) ∙ is)
+told_acted (effect.Leave d name) b o block told bytes is = told bytes (sym (entries_keep (λ es. fin.remove es name) o) ∙ is)
+told_acted (effect.Names i m) b o block told bytes is = told bytes (sym (names_keep m o) ∙ is)
+told_acted (effect.Size i size) b o block told bytes is = changed (resized size) (block_resized size b) b (resized_block b size) o block told bytes is
+told_acted (effect.Bytes i at new) b o block told bytes is = changed (written at new) (block_written at new b) b (written_block b at new) o block told bytes is
+told_acted (effect.Drop i) b o block told bytes is = absurd (cc)
+
+told_if : (t : Bool) (e : Effect) (b : ℕ) (o : Option Node) (block : Option (List ℕ)) → IsTold b o block → IsTold b (cond t (acted e o) o) (cond t (block_acted e b block) block)
+told_if true e b o block told = told_acted e b o block told
+told_if false e b o block told = told
+
+told_effects : (es : List Effect) (g : Graph) (i b : ℕ) (block : Option (List ℕ)) → IsTold b (g i) block → IsTold b (after_effects g es i) (block_after es i b block)
+told_effects [] g i b block told = told
+told_effects (e ∷ es) g i b block told =
+    told_effects es (after_effect g e) i b (cond (is_among i (subjects e)) (block_acted e b block) block) (told_if (is_among i (subjects e)) e b (g i) block told)
+
+told_records : (rs : List Record) (g : Graph) (i b : ℕ) (block : Option (List ℕ)) → IsTold b (g i) block → IsTold b (after_records g rs i) (block_laid rs i b block)
+told_records [] g i b block told = told
+told_records (r ∷ rs) g i b block told =
+    told_records rs (after_effects g r.effects) i b (block_after r.effects i b block) (told_effects r.effects g i b block told)
+
+pub block_is : (g : Graph) (rs : List Record) (i b : ℕ) (bytes : List ℕ) → file_bytes (after_records g rs i) ≡ Some bytes → block_laid rs i b (Some (block_of b (bytes_at g i))) ≡ Some (block_of b bytes)
+block_is g rs i b bytes is = told_records rs g i b (Some (block_of b (bytes_at g i))) (λ old at. ap (λ (o : Option (List ℕ)). Some (block_of b (unwrap_or o []))) at) bytes is

@@ -1,0 +1,16 @@
+use Rattle.std.proofs.Common.{◌≡◌, List, ap, sym, ◌∙◌, subst}
+use Rattle.client_plan.specs.file_graph.declared.effect.Effect.{Effect}
+use Rattle.world_invariant.specs.call_effects.Known.{Knowledge}
+use Rattle.client_view.specs.Held.{knows}
+use Rattle.client_view.specs.Logged.{with_change, with_made}
+use Rattle.client_view.specs.Prepared.{AreReady}
+use Rattle.client_view.specs.declared.node_copies.NodeCopies.{NodeCopies}
+use Rattle.client_view.proofs.copies.ClientCopies.commit.Goals as goal
+
+pub put_nodes-requires-clause-ready : goal.put_nodes-requires-clause-ready
+put_nodes-requires-clause-ready c =
+    let changed : knows c.change_descriptor.new.self ≡ with_change (with_made (knows c.args.self.now) c.args.change.now.made) c.args.change.now.descriptor =
+    c.change_descriptor.ensures.known ∙ ap (λ (k : Knowledge). with_change k c.args.change.now.descriptor) c.use_made.ensures in
+    subst (λ (k : Knowledge). AreReady c.replace-nodes.result c.as_slice.result.now k.copies) (sym changed)
+    (subst (λ (nodes : NodeCopies). AreReady nodes c.as_slice.result.now (with_change (with_made (knows c.args.self.now) c.args.change.now.made) c.args.change.now.descriptor).copies) (sym c.replace-nodes.ensures.value)
+    (subst (λ (es : List Effect). AreReady c.args.change.now.nodes es (with_made (knows c.args.self.now) c.args.change.now.made).copies) (sym c.as_slice.ensures) c.requires.nodes))

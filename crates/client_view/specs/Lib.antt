@@ -1,0 +1,11 @@
+pub mod Forgotten
+pub mod Held
+pub mod Logged
+pub mod Prepared
+pub mod Put
+pub mod After
+pub mod Kept
+-- Passed on to the crates above, which so need not list those below.
+pub use Rattle.block_cache.specs as block_cache
+pub use Rattle.client_plan.specs as client_plan
+pub use Rattle.record_validation.specs as record_validation

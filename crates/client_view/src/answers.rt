@@ -1,0 +1,120 @@
+ghost use Rattle.std.specs.Prelude.{◌≡◌, Bool, Some, None, option_map};
+ghost use Rattle.client_plan.specs.posix_calls.Answers.{entry_in};
+ghost use Rattle.world_invariant.specs.call_effects.Known.{part_of, is_dir_by};
+ghost use Rattle.record_validation.specs.Seen.{seen};
+ghost use Rattle.client_plan.specs.file_graph.declared.effect.Kind.TheVariants as kind;
+ghost use Rattle.client_view.specs.Held.{knows, known_dir_in, told_in};
+
+use crate::copies::ClientCopies;
+use crate::reading::read;
+use crate::slots::{Slot, is_told, size_at, slot_at};
+use client_plan::{Bytes, Description, Kind, NamedInode, Names, ROOT, TreeAnswers};
+use record_validation::NodeSummary;
+use std::alloc::{AllocError, Global};
+
+impl TreeAnswers for ClientCopies {
+    ghost part = { λ c. part_of (knows c) };
+
+    fn is_dir(&self, inode: u32) -> Option<Option<bool>> {
+        known_dir(&self.copies, inode)
+    }
+
+    fn entry(&self, dir: u32, name: &[u8]) -> Option<Option<NamedInode>> {
+        match slot_at(&self.copies, dir) {
+            Some(Some(copy)) => Some(child_in(&self.copies, copy, name)),
+            Some(None) => Some(None),
+            None => None,
+        }
+    }
+
+    fn entry_count(&self, dir: u32) -> Option<u32> {
+        match slot_at(&self.copies, dir) {
+            Some(Some(copy)) => Some(copy.entry_count()),
+            Some(None) => Some(0),
+            None => None,
+        }
+    }
+
+    fn names(&self, alloc: Global, dir: u32) -> Result<Option<Names>, AllocError> {
+        match slot_at(&self.copies, dir) {
+            Some(Some(copy)) => Ok(Some(copy.entry_names(alloc)?)),
+            Some(None) => Ok(Some(Names::from_vec(Vec::new(alloc)))),
+            None => Ok(None),
+        }
+    }
+
+    fn file_size(&self, inode: u32) -> Option<u64> {
+        match slot_at(&self.copies, inode) {
+            Some(Some(copy)) => Some(copy.file_size()),
+            Some(None) => Some(0),
+            None => None,
+        }
+    }
+
+    fn file_names(&self, inode: u32) -> Option<u32> {
+        match slot_at(&self.copies, inode) {
+            Some(Some(copy)) => Some(copy.file_names()),
+            Some(None) => Some(0),
+            None => None,
+        }
+    }
+
+    fn read(
+        &self,
+        alloc: Global,
+        inode: u32,
+        at: u64,
+        count: u64,
+    ) -> Result<Option<Bytes>, AllocError> {
+        let size = size_at(&self.copies, inode);
+        read(alloc, size, &self.blocks, inode, at, count)
+    }
+
+    fn describe(&self, inode: u32) -> Option<Option<Description>> {
+        match slot_at(&self.copies, inode) {
+            Some(Some(copy)) => Some(Some(copy.describe())),
+            Some(None) => Some(None),
+            None => None,
+        }
+    }
+}
+
+// Whether an inode is a directory: the root is one, else by its copy, else by the kind that an entry tells.
+fn known_dir(slots: &[Slot], inode: u32) -> Option<Option<bool>>
+    ensures { result ≡ known_dir_in slots.now inode }
+{
+    if inode == ROOT {
+        return Some(Some(true));
+    }
+    match slot_at(slots, inode) {
+        Some(Some(copy)) => Some(Some(copy.is_dir())),
+        Some(None) => Some(None),
+        None => told_dir(slots, inode),
+    }
+}
+
+fn told_dir(slots: &[Slot], inode: u32) -> Option<Option<bool>>
+    ensures { result ≡ is_dir_by None (told_in slots.now inode kind.Directory) (told_in slots.now inode kind.File) }
+{
+    if is_told(slots, inode, Kind::Directory) {
+        return Some(Some(true));
+    }
+    if is_told(slots, inode, Kind::File) {
+        return Some(Some(false));
+    }
+    None
+}
+
+// What a directory has under a name, with whether that is a directory.
+fn child_in(slots: &[Slot], copy: &NodeSummary, name: &[u8]) -> Option<NamedInode>
+    ensures inode { option_map (λ e. e.inode) result ≡ entry_in name.now (seen copy.now) }
+    ensures kind { (e : NamedInode) (is_dir : Bool) → result ≡ Some e → e.is_dir ≡ Some is_dir → known_dir_in slots.now e.inode ≡ Some (Some is_dir) }
+{
+    match copy.child(name) {
+        Some(child) => Some(NamedInode {
+            inode: child.inode(),
+            is_dir: known_dir(slots, child.inode()).flatten(),
+        }),
+        None => None,
+    }
+}

@@ -1,0 +1,60 @@
+//! What one client sees of the file tree, kept in memory: its copies of what the kernel told it, and its own records laid over what it fetches.
+//!
+//! `ClientCopies` has a client's descriptors, its copies of nodes without the bytes of files (`NodeSummary` of `record_validation`, as the kernel tells
+//! them), its blocks of files, and the numbers for new nodes that it was granted. What it knows by them is `knows` of `specs/Held.antt`: a `Knowledge` of `call_effects`, whose laws say when
+//! it agrees with the whole. It answers what calls ask by that alone (`TreeAnswers` of `posix_calls`): a copy is found by its inode at once,
+//! and no memory is wanted where nothing is known.
+//!
+//! Blocks are kept by `block_cache`, each padded to its whole length; what is known of one is what lies within the size of the copy. A copy that
+//! is put in place of another takes that one's blocks with it.
+//!
+//! A record of the client's own is prepared before it is begun (`prepare`): what the client has of the inodes that the record touches is made beside, as
+//! the record leaves it, with all memory that this takes, and nothing changes. Once the record is in the log the change is committed (`commit`), which
+//! takes no memory: then the client knows what the record left (`specs/Logged.antt`), and no block of what it touched. For a record of one effect that
+//! enters no name, as a write has, nothing has to be made beside, since no memory is wanted: the commit changes the copy in its place.
+//!
+//! The kernel tells a client what stands in the shared graph, and the mark up to which the client's records are digested there. What the client logged behind the mark is not
+//! in it: before what was fetched goes into the copies, those records are laid over it, over a node (`node_after`) or over a block of a file (`block_after`). What that comes to is
+//! what the graph has after the records (`specs/After.antt`), so that the copies agree with the whole again, as the laws tell. A client can't read the region that it handed over
+//! while it is away, so it keeps its records in memory too (`OwnRecords`): those of that region, until all of them are digested, and those of the region that it writes.
+//!
+//! To come: a directory into which a name is entered in place, in room that was taken ahead, where today it is copied; blocks that are written over where a record
+//! writes them; and a count of the entries that tell a kind, so that the kind of an inode without a copy is not looked for in all copied directories.
+#![tactic(auto)]
+
+mod answers;
+mod blocks;
+mod committing;
+mod copies;
+mod in_place;
+mod kept;
+mod laws;
+mod node_copies;
+mod nodes;
+mod own_change;
+mod own_record_laws;
+mod preparing;
+mod reading;
+mod slots;
+
+pub use blocks::block_after;
+pub use copies::ClientCopies;
+pub use kept::OwnRecords;
+pub use laws::{
+    committed_change_tells_no_more_than_the_effects, forgetting_leaves_no_more,
+    logged_call_can_be_prepared, logged_call_keeps_agreement, prepared_change_stays,
+    used_blocks_are_known_as_before,
+};
+pub use nodes::node_after;
+pub use own_change::OwnChange;
+pub use own_record_laws::{
+    laid_block_agrees, laid_node_agrees, records_are_laid_as_the_graph_has_them,
+};
+
+// Passed on to the crates above, which so need not list those below.
+pub use client_plan::{
+    DescriptorChange, Mode, Need, Outcome, PlainWrite, Supplies, answered_call_is_a_step,
+    logged_call_is_a_step, plain_write, plain_write_is_logged, plan_call, record_of_write,
+    served_need_is_lacking_no_longer,
+};
+pub use record_validation::NodeSummary;

@@ -1,0 +1,14 @@
+use crate::node_copies::NodeCopies;
+use client_plan::{DescriptorChange, Record};
+
+/// A change that a client makes by a record of its own, with what has to be ready for its commit, for which all memory is taken.
+#[derive(Drop)]
+pub struct OwnChange {
+    /// The record, which goes into the client's log first.
+    pub entry: Record,
+    /// The number of the node that it makes, if it makes one.
+    pub made: Option<u32>,
+    /// The descriptor that it changes, if it changes one.
+    pub descriptor: Option<DescriptorChange>,
+    pub(crate) nodes: NodeCopies,
+}

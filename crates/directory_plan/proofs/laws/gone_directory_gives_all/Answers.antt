@@ -1,5 +1,0 @@
-use Rattle.directory_plan.proofs.Gone.{gone_exact, gone_given}
-use Rattle.directory_plan.proofs.laws.gone_directory_gives_all.Goals as goal
-
-pub returns : goal.returns
-returns c = record { exact = gone_exact; given = gone_given }

@@ -1,5 +1,0 @@
-use Rattle.extent_nodes.proofs.Spelled.{list-from}
-use Rattle.extent_nodes.proofs.laws.map_is_spelled_by_a_block.Goals as goal
-
-pub returns : goal.returns
-returns c g space owner runs inode normal within one_each few = list-from g space owner 4294967295 runs inode few normal.rising within one_each

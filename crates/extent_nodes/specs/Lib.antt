@@ -1,6 +1,0 @@
-pub mod Places
-pub mod Normal
-pub mod Parts
-pub mod Changes
-pub mod Nodes
-pub mod Spelled

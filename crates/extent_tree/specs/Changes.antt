@@ -1,0 +1,28 @@
+-- Extents of which a run of blocks is mapped anew or unmapped.
+use Rattle.std.specs.Prelude.{◌+◌, ◌-◌, ◌<◌, ℕ, List, [], ◌∷◌, ◌++◌, Option, Some, None, if◌then◌else◌}
+use Rattle.std.specs.Option.{option_map}
+use Rattle.std.specs.List.{AllByRecursion}
+use Rattle.layout.specs.declared.extents.Extent.{Extent}
+use Rattle.extent_tree.specs.Places.{in_run, place_of}
+use Rattle.extent_tree.specs.Parts.{part}
+
+-- the map of some extents, in which a run of blocks lies from a place on, or nowhere
+abbrev pub after : ℕ → ℕ → Option ℕ → List Extent → ℕ → Option ℕ
+after first count place es b = if in_run first count b then option_map (λ p. p + (b - first)) place else place_of es b
+
+-- the extent of a run that lies from a place on
+abbrev pub piece : ℕ → ℕ → Option ℕ → List Extent
+piece first count None = []
+piece first count (Some place) = record { logical = first; length = count; place = place } ∷ []
+
+-- what some extents have before a run, the run, and what they have behind it
+abbrev pub changed : ℕ → ℕ → Option ℕ → List Extent → List Extent
+changed first count place es = part 0 first es ++ (piece first count place ++ part (first + count) 4294967295 es)
+
+-- each of the extents ends before a block, with another between
+abbrev pub EndBefore : ℕ → List Extent → Type 0
+EndBefore block es = AllByRecursion (λ e. e.logical + e.length < block) es
+
+-- each of the extents begins behind a block
+abbrev pub BeginBehind : ℕ → List Extent → Type 0
+BeginBehind block es = AllByRecursion (λ e. block < e.logical) es

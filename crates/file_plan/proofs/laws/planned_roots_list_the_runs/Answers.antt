@@ -1,6 +1,0 @@
-use Rattle.file_plan.proofs.Listed.{all_listed, root_uses, all_used}
-use Rattle.file_plan.proofs.Vacant.{roots_differ, roots_lost}
-use Rattle.file_plan.proofs.laws.planned_roots_list_the_runs.Goals as goal
-
-pub returns : goal.returns
-returns c = record { listed = all_listed; uses = root_uses; all = all_used; once = roots_differ; left = roots_lost }

@@ -1,8 +1,0 @@
-use Rattle.std.proofs.Common.{length, ◌-◌}
-use Rattle.block_alloc.specs.Value.{InOrder}
-use Rattle.free_pools.proofs.Fronts.{Ready}
-use Rattle.free_pools.proofs.taking.give_runs.Given as goal
-
--- the last runs stand before the free blocks again
-abbrev pub invariant-runs : goal.invariant-runs
-invariant-runs l = record { ready : Ready l.fn.pool l.pool l.runs (length l.runs - l.place); ordered : InOrder l.pool }

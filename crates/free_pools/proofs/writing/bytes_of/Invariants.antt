@@ -1,6 +1,0 @@
-use Rattle.std.proofs.Common.{◌≡◌, ◌*◌, length, take}
-use Rattle.block_alloc.specs.Runs.{blocks_of}
-use Rattle.free_pools.proofs.writing.bytes_of.Given as goal
-
-abbrev pub invariant-runs : goal.invariant-runs
-invariant-runs l = l.bytes ≡ 4096 * length (blocks_of (take l.place l.runs))

@@ -1,7 +1,0 @@
-use Rattle.std.proofs.Common.{◌≡◌, map}
-use Rattle.std.specs.Prelude.{take}
-use Rattle.file_graph.specs.Plain.{pairs}
-use Rattle.graph_answers.proofs.stored.names_of.Given as goal
-
-abbrev pub invariant-loop-entry : goal.invariant-loop-entry
-invariant-loop-entry l = l.names.items ≡ map (λ e. e.0) (pairs (take l.entry-index l.entries))

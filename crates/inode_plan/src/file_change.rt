@@ -1,0 +1,302 @@
+// The bytes that the written blocks of a file get.
+ghost use Rattle.std.specs.Prelude.{◌≡◌, ◌⊎◌, ◌++◌, ◌*◌, ◌+◌, ◌<◌, ◌≤◌, ◌^◌, ℕ, List, length, take, drop, replicate, true, false, OnOk, OnErr, IfErr, IfSome, option_map};
+ghost use Rattle.area_commit.specs.layout.declared.places.TheConstants.{BLOCK};
+ghost use Rattle.area_commit.specs.area_image.Store.{store_of, logical};
+ghost use Rattle.area_commit.specs.area_image.Checks.{HasFound, IsOnce};
+ghost use Rattle.area_commit.specs.area_image.Looks.{Looks};
+ghost use Rattle.area_commit.specs.area_image.declared.error.AreaError.TheVariants.{DeviceFault, Memory};
+ghost use Rattle.area_commit.specs.graph_change.Change.{IsWhole};
+ghost use Rattle.area_commit.specs.graph_change.View.{change_of, new_length};
+ghost use Rattle.area_commit.specs.tree_blocks.Inode.{LogicalBlocks};
+ghost use Rattle.area_commit.specs.tree_blocks.FileBlock.{put_in, is_cut_off, ReadSame};
+ghost use Rattle.inode_plan.specs.Bytes.{IsBlockAfter, AddsBlocks, GoesOn, blocks_from};
+
+use crate::cutting::is_cut_off;
+use area_commit::{
+    AreaError, BLOCK, BlockChange, InodeExtents, Journal, Media, NodeChange, NodeLength,
+    block_number, change_block, first_place, read_block,
+};
+use std::alloc::AllocError;
+
+// A logical block of an inode: zeros where no tier maps it.
+fn read_logical<M: Media>(
+    journal: &mut Journal<M>,
+    inode: u32,
+    found: &InodeExtents,
+    number: u64,
+    out: &mut [u8],
+) -> Result<(), AreaError>
+    requires size { length out.old ≡ BLOCK }
+    requires found { HasFound journal.old.geometry (store_of (M.seen journal.old.media)) inode found.now }
+    requires once { IsOnce journal.old.geometry (store_of (M.seen journal.old.media)) inode }
+    requires going { journal.old.failed ≡ false }
+    ensures bytes { OnOk result (ReadSame out.new (logical journal.old.geometry (store_of (M.seen journal.old.media)) inode number)) }
+    ensures only { IfErr result (λ e. e ≡ DeviceFault) }
+    ensures looks { Looks M.moment M.seen M.left M.faults journal.old journal.new result }
+{
+    let geometry = journal.geometry();
+    match first_place(found, number) {
+        Some((tier, place)) => {
+            let block = block_number(&geometry, tier, place);
+            match read_block(journal, tier, block, out) {
+                Ok(()) => Ok(()),
+                Err(error) => Err(error),
+            }
+        }
+        None => {
+            clear(out);
+            Ok(())
+        }
+    }
+}
+
+fn clear(out: &mut [u8])
+    ensures { out.new ≡ replicate (length out.old) 0 }
+{
+    out.fill(0);
+}
+
+// What a change starts from at a block: the old block, or zeros where the file is made.
+fn read_started<M: Media>(
+    journal: &mut Journal<M>,
+    inode: u32,
+    found: Option<&InodeExtents>,
+    number: u64,
+    out: &mut [u8],
+) -> Result<(), AreaError>
+    requires size { length out.old ≡ BLOCK }
+    requires found { IfSome found (λ x. HasFound journal.old.geometry (store_of (M.seen journal.old.media)) inode x.now) }
+    requires once { IsOnce journal.old.geometry (store_of (M.seen journal.old.media)) inode }
+    requires going { journal.old.failed ≡ false }
+    ensures bytes { OnOk result (ReadSame out.new (blocks_from found.entry (logical journal.old.geometry (store_of (M.seen journal.old.media)) inode) number)) }
+    ensures only { IfErr result (λ e. e ≡ DeviceFault) }
+    ensures looks { Looks M.moment M.seen M.left M.faults journal.old journal.new result }
+{
+    match found {
+        Some(extents) => match read_logical(journal, inode, extents, number, out) {
+            Ok(()) => Ok(()),
+            Err(error) => Err(error),
+        },
+        None => {
+            clear(out);
+            Ok(())
+        }
+    }
+}
+
+// Whether the bytes that a block had make a difference: not where a byte is put at each place of it, nor where the file was cut before it.
+fn needs_old(number: u64, len: NodeLength, put: Option<&BlockChange>) -> bool
+    ensures { result ≡ false → (is_cut_off (new_length len) number ≡ true) ⊎ IsWhole (put_in (option_map (λ b. b.now) put.entry)) }
+{
+    if is_cut_off(len, number) {
+        return false;
+    }
+    match put {
+        Some(change) => !change.is_whole(),
+        None => true,
+    }
+}
+
+// Makes of a buffer of a block's size the block of a number, as the change makes it of the old one, which is read where its bytes make a difference.
+fn change_into<M: Media>(
+    journal: &mut Journal<M>,
+    inode: u32,
+    found: Option<&InodeExtents>,
+    change: &NodeChange,
+    number: u64,
+    block: &mut [u8],
+) -> Result<(), AreaError>
+    requires size { length block.old ≡ BLOCK }
+    requires found { IfSome found (λ x. HasFound journal.old.geometry (store_of (M.seen journal.old.media)) inode x.now) }
+    requires once { IsOnce journal.old.geometry (store_of (M.seen journal.old.media)) inode }
+    requires going { journal.old.failed ≡ false }
+    ensures made { OnOk result (IsBlockAfter (change_of change.now) (blocks_from found.entry (logical journal.old.geometry (store_of (M.seen journal.old.media)) inode)) number block.new) }
+    ensures only { IfErr result (λ e. e ≡ DeviceFault) }
+    ensures looks { Looks M.moment M.seen M.left M.faults journal.old journal.new result }
+{
+    let put = change.blocks.get(&number);
+    if !needs_old(number, change.length, put) {
+        change_block(block, number, change.length, put);
+        return Ok(());
+    }
+    match read_started(journal, inode, found, number, block) {
+        Ok(()) => {
+            change_block(block, number, change.length, put);
+            Ok(())
+        }
+        Err(error) => Err(error),
+    }
+}
+
+// So many zero bytes more.
+fn add_zeros(out: &mut Vec<u8>, size: usize) -> Result<(), AllocError>
+    requires { size ≤ BLOCK }
+    ensures longer { OnOk result (out.new.items ≡ out.old.items ++ replicate size 0) }
+    ensures refused { OnErr result (out.new.items ≡ out.old.items) }
+{
+    out.resize(out.len() + size, 0)
+}
+
+// Makes of the last block the one of a number, where it stands; what is before it stays.
+fn change_last<M: Media>(
+    journal: &mut Journal<M>,
+    inode: u32,
+    found: Option<&InodeExtents>,
+    change: &NodeChange,
+    number: u64,
+    out: &mut Vec<u8>,
+    at: usize,
+) -> Result<(), AreaError>
+    requires long { length out.old.items ≡ at + BLOCK }
+    requires found { IfSome found (λ x. HasFound journal.old.geometry (store_of (M.seen journal.old.media)) inode x.now) }
+    requires once { IsOnce journal.old.geometry (store_of (M.seen journal.old.media)) inode }
+    requires going { journal.old.failed ≡ false }
+    ensures front { take at out.new.items ≡ take at out.old.items }
+    ensures long { length out.new.items ≡ length out.old.items }
+    ensures made { OnOk result (IsBlockAfter (change_of change.now) (blocks_from found.entry (logical journal.old.geometry (store_of (M.seen journal.old.media)) inode)) number (drop at out.new.items)) }
+    ensures only { IfErr result (λ e. e ≡ DeviceFault) }
+    ensures looks { Looks M.moment M.seen M.left M.faults journal.old journal.new result }
+{
+    match change_into(journal, inode, found, change, number, &mut out[at..]) {
+        Ok(()) => Ok(()),
+        Err(error) => Err(error),
+    }
+}
+
+// Adds a block of a number, as the change makes it of the old one.
+fn push_block<M: Media>(
+    journal: &mut Journal<M>,
+    inode: u32,
+    found: Option<&InodeExtents>,
+    change: &NodeChange,
+    number: u64,
+    out: &mut Vec<u8>,
+) -> Result<(), AreaError>
+    requires found { IfSome found (λ x. HasFound journal.old.geometry (store_of (M.seen journal.old.media)) inode x.now) }
+    requires once { IsOnce journal.old.geometry (store_of (M.seen journal.old.media)) inode }
+    requires going { journal.old.failed ≡ false }
+    ensures added { OnOk result ((block : List ℕ) × (out.new.items ≡ out.old.items ++ block) × (length block ≡ BLOCK) × IsBlockAfter (change_of change.now) (blocks_from found.entry (logical journal.old.geometry (store_of (M.seen journal.old.media)) inode)) number block) }
+    ensures refused { OnErr result (GoesOn out.old.items out.new.items) }
+    ensures only { IfErr result (λ e. (e ≡ DeviceFault) ⊎ (e ≡ Memory)) }
+    ensures looks { Looks M.moment M.seen M.left M.faults journal.old journal.new result }
+{
+    let at = out.len();
+    let size = BLOCK;
+    match add_zeros(out, size) {
+        Ok(()) => match change_last(journal, inode, found, change, number, out, at) {
+            Ok(()) => Ok(()),
+            Err(error) => Err(error),
+        },
+        Err(_) => Err(AreaError::Memory),
+    }
+}
+
+// The bytes of a block that a change puts whole.
+fn whole_block(change: &NodeChange, number: u64) -> Option<&[u8]>
+    ensures long { IfSome result (λ bytes. length bytes.now ≡ BLOCK) }
+    ensures made { IfSome result (λ bytes. (old : LogicalBlocks) → IsBlockAfter (change_of change.now) old number bytes.now) }
+{
+    match change.blocks.get(&number) {
+        Some(put) => match put.whole() {
+            Some(bytes) => Some(bytes),
+            None => None,
+        },
+        None => None,
+    }
+}
+
+// Adds a block of a number: the bytes that are put, where the change puts it whole, and else what it makes of the old block.
+fn add_block<M: Media>(
+    journal: &mut Journal<M>,
+    inode: u32,
+    found: Option<&InodeExtents>,
+    change: &NodeChange,
+    number: u64,
+    out: &mut Vec<u8>,
+) -> Result<(), AreaError>
+    requires found { IfSome found (λ x. HasFound journal.old.geometry (store_of (M.seen journal.old.media)) inode x.now) }
+    requires once { IsOnce journal.old.geometry (store_of (M.seen journal.old.media)) inode }
+    requires going { journal.old.failed ≡ false }
+    ensures added { OnOk result ((block : List ℕ) × (out.new.items ≡ out.old.items ++ block) × (length block ≡ BLOCK) × IsBlockAfter (change_of change.now) (blocks_from found.entry (logical journal.old.geometry (store_of (M.seen journal.old.media)) inode)) number block) }
+    ensures refused { OnErr result (GoesOn out.old.items out.new.items) }
+    ensures only { IfErr result (λ e. (e ≡ DeviceFault) ⊎ (e ≡ Memory)) }
+    ensures looks { Looks M.moment M.seen M.left M.faults journal.old journal.new result }
+{
+    match whole_block(change, number) {
+        Some(bytes) => match out.extend_from_slice(bytes) {
+            Ok(()) => Ok(()),
+            Err(_) => Err(AreaError::Memory),
+        },
+        None => match push_block(journal, inode, found, change, number, out) {
+            Ok(()) => Ok(()),
+            Err(error) => Err(error),
+        },
+    }
+}
+
+// Adds the blocks of these numbers.
+fn push_blocks<M: Media>(
+    journal: &mut Journal<M>,
+    inode: u32,
+    found: Option<&InodeExtents>,
+    change: &NodeChange,
+    numbers: &[u64],
+    out: &mut Vec<u8>,
+) -> Result<(), AreaError>
+    requires found { IfSome found (λ x. HasFound journal.old.geometry (store_of (M.seen journal.old.media)) inode x.now) }
+    requires once { IsOnce journal.old.geometry (store_of (M.seen journal.old.media)) inode }
+    requires going { journal.old.failed ≡ false }
+    ensures added { OnOk result (AddsBlocks (change_of change.now) (blocks_from found.entry (logical journal.old.geometry (store_of (M.seen journal.old.media)) inode)) numbers.now (length numbers.now) out.old.items out.new.items) }
+    ensures refused { OnErr result (GoesOn out.old.items out.new.items) }
+    ensures only { IfErr result (λ e. (e ≡ DeviceFault) ⊎ (e ≡ Memory)) }
+    ensures memory { IfErr result (λ e. e ≡ Memory → 0 < length numbers.now) }
+    ensures looks { Looks M.moment M.seen M.left M.faults journal.old journal.new result }
+{
+    'each: for index in 0..numbers.len() {
+        match add_block(journal, inode, found, change, numbers[index], out) {
+            Ok(()) => {}
+            Err(error) => return Err(error),
+        }
+    }
+    Ok(())
+}
+
+// Room for the bytes of so many blocks more.
+fn make_room(out: &mut Vec<u8>, blocks: usize) -> Result<(), AllocError>
+    ensures same { out.new.items ≡ out.old.items }
+    ensures none { OnErr result (0 < blocks) }
+{
+    match blocks.checked_mul(BLOCK) {
+        Some(size) => out.reserve(size),
+        None => Err(AllocError),
+    }
+}
+
+/// Adds the blocks of a file of these numbers to bytes, one behind the other, as a change makes them of the old ones: of those of the inode, or of none where the file is made. It makes one device call
+/// at most for each block that a tier maps, and none for one that is put whole or begins behind a cut. `Memory` where there was none for the bytes of a block. What was there
+/// stays in front, also after a refusal, when more bytes may stand behind it.
+pub fn read_changed<M: Media>(
+    journal: &mut Journal<M>,
+    inode: u32,
+    found: Option<&InodeExtents>,
+    change: &NodeChange,
+    numbers: &[u64],
+    out: &mut Vec<u8>,
+) -> Result<(), AreaError>
+    requires found { IfSome found (λ x. HasFound journal.old.geometry (store_of (M.seen journal.old.media)) inode x.now) }
+    requires once { IsOnce journal.old.geometry (store_of (M.seen journal.old.media)) inode }
+    requires going { journal.old.failed ≡ false }
+    ensures added { OnOk result (AddsBlocks (change_of change.now) (blocks_from found.entry (logical journal.old.geometry (store_of (M.seen journal.old.media)) inode)) numbers.now (length numbers.now) out.old.items out.new.items) }
+    ensures refused { OnErr result (GoesOn out.old.items out.new.items) }
+    ensures only { IfErr result (λ e. (e ≡ DeviceFault) ⊎ (e ≡ Memory)) }
+    ensures memory { IfErr result (λ e. e ≡ Memory → 0 < length numbers.now) }
+    ensures looks { Looks M.moment M.seen M.left M.faults journal.old journal.new result }
+{
+    match make_room(out, numbers.len()) {
+        Ok(()) => match push_blocks(journal, inode, found, change, numbers, out) {
+            Ok(()) => Ok(()),
+            Err(error) => Err(error),
+        },
+        Err(_) => Err(AreaError::Memory),
+    }
+}

@@ -1,8 +1,0 @@
-use Rattle.std.proofs.Common.{◌≡◌, ℕ, ◌&&◌, not, drop}
-use Rattle.world_facts.specs.Logs.{is_made}
-use Rattle.kernel_book.specs.Inodes.{has}
-use Rattle.kernel_book.proofs.account.remove_made.Given as goal
-
--- what is left of the effects takes out as much of what is left of the numbers
-abbrev pub invariant-effects : goal.invariant-effects
-invariant-effects l = (i : ℕ) → (has l.numbers i && not (is_made i (drop l.effect-index l.effects))) ≡ (has l.initial.numbers i && not (is_made i l.effects))

@@ -1,9 +1,0 @@
-use Rattle.std.proofs.Common.{ℕ}
-use Rattle.file_graph.specs.Graph.{Graph, after_effects}
-use Rattle.kernel_book.specs.Inodes.{has}
-use Rattle.kernel_book.specs.Nodes.{AreNodes}
-use Rattle.kernel_book.proofs.Leading.{LeadsOn}
-use Rattle.kernel_book.proofs.inode_set.InodeSet.follow_effects.Given as goal
-
-abbrev pub invariant-effects : goal.invariant-effects
-invariant-effects l = (g : Graph) → AreNodes g (has l.fn.self) → LeadsOn after_effects g l.effects l.effect-index (has l.self)

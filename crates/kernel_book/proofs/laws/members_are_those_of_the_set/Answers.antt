@@ -1,9 +1,0 @@
-use Rattle.kernel_book.specs.Inodes.{has}
-use Rattle.kernel_book.proofs.Members.{count_passing, member}
-use Rattle.kernel_book.proofs.laws.members_are_those_of_the_set.Goals as goal
-
-pub returns-clause-among : goal.returns-clause-among
-returns-clause-among c = member
-
-pub returns-clause-once : goal.returns-clause-once
-returns-clause-once c = λ rows. count_passing (has rows) 1024

@@ -1,8 +1,0 @@
-use Rattle.kernel_book.proofs.Runs.{run_holds, run_is}
-use Rattle.kernel_book.proofs.laws.runs_keep_what_holds.Goals as goal
-
-pub returns-clause-runs : goal.returns-clause-runs
-returns-clause-runs c = λ first last es runs leads. run_holds first es last runs leads
-
-pub returns-clause-is : goal.returns-clause-is
-returns-clause-is c = λ first last es leads. run_is first es last leads

@@ -1,0 +1,17 @@
+use Rattle.std.proofs.Common.{◌∙◌, ap, sym, subst}
+use Rattle.kernel_fs.specs.Book.{out_of, IsBookOf}
+use Rattle.kernel_fs.specs.Account.{IsAccountOf}
+use Rattle.kernel_fs.proofs.Accounts.{long_still, same_out, moved_account, read_own}
+use Rattle.kernel_fs.proofs.book.Book.pin.Goals as goal
+
+pub invariant_of-self : goal.invariant_of-self
+invariant_of-self c = (long_still c.self.inside.accounts c.args.client _ c.self.invariant.0 c.requires.client, c.self.invariant.1 ∙ sym (same_out c.self.inside.accounts c.args.client _ c.self.invariant.0 c.requires.client c.index-self-client.result c.pin.ensures.units))
+
+pub returns-clause-out : goal.returns-clause-out
+returns-clause-out c = same_out c.self.inside.accounts c.args.client _ c.self.invariant.0 c.requires.client c.index-self-client.result c.pin.ensures.units ∙ ap out_of c.self.view_is
+
+pub returns-clause-step : goal.returns-clause-step
+returns-clause-step c = λ m is.
+    let own : IsBookOf c.self.inside.accounts m = subst (λ b. IsBookOf b m) (sym c.self.view_is) is in
+    moved_account c.self.inside.accounts c.args.client _ c.self.invariant.0 c.requires.client m _ own
+    (c.pin.ensures.step (m.kernel.accounts c.args.client) (m.accepted c.args.client) (subst (λ x. IsAccountOf x (m.kernel.accounts c.args.client) (m.accepted c.args.client)) (sym (read_own c.self.inside.accounts c.args.client c.index-self-client.result c.self.invariant.0 c.requires.client)) (own c.args.client c.requires.client)))

@@ -1,0 +1,5 @@
+use Rattle.std.proofs.Common.{◌≡◌, ℕ, ◌<◌, get_or}
+use Rattle.kernel_fs.proofs.inode_set.InodeSet.first.Given as goal
+
+abbrev pub invariant-rows : goal.invariant-rows
+invariant-rows l = (r : ℕ) → r < l.row → get_or l.self-inside.rows r 0 ≡ 0

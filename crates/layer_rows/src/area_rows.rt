@@ -1,0 +1,128 @@
+// Media that are opened: what they tell, or what is damaged.
+ghost use Rattle.host_media.specs.tier_device.declared.media.Tier.{Tier};
+ghost use Rattle.host_media.specs.tier_device.Media.{AtRest};
+
+use crate::image_text::Image;
+use crate::input::Input;
+use crate::tree_walk::put_tree;
+use area_image::{AreaError, Journal, JournalError, Marks, OpenArea, What, open_area};
+use first_run::Text;
+use host_media::{Media, Tier};
+use std::alloc::Global;
+use std::fs;
+
+/// `U,F,B,S FILE`, and changes of it each behind a `;`: what the media of this file tell once they are opened.
+pub fn tell_opened(rt: &HostRuntime, input: &mut Input<'_>, out: &mut Text) {
+    let alloc = input.alloc();
+    if let Some(geometry) = input.geometry() {
+        match Image::new(alloc, &geometry) {
+            Ok(image) => put_image(rt, image, input, out),
+            Err(_) => out.cut(),
+        }
+    }
+}
+
+fn put_image(rt: &HostRuntime, image: Image, input: &mut Input<'_>, out: &mut Text) {
+    let alloc = input.alloc();
+    let mut image = image;
+    match fs::read_to_string(rt, input.part(';')) {
+        Ok(lines) => image.put_world(&lines, input),
+        Err(_) => input.fail(),
+    }
+    put_changes(alloc, &mut image, input);
+    match image.into_media() {
+        Ok(media) => put_medium(alloc, media, out),
+        Err(_) => out.field("", &AreaError::Memory),
+    }
+}
+
+fn put_changes(alloc: Global, image: &mut Image, input: &mut Input<'_>) {
+    for change in input.rest().split(';') {
+        if !change.is_empty() {
+            let mut words = Input::new(alloc, change.trim());
+            image.change(&mut words);
+            if words.is_bad() {
+                input.fail();
+            }
+        }
+    }
+}
+
+// Over any medium: its journal is then one value to the check of borrows, and not as many as the medium has fields.
+fn put_medium<M: Media + Drop>(alloc: Global, media: M, out: &mut Text)
+    requires { (t : Tier) → AtRest (M.seen media) (M.left media (M.moment media)) t }
+{
+    match Journal::reopen(alloc, media) {
+        Ok(journal) => put_area(alloc, journal, out),
+        Err((JournalError::Damaged { what, block }, _media)) => put_damage(what, block, out),
+        Err((error, _media)) => out.field("", &error),
+    }
+}
+
+fn put_area<M: Media + Drop>(alloc: Global, journal: Journal<M>, out: &mut Text) {
+    let mut journal = journal;
+    match open_area(alloc, &mut journal) {
+        Ok(area) => {
+            put_marks(&area.marks, out);
+            out.field("; charge ", &area.charge);
+            put_used(&area, out);
+            put_tree(alloc, journal, out);
+        }
+        Err(AreaError::Damaged { what, block }) => put_damage(what, block, out),
+        Err(error) => out.field("", &error),
+    }
+}
+
+fn put_damage(what: What, block: u32, out: &mut Text) {
+    out.put(match what {
+        What::Super => "the superblock",
+        What::Slot => "a slot",
+        What::Marks => "the marks",
+        What::JournalGate => "the journal's gate",
+        What::JournalHead => "the journal's head",
+        What::ExtentBlock => "extents",
+        What::DirBlock => "entries",
+        What::FileData => "data",
+    });
+    out.field(" in block ", &block);
+}
+
+fn put_marks(marks: &Marks, out: &mut Text) {
+    out.put("marks");
+    for mark in &marks.clients {
+        out.field(" ", &mark.generation);
+        out.field(":", &mark.done);
+    }
+    out.field(", digests ", &marks.digests);
+}
+
+// The blocks in use of each tier that has some.
+fn put_used(area: &OpenArea, out: &mut Text) {
+    put_runs("; fast", area.used.marks(Tier::Fast), out);
+    put_runs("; block", area.used.marks(Tier::Block), out);
+    put_runs("; slow", area.used.marks(Tier::Slow), out);
+}
+
+// The runs of blocks that are marked, as the first and the last of each.
+fn put_runs(words: &str, marks: &[bool], out: &mut Text) {
+    let mut words = words;
+    let mut was = false;
+    for (at, mark) in marks.iter().enumerate() {
+        if *mark && !was {
+            out.put(words);
+            out.field(" ", &at);
+            words = "";
+        }
+        if *mark && !next_is(marks, at) {
+            out.field("-", &at);
+        }
+        was = *mark;
+    }
+}
+
+fn next_is(marks: &[bool], at: usize) -> bool {
+    match marks.get(at.saturating_add(1)) {
+        Some(next) => *next,
+        None => false,
+    }
+}

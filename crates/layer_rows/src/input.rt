@@ -1,0 +1,131 @@
+// What stands in a row's input.
+use area_image::Geometry;
+use first_run::DataText;
+use host_media::Tier;
+use std::alloc::Global;
+
+/// A row's input, which is read from its front on. What can't be read is kept: the row does not hold.
+#[derive(Clone, Copy)]
+pub struct Input<'a> {
+    alloc: Global,
+    rest: &'a str,
+    is_bad: bool,
+}
+
+impl<'a> Input<'a> {
+    pub fn new(alloc: Global, text: &'a str) -> Self {
+        Input {
+            alloc,
+            rest: text,
+            is_bad: false,
+        }
+    }
+
+    pub fn alloc(&self) -> Global {
+        self.alloc
+    }
+
+    /// Whether something could not be read.
+    pub fn is_bad(&self) -> bool {
+        self.is_bad
+    }
+
+    /// Tells that something can't be read.
+    pub fn fail(&mut self) {
+        self.is_bad = true;
+    }
+
+    /// What stands before the next such character, or all that is left.
+    pub fn part(&mut self, end: char) -> &'a str {
+        let (part, rest) = self.rest.split_once(end).unwrap_or((self.rest, ""));
+        self.rest = rest;
+        part
+    }
+
+    pub fn word(&mut self) -> &'a str {
+        self.part(' ')
+    }
+
+    /// All that is left.
+    pub fn rest(&mut self) -> &'a str {
+        let rest = self.rest;
+        self.rest = "";
+        rest
+    }
+
+    pub fn number(&mut self) -> u32 {
+        self.number_before(' ')
+    }
+
+    fn number_before(&mut self, end: char) -> u32 {
+        match self.part(end).parse::<u32>() {
+            Ok(number) => number,
+            Err(_) => {
+                self.fail();
+                0
+            }
+        }
+    }
+
+    /// `U,F,B,S`, the units and the data blocks of the tiers, where the format allows them.
+    pub fn any_geometry(&mut self) -> Option<Geometry> {
+        let units = self.number_before(',');
+        let fast = self.number_before(',');
+        let block = self.number_before(',');
+        let slow = self.number();
+        Geometry::new(units, fast, block, slow)
+    }
+
+    /// The same of media that there may be.
+    pub fn geometry(&mut self) -> Option<Geometry> {
+        let found = self.any_geometry();
+        if found.is_none() {
+            self.fail();
+        }
+        found
+    }
+
+    /// The tier of a word.
+    pub fn tier(&mut self, word: &str) -> Tier {
+        match word {
+            "fast" => Tier::Fast,
+            "block" => Tier::Block,
+            "slow" => Tier::Slow,
+            _ => {
+                self.fail();
+                Tier::Fast
+            }
+        }
+    }
+
+    /// The bytes of runs `hhxN` joined by `+`, or of `-`, in all words that are left.
+    pub fn data(&mut self) -> Vec<u8> {
+        let mut bytes = Vec::new(self.alloc);
+        for word in self.rest().split(' ') {
+            if !add_data(self.alloc, &mut bytes, word) {
+                self.fail();
+            }
+        }
+        bytes
+    }
+
+    /// The same, with zeros behind it where it is shorter than this.
+    pub fn padded(&mut self, size: usize) -> Vec<u8> {
+        let mut bytes = self.data();
+        if bytes.len() < size && bytes.resize(size, 0).is_err() {
+            self.fail();
+        }
+        bytes
+    }
+}
+
+// Whether a word could be read, and there was memory for its bytes.
+fn add_data(alloc: Global, bytes: &mut Vec<u8>, word: &str) -> bool {
+    match DataText::read(word.as_bytes()) {
+        Some(text) => match text.to_bytes(alloc) {
+            Ok(more) => bytes.extend_from_slice(more.as_slice()).is_ok(),
+            Err(_) => false,
+        },
+        None => false,
+    }
+}

@@ -1,0 +1,58 @@
+//! Holds tables of rows against the crates below the shared area's writers, each section of standard input a table: formats, media
+//! that are opened, the trees on them, devices, clients that know a part of a tree, and programs that stand on few layers.
+//!
+//! A section begins with a line `%% NAME`, and its head tells the form of its rows. Each row that does not hold is printed with what
+//! is said in place of its answer, then how many rows of the section hold; the status is 1 where one does not.
+#![tactic(auto)]
+
+mod area_rows;
+mod device_call;
+mod device_failures;
+mod device_kinds;
+mod device_opening;
+mod device_rows;
+mod directory_rows;
+mod filling;
+mod graph_rows;
+mod head_rows;
+mod image_text;
+mod input;
+mod journal_rows;
+mod known_beside;
+mod known_calls;
+mod known_draws;
+mod known_part;
+mod known_rows;
+mod layout_rows;
+mod path_rows;
+mod program_rows;
+mod record_rows;
+mod record_text;
+mod region_rows;
+mod sections;
+mod structure_text;
+mod tables;
+mod tree_walk;
+mod world_rows;
+mod zeroed_media;
+
+use anyhow::Result;
+use sections::try_section;
+use std::io::Read;
+use std::process::ExitCode;
+
+fn main(rt: HostRuntime) -> Result<ExitCode> {
+    let mut text = String::new(rt.alloc());
+    rt.stdin().read_to_string(&mut text)?;
+    let mut hold = true;
+    for section in text.strip_prefix("%% ").unwrap_or("").split("\n%% ") {
+        let (name, table) = section.split_once('\n').unwrap_or((section, ""));
+        println!(rt; "%% {name}")?;
+        hold &= try_section(&rt, name, table)?;
+    }
+    Ok(if hold {
+        ExitCode::SUCCESS
+    } else {
+        ExitCode::FAILURE
+    })
+}

@@ -1,0 +1,132 @@
+// The rows of a table.
+use crate::input::Input;
+use first_run::Text;
+use std::alloc::Global;
+use std::io;
+
+/// Who is asked by the rows of a table.
+pub trait Teller {
+    /// Tells what there is to tell of a row's input, and notes there what can't be read.
+    fn tell(&self, rt: &HostRuntime, input: &mut Input<'_>, out: &mut Text);
+}
+
+/// Tries the rows of a table. Prints each row that does not hold, with what is said in place of its answer, and then how many rows
+/// hold. Whether all hold, and there was memory to tell it.
+pub fn try_rows<T: Teller>(rt: &HostRuntime, teller: &T, table: &str) -> io::Result<bool> {
+    let mut rows = Rows::new(rt.alloc());
+    rows.try_table(rt, teller, table);
+    println!(rt; "{}", rows.report())?;
+    Ok(rows.hold())
+}
+
+// How many rows hold, and what is told of the others.
+#[derive(Drop)]
+struct Rows {
+    held: u64,
+    failed: u64,
+    report: Text,
+}
+
+impl Rows {
+    // No row yet.
+    fn new(alloc: Global) -> Self {
+        Rows {
+            held: 0,
+            failed: 0,
+            report: Text::new(alloc),
+        }
+    }
+
+    // Tries each row: a line that begins with two spaces goes on with the row above it.
+    fn try_table<T: Teller>(&mut self, rt: &HostRuntime, teller: &T, table: &str) {
+        let mut row = Text::new(rt.alloc());
+        for line in table.lines() {
+            if line.starts_with("  ") {
+                row.put(" ");
+            } else {
+                self.try_line(rt, teller, &row);
+                row.clear();
+            }
+            row.put(line.trim());
+        }
+        self.try_line(rt, teller, &row);
+        self.report.field("", &self.held);
+        self.report.field(" rows hold, ", &self.failed);
+        self.report.put(" do not");
+    }
+
+    // A line that is empty or a comment is no row.
+    fn try_line<T: Teller>(&mut self, rt: &HostRuntime, teller: &T, line: &Text) {
+        let text = line.as_str();
+        if line.is_cut() {
+            self.failed = self.failed.saturating_add(1);
+            self.report.put("no memory for a row\n");
+        } else if !text.is_empty() && !text.starts_with('#') {
+            self.try_row(rt, teller, Row::read(text));
+        }
+    }
+
+    fn try_row<T: Teller>(&mut self, rt: &HostRuntime, teller: &T, row: Row<'_>) {
+        let said = told(rt, teller, row.input);
+        if said.as_str() == row.answer {
+            self.held = self.held.saturating_add(1);
+            return;
+        }
+        self.failed = self.failed.saturating_add(1);
+        self.report.put(row.name);
+        self.report.field("\n  says ", &said.as_str());
+        self.report.field("\n  not  ", &row.answer);
+        self.report.put("\n");
+    }
+
+    fn report(&self) -> &str {
+        if self.report.is_cut() {
+            return "no memory for the report";
+        }
+        self.report.as_str()
+    }
+
+    fn hold(&self) -> bool {
+        self.failed == 0 && !self.report.is_cut()
+    }
+}
+
+// `NAME: INPUT => ANSWER`
+#[derive(Clone, Copy)]
+struct Row<'a> {
+    name: &'a str,
+    input: &'a str,
+    answer: &'a str,
+}
+
+impl<'a> Row<'a> {
+    fn read(text: &'a str) -> Row<'a> {
+        let (name, rest) = parted(text, ": ");
+        let (input, answer) = parted(rest, " => ");
+        Row {
+            name,
+            input,
+            answer,
+        }
+    }
+}
+
+// What stands before the first of these, and what behind it.
+fn parted<'a>(text: &'a str, by: &str) -> (&'a str, &'a str) {
+    text.split_once(by).unwrap_or((text, ""))
+}
+
+// What is said of a row's input.
+fn told<T: Teller>(rt: &HostRuntime, teller: &T, input: &str) -> Text {
+    let mut input = Input::new(rt.alloc(), input);
+    let mut out = Text::new(rt.alloc());
+    teller.tell(rt, &mut input, &mut out);
+    if input.is_bad() {
+        out.put("the row can't be read");
+    }
+    if out.is_cut() {
+        out.clear();
+        out.put("no memory for what is said");
+    }
+    out
+}

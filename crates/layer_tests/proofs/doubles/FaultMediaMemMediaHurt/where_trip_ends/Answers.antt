@@ -1,0 +1,8 @@
+use Rattle.std.proofs.Common.{◌≡◌, ◌∙◌, sym, subst}
+use Rattle.update_log.specs.tier_device.Memory.{IsAtRest}
+use Rattle.update_log.specs.tier_device.declared.media.Tier.TheVariants.{Fast}
+use Rattle.layer_tests.proofs.doubles.FaultMediaMemMediaHurt.where_trip_ends.Goals as goal
+
+-- the medium is the one that was given
+pub returns : goal.returns
+returns c = subst IsAtRest (sym (c.fail_with.ensures.inner ∙ c.new-media.ensures.inner)) c.requires Fast

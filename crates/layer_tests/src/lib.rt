@@ -1,0 +1,45 @@
+//! Tests of the layers below the shared area, and of the checks of a record: want of memory, faults that are told upward, and answers that no contract gives.
+#![tactic(auto)]
+
+#[cfg(test)]
+mod cache_uses;
+#[cfg(test)]
+mod coalesced;
+#[cfg(test)]
+mod devices;
+#[cfg(test)]
+mod doubles;
+#[cfg(test)]
+mod drawn_runs;
+#[cfg(test)]
+mod extent_trees;
+#[cfg(test)]
+mod free_blocks;
+#[cfg(test)]
+mod held_records;
+#[cfg(test)]
+mod journal_calls;
+#[cfg(test)]
+mod journals;
+#[cfg(test)]
+mod made_records;
+#[cfg(test)]
+mod made_runs;
+#[cfg(test)]
+mod profile_graphs;
+#[cfg(test)]
+mod profile_records;
+#[cfg(test)]
+mod record_costs;
+#[cfg(test)]
+mod record_limits;
+#[cfg(test)]
+mod record_rows;
+#[cfg(test)]
+mod record_runs;
+#[cfg(test)]
+mod regions;
+#[cfg(test)]
+mod run_rows;
+#[cfg(test)]
+mod tree_changes;

@@ -1,0 +1,49 @@
+//! Rows of records, each over the graph as the good ones before it leave it.
+
+use crate::made_records::{CAPACITY, bad, byte, enter, good, leave, one, opening, told};
+use record_validation::Verdict;
+use std::alloc::{AllocError, Global};
+use std::test::Fail;
+use update_log::{Effect, Kind};
+
+// The records of a row, each with its units and what is told of it.
+fn row(alloc: Global, number: u32) -> Result<(Effect, u32, Option<Verdict>), AllocError> {
+    match number {
+        0 => Ok((byte(alloc, 2, 4_097)?, 0, bad())),
+        1 => Ok((byte(alloc, 2, 4_096)?, 1, good(11))),
+        2 => Ok((byte(alloc, 2, 4_097)?, 0, good(11))),
+        3 => Ok((byte(alloc, 2, 8_192)?, 0, bad())),
+        4 => Ok((byte(alloc, 2, 8_191)?, 0, good(11))),
+        5 => Ok((Effect::Drop { inode: 2 }, 0, good(8))),
+        6 => Ok((byte(alloc, 2, 9_000)?, 0, good(8))),
+        7 => Ok((make(2), 0, bad())),
+        8 => Ok((make(2), 1, good(9))),
+        // It is a directory now: bytes mean nothing to it.
+        9 => Ok((byte(alloc, 2, 0)?, 0, good(9))),
+        10 => Ok((enter(alloc, 2, 1, 1)?, 0, bad())),
+        11 => Ok((enter(alloc, 2, 1, 1)?, 1, good(10))),
+        _ => Ok((leave(alloc, 2, 1)?, 0, good(9))),
+    }
+}
+
+fn make(inode: u32) -> Effect {
+    Effect::Make {
+        inode,
+        kind: Kind::Directory,
+    }
+}
+
+#[test]
+fn a_record_is_tested_over_the_graph_that_those_before_it_leave(
+    rt: HostRuntime,
+) -> Result<(), Fail> {
+    let alloc = rt.alloc();
+    let mut check = opening(alloc)?;
+    for number in 0u32..13 {
+        let (effect, units, wanted) = row(alloc, number)?;
+        let effects = one(alloc, effect)?;
+        let found = told(alloc, &mut check, CAPACITY, &[1, 2, 3], units, effects)?;
+        assert!(rt; found == wanted, "row {number}");
+    }
+    Ok(())
+}

@@ -1,0 +1,11 @@
+use Rattle.std.proofs.Common.{◌≤◌, List, sym, subst}
+use Rattle.log_record.specs.file_graph.declared.effect.Effect.{Effect}
+use Rattle.lease_manager.specs.Passes.{records_of}
+use Rattle.lease_manager.specs.Counted.{is_touched, one_if}
+use Rattle.lease_manager.proofs.Cleaned.{still_counted}
+use Rattle.lease_manager.proofs.inode_leases.clean_records.Goals as goal
+
+pub clean_effects-requires-clause-there : goal.clean_effects-requires-clause-there
+clean_effects-requires-clause-there c = λ i w.
+    subst (λ (es : List Effect). one_if (is_touched es i) ≤ records_of c.loop-entry.pass i) (sym c.as_slice.ensures)
+    (still_counted c.args.pass.now c.loop-entry.pass c.args.records.now c.loop-entry.entry-index c.entry-item.result c.loop-entry-test.true c.entry-item.is c.loop-entry.invariant c.requires.there i w)

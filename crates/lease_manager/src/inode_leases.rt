@@ -1,0 +1,69 @@
+//! The pass counts each record once on each inode that it touches.
+ghost use Rattle.std.specs.Prelude.{◌≡◌, ◌+◌, ◌≤◌, ◌<◌, ◌^◌, ℕ, true, length};
+ghost use Rattle.std.specs.List.{AllByRecursion};
+ghost use Rattle.log_record.specs.file_graph.Graph.{is_among, touches};
+ghost use Rattle.log_record.specs.Grammar.{Fits, IsRecord};
+ghost use Rattle.lease_manager.specs.declared.view.LeaseMode.TheVariants.{Writing};
+ghost use Rattle.lease_manager.specs.Words.{HasWord};
+ghost use Rattle.lease_manager.specs.Passes.{lease_of, records_of};
+ghost use Rattle.lease_manager.specs.Counted.{HasNoted, HasCleaned, HasUncounted, is_touched, one_if, touching};
+
+use crate::{Leases, Pass};
+use log_record::{Effect, Record};
+
+/// Counts a record with these effects.
+pub fn note_effects(leases: &Leases, pass: &mut Pass, effects: &[Effect])
+    requires table { pass.old.table ≡ leases.now }
+    requires fit { AllByRecursion Fits effects.now }
+    requires held { (i : ℕ) → is_touched effects.now i ≡ true → lease_of pass.old i ≡ Writing }
+    requires room { (i : ℕ) → HasWord i → records_of pass.old i + 1 < 2 ^ 64 }
+    ensures { HasNoted pass.old effects.now pass.new }
+{
+    let [first, rest @ ..] = effects else {
+        return;
+    };
+    note_effects(leases, pass, rest);
+    let inode = first.subject();
+    if !is_touched(rest, inode) {
+        leases.note(pass, inode);
+    }
+}
+
+/// Counts a record with these effects no longer.
+pub fn clean_effects(leases: &Leases, pass: &mut Pass, effects: &[Effect])
+    requires table { pass.old.table ≡ leases.now }
+    requires fit { AllByRecursion Fits effects.now }
+    requires there { (i : ℕ) → HasWord i → one_if (is_touched effects.now i) ≤ records_of pass.old i }
+    ensures { HasUncounted pass.old effects.now pass.new }
+{
+    let [first, rest @ ..] = effects else {
+        return;
+    };
+    clean_effects(leases, pass, rest);
+    let inode = first.subject();
+    if !is_touched(rest, inode) {
+        leases.clean(pass, inode, 1);
+    }
+}
+
+/// Counts these records no longer.
+pub fn clean_records(leases: &Leases, pass: &mut Pass, records: &[Record])
+    requires table { pass.old.table ≡ leases.now }
+    requires spelled { AllByRecursion IsRecord records.now }
+    requires there { (i : ℕ) → HasWord i → touching records.now i ≤ records_of pass.old i }
+    ensures { HasCleaned pass.old records.now pass.new }
+{
+    for entry in records {
+        clean_effects(leases, pass, entry.effects.as_slice());
+    }
+}
+
+// Whether effects touch an inode.
+fn is_touched(effects: &[Effect], inode: u32) -> bool
+    ensures { result ≡ is_touched effects.now inode }
+{
+    let [first, rest @ ..] = effects else {
+        return false;
+    };
+    first.subject() == inode || is_touched(rest, inode)
+}

@@ -1,6 +1,0 @@
--- A past owns nothing, so it may go to another thread.
-use denote.Param.Send.{IsSend}
-use Rattle.long_media.specs.contracts.past.Past.{the_row}
-
-pub send : IsSend the_row
-send = record { owned = λ d vs. ((λ vss. (tt, tt)), tt); leaving = λ k f vs. tt }

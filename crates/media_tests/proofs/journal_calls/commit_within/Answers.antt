@@ -1,5 +1,0 @@
-use Rattle.tier_device.specs.declared.media.Tier.TheVariants.{Fast}
-use Rattle.media_tests.proofs.journal_calls.commit_within.Goals as goal
-
-pub commit_until-requires : goal.commit_until-requires
-commit_until-requires c = c.stopping-media.ensures Fast

@@ -1,5 +1,0 @@
-use Rattle.tier_device.specs.declared.media.Tier.TheVariants.{Fast}
-use Rattle.media_tests.proofs.journal_calls.reopen_within.Goals as goal
-
-pub reopen_until-requires : goal.reopen_until-requires
-reopen_until-requires c = c.stopping-media.ensures Fast

@@ -1,5 +1,0 @@
-use Rattle.tier_device.specs.declared.media.Tier.TheVariants.{Fast}
-use Rattle.media_tests.proofs.journals.ends_left.Goals as goal
-
-pub ends_in-requires : goal.ends_in-requires
-ends_in-requires g c = c.in_ok-media.ensures Fast

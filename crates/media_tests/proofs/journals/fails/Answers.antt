@@ -1,5 +1,0 @@
-use Rattle.tier_device.specs.declared.media.Tier.TheVariants.{Fast}
-use Rattle.media_tests.proofs.journals.fails.Goals as goal
-
-pub fail_and_stop-requires : goal.fail_and_stop-requires
-fail_and_stop-requires c = c.failing-media.ensures Fast

@@ -1,5 +1,0 @@
-use Rattle.tier_device.specs.declared.media.Tier.TheVariants.{Fast}
-use Rattle.media_tests.proofs.journals.is_kept_by_its_fence.Goals as goal
-
-pub write_and_stop-requires : goal.write_and_stop-requires
-write_and_stop-requires c = c.stopping-media.ensures Fast

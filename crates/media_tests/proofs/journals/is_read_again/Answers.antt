@@ -1,8 +1,0 @@
-use Rattle.tier_device.specs.declared.media.Tier.TheVariants.{Fast}
-use Rattle.media_tests.proofs.journals.is_read_again.Goals as goal
-
-pub committed-requires : goal.committed-requires
-committed-requires c = c.in_ok-media.ensures Fast
-
-pub ends_in-requires : goal.ends_in-requires
-ends_in-requires c = c.in_ok-rest.ensures Fast

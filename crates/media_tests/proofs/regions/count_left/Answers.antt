@@ -1,5 +1,0 @@
-use Rattle.tier_device.specs.declared.media.Tier.TheVariants.{Fast}
-use Rattle.media_tests.proofs.regions.count_left.Goals as goal
-
-pub count_in-requires : goal.count_in-requires
-count_in-requires g c = c.in_ok-media.ensures Fast

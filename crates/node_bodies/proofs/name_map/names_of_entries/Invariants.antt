@@ -1,7 +1,0 @@
-use Rattle.std.proofs.Common.{◌≡◌, map}
-use Rattle.std.specs.Prelude.{take}
-use Rattle.node_bodies.specs.Named.{pairs}
-use Rattle.node_bodies.proofs.name_map.names_of_entries.Given as goal
-
-abbrev pub invariant-loop-entry : goal.invariant-loop-entry
-invariant-loop-entry g l = l.names.items ≡ map (λ e. e.0) (pairs (take l.entry-index l.entries))

@@ -1,8 +1,0 @@
-use Rattle.own_records.proofs.Agreeing.{block_agrees, block_long}
-use Rattle.own_records.proofs.laws.laid_block_agrees.Goals as goal
-
-pub returns : goal.returns
-returns c = record {
-  long = λ k g whole held rs i b names size bytes block agrees same file copy laid. block_long k g whole held rs i agrees same b bytes block file laid names size copy;
-  agrees = λ k less g whole held rs i b bytes block agrees same file laid forgets. block_agrees k g whole held rs i agrees same b bytes block file laid less forgets;
-}

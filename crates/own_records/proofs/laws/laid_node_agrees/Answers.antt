@@ -1,5 +1,0 @@
-use Rattle.own_records.proofs.Agreeing.{node_agrees}
-use Rattle.own_records.proofs.laws.laid_node_agrees.Goals as goal
-
-pub returns : goal.returns
-returns c = λ k g whole held rs i agrees none same. node_agrees k g whole held rs i agrees same none

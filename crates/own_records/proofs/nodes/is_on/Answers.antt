@@ -1,7 +1,0 @@
-use Rattle.std.proofs.Common.{ap, sym, ◌∙◌}
-use Rattle.file_graph.specs.Graph.{is_among}
-use Rattle.record_check.proofs.Steps.{on_one}
-use Rattle.own_records.proofs.nodes.is_on.Goals as goal
-
-pub returns : goal.returns
-returns c = sym (ap (is_among c.args.inode) c.subject.ensures.alone ∙ on_one c.args.inode c.subject.result)

@@ -1,8 +1,0 @@
-use Rattle.record_check.proofs.Steps.{counts_act, entry_is}
-use Rattle.record_check.proofs.laws.counts_are_of_the_node_after.Goals as goal
-
-pub returns-clause-single : goal.returns-clause-single
-returns-clause-single c = counts_act
-
-pub returns-clause-entry : goal.returns-clause-entry
-returns-clause-entry c = entry_is

@@ -1,0 +1,34 @@
+-- A node as it is known without the bytes of its file.
+use Rattle.std.specs.Prelude.{◌≡◌, ℕ, refl, ◌⊎◌}
+use Rattle.std.proofs.Common.{inl, inr}
+use Rattle.std.specs.Coded.{Coded, code_by, coded×, coded_ℕ, coded⊎}
+use Rattle.call_effects.specs.posix_calls.Content.{Entries}
+use Rattle.call_effects.specs.file_graph.Codes.{entries_code}
+use Rattle.call_effects.specs.file_graph.declared.effect.Kind.{Kind}
+use Rattle.call_effects.specs.NodeView.{NodeView, FileView, DirView}
+use Rattle.record_validation.specs.declared.node_summary.SummaryBody.{SummaryBody}
+use Rattle.record_validation.specs.declared.node_summary.SummaryBody.TheVariants as summary
+
+-- a summary without where it lies in memory
+abbrev pub view_of_summary : ℕ → SummaryBody → NodeView
+view_of_summary names (summary.File size) = FileView names size
+view_of_summary names (summary.Directory entries) = DirView names entries
+
+-- a view as one of two
+abbrev parts : NodeView → (ℕ × ℕ) ⊎ (ℕ × Entries (ℕ × Kind))
+parts (FileView names size) = inl (names, size)
+parts (DirView names entries) = inr (names, entries)
+
+-- the view that one of two is
+abbrev view_from : (ℕ × ℕ) ⊎ (ℕ × Entries (ℕ × Kind)) → NodeView
+view_from (inl p) = FileView p.0 p.1
+view_from (inr p) = DirView p.0 p.1
+
+-- no view is lost
+abbrev view_back : (v : NodeView) → view_from (parts v) ≡ v
+view_back (FileView names size) = refl
+view_back (DirView names entries) = refl
+
+-- a view is stored as a file's two numbers, or a directory's number and entries
+abbrev pub view_code : Coded NodeView
+view_code = code_by ((ℕ × ℕ) ⊎ (ℕ × Entries (ℕ × Kind))) (coded⊎ (coded× coded_ℕ coded_ℕ) (coded× coded_ℕ entries_code)) parts view_from view_back

@@ -1,0 +1,40 @@
+//! What a record does to nodes that are known without the bytes of files, and what it costs: whoever digests a log tests each record so, before it
+//! changes anything.
+//!
+//! A file is known by its size, a directory by its entries (`NodeSummary`), which is all that a call asks of a node but its bytes. What effects make of
+//! such a node is what they make of the node, and its numbers after them are told without doing them (`counts_after`). By how much effects raise the
+//! charge of a graph is told by the nodes that they touch (`record_costs`): a map tells what stands at each of these inodes, or that nothing does. Who has
+//! the graph tells its nodes one by one (`Nodes`).
+//!
+//! A record is good (`IsGood` in `specs/Good.antt`) where its client holds every inode that it touches for writing, its units pay for what it raises, what
+//! it touches keeps the limits after it, and the graph after it costs no more than there is. `test_record` tells that, or names an inode to be looked up.
+//! A `RecordCheck` goes on from one good record to the next.
+#![tactic(auto)]
+
+mod costs;
+mod counting;
+mod known;
+mod laws;
+mod node_counts;
+mod node_seen;
+mod node_summary;
+mod nodes;
+mod record_validation;
+mod taking;
+mod verdict;
+
+pub use costs::{RecordCosts, record_costs};
+pub use counting::counts_after;
+pub use known::{first_unknown, is_unknown};
+pub use laws::{
+    counts_are_of_the_node_after, growth_is_told_by_what_is_touched, summary_is_of_the_node_after,
+};
+pub use node_counts::{NodeCounts, cost};
+pub use node_summary::{NodeSummary, SummaryBody};
+pub use nodes::Nodes;
+pub use record_validation::RecordCheck;
+pub use taking::take_effects;
+pub use verdict::{Verdict, test_record};
+
+// Passed on to the crates above, which so need not list those below.
+pub use call_effects::{Child, MAX_INODE, NameMap, is_inode};

@@ -1,0 +1,12 @@
+pub mod MovableRuns
+pub mod ListRuns
+pub mod Basics
+pub mod Imaging
+pub mod Fitting
+pub mod Using
+pub mod Losing
+pub mod Storing
+pub mod Fresh
+pub mod Planned
+pub mod Ending
+pub mod Pooled

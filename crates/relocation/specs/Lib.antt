@@ -1,0 +1,5 @@
+pub mod Errors
+pub mod Found
+pub mod Moving
+pub mod RunMoving
+pub mod Made

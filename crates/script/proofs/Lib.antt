@@ -1,0 +1,6 @@
+pub mod Cut
+pub mod Numbers
+pub mod Parts
+pub mod Paths
+pub mod RunLaws
+mod LineLemmas

@@ -1,0 +1,10 @@
+use Rattle.std.proofs.Common.{◌≡◌, ◌++◌, length, option_map}
+use Rattle.script.specs.Script.{decoded}
+use Rattle.script.proofs.path_text.PathText.to_bytes.Given as goal
+
+-- the bytes so far and those that are left are those of all
+abbrev pub invariant-loop-byte : goal.invariant-loop-byte
+invariant-loop-byte l = decoded l.self.text.now ≡ option_map (λ bs. l.bytes.items ++ bs) (decoded l.rest)
+
+abbrev pub decreases-loop-byte : goal.decreases-loop-byte
+decreases-loop-byte l = length l.rest

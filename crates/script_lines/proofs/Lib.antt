@@ -1,5 +1,0 @@
-pub mod Cut
-pub mod Numbers
-pub mod Parts
-pub mod Paths
-pub mod RunLaws

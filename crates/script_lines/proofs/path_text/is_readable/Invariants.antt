@@ -1,9 +1,0 @@
-use Rattle.std.proofs.Common.{◌≡◌, length, is_some}
-use Rattle.script_lines.specs.Script.{decoded}
-use Rattle.script_lines.proofs.path_text.is_readable.Given as goal
-
-abbrev pub invariant-loop-behind : goal.invariant-loop-behind
-invariant-loop-behind l = is_some (decoded l.text) ≡ is_some (decoded l.rest)
-
-abbrev pub decreases-loop-behind : goal.decreases-loop-behind
-decreases-loop-behind l = length l.rest

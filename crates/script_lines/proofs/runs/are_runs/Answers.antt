@@ -1,7 +1,0 @@
-use Rattle.std.proofs.Common.{arith}
-use Rattle.std.proofs.lemmas.Grind.{common_steps}
-use Rattle.script_lines.proofs.RunLaws.{all_runs-none}
-use Rattle.script_lines.proofs.runs.are_runs.Goals as goal
-
-pub returns : goal.returns
-returns c = grind (arith, common_steps, all_runs-none)

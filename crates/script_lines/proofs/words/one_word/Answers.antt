@@ -1,7 +1,0 @@
-use Rattle.std.proofs.Common.{arith}
-use Rattle.std.proofs.lemmas.Grind.{common_steps}
-use Rattle.script_lines.proofs.Parts.{one-parts}
-use Rattle.script_lines.proofs.words.one_word.Goals as goal
-
-pub returns-in-Some : goal.returns-in-Some
-returns-in-Some c = grind (arith, common_steps, one-parts, c.in-Some.ensures.found)

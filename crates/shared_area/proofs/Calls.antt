@@ -1,0 +1,58 @@
+-- How many writes and fences a change makes.
+use Rattle.std.proofs.Common.{◌≡◌, ◌≤◌, ◌+◌, inl, inr, ℕ, List, length, Some, refl, arith}
+use Rattle.std.specs.Prelude.{min}
+use Rattle.change_plan.specs.tier_device.declared.media.Tier.{Tier}
+use Rattle.change_plan.specs.graph_change.Change.{Changes}
+use Rattle.change_plan.specs.layout.declared.marks.Marks.{Marks}
+use Rattle.change_plan.specs.layout.Places.{Sizes}
+use Rattle.change_plan.specs.area_image.Store.{Store}
+use Rattle.change_plan.specs.Adding.{HasTaken}
+use Rattle.change_plan.specs.First.{IsWhole}
+use Rattle.change_plan.specs.Laid.{GetPlaces}
+use Rattle.change_plan.specs.area_commit.Value.{PoolsView}
+use Rattle.change_plan.specs.area_commit.declared.taking.Taken.{Taken}
+use Rattle.change_plan.specs.area_commit.Taking.{taken_data}
+use Rattle.change_plan.specs.area_commit.Writing.{TakenInTurn, calls_for}
+use Rattle.change_plan.specs.declared.partial.PartialPlan.{PartialPlan}
+use Rattle.change_plan.proofs.area_commit_lemmas.Returned.{were_free}
+use Rattle.change_plan.proofs.area_commit_lemmas.Turns.{turn_behind, turn_read}
+use Rattle.shared_area.specs.ChangeApplying.{MakesFewCalls}
+
+pub few_calls : (g : Sizes) (s : Store) (cs : Changes) (v : Marks) (plan : PartialPlan) (taken : Taken) (left : PoolsView) (before now : ℕ) (L M : ℕ → Tier → List ℕ → Type 0) → IsWhole g s cs v.digests plan taken (Some v) → HasTaken g s left taken → (blocks : List (ℕ × ℕ)) × GetPlaces g s cs blocks (taken_data taken)
+    → now ≤ before + calls_for taken + min (length plan.slots.items) 32 + length plan.nodes + 8 → TakenInTurn taken before now L M → MakesFewCalls g s cs before now L M
+few_calls g s cs v plan taken left before now L M whole took got few turn = inr (record {
+  blocks = got.0;
+  places = taken_data taken;
+  got = got.1;
+  calls = calls_for taken;
+  for_data = record { taken = taken; apart = (were_free g s took.before left taken took.ranges took.free took.took).apart; are = refl; many = refl };
+  turn = turn;
+  few = (let images = whole.images in omega (arith, few, images));
+})
+
+module _ (g : Sizes) (s : Store) (cs : Changes) (a b c : ℕ) (L M N : ℕ → Tier → List ℕ → Type 0) where
+  -- reads before it
+  pub few_behind : b ≡ a → ((m : ℕ) (t : Tier) (x : List ℕ) → m ≤ a → M m t x → L m t x) → MakesFewCalls g s cs b c M N → MakesFewCalls g s cs a c L N
+  few_behind same past (inl none) = inl (omega (arith, none, same))
+  few_behind same past (inr is) = inr (record {
+    blocks = is.blocks;
+    places = is.places;
+    got = is.got;
+    calls = is.calls;
+    for_data = is.for_data;
+    turn = (let taken = is.for_data.taken in turn_behind taken.fast.items taken.block.items taken.slow.items a b c L M N same past is.turn);
+    few = (let few = is.few in omega (arith, few, same));
+  })
+
+  -- reads behind it
+  pub few_then : a ≤ b → c ≡ b → ((m : ℕ) (t : Tier) (x : List ℕ) → m ≤ b → N m t x → M m t x) → MakesFewCalls g s cs a b L M → MakesFewCalls g s cs a c L N
+  few_then later same past (inl none) = inl (omega (arith, none, same))
+  few_then later same past (inr is) = inr (record {
+    blocks = is.blocks;
+    places = is.places;
+    got = is.got;
+    calls = is.calls;
+    for_data = is.for_data;
+    turn = (let taken = is.for_data.taken in turn_read taken.fast.items taken.block.items taken.slow.items a b c L M N same past is.turn later);
+    few = (let few = is.few in omega (arith, few, same));
+  })

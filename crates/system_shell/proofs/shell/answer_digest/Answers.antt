@@ -1,6 +1,0 @@
-use Rattle.std.proofs.Common.{◌∙◌, inr, refl, sym}
-use Rattle.std.specs.Prelude.{Ok}
-use Rattle.system_shell.proofs.shell.answer_digest.Goals as goal
-
-pub returns-in-Ok : goal.returns-in-Ok
-returns-in-Ok g c = inr (sym c.is_pending.ensures ∙ c.if-is_pending.false, sym c.has_failed.ensures ∙ c.if-has_failed.false, Ok c.in-Ok.count, c.in-Ok.ensures.cleared, refl)

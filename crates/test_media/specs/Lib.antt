@@ -1,0 +1,3 @@
+pub mod Taking
+-- Passed on to the crates above, which so need not list those below.
+pub use Rattle.digester.specs as digester

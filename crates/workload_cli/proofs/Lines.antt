@@ -1,0 +1,25 @@
+-- Lines that were answered.
+use Rattle.std.proofs.Common.{◌≡◌, ◌∙◌, ℕ, suc, List, inr, refl, sym, ap, subst}
+use Rattle.std.proofs.lemmas.Result.{err_from_is_err_and}
+use Rattle.std.specs.Prelude.{Option, Some, Result, Err, IsErrAnd}
+use Rattle.script.specs.SystemLines.{Asked, system_line}
+use Rattle.script.specs.Reading.{BeginsTooLong, LosesLine}
+use Rattle.script.specs.declared.script.reader.ScriptError.{ScriptError}
+use Rattle.script.specs.declared.script.reader.ScriptError.TheVariants as stops
+use Rattle.workload_cli.specs.Script.{EndsAt, IsAnsweredTo}
+use Rattle.workload_cli.specs.declared.answer.Answer.{Answer}
+
+-- one line more
+pub one_more : {S : Type 0} (answers : S → Option Asked → Answer → S → Type 0) (before : Option (List ℕ)) (old : S) (between : Option (List ℕ)) (mid : S) (after : Option (List ℕ)) (new : S) (line : List ℕ) (asks : Option Asked) (answer : Answer)
+    → IsAnsweredTo answers before old between mid → LosesLine between after line → system_line line ≡ Some asks → answers mid asks answer new → IsAnsweredTo answers before old after new
+one_more answers before old between mid after new line asks answer (n, run) read understood answered =
+    (suc n, (between, mid, run, record { line = line; read = read; asks = asks; understood = understood; answer = answer; answered = answered }))
+
+-- the exit of a `?`
+pub ends_err : (r : Result (Unit {0}) ScriptError) (e : ScriptError) (behind : Option (List ℕ)) → IsErrAnd r (λ y. y ≡ e) → EndsAt (Err e) behind → EndsAt r behind
+ends_err r e behind is ends = let p = err_from_is_err_and r is in subst (λ (z : Result (Unit {0}) ScriptError). EndsAt z behind) (sym (p.1 ∙ ap (λ (y : ScriptError). Err y) p.2)) ends
+
+-- a line that is not read is too long, or the run ends in a fault
+pub unread_ends : (e : ScriptError) (behind : Option (List ℕ)) → ((n : ℕ) → e ≡ stops.Unreadable n → BeginsTooLong behind) → EndsAt (Err e) behind
+unread_ends (stops.Unreadable n) behind long = inr (long n refl)
+unread_ends (stops.Run fault) behind long = tt

@@ -1,0 +1,36 @@
+-- The lines of a script, answered one after the other.
+use Rattle.std.specs.Prelude.{◌≡◌, ◌⊎◌, ℕ, zero, suc, List, Option, Some, None, Result, Ok, Err}
+use Rattle.std.specs.Io.KnownBytes.{IsAtEnd}
+use Rattle.script.specs.SystemLines.{Asked, system_line}
+use Rattle.script.specs.Reading.{BeginsTooLong, LosesLine}
+use Rattle.script.specs.declared.script.reader.ScriptError.{ScriptError}
+use Rattle.script.specs.declared.script.reader.ScriptError.TheVariants as stops
+use Rattle.workload_cli.specs.declared.answer.Answer.{Answer}
+
+-- A line was read, understood and answered.
+pub record IsLineAnswered {S : Type 0} (answers : S → Option Asked → Answer → S → Type 0) (before : Option (List ℕ)) (old : S) (after : Option (List ℕ)) (new : S) : Type 0 where
+  pub line : List ℕ
+  pub read : LosesLine before after line
+  pub asks : Option Asked
+  pub understood : system_line line ≡ Some asks
+  pub answer : Answer
+  pub answered : answers old asks answer new
+
+-- So many were, in their order.
+abbrev pub AreAnswered : {S : Type 0} → (S → Option Asked → Answer → S → Type 0) → ℕ → Option (List ℕ) → S → Option (List ℕ) → S → Type 0
+AreAnswered answers zero before old after new = (after ≡ before) × (new ≡ old)
+AreAnswered {S = S} answers (suc n) before old after new = (between : Option (List ℕ)) × (mid : S) × AreAnswered answers n before old between mid × IsLineAnswered answers between mid after new
+
+-- Some lines were, as far as the script was read.
+abbrev pub IsAnsweredTo : {S : Type 0} → (S → Option Asked → Answer → S → Type 0) → Option (List ℕ) → S → Option (List ℕ) → S → Type 0
+IsAnsweredTo answers before old after new = (n : ℕ) × AreAnswered answers n before old after new
+
+-- No line stands there that can be read.
+abbrev pub IsUnreadable : Option (List ℕ) → Type 0
+IsUnreadable behind = ((line : List ℕ) × (after : Option (List ℕ)) × LosesLine behind after line × (system_line line ≡ None)) ⊎ BeginsTooLong behind
+
+-- A run ends at the end of its script, at a line that is unreadable, or in a fault.
+abbrev pub EndsAt : Result (Unit {0}) ScriptError → Option (List ℕ) → Type 0
+EndsAt (Ok x) behind = IsAtEnd behind
+EndsAt (Err (stops.Unreadable number)) behind = IsUnreadable behind
+EndsAt (Err (stops.Run fault)) behind = Unit {0}

@@ -1,0 +1,76 @@
+// What the lines of a script are answered, and how that is printed.
+ghost use Rattle.std.specs.Prelude.{◌≡◌};
+ghost use Rattle.workload_cli.specs.Told.{told_failed};
+
+use fresh_system::{Figures, Refusal};
+use script::{Errno, Reply, Tier, write_reply};
+use std::io::{self, Write};
+
+/// What a line that can be read is answered.
+#[derive(Drop)]
+pub enum Answer {
+    /// Nothing, to an empty line or a comment.
+    Silent,
+    /// What a call is answered.
+    Call(Reply),
+    /// A call is begun.
+    Pending,
+    /// A client or a device is in the way.
+    Blocked,
+    /// One device call of a call that waits for its answer.
+    Stepped,
+    /// No call waits for its answer.
+    Idle,
+    /// How many records were digested.
+    Digested(usize),
+    Wiped,
+    /// There was nothing to wipe.
+    Clean,
+    /// How many blocks went down.
+    Moved(u64),
+    /// The tier of a block; none of a hole.
+    Lies(Option<Tier>),
+    Book(Figures),
+    Refused(Refusal),
+}
+
+/// Prints an answer: nothing, or a line.
+pub fn write_answer<W: Write>(out: &mut W, answer: &Answer) -> io::Result<()> {
+    match answer {
+        Answer::Silent => Ok(()),
+        Answer::Call(reply) => write_reply(out, reply),
+        Answer::Digested(count) => writeln!(out, "digested {count}"),
+        Answer::Moved(count) => writeln!(out, "moved {count}"),
+        Answer::Book(figures) => write_book(out, *figures),
+        Answer::Refused(refusal) => writeln!(out, "refused {}", refusal.number()),
+        answer => writeln!(out, "{}", word_of(answer)),
+    }
+}
+
+// An answer that is a word.
+fn word_of(answer: &Answer) -> &'static str {
+    match answer {
+        Answer::Pending => "pending",
+        Answer::Blocked => "blocked",
+        Answer::Stepped => "step",
+        Answer::Idle => "idle",
+        Answer::Wiped => "wiped",
+        Answer::Clean => "clean",
+        Answer::Lies(Some(Tier::Fast)) => "fast",
+        Answer::Lies(Some(Tier::Block)) => "block",
+        Answer::Lies(Some(Tier::Slow)) => "slow",
+        _ => "hole",
+    }
+}
+
+fn write_book<W: Write>(out: &mut W, figures: Figures) -> io::Result<()> {
+    let (charge, given, capacity) = (figures.charge, figures.out, figures.capacity);
+    writeln!(out, "charge {charge} out {given} of {capacity}")
+}
+
+/// That a call failed.
+pub fn failed(errno: Errno) -> Answer
+    ensures { result ≡ told_failed errno }
+{
+    Answer::Call(Reply::Failed { errno })
+}

@@ -1,0 +1,70 @@
+// What the calls of a script need.
+use crate::answer::write_answer;
+use crate::noting::Noting;
+use crate::running::Running;
+use crate::shell::answer_line;
+use call_driver::{Events, Served, serve_call};
+use fresh_system::{Geometry, RamMaker, open_fresh};
+use script::{Call, SystemLine, read_system_line, write_reply};
+use std::alloc::Global;
+use std::io::Write;
+
+/// Answers a script over a fresh system. Before what a call is answered stands what it needed, need by need. It answers status 3 where there is no system.
+pub fn run_needs(alloc: Global, script: &[u8], out: &mut Vec<u8>) -> u8 {
+    let Some(geometry) = Geometry::new(1_024, 512, 1_024, 1_024) else {
+        return 3;
+    };
+    match open_fresh(alloc, &mut RamMaker, &geometry) {
+        Ok(system) => {
+            answer_each(alloc, &mut Noting::new(alloc, system), script, out);
+            0
+        }
+        Err(_) => 3,
+    }
+}
+
+fn answer_each<S: Running>(
+    alloc: Global,
+    system: &mut Noting<S>,
+    script: &[u8],
+    out: &mut Vec<u8>,
+) {
+    for text in script.split(is_newline) {
+        match read_system_line(text) {
+            Some(line) => answer(alloc, system, line, out),
+            None => return,
+        }
+    }
+}
+
+fn is_newline(byte: &u8) -> bool {
+    *byte == b'\n'
+}
+
+fn answer<S: Running>(
+    alloc: Global,
+    system: &mut Noting<S>,
+    line: SystemLine<'_>,
+    out: &mut Vec<u8>,
+) {
+    match line {
+        SystemLine::Call { client, call, .. } => {
+            if let Ok(call) = call.to_call(alloc) {
+                serve(system, client, call, out);
+            }
+        }
+        line => {
+            let answer = answer_line(alloc, &mut system.system, line);
+            let _ = write_answer(out, &answer);
+        }
+    }
+}
+
+fn serve<S: Running>(system: &mut Noting<S>, client: u32, call: Call, out: &mut Vec<u8>) {
+    let served = serve_call(system, client, call, true);
+    let _ = out.write_all(&system.notes);
+    system.notes.clear();
+    if let Served::Reply(reply) = served {
+        let _ = write_reply(out, &reply);
+    }
+}

@@ -1,0 +1,130 @@
+// The words of `strata_sh`.
+use clap::{Arg, ArgAction, ArgMatches, Command, Error, value_parser};
+use script::WordsError;
+use std::alloc::{AllocError, Global};
+
+/// The language of scripts, as `strata_sh --help` teaches it.
+const LANGUAGE: &str = "\
+A line is a client, 1 to 8, and its call, in words with one space between them.
+Behind each call here is what it prints; one that fails prints why, as ENOENT.
+  open PATH FLAGS          fd N            stat PATH    file SIZE NAMES
+  pread FD OFFSET COUNT    bytes N DATA                 dir ENTRIES
+  pwrite FD OFFSET DATA    wrote N         list PATH    names NAME NAME ...
+These print ok:
+  close FD       truncate PATH LENGTH    mkdir PATH      rmdir PATH
+  unlink PATH    link OLD NEW            rename OLD NEW
+What a call needs is served, and others hand over what they hold. Behind try
+they do not: then, or where one is in the midst of a call, it prints blocked.
+Behind begin a call that writes is begun alone, and prints pending.
+
+Other lines, where C is a client:
+  step C                              step, the call's answer, or idle
+  digest C                            digested N: the records of its log
+  wipe C                              wiped, or clean
+  migrate PATH FIRST COUNT block      moved COUNT: or slow, for block
+  where PATH BLOCK                    fast, block, slow or hole
+  book                                charge X out Y of Z: in units
+
+PATH begins with /; in it, %hh is the byte of two hexadecimal digits, as %20.
+FLAGS are some of rwcxt, so ordered: read, write, create, exclusive, truncate.
+DATA are runs hhxN, a byte N times, joined by +, or - for none: 61x3+0ax1.
+Empty lines and lines from # on print nothing; an unreadable line ends the run.
+
+Example, with what its lines print:
+  1 open /f rwc        fd 0
+  1 pwrite 0 0 61x3    wrote 3
+  2 stat /f            file 3 1
+  digest 2             digested 0";
+
+/// How many units there are, and how many data blocks on each tier.
+#[derive(Clone, Copy)]
+pub struct Sizes {
+    pub units: u32,
+    pub fast: u32,
+    pub block: u32,
+    pub slow: u32,
+}
+
+/// What the words ask for.
+#[derive(Clone, Copy)]
+pub struct Options {
+    pub sizes: Sizes,
+    /// Whether standard input is a table of scripts, each with what it prints.
+    pub is_table: bool,
+}
+
+/// What the words ask for. The first word is the program's name.
+pub fn read_options<'a>(alloc: Global, words: &'a [&'a str]) -> Result<Options, WordsError> {
+    let matches = command(alloc)?.try_get_matches_from(words)?;
+    Ok(Options {
+        sizes: sizes_of(&matches),
+        is_table: matches.get_flag("rows"),
+    })
+}
+
+fn sizes_of(matches: &ArgMatches<'_>) -> Sizes {
+    Sizes {
+        units: number(matches, "units", 1_024),
+        fast: number(matches, "fast", 512),
+        block: number(matches, "block", 1_024),
+        slow: number(matches, "slow", 1_024),
+    }
+}
+
+fn number(matches: &ArgMatches<'_>, name: &str, default: u32) -> u32 {
+    matches.get_one::<u32>(name).unwrap_or(default)
+}
+
+fn command<'a>(alloc: Global) -> Result<Command<'a>, AllocError> {
+    Command::new(alloc, "strata_sh")
+        .about("Answers a script of file system calls, read from standard input line by line")
+        .override_usage("strata_sh [--units N] [--fast N] [--block N] [--slow N] [--rows] < SCRIPT")
+        .after_help(LANGUAGE)
+        .arg(size(
+            alloc,
+            "units",
+            2,
+            "How many units the tree may cost, 2 to 65536; 1024 if left out",
+        ))?
+        .arg(size(
+            alloc,
+            "fast",
+            0,
+            "Data blocks of the fast tier, up to 65536; 512 if left out",
+        ))?
+        .arg(size(
+            alloc,
+            "block",
+            0,
+            "Data blocks of the block tier; 1024 if left out",
+        ))?
+        .arg(size(
+            alloc,
+            "slow",
+            0,
+            "Data blocks of the slow tier; 1024 if left out",
+        ))?
+        .arg(flag(
+            alloc,
+            "rows",
+            "Reads a table of scripts, each with what it is to print, and tells what differs",
+        ))
+}
+
+// An option with a number from a least one to 65,536.
+fn size<'a>(alloc: Global, name: &'a str, least: i64, help: &'a str) -> Arg<'a> {
+    Arg::new(alloc, name)
+        .long(name)
+        .value_name("N")
+        .help(help)
+        .action(ArgAction::Set)
+        .value_parser(value_parser!(u32).range(least..65_537))
+}
+
+// An option that is there or not.
+fn flag<'a>(alloc: Global, name: &'a str, help: &'a str) -> Arg<'a> {
+    Arg::new(alloc, name)
+        .long(name)
+        .help(help)
+        .action(ArgAction::SetTrue)
+}

@@ -1,0 +1,77 @@
+// Where the blocks of files lie.
+ghost use Rattle.std.specs.Prelude.{◌≡◌, ◌-◌, ◌^◌, min};
+ghost use Rattle.fresh_system.specs.event_steps.declared.event.Event.TheVariants as kinds;
+ghost use Rattle.fresh_system.specs.event_steps.declared.outcome.Outcome.{Outcome};
+ghost use Rattle.script.specs.Seen.{path_of};
+ghost use Rattle.workload_cli.specs.Answering.{IsMoveAnswered, IsPlaceAnswered};
+ghost use Rattle.workload_cli.specs.Told.{tier_below, told_move};
+
+use crate::answer::Answer;
+use crate::running::Running;
+use fresh_system::{Event, Outcome};
+use script::{LowerTier, PathText, Tier};
+use std::alloc::Global;
+
+/// A run of a file's blocks, `run.1` of them from logical block `run.0` on, goes down to a tier.
+pub fn answer_migrate<S: Running>(
+    alloc: Global,
+    system: &mut S,
+    path: &PathText<'_>,
+    run: (u64, u64),
+    to: LowerTier,
+) -> Answer
+    ensures { IsMoveAnswered S.plays S.owes S.leases S.waits S.broken S.dead S.tree S.lies S.figures_in S.looks system.old (path_of path.now) run.0 run.1 to result system.new }
+{
+    match system.file_at(alloc, path) {
+        Ok(inode) => migrate(system, inode, run, to),
+        Err(why) => why,
+    }
+}
+
+fn migrate<S: Running>(system: &mut S, inode: u32, run: (u64, u64), to: LowerTier) -> Answer
+    ensures { (o : Outcome) × S.plays system.old (kinds.Migrate inode run.0 (min run.1 (2 ^ 32 - 1)) (tier_below to)) o system.new × (result ≡ told_move run.1 o) }
+{
+    let (first, count) = run;
+    let event = Event::Migrate {
+        inode,
+        first,
+        count: blocks_of(count),
+        to: tier_of(to),
+    };
+    match system.play(&event) {
+        Outcome::Stepped => Answer::Moved(count),
+        Outcome::Refused { refusal } => Answer::Refused(refusal),
+        _ => Answer::Idle,
+    }
+}
+
+// No run has as many blocks as 32 bits tell.
+fn blocks_of(count: u64) -> u32
+    ensures { result ≡ min count (2 ^ 32 - 1) }
+{
+    u32::try_from(count).unwrap_or(u32::MAX)
+}
+
+fn tier_of(to: LowerTier) -> Tier
+    ensures { result ≡ tier_below to }
+{
+    match to {
+        LowerTier::Block => Tier::Block,
+        LowerTier::Slow => Tier::Slow,
+    }
+}
+
+/// The tier of a logical block of a file.
+pub fn answer_where<S: Running>(
+    alloc: Global,
+    system: &mut S,
+    path: &PathText<'_>,
+    block: u64,
+) -> Answer
+    ensures { IsPlaceAnswered S.plays S.owes S.leases S.waits S.broken S.dead S.tree S.lies S.figures_in S.looks system.old (path_of path.now) block result system.new }
+{
+    match system.tier_at(alloc, path, block) {
+        Ok(tier) => Answer::Lies(tier),
+        Err(why) => why,
+    }
+}

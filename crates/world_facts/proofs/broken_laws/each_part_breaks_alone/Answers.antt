@@ -1,5 +1,0 @@
-use Rattle.world_facts.proofs.AllAlone.{all_alone}
-use Rattle.world_facts.proofs.broken_laws.each_part_breaks_alone.Goals as goal
-
-pub returns : goal.returns
-returns c = all_alone

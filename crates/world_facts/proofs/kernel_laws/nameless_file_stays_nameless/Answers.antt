@@ -1,5 +1,0 @@
-use Rattle.world_facts.proofs.Reclaims.{nameless_whole}
-use Rattle.world_facts.proofs.kernel_laws.nameless_file_stays_nameless.Goals as goal
-
-pub returns : goal.returns
-returns c = nameless_whole

@@ -1,8 +1,0 @@
-use Rattle.world_facts.proofs.Leases.{read_taken_holds, read_taken_tree}
-use Rattle.world_facts.proofs.lease_laws.read_lease_may_be_taken.Goals as goal
-
-pub returns-clause-holds : goal.returns-clause-holds
-returns-clause-holds c = λ w c i h is_c free. read_taken_holds w c i h is_c free
-
-pub returns-clause-tree : goal.returns-clause-tree
-returns-clause-tree c = λ w c i h is_c. read_taken_tree w c i h is_c

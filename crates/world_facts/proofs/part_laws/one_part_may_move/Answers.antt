@@ -1,5 +1,0 @@
-use Rattle.world_facts.proofs.Moved.{holds_moved}
-use Rattle.world_facts.proofs.part_laws.one_part_may_move.Goals as goal
-
-pub returns : goal.returns
-returns c = holds_moved

@@ -1,8 +1,0 @@
-use Rattle.world_facts.proofs.Regions.{sealed_holds, sealed_tree}
-use Rattle.world_facts.proofs.region_laws.region_may_be_sealed.Goals as goal
-
-pub returns-clause-holds : goal.returns-clause-holds
-returns-clause-holds c = sealed_holds
-
-pub returns-clause-tree : goal.returns-clause-tree
-returns-clause-tree c = sealed_tree

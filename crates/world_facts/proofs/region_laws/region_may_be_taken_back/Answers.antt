@@ -1,8 +1,0 @@
-use Rattle.world_facts.proofs.Regions.{taken_back_holds, taken_back_tree}
-use Rattle.world_facts.proofs.region_laws.region_may_be_taken_back.Goals as goal
-
-pub returns-clause-holds : goal.returns-clause-holds
-returns-clause-holds c = taken_back_holds
-
-pub returns-clause-tree : goal.returns-clause-tree
-returns-clause-tree c = taken_back_tree

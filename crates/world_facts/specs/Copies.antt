@@ -1,9 +1,0 @@
--- What is said of a client's copies over its own part and the kernel's: the other clients are not seen.
-use Rattle.file_graph.specs.Graph.{Graph}
-use Rattle.world_facts.specs.Logs.{after_records}
-use Rattle.world_facts.specs.World.{Account, Client, undigested}
-use Rattle.world_facts.specs.Parts.{HasTrueCopies}
-
--- its copies and blocks are as its own records leave the shared nodes, but for files that are gone
-abbrev pub HasOwnCopies : Graph → Account → Client → Type 0
-HasOwnCopies g a p = HasTrueCopies p.knows (after_records g (undigested a p))

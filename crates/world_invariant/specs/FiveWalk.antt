@@ -1,0 +1,76 @@
+-- A small world's walk of five nodes and six records over two clients: one unlinks a file that the other has open.
+use Rattle.std.specs.Prelude.{[], ◌∷◌, true, false}
+use Rattle.call_effects.specs.posix_calls.declared.call.Call.TheVariants as call
+use Rattle.call_effects.specs.posix_calls.declared.operation.Operation.TheVariants.{NewDir, NewFile}
+use Rattle.call_effects.specs.file_graph.declared.effect.Kind.TheVariants as kind
+use Rattle.call_effects.specs.file_graph.declared.effect.Effect.TheVariants as effect
+use Rattle.world_invariant.specs.World.{Begun, World}
+use Rattle.world_invariant.specs.ClientSteps.{call_begun, replied}
+use Rattle.world_invariant.specs.LeaseSteps.{write_taken, given, fetched}
+use Rattle.world_invariant.specs.BookSteps.{number_granted, inode_pinned}
+use Rattle.world_invariant.specs.RegionSteps.{region_sealed, taken_back, current_wiped}
+use Rattle.world_invariant.specs.KernelSteps.{records_digested}
+use Rattle.world_invariant.specs.UnlinkWalk.{unlink_a}
+use Rattle.world_invariant.specs.PairWalk.{mkdir_b}
+use Rattle.world_invariant.specs.PairWalk as pair
+
+-- `mkdir /b/x`, where the directory gets the number 4
+abbrev pub mkdir_x : Begun
+mkdir_x = record {
+  call = call.Mkdir (47 ∷ 98 ∷ 47 ∷ 120 ∷ []);
+  new = 4;
+  operation = NewDir (record { parent = 3; name = 120 ∷ [] });
+  change = record { units = 2; effects = effect.Make 4 kind.Directory ∷ effect.Enter 3 4 kind.Directory (120 ∷ []) ∷ effect.Names 4 1 ∷ [] };
+}
+
+-- `open /b/y`, which makes a file of the number 5, open under 0
+abbrev pub open_y : Begun
+open_y = record {
+  call = call.Open (47 ∷ 98 ∷ 47 ∷ 121 ∷ []) (record { read = true; write = true; create = true; exclusive = false; truncate = false });
+  new = 5;
+  operation = NewFile (record { parent = 3; name = 121 ∷ [] }) 0 true true;
+  change = record { units = 1; effects = effect.Make 5 kind.File ∷ effect.Enter 3 5 kind.File (121 ∷ []) ∷ effect.Names 5 1 ∷ [] };
+}
+
+-- client 1 has `/a` open, and both of its records digested; its region is back, the one that it is to write next is wiped, and the lease on the file goes to client 2
+abbrev pub back : World
+back = current_wiped (taken_back pair.made 1) 1
+
+abbrev pub passed : World
+passed = given back 1 2
+
+-- client 2 gets two numbers and three leases, copies of the directory that it made and of the file, and a pin
+abbrev pub granted : World
+granted = number_granted (number_granted passed 2 4) 2 5
+
+abbrev pub holding : World
+holding = write_taken (write_taken (write_taken granted 2 4) 2 5) 2 2
+
+abbrev pub known : World
+known = fetched (fetched holding 2 3) 2 2
+
+abbrev pub ready : World
+ready = inode_pinned known 2 5
+
+-- it makes a directory and a file in it, and unlinks `/a`
+abbrev pub making : World
+making = call_begun ready 2 mkdir_x
+
+abbrev pub made : World
+made = replied making 2 mkdir_x
+
+abbrev pub opening : World
+opening = call_begun made 2 open_y
+
+abbrev pub opened : World
+opened = replied opening 2 open_y
+
+abbrev pub unlinking : World
+unlinking = call_begun opened 2 unlink_a
+
+abbrev pub unlinked : World
+unlinked = replied unlinking 2 unlink_a
+
+-- its four records are digested
+abbrev pub kept : World
+kept = records_digested (region_sealed unlinked 2) 2 (mkdir_b.change ∷ mkdir_x.change ∷ open_y.change ∷ unlink_a.change ∷ [])

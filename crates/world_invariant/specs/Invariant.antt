@@ -1,0 +1,16 @@
+-- All that holds of a world between two steps.
+use Rattle.std.specs.Prelude.{◌≡◌, ◌≢◌, ℕ, true}
+use Rattle.call_effects.specs.posix_calls.Operations.{is_client}
+use Rattle.call_effects.specs.Wholes.{IsSound}
+use Rattle.call_effects.specs.Known.{Agrees}
+use Rattle.world_invariant.specs.World.{World, whole, held}
+use Rattle.world_invariant.specs.Standing.{Stands, IsBooked, IsBeside}
+
+pub record IsCoherent (w : World) : Type 0 where
+  pub booked : IsBooked w.kernel
+  pub stands : (c : ℕ) → is_client c ≡ true → Stands w.kernel.shared (w.kernel.accounts c) c (w.clients c)
+  -- leases are legal
+  pub beside : (c d : ℕ) → is_client c ≡ true → is_client d ≡ true → d ≢ c → IsBeside (w.clients c) (w.clients d)
+  -- the whole is sound, and as each client knows it
+  pub sound : IsSound (whole w) (held w)
+  pub agrees : (c : ℕ) → is_client c ≡ true → Agrees (w.clients c).knows (whole w) (held w)

@@ -1,0 +1,39 @@
+//! What becomes of a client that died, and of its number.
+
+ghost use Rattle.std.specs.Prelude.{◌≡◌, ℕ};
+ghost use Rattle.call_effects.specs.Settled.{without_client};
+ghost use Rattle.call_effects.specs.Wholes.{state_of};
+ghost use Rattle.world_invariant.specs.World.{World, whole, held, world_state};
+ghost use Rattle.world_invariant.specs.ClientSteps.{CanDie, died};
+ghost use Rattle.world_invariant.specs.Burial.{CanDepart, departed, CanBury, client_buried, CanJoin, client_joined};
+ghost use Rattle.world_invariant.specs.Opening.{idle_client, idle_account};
+ghost use Rattle.world_invariant.specs.Invariant.{IsCoherent};
+
+/// A client dies at any point: the tree stays, and a begun call stays begun, till its record is found or not.
+pub fn client_may_die()
+    ensures holds { (w : World) (c : ℕ) → IsCoherent w → CanDie w c → IsCoherent (died w c) }
+    ensures tree { (w : World) (c : ℕ) → IsCoherent w → CanDie w c → world_state (died w c) ≡ world_state w }
+{}
+
+/// Once its begun call is found whole or gone, a dead client departs: in the tree what it had open is closed, and nothing else changes.
+pub fn dead_client_may_depart()
+    ensures holds { (w : World) (c : ℕ) → IsCoherent w → CanDepart w c → IsCoherent (departed w c) }
+    ensures tree { (w : World) (c : ℕ) → IsCoherent w → CanDepart w c → world_state (departed w c) ≡ state_of (whole w) (without_client (held w) c) }
+{}
+
+/// A client that has departed is buried once its records are digested and no region of it is away: its leases, copies, numbers, units and
+/// pins are free, and the tree stays.
+pub fn departed_client_may_be_buried()
+    ensures holds { (w : World) (c : ℕ) → IsCoherent w → CanBury w c → IsCoherent (client_buried w c) }
+    ensures tree { (w : World) (c : ℕ) → IsCoherent w → CanBury w c → world_state (client_buried w c) ≡ world_state w }
+    ensures account { (w : World) (c : ℕ) → (client_buried w c).kernel.accounts c ≡ idle_account (w.kernel.accounts c).mark }
+{}
+
+/// Once a client is buried and both its regions are wiped, a new one joins under its number, with nothing but the mark. The kernel has
+/// nothing to do for it where the account is empty, as a burial leaves it.
+pub fn new_client_may_join()
+    ensures holds { (w : World) (c : ℕ) → IsCoherent w → CanJoin w c → IsCoherent (client_joined w c) }
+    ensures tree { (w : World) (c : ℕ) → IsCoherent w → CanJoin w c → world_state (client_joined w c) ≡ world_state w }
+    ensures fresh { (w : World) (c : ℕ) → (client_joined w c).clients c ≡ idle_client c (w.kernel.accounts c).mark }
+    ensures kernel { (w : World) (c : ℕ) → w.kernel.accounts c ≡ idle_account (w.kernel.accounts c).mark → (client_joined w c).kernel ≡ w.kernel }
+{}
