@@ -1,0 +1,4 @@
+pub mod Joining
+pub mod Joins
+pub mod Lists
+pub mod Splitting
