@@ -1,0 +1,2 @@
+pub mod FencedMedia
+pub mod GatedDraft

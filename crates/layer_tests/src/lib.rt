@@ -1,4 +1,5 @@
-//! Tests of the layers below the shared area, and of the checks of a record: want of memory, faults that are told upward, and answers that no contract gives.
+//! Tests of the layers below the shared area, and of the checks of a record: want of memory, faults that are told upward, and answers
+//! that no contract gives; and two small instances of what plays lists of events, with small cases of its definitions in `proofs/`.
 #![tactic(auto)]
 
 #[cfg(test)]
@@ -11,10 +12,13 @@ mod devices;
 mod doubles;
 #[cfg(test)]
 mod drawn_runs;
+mod event_lists;
 #[cfg(test)]
 mod extent_trees;
+mod fenced_media;
 #[cfg(test)]
 mod free_blocks;
+mod gated_draft;
 #[cfg(test)]
 mod held_records;
 #[cfg(test)]
