@@ -37,4 +37,4 @@ pub use taking::take_effects;
 pub use verdict::{Verdict, test_record};
 
 // Passed on to the crates above, which so need not list those below.
-pub use call_effects::{Child, MAX_INODE, NameMap, is_inode};
+pub use call_effects::{Child, Kind, MAX_INODE, NameMap, PlainEntry, ROOT, is_inode};

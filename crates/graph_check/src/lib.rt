@@ -1,0 +1,32 @@
+//! Whether a graph of inodes is sound where nobody has a file open, and which of its files have no name: what a
+//! recovery has to know before it uses a graph that it found on its media, which may be any graph.
+//!
+//! A graph is sound (`IsSound` in `call_effects`) where the root is a directory, each entry names a node of its kind,
+//! each stored count of names is the number of entries which name the inode (the root has one more), a directory has
+//! one name, and a path leads to each directory. `check_graph` asks for each node once, and finds that the graph is
+//! sound, or a defect and its inode (`specs/Defects.antt`).
+//!
+//! Memory is bounded by the inodes, not by the entries: of these it keeps how many name each inode as a file and how
+//! many as a directory, and the last directory that has such an entry. Where each directory has one name, that is its
+//! parent, and from the root marks spread from parent to child.
+#![tactic(auto)]
+
+mod check;
+mod defect;
+mod kinds;
+mod laws;
+mod nameless_files;
+mod node_reader;
+mod reachability;
+mod row_tests;
+mod tables;
+
+pub use check::check_graph;
+pub use defect::{Defect, GraphError};
+pub use laws::graph_with_a_defect_is_unsound;
+
+// Passed on to the crates above, which so need not list those below.
+pub use record_validation::{
+    Child, Kind, MAX_INODE, NameMap, NodeSummary, Nodes, PlainEntry, ROOT, RecordCheck, Verdict,
+    is_inode,
+};
