@@ -1,0 +1,23 @@
+use Rattle.std.proofs.Common.{List, sym, ap, ◌∙◌}
+use Rattle.std.specs.Prelude.{find}
+use Rattle.update_log.specs.file_graph.Graph.{touches}
+use Rattle.update_log.specs.file_graph.declared.effect.Effect.{Effect}
+use Rattle.update_log.specs.log_record.declared.format.Record.{Record}
+use Rattle.counted_logs.specs.Owners.{is_foreign, owner}
+use Rattle.counted_logs.proofs.TableLemmas.{hit_one, skip_one}
+use Rattle.counted_logs.proofs.owners.first_shared.Goals as goal
+
+pub returns-in-Some : goal.returns-in-Some
+returns-in-Some c =
+    let p = is_foreign (owner c.args.clients.now) c.args.client in (
+      hit_one (λ (r : Record). touches r.effects) c.args.records.now c.loop-entry.entry-index c.entry-item.result c.loop-entry-test.true c.entry-item.is
+          p c.in-Some.shared.inode (ap (λ (es : List Effect). find p (touches es)) (sym c.as_slice.ensures) ∙ c.in-Some.ensures.0) c.loop-entry.invariant,
+      c.in-Some.ensures.1,
+      c.in-Some.ensures.2,
+    )
+
+pub loop-entry-preserved : goal.loop-entry-preserved
+loop-entry-preserved c =
+    let p = is_foreign (owner c.args.clients.now) c.args.client in
+    skip_one (λ (r : Record). touches r.effects) c.args.records.now c.loop-entry.entry-index c.entry-item.result c.loop-entry-test.true c.entry-item.is
+    p (ap (λ (es : List Effect). find p (touches es)) (sym c.as_slice.ensures) ∙ c.in_default.ensures) c.loop-entry.invariant

@@ -1,0 +1,22 @@
+//! What a recovery finds of the clients' logs before it digests a record: which records of a client's two regions count under its mark
+//! and in which order, under which generation the client goes on, and whether an inode is touched by the records of two clients.
+//!
+//! It reads no medium: its caller knows what the headers name, how many records there are, and the records.
+#![tactic(auto)]
+
+mod laws;
+mod next_generation;
+mod owners;
+mod regions;
+
+pub use laws::{counted_records_touch_inodes, owners_decide_whether_logs_are_apart};
+pub use next_generation::next_free_generation;
+pub use owners::{Owners, SharedInode};
+pub use regions::{CountedLogs, LogRest, logs_that_count};
+
+// Passed on to the crates above, which so need not list those below.
+pub use update_log::{
+    Child, Effect, Effects, FaultMedia, Fill, Kind, Media, MediaError, MemMedia, Name, NameMap,
+    PlainGraph, REGION_SIZE, ROOT, Record, RecordError, Region, RegionError, SharedBytes, Stage,
+    StopMedia, Tier, Trip, UNIT_BYTES, is_payload, read_payload, read_record, write_record,
+};
