@@ -2,9 +2,9 @@
 
 use crate::made_runs::{enter, leave};
 use coalescer::{BlockChange, GraphChange, NodeBase, NodeChange, NodeLength};
+use counted_logs::{Effect, Kind, PlainGraph, SharedBytes, UNIT_BYTES};
 use std::alloc::{AllocError, Global};
 use std::io::{self, Write};
-use update_log::{Effect, Kind, PlainGraph, SharedBytes, UNIT_BYTES};
 
 const BLOCK: usize = UNIT_BYTES as usize;
 

@@ -1,10 +1,10 @@
 ghost use Rattle.std.specs.Prelude.{◌≤◌, IfOk};
-ghost use Rattle.update_log.specs.tier_device.Memory.{IsAtRest};
+ghost use Rattle.counted_logs.specs.tier_device.Memory.{IsAtRest};
 
 use crate::doubles::{SetupError, failing, rest_of, stopping};
+use counted_logs::{Fill, Media, MediaError, MemMedia, StopMedia, Tier};
 use std::alloc::{AllocError, Global};
 use std::test::Fail;
-use update_log::{Fill, Media, MediaError, MemMedia, StopMedia, Tier};
 
 // Six zeros on the fast tier, one on the slow one.
 fn zeros(alloc: Global) -> Result<MemMedia, AllocError>

@@ -1,14 +1,14 @@
 // Media that stop or fail at a chosen call.
 ghost use Rattle.std.specs.Prelude.{◌≤◌, IfOk};
-ghost use Rattle.update_log.specs.tier_device.Memory.{IsAtRest};
-ghost use Rattle.update_log.specs.tier_device.Stop.{medium_of};
-ghost use Rattle.update_log.specs.tier_device.Fault.{sound_of};
-ghost use Rattle.update_log.specs.tier_device.Media.{AtRest};
-ghost use Rattle.update_log.specs.tier_device.declared.media.Tier.TheVariants.{Fast};
+ghost use Rattle.counted_logs.specs.tier_device.Memory.{IsAtRest};
+ghost use Rattle.counted_logs.specs.tier_device.Stop.{medium_of};
+ghost use Rattle.counted_logs.specs.tier_device.Fault.{sound_of};
+ghost use Rattle.counted_logs.specs.tier_device.Media.{AtRest};
+ghost use Rattle.counted_logs.specs.tier_device.declared.media.Tier.TheVariants.{Fast};
 
 use batch_journal::JournalError;
+use counted_logs::{FaultMedia, Fill, Media, MediaError, MemMedia, RegionError, StopMedia, Trip};
 use std::alloc::{AllocError, AllocFailed};
-use update_log::{FaultMedia, Fill, Media, MediaError, MemMedia, RegionError, StopMedia, Trip};
 
 /// Why what a test looks at can't be made or read.
 #[derive(Clone, Copy, Debug)]

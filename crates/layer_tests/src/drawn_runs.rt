@@ -5,10 +5,10 @@ ghost use Rattle.std.specs.Prelude.{◌≤◌};
 use crate::coalesced::{put_change, told};
 use crate::made_runs::{enter, fill, leave, record_of};
 use coalescer::coalesce;
+use counted_logs::{Effect, Kind, PlainGraph, Record};
 use std::alloc::{AllocError, Global};
 use std::io;
 use std::test::Fail;
-use update_log::{Effect, Kind, PlainGraph, Record};
 
 // Numbers that look random, always the same.
 #[derive(Drop)]

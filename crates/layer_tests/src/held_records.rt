@@ -1,9 +1,9 @@
 //! Records that write what their client doesn't hold, and such of which a node is not known.
 
 use crate::made_records::{CAPACITY, bad, byte, enter, good, one, opening, told, two, unknown};
+use counted_logs::Effect;
 use record_validation::NodeSummary;
 use std::test::Fail;
-use update_log::Effect;
 
 #[test]
 fn each_inode_that_is_written_is_held(rt: HostRuntime) -> Result<(), Fail> {

@@ -1,16 +1,16 @@
 // The device calls of a batch and of a replay, one by one: which bytes of the fast tier a stop within each leaves in doubt, and
 // what the gate holds where all that was written is done. A stop within a fence leaves what the writes before it left.
 ghost use Rattle.std.specs.Prelude.{◌≤◌, IfOk};
-ghost use Rattle.update_log.specs.tier_device.declared.media.Tier.TheVariants.{Fast};
-ghost use Rattle.update_log.specs.tier_device.Media.{AtRest};
-ghost use Rattle.update_log.specs.tier_device.Memory.{IsAtRest};
+ghost use Rattle.counted_logs.specs.tier_device.declared.media.Tier.TheVariants.{Fast};
+ghost use Rattle.counted_logs.specs.tier_device.Media.{AtRest};
+ghost use Rattle.counted_logs.specs.tier_device.Memory.{IsAtRest};
 
 use crate::doubles::{Hurt, SetupError, stopping};
 use crate::journals::{commit_two, medium, reopened};
 use batch_journal::{Journal, JournalError};
+use counted_logs::{Fill, MemMedia, Tier};
 use std::alloc::Global;
 use std::test::Fail;
-use update_log::{Fill, MemMedia, Tier};
 
 // A byte that neither the medium nor the batch has.
 const DOUBT: u8 = 0xee;

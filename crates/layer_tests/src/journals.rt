@@ -1,16 +1,16 @@
 ghost use Rattle.std.specs.Prelude.{◌≡◌, ◌≤◌, ◌<◌, ℕ, length, None, IfOk};
-ghost use Rattle.update_log.specs.tier_device.declared.media.Tier.TheVariants.{Fast};
-ghost use Rattle.update_log.specs.tier_device.Media.{AtRest};
-ghost use Rattle.update_log.specs.tier_device.Memory.{IsAtRest};
+ghost use Rattle.counted_logs.specs.tier_device.declared.media.Tier.TheVariants.{Fast};
+ghost use Rattle.counted_logs.specs.tier_device.Media.{AtRest};
+ghost use Rattle.counted_logs.specs.tier_device.Memory.{IsAtRest};
 ghost use Rattle.batch_journal.specs.Images.{image_for};
 ghost use Rattle.batch_journal.specs.Blocks.{AreJournaled};
 ghost use Rattle.batch_journal.specs.layout.Places.{Sizes};
 
 use crate::doubles::{Hurt, SetupError, after_stop, failing, stopping};
 use batch_journal::{Batch, Geometry, Journal, JournalError, Super};
+use counted_logs::{Fill, Media, MemMedia, Tier};
 use std::alloc::{AllocError, Global};
 use std::test::Fail;
-use update_log::{Fill, Media, MemMedia, Tier};
 
 // A medium of 2 units with 2, 512 and 0 data blocks, all zero but for the superblock. The node pool ends before block 3,368.
 pub fn medium(alloc: Global) -> Result<MemMedia, SetupError>

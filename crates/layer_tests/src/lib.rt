@@ -1,11 +1,14 @@
-//! Tests of the layers below the shared area, and of the checks of a record: want of memory, faults that are told upward, and answers
-//! that no contract gives; and two small instances of what plays lists of events, with small cases of its definitions in `proofs/`.
+//! Tests of the layers below the shared area, of the checks of a record and of a graph, and of what a recovery finds of the logs: want of
+//! memory, faults that are told upward, and answers that no contract gives; and two small instances of what plays lists of events, with
+//! small cases of its definitions in `proofs/`.
 #![tactic(auto)]
 
 #[cfg(test)]
 mod cache_uses;
 #[cfg(test)]
 mod coalesced;
+#[cfg(test)]
+mod counted_rows;
 #[cfg(test)]
 mod devices;
 #[cfg(test)]

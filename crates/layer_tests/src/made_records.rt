@@ -3,9 +3,9 @@
 ghost use Rattle.std.specs.Prelude.{IsTrue};
 ghost use Rattle.std.specs.List.Sorted.{IsNonDecreasing};
 
+use counted_logs::{Child, Effect, Effects, Kind, Name, NameMap, Record, SharedBytes};
 use record_validation::{NodeSummary, RecordCheck, Verdict};
 use std::alloc::{AllocError, Global};
-use update_log::{Child, Effect, Effects, Kind, Name, NameMap, Record, SharedBytes};
 
 /// There are so many units in all, where a row says nothing else.
 pub const CAPACITY: u64 = 1_000;

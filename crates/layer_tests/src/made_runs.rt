@@ -1,7 +1,7 @@
 //! Effects and records in a few words.
 
+use counted_logs::{Effect, Effects, Kind, Name, Record, SharedBytes};
 use std::alloc::{AllocError, Global};
-use update_log::{Effect, Effects, Kind, Name, Record, SharedBytes};
 
 pub fn name_of(alloc: Global, text: &[u8]) -> Result<Name, AllocError> {
     match Name::from_vec(text.to_vec(alloc)?) {

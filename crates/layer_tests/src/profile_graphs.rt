@@ -1,7 +1,7 @@
+use counted_logs::{Effect, Kind, Name, PlainGraph, ROOT, SharedBytes};
 use std::alloc::Global;
 use std::io::{self, ErrorKind, Write};
 use std::test::Fail;
-use update_log::{Effect, Kind, Name, PlainGraph, ROOT, SharedBytes};
 
 // An effect: its word, its inode, a number and a text.
 type Row = (&'static str, u32, u32, &'static str);

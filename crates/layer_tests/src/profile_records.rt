@@ -1,6 +1,6 @@
+use counted_logs::{RecordError, is_payload, read_payload, read_record, write_record};
 use std::alloc::Global;
 use std::test::Fail;
-use update_log::{RecordError, is_payload, read_payload, read_record, write_record};
 
 // The payload of `mkdir /a` with inode 2, by the tables of the format.
 const MKDIR: [u8; 32] = [

@@ -3,10 +3,10 @@
 use crate::made_records::{
     CAPACITY, bad, byte, directory, enter, good, leave, one, opening, told, two,
 };
+use counted_logs::{Effect, Kind};
 use record_validation::{RecordCheck, Verdict};
 use std::alloc::{AllocError, Global};
 use std::test::Fail;
-use update_log::{Effect, Kind};
 
 fn make(inode: u32) -> Effect {
     Effect::Make {

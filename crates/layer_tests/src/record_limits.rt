@@ -3,10 +3,10 @@
 use crate::made_records::{
     CAPACITY, bad, byte, directory, enter, good, leave, one, opening, told, two,
 };
+use counted_logs::Effect;
 use record_validation::NodeSummary;
 use std::alloc::{AllocError, Global};
 use std::test::Fail;
-use update_log::Effect;
 
 // What stands at the inode 5, effects on it, and whether they leave it within the limits.
 fn row(alloc: Global, number: u32) -> Result<(NodeSummary, Vec<Effect>, bool), AllocError> {

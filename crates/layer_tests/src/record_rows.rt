@@ -1,10 +1,10 @@
 //! Rows of records, each over the graph as the good ones before it leave it.
 
 use crate::made_records::{CAPACITY, bad, byte, enter, good, leave, one, opening, told};
+use counted_logs::{Effect, Kind};
 use record_validation::Verdict;
 use std::alloc::{AllocError, Global};
 use std::test::Fail;
-use update_log::{Effect, Kind};
 
 // The records of a row, each with its units and what is told of it.
 fn row(alloc: Global, number: u32) -> Result<(Effect, u32, Option<Verdict>), AllocError> {

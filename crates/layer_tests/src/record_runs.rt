@@ -2,9 +2,9 @@
 
 use crate::made_runs::{alone, enter, fill, make, record_of};
 use coalescer::longest_run;
+use counted_logs::{Effect, Kind, Record};
 use std::alloc::{AllocError, Global};
 use std::test::Fail;
-use update_log::{Effect, Kind, Record};
 
 // A directory that is made under the root.
 fn made_directory(alloc: Global, inode: u32) -> Result<Record, AllocError> {

@@ -1,16 +1,16 @@
 ghost use Rattle.std.specs.Prelude.{◌≡◌, ◌≤◌, IfOk};
-ghost use Rattle.update_log.specs.log_record.Grammar.{IsRecord};
-ghost use Rattle.update_log.specs.tier_device.declared.media.Tier.TheVariants.{Fast};
-ghost use Rattle.update_log.specs.tier_device.Media.{AtRest};
-ghost use Rattle.update_log.specs.tier_device.Memory.{IsAtRest};
+ghost use Rattle.counted_logs.specs.log_record.Grammar.{IsRecord};
+ghost use Rattle.counted_logs.specs.tier_device.declared.media.Tier.TheVariants.{Fast};
+ghost use Rattle.counted_logs.specs.tier_device.Media.{AtRest};
+ghost use Rattle.counted_logs.specs.tier_device.Memory.{IsAtRest};
 
 use crate::doubles::{Hurt, SetupError};
-use std::alloc::{AllocError, Global};
-use std::test::Fail;
-use update_log::{
+use counted_logs::{
     Effect, Effects, FaultMedia, Fill, Media, MemMedia, REGION_SIZE, Record, Region, RegionError,
     SharedBytes, Stage, StopMedia, Trip,
 };
+use std::alloc::{AllocError, Global};
+use std::test::Fail;
 
 // A medium of a region's size, all zero.
 fn medium(alloc: Global) -> Result<MemMedia, AllocError>

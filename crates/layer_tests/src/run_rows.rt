@@ -3,9 +3,9 @@
 use crate::coalesced::put_change;
 use crate::made_runs::{alone, enter, fill, leave, make};
 use coalescer::coalesce;
+use counted_logs::{Effect, Kind, PlainGraph, Record};
 use std::alloc::{AllocError, Global};
 use std::test::Fail;
-use update_log::{Effect, Kind, PlainGraph, Record};
 
 // A root with the name `old`, and a file 2 of 8 times `x`.
 fn opening(alloc: Global) -> Result<PlainGraph, AllocError> {

@@ -1,7 +1,7 @@
 use coalescer::{BlockChange, GraphChange, NodeBase, NodeLength};
+use counted_logs::{Effect, Kind, Name, SharedBytes};
 use std::alloc::{AllocError, Global};
 use std::test::Fail;
-use update_log::{Effect, Kind, Name, SharedBytes};
 
 fn name_of(alloc: Global, text: &str) -> Result<Name, AllocError> {
     match Name::from_vec(text.as_bytes().to_vec(alloc)?) {

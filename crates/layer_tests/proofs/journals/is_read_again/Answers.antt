@@ -1,4 +1,4 @@
-use Rattle.update_log.specs.tier_device.declared.media.Tier.TheVariants.{Fast}
+use Rattle.counted_logs.specs.tier_device.declared.media.Tier.TheVariants.{Fast}
 use Rattle.layer_tests.proofs.journals.is_read_again.Goals as goal
 
 pub committed-requires : goal.committed-requires

@@ -1,4 +1,4 @@
-use Rattle.update_log.specs.tier_device.declared.media.Tier.TheVariants.{Fast}
+use Rattle.counted_logs.specs.tier_device.declared.media.Tier.TheVariants.{Fast}
 use Rattle.layer_tests.proofs.regions.fourth_is_refused.Goals as goal
 
 pub is_refused_behind_three-requires : goal.is_refused_behind_three-requires

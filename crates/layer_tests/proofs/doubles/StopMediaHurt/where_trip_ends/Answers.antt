@@ -1,6 +1,6 @@
 use Rattle.std.proofs.Common.{◌≡◌, ◌∙◌, sym, subst}
-use Rattle.update_log.specs.tier_device.Memory.{IsAtRest}
-use Rattle.update_log.specs.tier_device.declared.media.Tier.TheVariants.{Fast}
+use Rattle.counted_logs.specs.tier_device.Memory.{IsAtRest}
+use Rattle.counted_logs.specs.tier_device.declared.media.Tier.TheVariants.{Fast}
 use Rattle.layer_tests.proofs.doubles.StopMediaHurt.where_trip_ends.Goals as goal
 
 -- the medium is the one that was given
