@@ -3,3 +3,4 @@ mod DraftCourses
 mod DraftRefusals
 mod DraftStops
 mod FencedStops
+pub mod PlainNodes

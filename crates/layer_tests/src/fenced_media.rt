@@ -1,6 +1,6 @@
 // A shared medium and a region, of which an event fences one: whatever media these are, they can be parts of a course.
+use counted_logs::{Media, Tier};
 use courses::{Recoverable, Steps};
-use update_log::{Media, Tier};
 
 /// The shared medium, and the region of client 1 for its even generations.
 pub struct FencedMedia<M: Media> {

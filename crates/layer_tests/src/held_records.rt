@@ -2,7 +2,7 @@
 
 use crate::made_records::{CAPACITY, bad, byte, enter, good, one, opening, told, two, unknown};
 use counted_logs::Effect;
-use record_validation::NodeSummary;
+use graph_check::NodeSummary;
 use std::test::Fail;
 
 #[test]

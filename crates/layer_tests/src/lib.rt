@@ -23,6 +23,10 @@ mod fenced_media;
 mod free_blocks;
 mod gated_draft;
 #[cfg(test)]
+mod graph_checks;
+#[cfg(test)]
+mod graph_rows;
+#[cfg(test)]
 mod held_records;
 #[cfg(test)]
 mod journal_calls;

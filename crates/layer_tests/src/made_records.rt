@@ -4,7 +4,7 @@ ghost use Rattle.std.specs.Prelude.{IsTrue};
 ghost use Rattle.std.specs.List.Sorted.{IsNonDecreasing};
 
 use counted_logs::{Child, Effect, Effects, Kind, Name, NameMap, Record, SharedBytes};
-use record_validation::{NodeSummary, RecordCheck, Verdict};
+use graph_check::{NodeSummary, RecordCheck, Verdict};
 use std::alloc::{AllocError, Global};
 
 /// There are so many units in all, where a row says nothing else.

@@ -4,7 +4,7 @@ use crate::made_records::{
     CAPACITY, bad, byte, directory, enter, good, leave, one, opening, told, two,
 };
 use counted_logs::{Effect, Kind};
-use record_validation::{RecordCheck, Verdict};
+use graph_check::{RecordCheck, Verdict};
 use std::alloc::{AllocError, Global};
 use std::test::Fail;
 

@@ -4,7 +4,7 @@ use crate::made_records::{
     CAPACITY, bad, byte, directory, enter, good, leave, one, opening, told, two,
 };
 use counted_logs::Effect;
-use record_validation::NodeSummary;
+use graph_check::NodeSummary;
 use std::alloc::{AllocError, Global};
 use std::test::Fail;
 

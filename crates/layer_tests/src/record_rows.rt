@@ -2,7 +2,7 @@
 
 use crate::made_records::{CAPACITY, bad, byte, enter, good, leave, one, opening, told};
 use counted_logs::{Effect, Kind};
-use record_validation::Verdict;
+use graph_check::Verdict;
 use std::alloc::{AllocError, Global};
 use std::test::Fail;
 
